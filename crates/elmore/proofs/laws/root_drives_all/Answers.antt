@@ -1,0 +1,5 @@
+use Rattle.elmore.proofs.TreeLaws.{root_load}
+use Rattle.elmore.proofs.laws.root_drives_all.Goals as goal
+
+pub returns : goal.returns
+returns c = root_load

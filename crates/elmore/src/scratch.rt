@@ -1,0 +1,33 @@
+ghost use Rattle.std.specs.Prelude.{◌≡◌, IfOk, length};
+
+use std::alloc::Global;
+use vg_num::Memory;
+
+/// Working room for the sums over a net, made once for nets of up to so many nodes and used again without
+/// allocating.
+#[derive(Drop)]
+pub struct Scratch {
+    pub(crate) loads: Vec<u128>,
+    pub(crate) delays: Vec<i128>,
+    ghost same_room: { length loads.items ≡ length delays.items },
+}
+
+impl Scratch {
+    ghost use Rattle.elmore.specs.Room.{room_of, delays_of};
+
+    /// Room for nets of up to `n` nodes. Answers `Memory` where there is none.
+    pub fn new(alloc: Global, n: usize) -> Result<Scratch, Memory>
+        ensures { IfOk result (λ scratch. room_of scratch ≡ n) }
+    {
+        let loads = vec![in alloc; 0; n]?;
+        let delays = vec![in alloc; 0; n]?;
+        Ok(Scratch { loads, delays })
+    }
+
+    /// The delays (zs) that `wire_delays` computed last, one for each node of its tree and then others up to the room.
+    pub fn delays(&self) -> &[i128]
+        ensures { result.now ≡ delays_of self.now }
+    {
+        &self.delays
+    }
+}

@@ -1,0 +1,89 @@
+//! Elmore wire delays by two passes: capacitances up, delays down.
+
+ghost use Rattle.std.specs.Prelude.{◌≡◌, ℕ, ◌*◌, ◌^◌, ◌<◌, ◌≤◌, ◌≤ℤ◌, ◌+ℤ◌, length, slice_index, slice_index_or, pos};
+ghost use Rattle.elmore.specs.Trees.{IsTree, IsWithinLimits, capacitance, total_capacitance};
+ghost use Rattle.elmore.specs.Wire.{delay_in, downstream_in};
+ghost use Rattle.elmore.specs.Room.{room_of, delays_of};
+
+use crate::scratch::Scratch;
+use crate::tree::{Node, Tree};
+
+fn fill_capacitances(nodes: &[Node], loads: &mut [u128])
+    requires { length nodes.now ≤ length loads.old }
+    ensures { (v : ℕ) → v < length nodes.now → slice_index loads.new v ≡ capacitance nodes.now v }
+{
+    'fill: for v in 0..nodes.len() {
+        loads[v] = nodes[v].c;
+    }
+}
+
+/// Each node's capacitance and that of all nodes below it: from the last node on, each adds its sum to its parent's.
+fn sum_downstream(nodes: &[Node], loads: &mut [u128])
+    requires tree { IsTree nodes.now }
+    requires limit { total_capacitance nodes.now ≤ 10 ^ 11 }
+    requires room { length nodes.now ≤ length loads.old }
+    ensures { (v : ℕ) → v < length nodes.now → slice_index loads.new v ≡ downstream_in nodes.now v }
+{
+    fill_capacitances(nodes, loads);
+    'up: for v in (1..nodes.len()).rev() {
+        let load = loads[v];
+        let parent = nodes[v].parent as usize;
+        loads[parent] += load;
+    }
+}
+
+/// The delay behind a resistor: the delay before it, and the resistance times the capacitance that it charges.
+fn delay_behind(before: i128, r: u64, load: u128) -> i128
+    requires before_low { pos 0 ≤ℤ before }
+    requires before_high { before ≤ℤ pos (10 ^ 23) }
+    requires resistance { r ≤ 10 ^ 12 }
+    requires load { load ≤ 10 ^ 11 }
+    ensures { result ≡ before +ℤ pos (r * load) }
+{
+    before + (u128::from(r) * load) as i128
+}
+
+/// Each node's delay: its parent's, and its own resistor times the capacitance that this charges.
+fn sum_delays(nodes: &[Node], loads: &[u128], delays: &mut [i128])
+    requires tree { IsTree nodes.now }
+    requires limits { IsWithinLimits nodes.now }
+    requires room { length nodes.now ≤ length delays.old }
+    requires loads_room { length nodes.now ≤ length loads.now }
+    requires loads { (v : ℕ) → v < length nodes.now → slice_index loads.now v ≡ downstream_in nodes.now v }
+    ensures { (v : ℕ) → v < length nodes.now → slice_index_or delays.new v (pos 0) ≡ pos (delay_in nodes.now v) }
+{
+    delays[0] = 0;
+    'down: for v in 1..nodes.len() {
+        let parent = nodes[v].parent as usize;
+        let before = delays[parent];
+        delays[v] = delay_behind(before, nodes[v].r, loads[v]);
+    }
+}
+
+/// The Elmore wire delay (zs) of every node of a net, in time linear in the nodes. They are read by `Scratch::delays`.
+/// The net is within the limits that `Tree::is_within_limits` tests, and the scratch has room for its nodes.
+///
+/// W. C. Elmore, "The transient response of damped linear networks", Journal of Applied Physics 19, 1948.
+pub fn wire_delays(tree: &Tree, scratch: &mut Scratch)
+    requires limits { IsWithinLimits tree.now.nodes }
+    requires room { length tree.now.nodes ≤ room_of scratch.old }
+    ensures delays { (w : ℕ) → w < length tree.now.nodes → slice_index_or (delays_of scratch.new) w (pos 0) ≡ pos (delay_in tree.now.nodes w) }
+    ensures room { room_of scratch.new ≡ room_of scratch.old }
+{
+    let nodes = tree.nodes.as_slice();
+    sum_downstream(nodes, &mut scratch.loads);
+    sum_delays(nodes, &scratch.loads, &mut scratch.delays);
+}
+
+/// The Elmore wire delay (zs) of one node: the sum, over the path from the root, of each resistance times the
+/// capacitance below it. It walks the whole net; for the delays of many nodes take `wire_delays`.
+pub fn wire_delay(tree: &Tree, node: u32, scratch: &mut Scratch) -> i128
+    requires node { node < length tree.now.nodes }
+    requires limits { IsWithinLimits tree.now.nodes }
+    requires room { length tree.now.nodes ≤ room_of scratch.old }
+    ensures delay { result ≡ pos (delay_in tree.now.nodes node) }
+    ensures room { room_of scratch.new ≡ room_of scratch.old }
+{
+    wire_delays(tree, scratch);
+    scratch.delays()[node as usize]
+}

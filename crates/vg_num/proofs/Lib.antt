@@ -1,0 +1,6 @@
+pub mod Caps
+pub mod Clips
+pub mod Nearly
+pub mod Printing
+pub mod Reading
+pub mod Again

@@ -1,0 +1,4 @@
+pub mod Bare
+pub mod LineLemmas
+pub mod Spelled
+pub mod WordLemmas

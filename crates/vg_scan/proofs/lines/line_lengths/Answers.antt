@@ -1,0 +1,33 @@
+use Rattle.std.proofs.Common.{◌+◌, ◌≤◌, [], ◌∷◌, length, take, drop, arith, sym, ◌∙◌, ap, take_all}
+use Rattle.std.proofs.lemmas.List.{drop_all}
+use Rattle.std.specs.Str.Lines.{lines}
+use Rattle.vg_scan.specs.Lines.{is_newline}
+use Rattle.vg_scan.proofs.LineLemmas.{last_line, ended_line, strip_yes, strip_no, first_at}
+use Rattle.vg_scan.proofs.lines.line_lengths.Goals as goal
+use Rattle.vg_scan.proofs.lines.line_lengths.Goals.{else-end-gt0-via-then-end-gt0+else-text-end-eq13, else-end-gt0-via-else-end-gt0}
+
+pub returns-in-None-clause-line : goal.returns-in-None-clause-line
+returns-in-None-clause-line c =
+    let text = c.args.text.now in
+    let e = last_line text c.requires (sym c.newline_at.ensures ∙ c.in-None.is) in
+    let t = take_all (length text) text (omega arith) in
+    let d = drop_all (length text) text (omega arith) in
+    e ∙ ap (λ x. x ∷ lines []) (sym t) ∙ ap (λ x. take (length text) text ∷ lines x) (sym d)
+
+pub returns-then-text-end-eq13-clause-line : goal.returns-then-text-end-eq13-clause-line
+returns-then-text-end-eq13-clause-line c =
+    let text = c.args.text.now in
+    let e = sym c.newline_at.ensures ∙ c.in-Some.is in
+    ended_line text c.in-Some.end e
+    ∙ ap (λ x. x ∷ lines (drop (c.in-Some.end + 1) text)) (strip_yes text c.in-Some.end c.if-end-gt0.true (omega (arith, first_at is_newline text c.in-Some.end e)) c.if-text-end-eq13.true)
+
+pub returns-else-end-gt0-clause-line : goal.returns-else-end-gt0-clause-line
+returns-else-end-gt0-clause-line c =
+    let text = c.args.text.now in
+    let e = sym c.newline_at.ensures ∙ c.in-Some.is in
+    let within : c.in-Some.end ≤ length text = omega (arith, first_at is_newline text c.in-Some.end e) in
+    ended_line text c.in-Some.end e
+    ∙ ap (λ x. x ∷ lines (drop (c.in-Some.end + 1) text)) (elim c.else-end-gt0.branch [
+      | else-end-gt0-via-then-end-gt0+else-text-end-eq13 w ↦ strip_no text c.in-Some.end within (λ _. w.if-text-end-eq13.false)
+      | else-end-gt0-via-else-end-gt0 w ↦ strip_no text c.in-Some.end within (λ l. absurd (omega arith))
+    ])

@@ -1,0 +1,4 @@
+pub mod Lines
+pub mod Separators
+pub mod Names
+pub mod Readings

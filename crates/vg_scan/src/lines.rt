@@ -1,0 +1,138 @@
+//! Lines and words.
+
+ghost use Rattle.std.specs.Prelude.{◌≡◌, ℕ, ◌+◌, ◌<◌, ◌≤◌, ◌∷◌, [], length, take, drop, MatchOption, ⊤, ◌↔◌, IsNone};
+ghost use Rattle.std.specs.List.{position, AllPass};
+ghost use Rattle.std.specs.Str.Lines.{lines};
+ghost use Rattle.vg_scan.specs.Lines.{is_blank, is_ink, is_newline, line_number, lines_of, words, part};
+
+/// A part of a text: the bytes from one place to another, the last one not taken in.
+#[derive(Clone, Copy, Debug, PartialEq, Eq, Drop)]
+pub struct Span {
+    pub from: usize,
+    pub to: usize,
+}
+
+fn newline_at(bytes: &[u8]) -> Option<usize>
+    ensures { result ≡ position is_newline bytes.now }
+{
+    bytes.iter().position(|byte| *byte == b'\n')
+}
+
+fn blank_at(bytes: &[u8]) -> Option<usize>
+    ensures { result ≡ position is_blank bytes.now }
+{
+    bytes
+        .iter()
+        .position(|byte| *byte == b' ' || *byte == b'\t')
+}
+
+fn ink_at(bytes: &[u8]) -> Option<usize>
+    ensures { result ≡ position is_ink bytes.now }
+{
+    bytes
+        .iter()
+        .position(|byte| !(*byte == b' ' || *byte == b'\t'))
+}
+
+/// The length of the first line of a text that is not empty, and how many bytes it takes with its end.
+fn line_lengths(text: &[u8]) -> (usize, usize)
+    requires { 0 < length text.now }
+    ensures line { lines text.now ≡ take result.0 text.now ∷ lines (drop result.1 text.now) }
+    ensures place { (result.0 ≤ result.1) × (0 < result.1) × (result.1 ≤ length text.now) }
+{
+    match newline_at(text) {
+        None => (text.len(), text.len()),
+        Some(end) => {
+            if end > 0 && text[end - 1] == b'\r' {
+                (end - 1, end + 1)
+            } else {
+                (end, end + 1)
+            }
+        }
+    }
+}
+
+/// The line that begins at a place, without its end, and where the next one begins. `None`: the text ends there.
+///
+/// A line ends with a newline, or with a carriage return and a newline.
+#[tactic(auto, unfolding(crate::specs::Lines::lines_of))]
+pub fn next_line(bytes: &[u8], at: usize) -> Option<(Span, usize)>
+    requires { at ≤ length bytes.now }
+    ensures line { MatchOption result (lines (drop at bytes.now) ≡ []) (λ found. lines (drop at bytes.now) ≡ part bytes.now found.0.from found.0.to ∷ lines (drop found.1 bytes.now)) }
+    ensures words { MatchOption result (lines_of (drop at bytes.now) ≡ []) (λ found. lines_of (drop at bytes.now) ≡ words (part bytes.now found.0.from found.0.to) ∷ lines_of (drop found.1 bytes.now)) }
+    ensures place { MatchOption result (at ≡ length bytes.now) (λ found. (found.0.from ≡ at) × (at ≤ found.0.to) × (found.0.to ≤ found.1) × (at < found.1) × (found.1 ≤ length bytes.now)) }
+{
+    if at == bytes.len() {
+        return None;
+    }
+    let (length, taken) = line_lengths(&bytes[at..]);
+    Some((
+        Span {
+            from: at,
+            to: at + length,
+        },
+        at + taken,
+    ))
+}
+
+/// Where the first word of a line begins and ends.
+fn word_in(line: &[u8]) -> Option<(usize, usize)>
+    ensures blank { IsNone result ↔ AllPass is_blank line.now }
+    ensures word { MatchOption result (words line.now ≡ []) (λ found. words line.now ≡ part line.now found.0 found.1 ∷ words (drop found.1 line.now)) }
+    ensures place { MatchOption result ⊤ (λ found. (found.0 < found.1) × (found.1 ≤ length line.now)) }
+{
+    match ink_at(line) {
+        None => None,
+        Some(from) => match blank_at(&line[from..]) {
+            None => Some((from, line.len())),
+            Some(len) => Some((from, from + len)),
+        },
+    }
+}
+
+/// The first word of a part of a text, and the rest of the part. `None`: the part has only blanks.
+pub fn next_word(bytes: &[u8], within: Span) -> Option<(Span, Span)>
+    requires { (within.from ≤ within.to) × (within.to ≤ length bytes.now) }
+    ensures blank { IsNone result ↔ AllPass is_blank (part bytes.now within.from within.to) }
+    ensures word { MatchOption result (words (part bytes.now within.from within.to) ≡ []) (λ found. words (part bytes.now within.from within.to) ≡ part bytes.now found.0.from found.0.to ∷ words (part bytes.now found.1.from found.1.to)) }
+    ensures place { MatchOption result ⊤ (λ found. (within.from ≤ found.0.from) × (found.0.from < found.0.to) × (found.0.to ≤ found.1.from) × (found.1.from ≤ found.1.to) × (found.1.to ≡ within.to)) }
+{
+    let start = within.from;
+    match word_in(&bytes[start..within.to]) {
+        None => None,
+        Some((from, to)) => Some((
+            Span {
+                from: start + from,
+                to: start + to,
+            },
+            Span {
+                from: start + to,
+                to: within.to,
+            },
+        )),
+    }
+}
+
+/// The part of a text between two places, as far as the text reaches.
+pub fn text_at(bytes: &[u8], span: Span) -> &[u8]
+    ensures { result.now ≡ part bytes.now span.from span.to }
+{
+    let to = span.to.min(bytes.len());
+    let from = span.from.min(to);
+    &bytes[from..to]
+}
+
+/// The number of the line in which a place stands; the first is 1.
+pub fn line_of(bytes: &[u8], at: usize) -> usize
+    requires { at ≤ length bytes.now }
+    ensures { result ≡ line_number bytes.now at }
+{
+    let front = &bytes[..at];
+    let mut count = 1;
+    for byte in front {
+        if *byte == b'\n' {
+            count += 1;
+        }
+    }
+    count
+}

@@ -1,0 +1,45 @@
+-- What files in memory hold.
+use Rattle.std.specs.Prelude.{ℕ, Bool, List, [], drop, Option, unwrap_or}
+use Rattle.std.specs.HashMap.{get_by_text}
+use Rattle.vg_store.specs.Reading.{read_file}
+use Rattle.vg_store.specs.declared.mem_files.MemFiles.{MemFiles}
+
+-- the bytes of the file of this name
+abbrev pub held : MemFiles → List ℕ → Option (List ℕ)
+held files name = get_by_text files.files name
+
+-- what was not taken yet of the file that is read
+abbrev pub left_of : MemFiles → List ℕ
+left_of files = drop files.place (unwrap_or (read_file (held files) files.source) [])
+
+-- how many bytes were taken since the last open
+abbrev pub taken_of : MemFiles → ℕ
+taken_of files = files.place
+
+-- whether a file is open
+abbrev pub is_reading : MemFiles → Bool
+is_reading files = files.reading
+
+-- the name of the file that was opened last
+abbrev pub source_of : MemFiles → Option (List ℕ)
+source_of files = files.source
+
+-- the name of the file at which the last fault came
+abbrev pub blame_of : MemFiles → Option (List ℕ)
+blame_of files = files.blamed
+
+-- the most bytes that one call takes
+abbrev pub chunk_of : MemFiles → ℕ
+chunk_of files = files.chunk
+
+-- how many calls were made
+abbrev pub calls_of : MemFiles → ℕ
+calls_of files = files.calls.made
+
+-- the numbers of the calls that fail
+abbrev pub fails_of : MemFiles → List ℕ
+fails_of files = files.calls.fails.items
+
+-- how many calls failed
+abbrev pub faults_of : MemFiles → ℕ
+faults_of files = files.calls.faults

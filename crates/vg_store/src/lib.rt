@@ -1,0 +1,23 @@
+//! Files and outputs that can fail: what they hold, what was taken from them and written to them, and how often
+//! they failed. The programs above are proved over these traits; `RealFiles` and `RealOut` are the thin edge to std.
+#![tactic(auto)]
+
+mod calls;
+mod files;
+mod mem_files;
+mod mem_out;
+mod output;
+mod read;
+mod real_files;
+mod real_out;
+
+pub use files::{Failed, Files};
+pub use mem_files::MemFiles;
+pub use mem_out::MemOut;
+pub use output::{Out, put_all};
+pub use read::{ReadAll, read_all};
+pub use real_files::RealFiles;
+pub use real_out::RealOut;
+
+#[cfg(test)]
+mod tests;

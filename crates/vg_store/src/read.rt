@@ -1,0 +1,121 @@
+//! A file as a whole.
+ghost use Rattle.std.specs.Prelude.{◌≡◌, ℕ, ◌+◌, ◌^◌, ◌<◌, ◌≤◌, List, length, Some, IfOk, OnOk, IfSome, IsErrOf, vec_len, []};
+ghost use Rattle.vg_store.specs.Causes.{Rose};
+ghost use Rattle.vg_store.specs.Reading.{HasRead, read_file};
+ghost use Rattle.vg_store.specs.declared.read.ReadAll.TheVariants.{Failed, Memory};
+
+use crate::files::{Failed, Files};
+use std::alloc::{AllocError, Global};
+use thiserror::Error;
+
+/// The greatest length of a file that is read, in bytes: 2^28.
+pub const MOST_BYTES: usize = 1 << 28;
+
+// The most bytes that are taken at once: 64 KiB.
+const PIECE_BYTES: usize = 1 << 16;
+
+/// Why a file was not read.
+#[derive(Clone, Copy, Debug, PartialEq, Eq, Error)]
+pub enum ReadAll {
+    /// Opening or reading it failed.
+    #[error("the file could not be read")]
+    Failed = 1,
+    /// It has more than 2^28 bytes.
+    #[error("the file has more than 2^28 bytes")]
+    TooLong = 2,
+    /// Memory was wanted and not given.
+    #[error("out of memory")]
+    Memory = 3,
+}
+
+impl From<Failed> for ReadAll {
+    ghost from_gives = { λ _ error. error ≡ Failed };
+
+    fn from(_: Failed) -> Self {
+        ReadAll::Failed
+    }
+}
+
+impl From<AllocError> for ReadAll {
+    ghost from_gives = { λ _ error. error ≡ Memory };
+
+    fn from(_: AllocError) -> Self {
+        ReadAll::Memory
+    }
+}
+
+// Takes the next piece of the open file and puts it after the bytes that were taken before. It says how many bytes
+// the piece has: none at the file's end.
+fn take_piece<F: Files>(
+    files: &mut F,
+    buf: &mut [u8],
+    bytes: &mut Vec<u8>,
+) -> Result<usize, ReadAll>
+    requires some_room { 0 < length buf.old }
+    requires short { vec_len bytes.old ≤ 2 ^ 28 }
+    requires begun { HasRead (read_file (F.holds files.old) (F.source files.old)) (F.taken files.old) (F.reading files.old) bytes.old.items }
+    ensures more { OnOk result (HasRead (read_file (F.holds files.old) (F.source files.old)) (F.taken files.new) (F.reading files.new) bytes.new.items) }
+    ensures count { IfOk result (λ count. vec_len bytes.new ≡ vec_len bytes.old + count) }
+    ensures bound { OnOk result (vec_len bytes.new ≤ 2 ^ 28 + 1) }
+    ensures ended { IfOk result (λ count. count ≡ 0 → IfSome (read_file (F.holds files.old) (F.source files.old)) (λ file. bytes.new.items ≡ file)) }
+    ensures failed { IsErrOf result ReadAll.Failed → Rose (F.read_faults files.old) (F.read_faults files.new) × IfSome (F.read_blame files.new) (λ blamed. F.source files.old ≡ Some blamed) }
+    ensures never_too_long { IsErrOf result ReadAll.TooLong → ⊥ }
+    ensures never_falls { F.read_faults files.old ≤ F.read_faults files.new }
+    ensures same_source { F.source files.new ≡ F.source files.old }
+    ensures same_file { read_file (F.holds files.new) (F.source files.new) ≡ read_file (F.holds files.old) (F.source files.old) }
+    ensures kept { (file : List ℕ) → F.holds files.new file ≡ F.holds files.old file }
+{
+    let room = buf.len().min(MOST_BYTES + 1 - bytes.len());
+    let piece = &mut buf[..room];
+    let count = files.next(piece)?;
+    bytes.extend_from_slice(&piece[..count])?;
+    Ok(count)
+}
+
+// Takes the pieces of a file that was just opened, until its end, a fault, or too many bytes.
+fn take_pieces<F: Files>(alloc: Global, files: &mut F, buf: &mut [u8]) -> Result<Vec<u8>, ReadAll>
+    requires some_room { 0 < length buf.old }
+    requires begun { HasRead (read_file (F.holds files.old) (F.source files.old)) (F.taken files.old) (F.reading files.old) [] }
+    ensures whole { IfOk result (λ bytes. IfSome (read_file (F.holds files.old) (F.source files.old)) (λ file. bytes.items ≡ file)) }
+    ensures all_taken { IfOk result (λ bytes. (length bytes.items ≡ F.taken files.new) × (F.taken files.new ≤ 2 ^ 28)) }
+    ensures too_long { IsErrOf result ReadAll.TooLong → (F.taken files.new ≡ 2 ^ 28 + 1) × IfSome (read_file (F.holds files.old) (F.source files.old)) (λ file. 2 ^ 28 < length file) }
+    ensures failed { IsErrOf result ReadAll.Failed → Rose (F.read_faults files.old) (F.read_faults files.new) × IfSome (F.read_blame files.new) (λ blamed. F.source files.old ≡ Some blamed) }
+    ensures never_falls { F.read_faults files.old ≤ F.read_faults files.new }
+    ensures kept { (file : List ℕ) → F.holds files.new file ≡ F.holds files.old file }
+{
+    let mut bytes = Vec::new(alloc);
+    'pieces: while bytes.len() <= MOST_BYTES {
+        let count = take_piece(files, buf, &mut bytes)?;
+        if count == 0 {
+            return Ok(bytes);
+        }
+    }
+    Err(ReadAll::TooLong)
+}
+
+// A buffer for one piece.
+fn make_buffer(alloc: Global) -> Result<Vec<u8>, AllocError>
+    ensures { IfOk result (λ buf. 0 < vec_len buf) }
+{
+    vec![in alloc; 0u8; PIECE_BYTES]
+}
+
+/// Reads a file whole, of at most 2^28 bytes. It opens the file once and takes pieces until the file's end, a fault,
+/// or 2^28 + 1 bytes.
+///
+/// - `Failed`: the count of read faults rose in this call, at this file.
+/// - `TooLong`: 2^28 + 1 bytes were taken.
+/// - `Memory`: there was no room for the bytes.
+pub fn read_all<F: Files>(alloc: Global, files: &mut F, name: &str) -> Result<Vec<u8>, ReadAll>
+    ensures whole { IfOk result (λ bytes. IfSome (F.holds files.old name.now) (λ file. bytes.items ≡ file)) }
+    ensures all_taken { IfOk result (λ bytes. (length bytes.items ≡ F.taken files.new) × (F.taken files.new ≤ 2 ^ 28)) }
+    ensures too_long { IsErrOf result ReadAll.TooLong → (F.taken files.new ≡ 2 ^ 28 + 1) × IfSome (F.holds files.old name.now) (λ file. 2 ^ 28 < length file) }
+    ensures failed { IsErrOf result ReadAll.Failed → Rose (F.read_faults files.old) (F.read_faults files.new) × IfSome (F.read_blame files.new) (λ blamed. blamed ≡ name.now) }
+    ensures never_falls { F.read_faults files.old ≤ F.read_faults files.new }
+    ensures kept { (file : List ℕ) → F.holds files.new file ≡ F.holds files.old file }
+{
+    files.open(name)?;
+    let mut buf = make_buffer(alloc)?;
+    let bytes = take_pieces(alloc, files, &mut buf)?;
+    Ok(bytes)
+}

@@ -1,0 +1,55 @@
+//! An output of the system.
+ghost use Rattle.std.specs.Prelude.{◌≡◌, ◌<◌, ◌≤◌, length, take, None, IfOk, OnErr};
+ghost use Rattle.std.specs.Io.KnownBytes.{WriteAppends};
+ghost use Rattle.vg_store.specs.Causes.{HasCause};
+ghost use Rattle.vg_store.specs.Writing.{Gains, GainsPrefix};
+
+use crate::files::Failed;
+use crate::output::Out;
+use std::io::Write;
+
+/// An output over a writer of std, as a file. It does not tell what was written. Each error of the writer is counted
+/// as a fault, and so is a write that takes nothing of a piece that is not empty.
+#[derive(Drop)]
+pub struct RealOut<W: Write + Drop> {
+    to: W,
+    faults: u64,
+}
+
+impl<W: Write + Drop> RealOut<W> {
+    /// An output over this writer. It takes no memory.
+    pub fn new(to: W) -> RealOut<W>
+        ensures writer { result.to ≡ to }
+        ensures faults { result.faults ≡ 0 }
+    {
+        RealOut { to, faults: 0 }
+    }
+}
+
+impl<W: Write + Drop> Out for RealOut<W> {
+    ghost written = { λ _. None };
+
+    ghost faults = { λ out. out.faults };
+
+    /// One write of a piece that is not empty.
+    fn put(&mut self, bytes: &[u8]) -> Result<usize, Failed>
+        ensures bound { IfOk result (λ count. (count ≤ length bytes.now) × (0 < length bytes.now → 0 < count)) }
+        ensures gained { IfOk result (λ count. Gains None None (take count bytes.now)) }
+        ensures prefix { OnErr result (GainsPrefix None None bytes.now) }
+        ensures cause { HasCause self.old.faults self.new.faults result }
+
+        // What the writer is known to hold grew by the bytes that were taken, and after a fault by none.
+        ensures reached { WriteAppends (W.contents self.old.to) (W.contents self.new.to) result bytes.now }
+    {
+        if bytes.is_empty() {
+            return Ok(0);
+        }
+        match self.to.write(bytes) {
+            Ok(count) if 0 < count => Ok(count),
+            _ => {
+                self.faults = self.faults.saturating_add(1);
+                Err(Failed)
+            }
+        }
+    }
+}

@@ -1,0 +1,31 @@
+//! The program: the top call over the real files and streams.
+#![tactic(auto)]
+
+use std::alloc::AllocError;
+use std::env;
+use std::process::ExitCode;
+use vg_store::{RealFiles, RealOut, put_all};
+use vginsert_top::run;
+
+/// The status where the system does not give the words.
+const NO_WORDS: u8 = 9;
+
+/// The status where memory was wanted and not given.
+const NO_MEMORY: u8 = 7;
+
+fn main(rt: HostRuntime) -> ExitCode {
+    let Ok(args) = env::args(&rt) else {
+        return ExitCode::from(NO_WORDS);
+    };
+    let mut files = RealFiles::new(&rt);
+    let mut out = RealOut::new(rt.stdout());
+    let mut err = RealOut::new(rt.stderr());
+    // The first word is the program's own name.
+    let words: Result<Vec<String>, AllocError> = args.skip(1).collect(rt.alloc());
+    let Ok(words) = words else {
+        let _ = put_all(&mut err, b"vginsert: out of memory\n");
+        return ExitCode::from(NO_MEMORY);
+    };
+    let status = run(rt.alloc(), &words, &mut files, &mut out, &mut err);
+    ExitCode::from(status)
+}

@@ -1,0 +1,15 @@
+pub mod AmongLemmas
+pub mod AnswerLemmas
+pub mod BuildLemmas
+pub mod CapacitorLemmas
+pub mod Leading
+pub mod NamesLemmas
+pub mod NetLemmas
+pub mod OrderLemmas
+pub mod RowLemmas
+pub mod ShapeLemmas
+pub mod SinkLemmas
+pub mod WholeLemmas
+pub mod WordLists
+pub mod GainLemmas
+pub mod EndingLemmas

@@ -1,0 +1,14 @@
+pub mod Among
+pub mod Names
+pub mod Plain
+pub mod Rows
+pub mod Shape
+pub mod Tree
+pub mod Net
+pub mod Build
+pub mod Outcome
+pub mod Answer
+pub mod Request
+pub mod Run
+pub mod Ending
+pub mod Laws
