@@ -2,3 +2,4 @@ pub mod Bare
 pub mod LineLemmas
 pub mod Spelled
 pub mod WordLemmas
+pub mod NodeLemmas

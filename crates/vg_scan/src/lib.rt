@@ -7,12 +7,14 @@ mod chars;
 mod fault;
 mod lines;
 mod name;
+mod nodes;
 mod spef;
 
 pub use chars::Chars;
 pub use fault::NameFault;
 pub use lines::{Span, line_of, next_line, next_word, text_at};
 pub use name::{Name, NodeName};
+pub use nodes::{inner_name, node_name, port_name};
 pub use spef::{spef_name, split_node};
 
 #[cfg(test)]

@@ -40,6 +40,26 @@ fn nodes(rt: HostRuntime) {
 }
 
 #[test]
+fn node_names(rt: HostRuntime) -> Result<(), Fail> {
+    let inner = inner_name(rt.alloc(), b"u1.u2:A<1>", &CHARS)?;
+    assert_eq!(rt; inner.owner.as_bytes(), b"u1/u2".as_slice());
+    assert_eq!(rt; inner.leaf.as_bytes(), b"A[1]".as_slice());
+    assert_eq!(rt; node_name(rt.alloc(), b"u1.u2:A<1>", &CHARS)?, inner);
+    let port = node_name(rt.alloc(), b"d\\:<3>", &CHARS)?;
+    assert_eq!(rt; port.owner, port_name(rt.alloc(), b"d\\:<3>", &CHARS)?);
+    assert_eq!(rt; port.leaf.as_bytes(), b"".as_slice());
+    assert!(rt; matches!(node_name(rt.alloc(), b"u1:", &CHARS), Err(NameFault::Bad)));
+    assert!(rt;
+        matches!(
+            inner_name(rt.alloc(), b"d\\:A", &CHARS),
+            Err(NameFault::Bad)
+        )
+    );
+    assert!(rt; matches!(port_name(rt.alloc(), b"u1:A", &CHARS), Err(NameFault::Bad)));
+    Ok(())
+}
+
+#[test]
 fn lines_and_words(rt: HostRuntime) {
     let at = |from, to| Span { from, to };
     let text = b"a b\r\n\tcd";

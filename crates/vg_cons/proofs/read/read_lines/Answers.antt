@@ -1,0 +1,80 @@
+use Rattle.std.proofs.Common.{◌≡◌, ◌+◌, List, take, drop, length, max, sym, ◌∙◌, ap, refl, arith, inl, inr, take_all, subst}
+use Rattle.std.specs.List.{list_any}
+use Rattle.std.specs.Str.Lines.{lines}
+use Rattle.vg_cons.specs.Lines.{Line, lines_of, has_words}
+use Rattle.vg_cons.specs.Rows.{rows_of}
+use Rattle.vg_cons.specs.Views.{part_at, IsFaultOrMemory}
+use Rattle.vg_cons.proofs.LineLemmas.{line_words, next_is, last_is, first_fault, clear_more, started_more, rows_more, fault_of-after, no_rows_yet}
+use Rattle.vg_cons.proofs.read.read_lines.Goals as goal
+
+pub line-init : goal.line-init
+line-init c = record {
+  rest = refl;
+  within = omega arith;
+  counted = omega arith;
+  few = omega arith;
+  started = refl;
+  clear = λ i h. absurd (omega arith);
+  rows = c.requires.none ∙ no_rows_yet;
+}
+
+pub returns-in-Err-clause-fault : goal.returns-in-Err-clause-fault
+returns-in-Err-clause-fault c =
+    let text = c.args.bytes.now in
+    let n = c.line.count in
+    let line : Line = line_words (part_at text c.in-Some.line) in
+    let x = next_is text n (part_at text c.in-Some.line) (lines (drop c.in-Some.next text)) (sym c.line.invariant.rest ∙ c.in-Some.ensures.line) in
+    let same = fault_of-after (take n (lines_of text)) line c.line.started c.line.cons c.line.invariant.started c.line.invariant.rows in
+    elim (first_fault (lines_of text) n line c.in-Err.kind x.within x.here c.line.invariant.clear (subst (λ o. IsFaultOrMemory o c.in-Err.kind) (sym same) c.in-Err.ensures)) [
+      | inl memory ↦ inl memory
+      | inr fault ↦ inr (inl fault)
+    ]
+
+pub line-preserved : goal.line-preserved
+line-preserved c =
+    let text = c.args.bytes.now in
+    let n = c.line.count in
+    let line : Line = line_words (part_at text c.in-Some.line) in
+    let before : List Line = take n (lines_of text) in
+    let x = next_is text n (part_at text c.in-Some.line) (lines (drop c.in-Some.next text)) (sym c.line.invariant.rest ∙ c.in-Some.ensures.line) in
+    let same = fault_of-after before line c.line.started c.line.cons c.line.invariant.started c.line.invariant.rows in
+    record {
+      rest = sym x.rest;
+      within = omega (arith, c.in-Some.ensures.place);
+      counted = omega (arith, c.in-Some.ensures.place);
+      few = omega (arith, x.within);
+      started = started_more before line (take (n + 1) (lines_of text)) c.line.started c.in-Ok.now x.front c.line.invariant.started c.in-Ok.ensures.1;
+      clear = clear_more (lines_of text) n line x.here c.line.invariant.clear (same ∙ c.in-Ok.ensures.0);
+      rows = rows_more before line (take (n + 1) (lines_of text)) c.line.cons c.take_line.new.cons x.front c.line.invariant.rows c.in-Ok.ensures.2;
+    }
+
+pub returns-then-not-started-clause-fault : goal.returns-then-not-started-clause-fault
+returns-then-not-started-clause-fault c =
+    let text = c.args.bytes.now in
+    let n = c.line.count in
+    let last = last_is text n (sym c.line.invariant.rest ∙ c.in_default.ensures.line) in
+    let all = take_all n (lines_of text) last in
+    let same : n ≡ length (lines_of text) = omega arith in
+    inr (inr (record {
+      empty = ap (list_any has_words) (sym all) ∙ sym c.line.invariant.started ∙ c.if-not-started.true;
+      kind = refl;
+      last = c.max.ensures ∙ ap (λ m. max m 1) same;
+    }))
+
+pub returns-clause-faultless : goal.returns-clause-faultless
+returns-clause-faultless c =
+    let text = c.args.bytes.now in
+    let n = c.line.count in
+    let last = last_is text n (sym c.line.invariant.rest ∙ c.in_default.ensures.line) in
+    let all = take_all n (lines_of text) last in
+    record {
+      clear = λ i h. c.line.invariant.clear i (omega arith);
+      heading = ap (list_any has_words) (sym all) ∙ sym c.line.invariant.started ∙ c.if-not-started.false;
+    }
+
+pub returns-clause-rows : goal.returns-clause-rows
+returns-clause-rows c =
+    let text = c.args.bytes.now in
+    let n = c.line.count in
+    let last = last_is text n (sym c.line.invariant.rest ∙ c.in_default.ensures.line) in
+    c.line.invariant.rows ∙ ap rows_of (take_all n (lines_of text) last)

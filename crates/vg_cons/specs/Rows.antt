@@ -1,0 +1,96 @@
+-- The rows of a constraints text, by kind and in order, and what they give for a name.
+use Rattle.std.specs.Prelude.{ℕ, Bool, List, [], ◌∷◌, ℤ, pos, is_some, unwrap_or, Option, Some, None, Result, Ok}
+use Rattle.std.specs.List.{filter_map}
+use Rattle.std.specs.Option.{option_or}
+use Rattle.vg_cons.specs.declared.fault.ConsKind.{ConsKind}
+use Rattle.vg_cons.specs.Lines.{Line}
+use Rattle.vg_cons.specs.Names.{NodeKey, node_value, port_value, has_node}
+use Rattle.vg_cons.specs.Statements.{Statement, default, required, arrival, want, drive, load, block, said}
+
+pub record Rows : Type 0 where
+  pub default : Option ℤ
+  pub required : List (NodeKey × ℤ)
+  pub arrival : List (NodeKey × ℤ)
+  pub want : List NodeKey
+  pub drive : List (List ℕ × (ℕ × ℤ))
+  pub load : List (List ℕ × ℕ)
+  pub block : List NodeKey
+
+-- the row of each kind that a line may state
+abbrev pub default_in : Result Statement ConsKind → Option ℤ
+default_in (Ok (default t)) = Some t
+default_in _ = None
+
+abbrev pub required_in : Result Statement ConsKind → Option (NodeKey × ℤ)
+required_in (Ok (required row)) = Some row
+required_in _ = None
+
+abbrev pub arrival_in : Result Statement ConsKind → Option (NodeKey × ℤ)
+arrival_in (Ok (arrival row)) = Some row
+arrival_in _ = None
+
+abbrev pub want_in : Result Statement ConsKind → Option NodeKey
+want_in (Ok (want pin)) = Some pin
+want_in _ = None
+
+abbrev pub drive_in : Result Statement ConsKind → Option (List ℕ × (ℕ × ℤ))
+drive_in (Ok (drive row)) = Some row
+drive_in _ = None
+
+abbrev pub load_in : Result Statement ConsKind → Option (List ℕ × ℕ)
+load_in (Ok (load row)) = Some row
+load_in _ = None
+
+abbrev pub block_in : Result Statement ConsKind → Option NodeKey
+block_in (Ok (block node)) = Some node
+block_in _ = None
+
+-- the rows of one kind that some lines state, in order
+abbrev pub stated : {A : Type 0} → (Result Statement ConsKind → Option A) → List Line → List A
+stated kind lines = filter_map (λ line. kind (said line)) lines
+
+abbrev pub first_of : {A : Type 0} → List A → Option A
+first_of [] = None
+first_of (x ∷ xs) = Some x
+
+-- the rows of some lines
+unfoldable pub rows_of : List Line → Rows
+rows_of lines = record {
+  default = first_of (stated default_in lines);
+  required = stated required_in lines;
+  arrival = stated arrival_in lines;
+  want = stated want_in lines;
+  drive = stated drive_in lines;
+  load = stated load_in lines;
+  block = stated block_in lines;
+}
+
+-- a row of the same kind and name is there
+abbrev pub is_again : Rows → Statement → Bool
+is_again rows (default _) = is_some rows.default
+is_again rows (required row) = is_some (node_value rows.required row.0)
+is_again rows (arrival row) = is_some (node_value rows.arrival row.0)
+is_again rows (want pin) = has_node rows.want pin
+is_again rows (drive row) = is_some (port_value rows.drive row.0)
+is_again rows (load row) = is_some (port_value rows.load row.0)
+is_again rows (block node) = has_node rows.block node
+
+-- a pin's own required time, else the default
+abbrev pub required_of : Rows → NodeKey → Option ℤ
+required_of rows pin = option_or (node_value rows.required pin) rows.default
+
+abbrev pub arrival_of : Rows → NodeKey → ℤ
+arrival_of rows pin = unwrap_or (node_value rows.arrival pin) (pos 0)
+
+abbrev pub wants_inverted_of : Rows → NodeKey → Bool
+wants_inverted_of rows pin = has_node rows.want pin
+
+-- resistance and intrinsic delay
+abbrev pub drive_of : Rows → List ℕ → ℕ × ℤ
+drive_of rows port = unwrap_or (port_value rows.drive port) (0, pos 0)
+
+abbrev pub load_of : Rows → List ℕ → ℕ
+load_of rows port = unwrap_or (port_value rows.load port) 0
+
+abbrev pub is_blocked_of : Rows → NodeKey → Bool
+is_blocked_of rows node = has_node rows.block node

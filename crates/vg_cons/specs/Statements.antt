@@ -1,0 +1,109 @@
+-- What a line states by itself: a row, or the fault of its words.
+use Rattle.std.specs.Prelude.{ℕ, ◌==◌, ◌^◌, Bool, false, List, [], ◌∷◌, ℤ, pos, Option, Some, None, Result, Ok, Err, if◌then◌else◌, codes, refl}
+use Rattle.std.specs.Str.{bytes_eq}
+use Rattle.vg_num.specs.Number.{scaled, signed_scaled}
+use Rattle.vg_num.specs.declared.fault.NumFault.{NumFault}
+use Rattle.vg_scan.specs.Nodes.{port_of, inner_of, node_of}
+use Rattle.vg_scan.specs.declared.chars.Chars.{Chars}
+use Rattle.vg_cons.specs.declared.fault.ConsKind.{ConsKind}
+use Rattle.vg_cons.specs.declared.fault.ConsKind.TheVariants.{Word, Number}
+use Rattle.vg_cons.specs.Lines.{Line}
+use Rattle.vg_cons.specs.Names.{NodeKey}
+
+-- names are written with the divider `/`, the delimiter `:` and the bus delimiters `[` and `]`
+abbrev pub CHARS : Chars
+CHARS = record { divider = 47; delimiter = 58; bus_left = 91; bus_right = 93; divides = refl; delimits = refl; encloses = refl }
+
+-- times are in zeptoseconds, resistances in milliohms, capacitances in attofarads
+pub data Statement : Type 0 where
+  default : ℤ → Statement
+  required : NodeKey × ℤ → Statement
+  arrival : NodeKey × ℤ → Statement
+  want : NodeKey → Statement
+  drive : List ℕ × (ℕ × ℤ) → Statement
+  load : List ℕ × ℕ → Statement
+  block : NodeKey → Statement
+
+-- a text that begins with an unescaped star refers to an index of names, and there is none
+abbrev pub is_reference : List ℕ → Bool
+is_reference [] = false
+is_reference (b ∷ bs) = b == 42
+
+abbrev pub or_word : {A : Type 0} → Option A → Result A ConsKind
+or_word (Some name) = Ok name
+or_word None = Err Word
+
+-- the name that a word is: of a pin (a port or a node), of a port, of a node
+unfoldable pub pin_in : List ℕ → Result NodeKey ConsKind
+pin_in word = if is_reference word then Err Word else or_word (node_of CHARS word)
+
+unfoldable pub port_in : List ℕ → Result (List ℕ) ConsKind
+port_in word = if is_reference word then Err Word else or_word (port_of CHARS word)
+
+unfoldable pub inner_in : List ℕ → Result NodeKey ConsKind
+inner_in word = if is_reference word then Err Word else or_word (inner_of CHARS word)
+
+abbrev pub or_number : {A : Type 0} → Result A NumFault → Result A ConsKind
+or_number (Ok n) = Ok n
+or_number (Err fault) = Err (Number fault)
+
+-- picoseconds
+unfoldable pub time_in : List ℕ → Result ℤ ConsKind
+time_in word = or_number (signed_scaled (pos 9) (10 ^ 23) word)
+
+-- ohms, or femtofarads
+unfoldable pub thousandths_in : List ℕ → Result ℕ ConsKind
+thousandths_in word = or_number (scaled (pos 3) (10 ^ 15) word)
+
+-- what is made of a part, or the part's fault
+abbrev pub of_one : {A B : Type 0} → (A → B) → Result A ConsKind → Result B ConsKind
+of_one make (Ok a) = Ok (make a)
+of_one make (Err kind) = Err kind
+
+-- two parts, or the fault of the first that has one
+abbrev pub of_two : {A B : Type 0} → Result A ConsKind → Result B ConsKind → Result (A × B) ConsKind
+of_two (Ok a) b = of_one (λ b. (a, b)) b
+of_two (Err kind) b = Err kind
+
+-- `default required T`
+abbrev pub default_line : Line → Result Statement ConsKind
+default_line (word ∷ time ∷ []) = if bytes_eq word (codes "required") then of_one default (time_in time) else Err Word
+default_line _ = Err Word
+
+-- `PIN T`
+abbrev pub timed : Line → Result (NodeKey × ℤ) ConsKind
+timed (pin ∷ time ∷ []) = of_two (pin_in pin) (time_in time)
+timed _ = Err Word
+
+-- `want PIN inverted`
+abbrev pub want_line : Line → Result Statement ConsKind
+want_line (pin ∷ word ∷ []) = if bytes_eq word (codes "inverted") then of_one want (pin_in pin) else Err Word
+want_line _ = Err Word
+
+-- `drive PORT R K`
+abbrev pub drive_line : Line → Result Statement ConsKind
+drive_line (port ∷ r ∷ k ∷ []) = of_one drive (of_two (port_in port) (of_two (thousandths_in r) (time_in k)))
+drive_line _ = Err Word
+
+-- `load PORT C`
+abbrev pub load_line : Line → Result Statement ConsKind
+load_line (port ∷ c ∷ []) = of_one load (of_two (port_in port) (thousandths_in c))
+load_line _ = Err Word
+
+-- `block NODE`
+abbrev pub block_line : Line → Result Statement ConsKind
+block_line (node ∷ []) = of_one block (inner_in node)
+block_line _ = Err Word
+
+-- what a line states, by its first word
+unfoldable pub said : Line → Result Statement ConsKind
+said [] = Err Word
+said (first ∷ words) =
+    if bytes_eq first (codes "default") then default_line words
+    else (if bytes_eq first (codes "required") then of_one required (timed words)
+    else (if bytes_eq first (codes "arrival") then of_one arrival (timed words)
+    else (if bytes_eq first (codes "want") then want_line words
+    else (if bytes_eq first (codes "drive") then drive_line words
+    else (if bytes_eq first (codes "load") then load_line words
+    else (if bytes_eq first (codes "block") then block_line words
+    else Err Word))))))

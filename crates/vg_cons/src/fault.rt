@@ -1,0 +1,30 @@
+use thiserror::Error;
+use vg_num::NumFault;
+
+/// What is wrong with a line of a constraints text.
+#[derive(Clone, Copy, Debug, PartialEq, Eq, Error)]
+pub enum ConsKind {
+    /// The first line with words is not `vgcons 1`, or no line has words.
+    #[error("no heading `vgcons 1`")]
+    Version,
+    /// The first word, the number of words, a fixed word or the form of a name is another.
+    #[error("words that are no row")]
+    Word,
+    /// A number cannot be read; it is the first such one of the line.
+    #[error("{0}")]
+    Number(NumFault),
+    /// A row of the same kind and name, or the default, was given before.
+    #[error("given twice")]
+    Twice,
+    /// Memory was wanted and not given.
+    #[error("out of memory")]
+    Memory,
+}
+
+/// A fault of a constraints text, and the number of its line; the first is 1.
+#[derive(Clone, Copy, Debug, PartialEq, Eq, Error)]
+#[error("line {line}: {kind}")]
+pub struct ConsFault {
+    pub kind: ConsKind,
+    pub line: usize,
+}

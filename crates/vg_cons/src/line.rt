@@ -1,0 +1,183 @@
+//! One line: its comment, its words, and the row that it states.
+
+ghost use Rattle.std.specs.Prelude.{◌≡◌, ◌≤◌, length, OnOk};
+ghost use Rattle.std.specs.List.{before_first, position, All};
+ghost use Rattle.std.specs.Str.{bytes_eq};
+ghost use Rattle.vg_scan.specs.Lines.{words};
+ghost use Rattle.vg_cons.specs.Names.{key_of};
+ghost use Rattle.vg_cons.specs.Lines.{is_hash, is_heading};
+ghost use Rattle.vg_cons.specs.Statements.{said, default_line, timed, want_line, drive_line, load_line, block_line, of_one, required, arrival};
+ghost use Rattle.vg_cons.specs.Views.{Agrees, IsIn, part_at, words_at, seen};
+
+use crate::fault::ConsKind;
+use crate::names::{inner_of, pin_of, port_of, read_thousandths, read_time};
+use crate::row::Row;
+use std::alloc::{AllocError, Global};
+use vg_scan::{NodeName, Span, next_word, text_at};
+
+fn hash_at(line: &[u8]) -> Option<usize>
+    ensures { result ≡ position is_hash line.now }
+{
+    line.iter().position(|byte| *byte == b'#')
+}
+
+/// The line without its comment.
+pub(crate) fn without_comment(bytes: &[u8], line: Span) -> Span
+    requires { IsIn bytes.now line }
+    ensures cut { part_at bytes.now result ≡ before_first is_hash (part_at bytes.now line) }
+    ensures within { IsIn bytes.now result }
+{
+    match hash_at(&bytes[line.from..line.to]) {
+        None => line,
+        Some(at) => Span {
+            from: line.from,
+            to: line.from + at,
+        },
+    }
+}
+
+/// Puts the words of a line in place of what the list held.
+pub(crate) fn words_of(bytes: &[u8], line: Span, found: &mut Vec<Span>) -> Result<(), AllocError>
+    requires { IsIn bytes.now line }
+    ensures { OnOk result (words_at bytes.now found.new.items ≡ words (part_at bytes.now line)) }
+{
+    found.clear();
+    let mut rest = line;
+    'word: while let Some((word, after)) = next_word(bytes, rest) {
+        found.push(word)?;
+        rest = after;
+    }
+    Ok(())
+}
+
+fn is_word(bytes: &[u8], span: Span, word: &[u8]) -> bool
+    ensures { result ≡ bytes_eq (part_at bytes.now span) word.now }
+{
+    text_at(bytes, span) == word
+}
+
+/// Whether the words are the heading.
+pub(crate) fn is_heading(bytes: &[u8], words: &[Span]) -> bool
+    ensures { result ≡ is_heading (words_at bytes.now words.now) }
+{
+    words.len() == 2 && is_word(bytes, words[0], b"vgcons") && is_word(bytes, words[1], b"1")
+}
+
+/// The row that the words of a line state.
+///
+/// Answers `Word` and `Number` where they are none, in this order, and `Memory` where there is no room for a name.
+#[tactic(auto, unfolding(crate::specs::Statements::said))]
+pub(crate) fn say(alloc: Global, bytes: &[u8], words: &[Span]) -> Result<Row, ConsKind>
+    ensures { Agrees seen result (said (words_at bytes.now words.now)) }
+{
+    if words.is_empty() {
+        return Err(ConsKind::Word);
+    }
+    let rest = &words[1..];
+    if is_word(bytes, words[0], b"default") {
+        return say_default(bytes, rest);
+    }
+    if is_word(bytes, words[0], b"required") {
+        return say_required(alloc, bytes, rest);
+    }
+    if is_word(bytes, words[0], b"arrival") {
+        return say_arrival(alloc, bytes, rest);
+    }
+    if is_word(bytes, words[0], b"want") {
+        return say_want(alloc, bytes, rest);
+    }
+    if is_word(bytes, words[0], b"drive") {
+        return say_drive(alloc, bytes, rest);
+    }
+    if is_word(bytes, words[0], b"load") {
+        return say_load(alloc, bytes, rest);
+    }
+    if is_word(bytes, words[0], b"block") {
+        return say_block(alloc, bytes, rest);
+    }
+    Err(ConsKind::Word)
+}
+
+fn say_default(bytes: &[u8], words: &[Span]) -> Result<Row, ConsKind>
+    ensures { Agrees seen result (default_line (words_at bytes.now words.now)) }
+{
+    let [word, time] = words else {
+        return Err(ConsKind::Word);
+    };
+    if !is_word(bytes, *word, b"required") {
+        return Err(ConsKind::Word);
+    }
+    let time = read_time(text_at(bytes, *time))?;
+    Ok(Row::Default(time))
+}
+
+fn say_timed(alloc: Global, bytes: &[u8], words: &[Span]) -> Result<(NodeName, i128), ConsKind>
+    ensures { Agrees (λ row. (key_of row.0, row.1)) result (timed (words_at bytes.now words.now)) }
+{
+    let [pin, time] = words else {
+        return Err(ConsKind::Word);
+    };
+    let pin = pin_of(alloc, text_at(bytes, *pin))?;
+    let time = read_time(text_at(bytes, *time))?;
+    Ok((pin, time))
+}
+
+fn say_required(alloc: Global, bytes: &[u8], words: &[Span]) -> Result<Row, ConsKind>
+    ensures { Agrees seen result (of_one required (timed (words_at bytes.now words.now))) }
+{
+    let (pin, time) = say_timed(alloc, bytes, words)?;
+    Ok(Row::Required(pin, time))
+}
+
+fn say_arrival(alloc: Global, bytes: &[u8], words: &[Span]) -> Result<Row, ConsKind>
+    ensures { Agrees seen result (of_one arrival (timed (words_at bytes.now words.now))) }
+{
+    let (pin, time) = say_timed(alloc, bytes, words)?;
+    Ok(Row::Arrival(pin, time))
+}
+
+fn say_want(alloc: Global, bytes: &[u8], words: &[Span]) -> Result<Row, ConsKind>
+    ensures { Agrees seen result (want_line (words_at bytes.now words.now)) }
+{
+    let [pin, word] = words else {
+        return Err(ConsKind::Word);
+    };
+    if !is_word(bytes, *word, b"inverted") {
+        return Err(ConsKind::Word);
+    }
+    let pin = pin_of(alloc, text_at(bytes, *pin))?;
+    Ok(Row::Want(pin))
+}
+
+fn say_drive(alloc: Global, bytes: &[u8], words: &[Span]) -> Result<Row, ConsKind>
+    ensures { Agrees seen result (drive_line (words_at bytes.now words.now)) }
+{
+    let [port, resistance, delay] = words else {
+        return Err(ConsKind::Word);
+    };
+    let port = port_of(alloc, text_at(bytes, *port))?;
+    let resistance = read_thousandths(text_at(bytes, *resistance))?;
+    let delay = read_time(text_at(bytes, *delay))?;
+    Ok(Row::Drive(port, (resistance, delay)))
+}
+
+fn say_load(alloc: Global, bytes: &[u8], words: &[Span]) -> Result<Row, ConsKind>
+    ensures { Agrees seen result (load_line (words_at bytes.now words.now)) }
+{
+    let [port, load] = words else {
+        return Err(ConsKind::Word);
+    };
+    let port = port_of(alloc, text_at(bytes, *port))?;
+    let load = read_thousandths(text_at(bytes, *load))?;
+    Ok(Row::Load(port, load))
+}
+
+fn say_block(alloc: Global, bytes: &[u8], words: &[Span]) -> Result<Row, ConsKind>
+    ensures { Agrees seen result (block_line (words_at bytes.now words.now)) }
+{
+    let [node] = words else {
+        return Err(ConsKind::Word);
+    };
+    let node = inner_of(alloc, text_at(bytes, *node))?;
+    Ok(Row::Block(node))
+}

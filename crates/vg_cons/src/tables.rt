@@ -1,0 +1,162 @@
+//! The tables of the rows: a look-up takes no memory and no walk.
+
+ghost use Rattle.std.specs.Prelude.{◌≡◌, ℕ, ℤ, List, [], ◌∷◌, ◌++◌, map, not, is_some, true, IfOk};
+ghost use Rattle.vg_cons.specs.Names.{NodeKey, key_of, node_value, port_value, has_node};
+
+use indexmap::{IndexMap, IndexSet};
+use std::alloc::Global;
+use std::marker::Model;
+use vg_num::Memory;
+use vg_scan::{Name, NodeName};
+
+/// A time for each of some pins or nodes, in the order in which they came.
+#[derive(Drop)]
+pub(crate) struct NodeTimes {
+    times: IndexMap<NodeName, i128>,
+}
+
+impl Model for NodeTimes {
+    ghost Value = { List (NodeKey × ℤ) };
+
+    ghost view = { λ table. map (λ row. (key_of row.0, row.1)) table.times.entries };
+}
+
+impl NodeTimes {
+    pub fn new(alloc: Global) -> NodeTimes
+        ensures { result ≡ [] }
+    {
+        NodeTimes {
+            times: IndexMap::new(alloc),
+        }
+    }
+
+    /// Puts a time last where its node is new, and says whether it was.
+    pub fn insert(&mut self, node: NodeName, time: i128) -> Result<bool, Memory>
+        ensures fresh { IfOk result (λ fresh. fresh ≡ not (is_some (node_value self.old (key_of node)))) }
+        ensures last { IfOk result (λ fresh. fresh ≡ true → self.new ≡ self.old ++ (key_of node, time) ∷ []) }
+    {
+        let before = self.times.insert(node, time)?;
+        Ok(before.is_none())
+    }
+
+    /// The time of a node.
+    pub fn get(&self, node: &NodeName) -> Option<i128>
+        ensures { result ≡ node_value self.now (key_of node.now) }
+    {
+        self.times.get(node).copied()
+    }
+}
+
+/// Some pins or nodes, in the order in which they came.
+#[derive(Drop)]
+pub(crate) struct NodeSet {
+    nodes: IndexSet<NodeName>,
+}
+
+impl Model for NodeSet {
+    ghost Value = { List NodeKey };
+
+    ghost view = { λ set. map key_of set.nodes.keys };
+}
+
+impl NodeSet {
+    pub fn new(alloc: Global) -> NodeSet
+        ensures { result ≡ [] }
+    {
+        NodeSet {
+            nodes: IndexSet::new(alloc),
+        }
+    }
+
+    /// Puts a node last where it is new, and says whether it was.
+    pub fn insert(&mut self, node: NodeName) -> Result<bool, Memory>
+        ensures fresh { IfOk result (λ fresh. fresh ≡ not (has_node self.old (key_of node))) }
+        ensures last { IfOk result (λ fresh. fresh ≡ true → self.new ≡ self.old ++ key_of node ∷ []) }
+    {
+        let (_, fresh) = self.nodes.insert_full(node)?;
+        Ok(fresh)
+    }
+
+    /// Whether the node is one of them.
+    pub fn contains(&self, node: &NodeName) -> bool
+        ensures { result ≡ has_node self.now (key_of node.now) }
+    {
+        self.nodes.contains(node)
+    }
+}
+
+/// Resistance and delay for each of some ports, in the order in which they came.
+#[derive(Drop)]
+pub(crate) struct PortDrives {
+    drives: IndexMap<Name, (u64, i128)>,
+}
+
+impl Model for PortDrives {
+    ghost Value = { List (List ℕ × (ℕ × ℤ)) };
+
+    ghost view = { λ table. table.drives.entries };
+}
+
+impl PortDrives {
+    pub fn new(alloc: Global) -> PortDrives
+        ensures { result ≡ [] }
+    {
+        PortDrives {
+            drives: IndexMap::new(alloc),
+        }
+    }
+
+    /// Puts a drive last where its port is new, and says whether it was.
+    pub fn insert(&mut self, port: Name, drive: (u64, i128)) -> Result<bool, Memory>
+        ensures fresh { IfOk result (λ fresh. fresh ≡ not (is_some (port_value self.old port))) }
+        ensures last { IfOk result (λ fresh. fresh ≡ true → self.new ≡ self.old ++ (port, drive) ∷ []) }
+    {
+        let before = self.drives.insert(port, drive)?;
+        Ok(before.is_none())
+    }
+
+    /// The drive of a port.
+    pub fn get(&self, port: &Name) -> Option<(u64, i128)>
+        ensures { result ≡ port_value self.now port.now }
+    {
+        self.drives.get(port).copied()
+    }
+}
+
+/// A capacitance for each of some ports, in the order in which they came.
+#[derive(Drop)]
+pub(crate) struct PortLoads {
+    loads: IndexMap<Name, u64>,
+}
+
+impl Model for PortLoads {
+    ghost Value = { List (List ℕ × ℕ) };
+
+    ghost view = { λ table. table.loads.entries };
+}
+
+impl PortLoads {
+    pub fn new(alloc: Global) -> PortLoads
+        ensures { result ≡ [] }
+    {
+        PortLoads {
+            loads: IndexMap::new(alloc),
+        }
+    }
+
+    /// Puts a load last where its port is new, and says whether it was.
+    pub fn insert(&mut self, port: Name, load: u64) -> Result<bool, Memory>
+        ensures fresh { IfOk result (λ fresh. fresh ≡ not (is_some (port_value self.old port))) }
+        ensures last { IfOk result (λ fresh. fresh ≡ true → self.new ≡ self.old ++ (port, load) ∷ []) }
+    {
+        let before = self.loads.insert(port, load)?;
+        Ok(before.is_none())
+    }
+
+    /// The load of a port.
+    pub fn get(&self, port: &Name) -> Option<u64>
+        ensures { result ≡ port_value self.now port.now }
+    {
+        self.loads.get(port).copied()
+    }
+}
