@@ -1,11 +1,8 @@
 -- A forest with one more edge: the root i hangs under the root p.
-use Rattle.std.proofs.Common.{◌≡◌, ℕ, ◌+◌, ◌≢◌, Bool, sym, ap, ◌∙◌, subst, cond, arith, inl, inr}
+use Rattle.std.proofs.Common.{◌≡◌, ℕ, ◌≢◌, sym, ap, ◌∙◌, subst, ◌||◌, refl, inl, inr}
 use Rattle.std.proofs.lemmas.Bool.{cases_eq}
-use Rattle.std.specs.List.{sum_by}
-use Rattle.elmore.specs.Path.{Falls, is_over, nodes}
-use Rattle.elmore.specs.Wire.{downstream}
+use Rattle.elmore.specs.Path.{Falls, is_over}
 use Rattle.elmore.proofs.PathLaws.{upward, over_self, over_at_root, over_below}
-use Rattle.elmore.proofs.SumLaws.{sum_of_filter, sum_of_both, sum_of_same}
 
 pub record Hung (before after : ℕ → ℕ) (i p : ℕ) : Type 0 where
   pub falls : Falls before
@@ -59,40 +56,15 @@ over_other before after i p h v v_p w =
     over_below after h.falls_after v u a u_v ∙ ap (is_over after v) e ∙ more ∙ sym (over_below before h.falls v u b u_v))
     w
 
--- p is over what it or i was over, and never both were
-pub over_hung : (before after : ℕ → ℕ) (i p : ℕ) → Hung before after i p → (c w : ℕ)
-    → cond (is_over after p w) c 0 ≡ cond (is_over before p w) c 0 + cond (is_over before i w) c 0
-over_hung before after i p h c w =
-    along before after i p h (λ u. cond (is_over after p u) c 0 ≡ cond (is_over before p u) c 0 + cond (is_over before i u) c 0) p
-    (rw (over_self after h.falls_after p, over_self before h.falls p, over_at_root before h.falls i p h.root_above (λ e. h.apart (sym e)))
-    (omega arith))
+-- p is over what it or i was over
+pub over_hung : (before after : ℕ → ℕ) (i p : ℕ) → Hung before after i p → (w : ℕ) → is_over after p w ≡ (is_over before p w || is_over before i w)
+over_hung before after i p h =
+    along before after i p h (λ u. is_over after p u ≡ (is_over before p u || is_over before i u)) p
+    (rw (over_self after h.falls_after p, over_self before h.falls p) refl)
     (λ i_p.
     rw (over_hung_at before after i p h p i_p, over_self after h.falls_after p, over_at_root before h.falls p i h.root i_p, over_self before h.falls i)
-    (omega arith))
+    refl)
     (λ u u_p u_i a b.
-    rw (over_at_root after h.falls_after p u a u_p, over_at_root before h.falls p u b u_p, over_at_root before h.falls i u b u_i)
-    (omega arith))
+    rw (over_at_root after h.falls_after p u a u_p, over_at_root before h.falls p u b u_p, over_at_root before h.falls i u b u_i) refl)
     (λ u u_p u_i a b e more.
     rw (over_below after h.falls_after p u a u_p, over_below before h.falls p u b u_p, over_below before h.falls i u b u_i, e) more)
-    w
-
-pub downstream_sum : (parent c : ℕ → ℕ) (n v : ℕ) → downstream parent c n v ≡ sum_by (λ w. cond (is_over parent v w) (c w) 0) (nodes n)
-unfolding downstream
-downstream_sum parent c n v = sum_of_filter c (is_over parent v) (nodes n)
-
--- one more edge leaves the downstream capacitance of every other node
-pub downstream_other : (before after : ℕ → ℕ) (i p : ℕ) → Hung before after i p → (c : ℕ → ℕ) (n v : ℕ) → v ≢ p
-    → downstream after c n v ≡ downstream before c n v
-downstream_other before after i p h c n v v_p =
-    downstream_sum after c n v
-    ∙ sum_of_same _ _ (nodes n) (λ w. ap (λ (t : Bool). cond t (c w) 0) (over_other before after i p h v v_p w))
-    ∙ sym (downstream_sum before c n v)
-
--- and adds its child's to its parent's
-pub downstream_hung : (before after : ℕ → ℕ) (i p : ℕ) → Hung before after i p → (c : ℕ → ℕ) (n : ℕ)
-    → downstream after c n p ≡ downstream before c n p + downstream before c n i
-downstream_hung before after i p h c n =
-    let both : sum_by (λ w. cond (is_over after p w) (c w) 0) (nodes n)
-    ≡ sum_by (λ w. cond (is_over before p w) (c w) 0) (nodes n) + sum_by (λ w. cond (is_over before i w) (c w) 0) (nodes n) =
-    sum_of_same _ _ (nodes n) (λ w. over_hung before after i p h (c w) w) ∙ sum_of_both _ _ (nodes n) in
-    omega (arith, downstream_sum after c n p, downstream_sum before c n p, downstream_sum before c n i, both)

@@ -1,6 +1,6 @@
 -- A path by its lowest step: each word of `Path` at w, from itself at the parent of w.
-use Rattle.std.proofs.Common.{◌≡◌, ℕ, zero, suc, ◌<◌, ◌≤◌, ◌≢◌, true, false, not, List, [], ◌∷◌, refl, sym, ap, ◌∙◌, eqb, arith, inl, inr}
-use Rattle.std.proofs.lemmas.Bool.{eq-eqb, ne_eqb, cases_eq, cond-true}
+use Rattle.std.proofs.Common.{◌≡◌, ℕ, zero, suc, ◌<◌, ◌≤◌, ◌≢◌, true, false, not, List, [], ◌∷◌, refl, sym, ap, ◌∙◌, eqb, arith, subst, inl, inr}
+use Rattle.std.proofs.lemmas.Bool.{eq-eqb, ne_eqb, cases_eq, cond-true, false≢true}
 use Rattle.std.proofs.lemmas.List.Sums.{take_while-cons}
 use Rattle.std.specs.List.{take_while}
 use Rattle.elmore.specs.Path.{Falls, climb, path, is_over, way}
@@ -99,3 +99,56 @@ over_smaller parent falls v w =
       | inr below ↦ over_below parent falls v u below (λ e. omega arith) ∙ more below (omega (arith, falls u))
     ])
     w
+
+-- induction on the path of w down from v
+pub down : (parent : ℕ → ℕ) → Falls parent → (P : ℕ → Type 0) (v : ℕ)
+    → P v
+    → ((w : ℕ) → w ≢ v → parent w ≡ w → P w)
+    → ((w : ℕ) → w ≢ v → parent w ≢ w → P (parent w) → P w)
+    → (w : ℕ) → P w
+down parent falls P v self root below =
+    upward parent falls P (λ w more.
+    elim (cases_eq w v) [
+      | inl e ↦ subst P (sym e) self
+      | inr w_v ↦ elim (cases_eq (parent w) w) [
+        | inl r ↦ root w w_v r
+        | inr b ↦ below w w_v b (more b)
+      ]
+    ])
+
+-- and on that of a node that v is over
+pub under : (parent : ℕ → ℕ) → Falls parent → (P : ℕ → Type 0) (v : ℕ)
+    → P v
+    → ((w : ℕ) → w ≢ v → parent w ≢ w → is_over parent v w ≡ true → is_over parent v (parent w) ≡ true → P (parent w) → P w)
+    → (w : ℕ) → is_over parent v w ≡ true → P w
+under parent falls P v self below =
+    down parent falls (λ w. is_over parent v w ≡ true → P w) v
+    (λ _. self)
+    (λ w w_v r over. absurd (false≢true (sym (over_at_root parent falls v w r w_v) ∙ over)))
+    (λ w w_v b more over.
+    let over_above : is_over parent v (parent w) ≡ true = sym (over_below parent falls v w b w_v) ∙ over in
+    below w w_v b over over_above (more over_above))
+
+pub over_le : (parent : ℕ → ℕ) → Falls parent → (v w : ℕ) → is_over parent v w ≡ true → v ≤ w
+over_le parent falls v = under parent falls (λ w. v ≤ w) v (omega arith) (λ w w_v b _ _ more. omega (arith, more, falls w))
+
+pub over_trans : (parent : ℕ → ℕ) → Falls parent → (v u w : ℕ) → is_over parent v u ≡ true → is_over parent u w ≡ true → is_over parent v w ≡ true
+over_trans parent falls v u w v_u =
+    under parent falls (λ x. is_over parent v x ≡ true) u v_u
+    (λ x x_u b under_u above more.
+    let other : x ≢ v = λ e. x_u (omega (arith, over_le parent falls v u v_u, over_le parent falls u x under_u)) in
+    over_below parent falls v x b other ∙ more)
+    w
+
+-- v is over no other node that is its own parent
+pub below_other : (parent : ℕ → ℕ) → Falls parent → (v w : ℕ) → is_over parent v w ≡ true → w ≢ v → parent w ≢ w
+below_other parent falls v w over w_v root = false≢true (sym (over_at_root parent falls v w root w_v) ∙ over)
+
+-- two roots have nothing below them in common
+pub over_apart : (parent : ℕ → ℕ) → Falls parent → (p i : ℕ) → p ≢ i → parent p ≡ p → parent i ≡ i
+    → (w : ℕ) → is_over parent p w ≡ true → is_over parent i w ≡ false
+over_apart parent falls p i p_i p_root i_root =
+    under parent falls (λ w. is_over parent i w ≡ false) p (over_at_root parent falls i p p_root p_i)
+    (λ w w_p b _ _ more.
+    let w_i : w ≢ i = λ e. b (ap parent e ∙ i_root ∙ sym e) in
+    over_below parent falls i w b w_i ∙ more)

@@ -1,7 +1,8 @@
 -- Sums over filters and over the numbers of nodes.
-use Rattle.std.proofs.Common.{◌≡◌, ℕ, zero, suc, ◌+◌, ◌<◌, ◌≤◌, Bool, true, false, List, [], ◌∷◌, refl, sym, ap, ◌∙◌, eqb, cond, arith, add-one, inl, inr}
+use Rattle.std.proofs.Common.{◌≡◌, ℕ, zero, suc, ◌+◌, ◌<◌, ◌≤◌, Bool, true, false, List, [], ◌∷◌, refl, sym, ap, ◌∙◌, eqb, cond, arith, add-one, inl, inr, length, get_or, take}
 use Rattle.std.proofs.lemmas.Bool.{eq-eqb, ne_eqb, cases_eq}
-use Rattle.std.proofs.lemmas.List.Sums.{sum_by-cons, sum_by-le-sum_by}
+use Rattle.std.proofs.lemmas.List.Sums.{sum_by-cons, sum_by-le-sum_by, sum_by_more}
+use Rattle.std.proofs.Math.Seq.{take-length}
 use Rattle.std.specs.List.{sum_by, filter, range_with_len}
 use Rattle.elmore.specs.Path.{nodes}
 
@@ -89,3 +90,26 @@ pub sum_of_alike : (f g : ℕ → ℕ) (n : ℕ) → ((k : ℕ) → k < n → f 
 sum_of_alike f g zero alike = refl
 sum_of_alike f g (suc n) alike =
     omega (arith, more_from f 0 n n (omega arith), more_from g 0 n n (omega arith), alike n (omega arith), sum_of_alike f g n (λ k h. alike k (omega arith)))
+
+-- a sum over the numbers of a list's elements is one over its elements; what stands past the end does not matter
+pub sum_of_items : {X : Type 0} (f : X → ℕ) (d : ℕ → X) (xs : List X) → sum_by (λ v. f (get_or xs v (d v))) (nodes (length xs)) ≡ sum_by f xs
+sum_of_items {X} f d xs = first (length xs) (omega arith) ∙ ap (sum_by f) (take-length xs)
+  where
+    first : (k : ℕ) → k ≤ length xs → sum_by (λ v. f (get_or xs v (d v))) (nodes k) ≡ sum_by f (take k xs)
+    first zero h = refl
+    first (suc k) h =
+        ap (λ (j : ℕ). sum_by (λ v. f (get_or xs v (d v))) (nodes j)) (sym (add-one k))
+        ∙ sum_of_more (λ v. f (get_or xs v (d v))) k
+        ∙ ap (λ (j : ℕ). j + f (get_or xs k (d k))) (first k (omega arith))
+        ∙ sym (sum_by_more f xs k (d k) (omega arith))
+        ∙ ap (λ (j : ℕ). sum_by f (take j xs)) (add-one k)
+
+-- each summand is at most the sum
+pub summand_le : (f : ℕ → ℕ) (i n : ℕ) → i < n → f i ≤ sum_by f (nodes n)
+summand_le f i n i_n =
+    omega (
+      arith,
+      sum_of_filter_le f (λ (w : ℕ). eqb w i) (nodes n),
+      sum_of_filter f (λ (w : ℕ). eqb w i) (nodes n),
+      sum_at f i 0 n (omega arith) (omega arith),
+    )

@@ -1,11 +1,9 @@
 -- The nodes of a tree as a forest.
-use Rattle.std.proofs.Common.{◌≡◌, ℕ, zero, suc, ◌+◌, ◌<◌, ◌≤◌, List, refl, sym, ap, ◌∙◌, arith, inl, inr, length, get_or, set, slice_index_or, take, ◌*◌, ℤ, pos, add-one, to_z, of_z, ◌^◌}
+use Rattle.std.proofs.Common.{◌≡◌, ℕ, ◌+◌, ◌<◌, ◌≤◌, List, ap, ◌∙◌, arith, inl, inr, length, slice_index_or, ◌*◌, pos, to_z, of_z, ◌^◌}
 use Rattle.std.proofs.lemmas.Bool.{cases_eq, cases_lt}
-use Rattle.std.proofs.lemmas.List.{get_or_default, get_or_past, get_or-set_same, get_or-set_other}
-use Rattle.std.proofs.lemmas.List.Sums.{sum_by_more}
+use Rattle.std.proofs.lemmas.List.{get_or_default, get_or_past}
 use Rattle.std.proofs.lemmas.Int.{to_z-of_z, fits_signed_from_abs}
 use Rattle.std.proofs.Math.Nat.{mul-le-mul}
-use Rattle.std.proofs.Math.Seq.{take-length}
 use mir.Syntax.{w128}
 use Rattle.std.specs.List.{sum_by}
 use Rattle.elmore.specs.Path.{Falls, nodes as node_numbers}
@@ -13,9 +11,10 @@ use Rattle.elmore.specs.Trees.{IsTree, IsWithinLimits, node_at, parent_of, resis
 use Rattle.elmore.specs.Wire.{delay_in, downstream_in}
 use Rattle.elmore.specs.declared.tree.Node.{Node}
 use Rattle.elmore.specs.Cut.{cut}
-use Rattle.elmore.proofs.SumLaws.{sum_of_more}
-use Rattle.elmore.proofs.CutLaws.{cut_below, cut_from, downstream_bound}
-use Rattle.elmore.proofs.DelayLaws.{IsRooted, wire_delay_root, wire_delay_step, wire_delay_bound, downstream_root}
+use Rattle.elmore.proofs.SumLaws.{sum_of_items}
+use Rattle.elmore.proofs.CutLaws.{cut_below, cut_from}
+use Rattle.elmore.proofs.RootLaws.{IsTreeOf}
+use Rattle.elmore.proofs.WireLaws.{downstream_bound, downstream_root, wire_delay_root, wire_delay_step, wire_delay_bound}
 
 pub parent_past : (nodes : List Node) (v : ℕ) → length nodes ≤ v → parent_of nodes v ≡ v
 parent_past nodes v h = ap (λ (n : Node). n.parent) (get_or_past nodes v (record { parent = v; r = 0; c = 0 }) h)
@@ -30,8 +29,8 @@ tree_falls nodes t v =
       | inr high ↦ omega (arith, parent_past nodes v high)
     ]
 
-pub tree_rooted : (nodes : List Node) → IsTree nodes → IsRooted (parent_of nodes) (length nodes)
-tree_rooted nodes t = record { falls = tree_falls nodes t; above = t.smaller }
+pub tree_of : (nodes : List Node) → IsTree nodes → IsTreeOf (parent_of nodes) (length nodes)
+tree_of nodes t = record { falls = tree_falls nodes t; root = t.root; above = t.smaller; past = parent_past nodes }
 
 pub cut_past : (nodes : List Node) (v : ℕ) → cut (length nodes) (parent_of nodes) v ≡ v
 cut_past nodes v =
@@ -49,16 +48,7 @@ resistance_read nodes v d h = ap (λ (n : Node). n.r) (get_or_default nodes v d 
 
 -- a sum over the numbers of a tree's nodes is one over its nodes
 pub sum_of_nodes : (f : Node → ℕ) (nodes : List Node) → sum_by (λ v. f (node_at nodes v)) (node_numbers (length nodes)) ≡ sum_by f nodes
-sum_of_nodes f nodes = first (length nodes) (omega arith) ∙ ap (sum_by f) (take-length nodes)
-  where
-    first : (k : ℕ) → k ≤ length nodes → sum_by (λ v. f (node_at nodes v)) (node_numbers k) ≡ sum_by f (take k nodes)
-    first zero h = refl
-    first (suc k) h =
-        ap (λ (j : ℕ). sum_by (λ v. f (node_at nodes v)) (node_numbers j)) (sym (add-one k))
-        ∙ sum_of_more (λ v. f (node_at nodes v)) k
-        ∙ ap (λ (j : ℕ). j + f (node_at nodes k)) (first k (omega arith))
-        ∙ sym (sum_by_more f nodes k (record { parent = k; r = 0; c = 0 }) (omega arith))
-        ∙ ap (λ (j : ℕ). sum_by f (take j nodes)) (add-one k)
+sum_of_nodes f nodes = sum_of_items f (λ v. record { parent = v; r = 0; c = 0 }) nodes
 
 pub load_bound : (nodes : List Node) (v : ℕ) → downstream_in nodes v ≤ total_capacitance nodes
 load_bound nodes v =
@@ -67,7 +57,7 @@ load_bound nodes v =
 pub delay_bound : (nodes : List Node) → IsTree nodes → (v : ℕ) → v < length nodes → delay_in nodes v ≤ total_capacitance nodes * total_resistance nodes
 delay_bound nodes t v v_n =
     rw (← sum_of_nodes (λ n. n.c) nodes, ← sum_of_nodes (λ n. n.r) nodes)
-    (wire_delay_bound (parent_of nodes) (length nodes) (tree_rooted nodes t) (resistance nodes) (capacitance nodes) v v_n)
+    (wire_delay_bound (parent_of nodes) (length nodes) (tree_of nodes t) (resistance nodes) (capacitance nodes) v v_n)
 
 -- the root's delay, and the others by one step
 pub root_delay : (nodes : List Node) → IsTree nodes → delay_in nodes 0 ≡ 0
@@ -80,27 +70,7 @@ next_delay nodes t v v_0 v_n =
 
 pub root_load : (nodes : List Node) → IsTree nodes → downstream_in nodes 0 ≡ total_capacitance nodes
 root_load nodes t =
-    downstream_root (parent_of nodes) (length nodes) (tree_rooted nodes t) (capacitance nodes) ∙ sum_of_nodes (λ n. n.c) nodes
-
-pub record AreDelays (nodes : List Node) (n : ℕ) (delays : List ℤ) : Type 0 where
-  pub each : (k : ℕ) → k < n → get_or delays k (pos 0) ≡ pos (delay_in nodes k)
-
-pub delays_begin : (nodes : List Node) → IsTree nodes → (delays : List ℤ) → 0 < length delays → AreDelays nodes 1 (set delays 0 (pos 0))
-delays_begin nodes t delays room = record {
-  each = λ k k_1.
-      let e : k ≡ 0 = omega arith in
-      rw e (get_or-set_same delays 0 (pos 0) (pos 0) room ∙ ap pos (sym (root_delay nodes t)));
-}
-
-pub delays_more : (nodes : List Node) (delays : List ℤ) (v : ℕ) (d : ℤ) → v < length delays → d ≡ pos (delay_in nodes v)
-    → AreDelays nodes v delays → AreDelays nodes (v + 1) (set delays v d)
-delays_more nodes delays v d room here before = record {
-  each = λ k low.
-      elim (cases_eq k v) [
-        | inl e ↦ rw e (get_or-set_same delays v d (pos 0) room ∙ here)
-        | inr other ↦ get_or-set_other delays v k d (pos 0) other ∙ before.each k (omega arith)
-      ];
-}
+    downstream_root (parent_of nodes) (length nodes) (tree_of nodes t) (capacitance nodes) ∙ sum_of_nodes (λ n. n.c) nodes
 
 -- within the limits every number of the pass is small
 pub small_delay : (nodes : List Node) → IsTree nodes → IsWithinLimits nodes → (v : ℕ) → v < length nodes → delay_in nodes v ≤ 10 ^ 23

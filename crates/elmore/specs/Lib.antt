@@ -3,4 +3,14 @@ pub mod Cut
 pub mod Trees
 pub mod Wire
 pub mod Room
+pub mod Cells
+pub mod Stage
+pub mod Delay
+pub mod Problems
+pub mod Placements
+pub mod Placed
+pub mod Pairs
+pub mod Frontier
+pub mod FrontierLaws
 pub mod Laws
+pub mod PlacedLaws

@@ -4,14 +4,47 @@
 //! one mΩ times one aF is one zs.
 #![tactic(auto)]
 
+mod costs;
+#[cfg(test)]
+mod fixtures;
+mod frontier_laws;
 mod laws;
+mod limits;
+mod live;
+mod loads;
+mod pair;
+mod parts;
+mod placement;
+mod polarity;
+mod problem;
+#[cfg(test)]
+mod problem_tests;
+mod rep;
 mod scratch;
+#[cfg(test)]
+mod slack_tests;
+mod slacks;
 #[cfg(test)]
 mod tests;
 mod tree;
 mod wire;
 
-pub use laws::{delay_steps, downstream_steps, root_drives_all};
+pub use costs::cost;
+pub use frontier_laws::{
+    best_is_last, frontier_is_whole, frontier_rises, one_frontier, one_slack, undominated_is_exact,
+};
+pub use laws::{
+    bare_loads, below_decides, delay_steps, downstream_steps, load_steps, placed_delay_steps,
+    root_drives_all,
+};
+pub use loads::load_of;
+pub use pair::Pair;
+pub use parts::{Driver, Sink};
+pub use placement::{Placement, first_illegal};
+pub use polarity::first_wrong;
+pub use problem::Problem;
+pub use rep::Rep;
 pub use scratch::Scratch;
+pub use slacks::slack;
 pub use tree::{Node, Tree};
 pub use wire::{wire_delay, wire_delays};

@@ -9,7 +9,9 @@ use vg_num::Memory;
 pub struct Scratch {
     pub(crate) loads: Vec<u128>,
     pub(crate) delays: Vec<i128>,
+    pub(crate) inverted: Vec<bool>,
     ghost same_room: { length loads.items ≡ length delays.items },
+    ghost same_marks: { length inverted.items ≡ length delays.items },
 }
 
 impl Scratch {
@@ -21,10 +23,16 @@ impl Scratch {
     {
         let loads = vec![in alloc; 0; n]?;
         let delays = vec![in alloc; 0; n]?;
-        Ok(Scratch { loads, delays })
+        let inverted = vec![in alloc; false; n]?;
+        Ok(Scratch {
+            loads,
+            delays,
+            inverted,
+        })
     }
 
     /// The delays (zs) that `wire_delays` computed last, one for each node of its tree and then others up to the room.
+    /// What else is computed with the same scratch may write over them.
     pub fn delays(&self) -> &[i128]
         ensures { result.now ≡ delays_of self.now }
     {

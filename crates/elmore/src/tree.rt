@@ -1,4 +1,4 @@
-ghost use Rattle.std.specs.Prelude.{◌≡◌, ◌↔◌, ℕ, ◌<◌, ◌≤◌, length, IsTrue, MatchOption};
+ghost use Rattle.std.specs.Prelude.{◌≡◌, ◌↔◌, ℕ, ◌+◌, ◌<◌, ◌≤◌, length, IsTrue, MatchOption};
 ghost use Rattle.elmore.specs.Trees.{IsTree, IsWithinLimits, parent_of, total_resistance, total_capacitance};
 
 use vg_num::Row;
@@ -50,7 +50,7 @@ const MOST_RESISTANCE: u64 = 1_000_000_000_000;
 
 const MOST_CAPACITANCE: u128 = 100_000_000_000;
 
-fn is_resistance_within(nodes: &[Node]) -> bool
+pub(crate) fn is_resistance_within(nodes: &[Node]) -> bool
     ensures { IsTrue result ↔ (total_resistance nodes.now ≤ MOST_RESISTANCE) }
 {
     let mut left = MOST_RESISTANCE;
@@ -66,14 +66,21 @@ fn is_resistance_within(nodes: &[Node]) -> bool
 fn is_capacitance_within(nodes: &[Node]) -> bool
     ensures { IsTrue result ↔ (total_capacitance nodes.now ≤ MOST_CAPACITANCE) }
 {
+    capacitance_left(nodes).is_some()
+}
+
+/// What all capacitors together leave of the limit (aF), or none where they go beyond it.
+pub(crate) fn capacitance_left(nodes: &[Node]) -> Option<u128>
+    ensures { MatchOption result (MOST_CAPACITANCE < total_capacitance nodes.now) (λ left. total_capacitance nodes.now + left ≡ MOST_CAPACITANCE) }
+{
     let mut left = MOST_CAPACITANCE;
     'capacitors: for node in nodes {
         if node.c > left {
-            return false;
+            return None;
         }
         left -= node.c;
     }
-    true
+    Some(left)
 }
 
 fn is_tree(nodes: &[Node]) -> bool

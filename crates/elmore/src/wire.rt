@@ -1,6 +1,6 @@
 //! Elmore wire delays by two passes: capacitances up, delays down.
 
-ghost use Rattle.std.specs.Prelude.{◌≡◌, ℕ, ◌*◌, ◌^◌, ◌<◌, ◌≤◌, ◌≤ℤ◌, ◌+ℤ◌, length, slice_index, slice_index_or, pos};
+ghost use Rattle.std.specs.Prelude.{◌≡◌, ℕ, ◌*◌, ◌^◌, ◌<◌, ◌≤◌, ◌≤ℤ◌, ◌+ℤ◌, ◌-ℤ◌, length, slice_index, slice_index_or, pos};
 ghost use Rattle.elmore.specs.Trees.{IsTree, IsWithinLimits, capacitance, total_capacitance};
 ghost use Rattle.elmore.specs.Wire.{delay_in, downstream_in};
 ghost use Rattle.elmore.specs.Room.{room_of, delays_of};
@@ -8,7 +8,7 @@ ghost use Rattle.elmore.specs.Room.{room_of, delays_of};
 use crate::scratch::Scratch;
 use crate::tree::{Node, Tree};
 
-fn fill_capacitances(nodes: &[Node], loads: &mut [u128])
+pub(crate) fn fill_capacitances(nodes: &[Node], loads: &mut [u128])
     requires { length nodes.now ≤ length loads.old }
     ensures { (v : ℕ) → v < length nodes.now → slice_index loads.new v ≡ capacitance nodes.now v }
 {
@@ -33,9 +33,9 @@ fn sum_downstream(nodes: &[Node], loads: &mut [u128])
 }
 
 /// The delay behind a resistor: the delay before it, and the resistance times the capacitance that it charges.
-fn delay_behind(before: i128, r: u64, load: u128) -> i128
-    requires before_low { pos 0 ≤ℤ before }
-    requires before_high { before ≤ℤ pos (10 ^ 23) }
+pub(crate) fn delay_behind(before: i128, r: u64, load: u128) -> i128
+    requires before_low { (pos 0 -ℤ pos (10 ^ 25)) ≤ℤ before }
+    requires before_high { before ≤ℤ pos (10 ^ 25) }
     requires resistance { r ≤ 10 ^ 12 }
     requires load { load ≤ 10 ^ 11 }
     ensures { result ≡ before +ℤ pos (r * load) }

@@ -1,5 +1,7 @@
-use Rattle.elmore.proofs.TreeLaws.{AreDelays}
+use Rattle.std.proofs.Common.{pos}
+use Rattle.elmore.specs.Wire.{delay_in}
+use Rattle.elmore.proofs.Filled.{AreFilled}
 use Rattle.elmore.proofs.wire.sum_delays.Given as goal
 
 abbrev pub invariant-down : goal.invariant-down
-invariant-down l = AreDelays l.nodes l.v l.delays
+invariant-down l = AreFilled (λ k. pos (delay_in l.nodes k)) (pos 0) l.v l.delays

@@ -1,7 +1,11 @@
-use Rattle.std.proofs.Common.{◌∙◌, ap, sym, arith, ℕ, ◌<◌, ◌-◌, length}
-use Rattle.elmore.specs.Wire.{downstream}
+use Rattle.std.proofs.Common.{◌∙◌, refl, ap, sym, arith, ℕ, ◌<◌, ◌-◌, length}
+use Rattle.elmore.specs.Path.{nodes as node_numbers}
+use Rattle.elmore.specs.Stage.{load}
 use Rattle.elmore.specs.Trees.{parent_of, capacitance}
-use Rattle.elmore.proofs.CutLaws.{cut_none, downstream_alone, loads_more, step_bound}
+use Rattle.elmore.proofs.CutLaws.{cut_none}
+use Rattle.elmore.proofs.SumLaws.{sum_of_none}
+use Rattle.elmore.proofs.LoadLaws.{load_alone, loads_more, step_bound}
+use Rattle.elmore.proofs.WireLaws.{no_cell, bare_load}
 use Rattle.elmore.proofs.TreeLaws.{tree_falls, cut_past, parent_read, sum_of_nodes}
 use Rattle.elmore.proofs.wire.sum_downstream.Goals as goal
 
@@ -9,7 +13,7 @@ pub up-init : goal.up-init
 up-init c = record {
   each = λ v v_n.
       c.fill_capacitances.ensures v v_n
-      ∙ sym (downstream_alone _ (cut_past c.args.nodes.now) (capacitance c.args.nodes.now) (length c.args.nodes.now) v v_n);
+      ∙ sym (load_alone _ (cut_past c.args.nodes.now) (capacitance c.args.nodes.now) no_cell (length c.args.nodes.now) v v_n);
 }
 
 pub bounds-loads-parent : goal.bounds-loads-parent
@@ -22,9 +26,10 @@ overflow_add-loads c =
     rw (parent_read c.args.nodes.now (c.up.v - 1) (record { parent = 0; r = 0; c = 0 }) i_n)
     (omega (
       arith,
-      step_bound (parent_of c.args.nodes.now) (capacitance c.args.nodes.now) (length c.args.nodes.now) c.up.loads (c.up.v - 1) c.up.v
-          (omega arith) (tree_falls c.args.nodes.now c.requires.tree) (c.requires.tree.smaller (c.up.v - 1) (omega arith) i_n) i_n c.up.invariant,
+      step_bound (parent_of c.args.nodes.now) (capacitance c.args.nodes.now) no_cell (length c.args.nodes.now) c.up.loads (c.up.v - 1) c.up.v _
+          (omega arith) (tree_falls c.args.nodes.now c.requires.tree) (c.requires.tree.smaller (c.up.v - 1) (omega arith) i_n) i_n c.up.invariant refl,
       sum_of_nodes (λ n. n.c) c.args.nodes.now,
+      sum_of_none (node_numbers (length c.args.nodes.now)),
       c.requires.limit,
     ))
 
@@ -36,12 +41,13 @@ pub up-preserved : goal.up-preserved
 up-preserved c =
     let i_n : c.up.v - 1 < length c.args.nodes.now = omega arith in
     rw (parent_read c.args.nodes.now (c.up.v - 1) (record { parent = 0; r = 0; c = 0 }) i_n)
-    (loads_more (parent_of c.args.nodes.now) (capacitance c.args.nodes.now) (length c.args.nodes.now) c.up.loads (c.up.v - 1) c.up.v
+    (loads_more (parent_of c.args.nodes.now) (capacitance c.args.nodes.now) no_cell (length c.args.nodes.now) c.up.loads (c.up.v - 1) c.up.v _
     (omega arith) (tree_falls c.args.nodes.now c.requires.tree) (c.requires.tree.smaller (c.up.v - 1) (omega arith) i_n) i_n (omega arith)
-    c.up.invariant)
+    c.up.invariant refl)
 
 pub returns : goal.returns
 returns c = λ v v_n.
     c.up.invariant.each v v_n
-    ∙ ap (λ (parent : ℕ → ℕ). downstream parent (capacitance c.args.nodes.now) (length c.args.nodes.now) v)
+    ∙ ap (λ (parent : ℕ → ℕ). load parent (capacitance c.args.nodes.now) no_cell (length c.args.nodes.now) v)
     (cut_none (parent_of c.args.nodes.now) c.up.v (omega arith) c.requires.tree.root)
+    ∙ bare_load (parent_of c.args.nodes.now) (capacitance c.args.nodes.now) no_cell (λ _. refl) (length c.args.nodes.now) v

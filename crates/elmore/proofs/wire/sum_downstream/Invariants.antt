@@ -1,8 +1,9 @@
 use Rattle.std.proofs.Common.{length}
 use Rattle.elmore.specs.Cut.{cut}
 use Rattle.elmore.specs.Trees.{parent_of, capacitance}
-use Rattle.elmore.proofs.CutLaws.{AreLoads}
+use Rattle.elmore.proofs.LoadLaws.{AreLoads}
+use Rattle.elmore.proofs.WireLaws.{no_cell}
 use Rattle.elmore.proofs.wire.sum_downstream.Given as goal
 
 abbrev pub invariant-up : goal.invariant-up
-invariant-up l = AreLoads (cut l.v (parent_of l.nodes)) (capacitance l.nodes) (length l.nodes) l.loads
+invariant-up l = AreLoads (cut l.v (parent_of l.nodes)) (capacitance l.nodes) no_cell (length l.nodes) l.loads

@@ -1,0 +1,5 @@
+use Rattle.elmore.proofs.FrontierProofs.{is_whole}
+use Rattle.elmore.proofs.frontier_laws.frontier_is_whole.Goals as goal
+
+pub returns : goal.returns
+returns c = is_whole

@@ -1,0 +1,43 @@
+use Rattle.std.proofs.Common.{rules, arith, SFits}
+use Rattle.std.proofs.lemmas.Int.{ints, to_z-of_z}
+use mir.Syntax.{w128}
+use Rattle.elmore.proofs.Fits.{whole}
+use Rattle.elmore.proofs.ProblemLaws.{placed_tree, slack_is}
+use Rattle.elmore.proofs.PlacedTrees.{load_small, delay_small}
+use Rattle.elmore.proofs.slacks.slack_by.Goals as goal
+
+pub departure-start-requires-clause-load : goal.departure-start-requires-clause-load
+departure-start-requires-clause-load c =
+    let loads = rw (c.as_slice-nodes.ensures, c.as_slice-reps.ensures) at c.sum_loads.ensures in
+    omega (
+      arith,
+      loads 0 c.args.p.now.tree.a_tree.some_node,
+      load_small c.args.p.now.tree.nodes c.args.p.now.reps c.args.cells.now
+          (placed_tree c.args.p.now c.args.cells.now c.requires.placement c.requires.legal) 0,
+    )
+
+pub least_slack-requires-clause-times : goal.least_slack-requires-clause-times
+least_slack-requires-clause-times c = rw c.as_slice.ensures c.args.p.now.within.times
+
+pub least_slack-requires-clause-delays_high : goal.least_slack-requires-clause-delays_high
+least_slack-requires-clause-delays_high c =
+    let delays = rw (c.as_slice-nodes.ensures, c.as_slice-reps.ensures) at c.sum_placed_delays.ensures in
+    rw (c.as_slice.ensures, c.args.p.now.sinks_each)
+    (λ v v_n.
+    rw (delays v v_n)
+    (omega (
+      arith,
+      ints,
+      delay_small c.args.p.now.tree.nodes c.args.p.now.reps c.args.cells.now
+          (placed_tree c.args.p.now c.args.cells.now c.requires.placement c.requires.legal) v v_n,
+    )))
+
+pub returns : goal.returns
+returns c =
+    let loads = rw (c.as_slice-nodes.ensures, c.as_slice-reps.ensures) at c.sum_loads.ensures in
+    let fits : SFits w128 c.least_slack.result = search rules in
+    rw (to_z-of_z w128 c.least_slack.result fits)
+    (slack_is c.args.p.now c.args.cells.now c.sum_placed_delays.new.delays c.departure-start.result c.least_slack.result
+    (rw (loads 0 c.args.p.now.tree.a_tree.some_node) at c.departure-start.ensures.is)
+    (rw (c.as_slice-nodes.ensures, c.as_slice-reps.ensures) at c.sum_placed_delays.ensures)
+    (rw (c.as_slice.ensures, whole c.departure-start.result (omega (arith, ints)) (omega (arith, ints))) at c.least_slack.ensures))
