@@ -1,0 +1,38 @@
+-- The options of the command line, and the modes.
+use Rattle.std.specs.Prelude.{ℕ, ◌==◌, Bool, List, [], ◌∷◌, codes, Option, Some, None, if◌then◌else◌}
+use Rattle.std.specs.Str.{bytes_eq}
+use Rattle.vg_words.specs.declared.option.Opt.{Opt}
+use Rattle.vg_words.specs.declared.option.Opt.TheVariants.{Mode, Spef, Cons, Net}
+use Rattle.vg_words.specs.declared.ask.Mode.{Mode as ModeSpec}
+use Rattle.vg_words.specs.declared.ask.Mode.TheVariants.{Wire, Time}
+
+abbrev pub name_of : Opt → List ℕ
+name_of Mode = codes "--mode"
+name_of Spef = codes "--spef"
+name_of Cons = codes "--cons"
+name_of Net = codes "--net"
+
+-- the option that a word names
+abbrev pub option_of : List ℕ → Option Opt
+option_of word =
+    if bytes_eq word (codes "--mode") then Some Mode
+    else (if bytes_eq word (codes "--spef") then Some Spef
+    else (if bytes_eq word (codes "--cons") then Some Cons
+    else (if bytes_eq word (codes "--net") then Some Net else None)))
+
+-- the place of an option in the order of options
+abbrev pub place_of : Opt → ℕ
+place_of Mode = 0
+place_of Spef = 1
+place_of Cons = 2
+place_of Net = 3
+
+abbrev pub is_same : Opt → Opt → Bool
+is_same a b = place_of a == place_of b
+
+abbrev pub options : List Opt
+options = Mode ∷ Spef ∷ Cons ∷ Net ∷ []
+
+-- the mode that a text names
+abbrev pub mode_of : List ℕ → Option ModeSpec
+mode_of text = if bytes_eq text (codes "wire") then Some Wire else (if bytes_eq text (codes "time") then Some Time else None)

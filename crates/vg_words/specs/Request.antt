@@ -1,0 +1,175 @@
+-- What words ask for, or the first reason why they ask for nothing.
+use Rattle.std.specs.Prelude.{◌≡◌, ◌⊎◌, ℕ, nat_lt, ◌&&◌, Bool, true, false, not, List, [], ◌∷◌, ◌++◌, length, codes, Option, Some, None, is_some, Result, Ok, Err, map, string_bytes, String, if◌then◌else◌}
+use Rattle.std.specs.List.{count_by, list_all, find}
+use Rattle.std.specs.Str.{bytes_eq}
+use Rattle.std.specs.Str.Parse.{starts_with_minus}
+use Rattle.std.specs.declared.alloc.Global.{Global}
+use Rattle.vg_words.specs.Options.{name_of, mode_of, is_same, options}
+use Rattle.vg_words.specs.declared.option.Opt.{Opt}
+use Rattle.vg_words.specs.declared.option.Opt.TheVariants.{Mode, Spef, Cons, Net}
+use Rattle.vg_words.specs.declared.ask.Mode.{Mode as ModeSpec}
+use Rattle.vg_words.specs.declared.ask.Mode.TheVariants.{Wire, Time}
+use Rattle.vg_words.specs.declared.ask.Ask.{Ask}
+use Rattle.vg_words.specs.declared.ask.WordFault.{WordFault}
+use Rattle.vg_words.specs.declared.ask.WordFault.TheVariants.{Unread, Missing, Excluded, BadValue, Equal, Memory}
+
+-- the bytes of each word
+abbrev pub texts : List (String Global) → List (List ℕ)
+texts words = map string_bytes words
+
+-- an option and its value
+abbrev pub Setting : Type 0
+Setting = Opt × List ℕ
+
+-- the first words are the option and its value: `--name value`, where the value does not begin with `-`, or `--name=value`
+abbrev pub Spells : List (List ℕ) → Setting → List (List ℕ) → Type 0
+Spells words (option, value) rest =
+    ((words ≡ name_of option ∷ value ∷ rest) × (starts_with_minus value ≡ false))
+    ⊎ (words ≡ (name_of option ++ (codes "=" ++ value)) ∷ rest)
+
+-- the words are these settings, one after another
+abbrev pub AreSpelled : List (List ℕ) → List Setting → Type 0
+AreSpelled words [] = words ≡ []
+AreSpelled words (setting ∷ settings) = (rest : List (List ℕ)) × Spells words setting rest × AreSpelled rest settings
+
+abbrev pub is_of : Opt → Setting → Bool
+is_of option (other, value) = is_same other option
+
+-- no option is set twice
+abbrev pub are_once : List Setting → Bool
+are_once settings = list_all (λ option. nat_lt (count_by (is_of option) settings) 2) options
+
+abbrev pub value_of : Opt → List Setting → Option (List ℕ)
+value_of option [] = None
+value_of option ((other, value) ∷ settings) = if is_same other option then Some value else value_of option settings
+
+-- what was given for each option, if anything
+pub record Given : Type 0 where
+  pub mode : Option (List ℕ)
+  pub spef : Option (List ℕ)
+  pub cons : Option (List ℕ)
+  pub net : Option (List ℕ)
+
+abbrev pub given_in : List Setting → Given
+given_in settings = record { mode = value_of Mode settings; spef = value_of Spef settings; cons = value_of Cons settings; net = value_of Net settings }
+
+abbrev pub given_for : Given → Opt → Option (List ℕ)
+given_for given Mode = given.mode
+given_for given Spef = given.spef
+given_for given Cons = given.cons
+given_for given Net = given.net
+
+-- the words give these values, and each option once
+pub record Gives (words : List (List ℕ)) (given : Given) : Type 0 where
+  pub settings : List Setting
+  pub spelled : AreSpelled words settings
+  pub once : are_once settings ≡ true
+  pub values : given ≡ given_in settings
+
+-- the options that a mode asks for; it has no use for others
+abbrev pub needs : ModeSpec → Opt → Bool
+needs Wire Cons = false
+needs _ _ = true
+
+abbrev pub is_missing : ModeSpec → Given → Opt → Bool
+is_missing mode given option = needs mode option && not (is_some (given_for given option))
+
+abbrev pub is_excluded : ModeSpec → Given → Opt → Bool
+is_excluded mode given option = is_some (given_for given option) && not (needs mode option)
+
+abbrev pub is_empty_value : Option (List ℕ) → Bool
+is_empty_value None = false
+is_empty_value (Some value) = not (nat_lt 0 (length value))
+
+abbrev pub is_bad : Given → Opt → Bool
+is_bad given option = is_empty_value (given_for given option)
+
+abbrev pub are_equal : Option (List ℕ) → Option (List ℕ) → Bool
+are_equal (Some a) (Some b) = bytes_eq a b
+are_equal _ _ = false
+
+abbrev pub or_else : Option WordFault → Option WordFault → Option WordFault
+or_else (Some fault) later = Some fault
+or_else None later = later
+
+abbrev pub of_first : (Opt → WordFault) → Option Opt → Option WordFault
+of_first fault None = None
+of_first fault (Some option) = Some (fault option)
+
+abbrev pub equal_files : Given → Option WordFault
+equal_files given = if are_equal given.spef given.cons then Some (Equal Spef Cons) else None
+
+-- the first missing option, else the first that the mode has no use for, else the first bad value, else equal names
+abbrev pub fault_in : ModeSpec → Given → Option WordFault
+fault_in mode given =
+    or_else (of_first Missing (find (is_missing mode given) options))
+    (or_else (of_first Excluded (find (is_excluded mode given) options))
+    (or_else (of_first BadValue (find (is_bad given) options)) (equal_files given)))
+
+abbrev pub fault_of_mode : Given → Option ModeSpec → Option WordFault
+fault_of_mode given None = Some (BadValue Mode)
+fault_of_mode given (Some mode) = fault_in mode given
+
+-- the mode comes first: whether it is given, and whether there is such a mode
+abbrev pub fault_of_name : Given → Option (List ℕ) → Option WordFault
+fault_of_name given None = Some (Missing Mode)
+fault_of_name given (Some name) = fault_of_mode given (mode_of name)
+
+unfoldable pub fault_of : Given → Option WordFault
+fault_of given = fault_of_name given given.mode
+
+abbrev pub HasMode : Option (List ℕ) → ModeSpec → Type 0
+HasMode None mode = ⊥
+HasMode (Some name) mode = mode_of name ≡ Some mode
+
+-- the mode that is asked for where there is no fault, else the first fault
+abbrev pub Judges : Result ModeSpec WordFault → Given → Type 0
+Judges (Ok mode) given = (fault_of given ≡ None) × HasMode given.mode mode
+Judges (Err fault) given = fault_of given ≡ Some fault
+
+-- a request: the mode, the names of the SPEF file and of the net, and that of the constraints where the mode has use for them
+pub record Request : Type 0 where
+  pub mode : ModeSpec
+  pub spef : List ℕ
+  pub cons : Option (List ℕ)
+  pub net : List ℕ
+
+-- a mode that needs constraints has their name, and the other has none
+abbrev pub HasCons : ModeSpec → Option (List ℕ) → Type 0
+HasCons Wire None = Unit {0}
+HasCons Wire (Some name) = ⊥
+HasCons Time None = ⊥
+HasCons Time (Some name) = Unit {0}
+
+-- the words denote the request
+pub record IsRequest (words : List (List ℕ)) (request : Request) : Type 0 where
+  pub given : Given
+  pub gives : Gives words given
+  pub faultless : fault_of given ≡ None
+  pub mode : HasMode given.mode request.mode
+  pub spef : given.spef ≡ Some request.spef
+  pub cons : given.cons ≡ request.cons
+  pub net : given.net ≡ Some request.net
+
+-- the words are no settings, or set some option twice
+abbrev pub AreUnread : List (List ℕ) → Type 0
+AreUnread words = (given : Given) → Gives words given → ⊥
+
+-- the words are refused for this first reason
+abbrev pub IsRefused : List (List ℕ) → WordFault → Type 0
+IsRefused words Unread = AreUnread words
+IsRefused words Memory = ⊥
+IsRefused words fault = (given : Given) × Gives words given × (fault_of given ≡ Some fault)
+
+-- what was read is the request
+pub record IsAskFor (ask : Ask) (request : Request) : Type 0 where
+  pub mode : ask.mode ≡ request.mode
+  pub spef : ask.spef ≡ Some request.spef
+  pub cons : ask.cons ≡ request.cons
+  pub net : ask.net ≡ Some request.net
+
+-- what reading the words may answer: the request, why there is none, or want of memory where there is one
+abbrev pub ReadsWords : Result Ask WordFault → List (List ℕ) → Type 0
+ReadsWords (Ok ask) words = (request : Request) × IsRequest words request × IsAskFor ask request
+ReadsWords (Err Memory) words = (request : Request) × IsRequest words request
+ReadsWords (Err fault) words = IsRefused words fault

@@ -1,0 +1,51 @@
+ghost use Rattle.std.specs.Prelude.{◌≡◌};
+ghost use Rattle.vg_words.specs.declared.ask.WordFault.TheVariants.{Memory as out_of_memory};
+
+use crate::option::Opt;
+use vg_num::{Memory, Text};
+
+/// What the program is asked to do.
+#[derive(Clone, Copy, Debug, PartialEq, Eq)]
+pub enum Mode {
+    /// Prints the wire delays of one net.
+    Wire,
+    /// Prints the slack of one net without repeaters, and whether its sinks have their wanted polarity.
+    Time,
+}
+
+/// What the words ask for.
+#[derive(Drop)]
+pub struct Ask {
+    pub mode: Mode,
+    /// The name of the SPEF file.
+    pub spef: Option<Text>,
+    /// The name of the constraints file.
+    pub cons: Option<Text>,
+    /// The name of the net.
+    pub net: Option<Text>,
+}
+
+/// Why the words ask for nothing: the first of these, in this order.
+#[derive(Clone, Copy, Debug, PartialEq, Eq)]
+pub enum WordFault {
+    /// Some word is neither an option with its value nor its value, or an option is given twice.
+    Unread,
+    /// The mode asks for this option, or it is the mode, and it is not given.
+    Missing(Opt),
+    /// The option is given, and the mode has no use for it.
+    Excluded(Opt),
+    /// The option's value is empty, or is no mode.
+    BadValue(Opt),
+    /// Both options name one file.
+    Equal(Opt, Opt),
+    /// Memory was wanted and not given.
+    Memory,
+}
+
+impl From<Memory> for WordFault {
+    ghost from_gives = { λ _ fault. fault ≡ out_of_memory };
+
+    fn from(_: Memory) -> Self {
+        WordFault::Memory
+    }
+}

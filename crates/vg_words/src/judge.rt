@@ -1,0 +1,174 @@
+//! What is asked for, or the first reason against it.
+ghost use Rattle.std.specs.Prelude.{◌≡◌, Some, None, IfOk, option_map};
+ghost use Rattle.std.specs.List.{find};
+ghost use Rattle.vg_words.specs.Options.{mode_of, options};
+ghost use Rattle.vg_words.specs.Request.{texts, needs, is_missing, is_excluded, is_bad, are_equal, fault_in, Judges, HasCons, ReadsWords};
+ghost use Rattle.vg_words.specs.Views.{given_by};
+
+use crate::ask::{Ask, Mode, WordFault};
+use crate::given::Given;
+use crate::option::{OPTIONS, Opt};
+use std::alloc::Global;
+use vg_num::{Memory, Text};
+
+/// The mode of this name.
+fn mode_of(name: &str) -> Option<Mode>
+    ensures { result ≡ mode_of name.now }
+{
+    if name == "wire" {
+        Some(Mode::Wire)
+    } else if name == "time" {
+        Some(Mode::Time)
+    } else {
+        None
+    }
+}
+
+/// Whether a mode asks for an option. It has no use for others.
+fn needs(mode: Mode, option: Opt) -> bool
+    ensures { result ≡ needs mode option }
+{
+    match (mode, option) {
+        (Mode::Wire, Opt::Cons) => false,
+        _ => true,
+    }
+}
+
+fn is_bad(given: &Given<'_>, option: Opt) -> bool
+    ensures { result ≡ is_bad (given_by given.now) option }
+{
+    match given.get(option) {
+        None => false,
+        Some(value) => value.is_empty(),
+    }
+}
+
+fn is_missing(mode: Mode, given: &Given<'_>, option: Opt) -> bool
+    ensures { result ≡ is_missing mode (given_by given.now) option }
+{
+    needs(mode, option) && given.get(option).is_none()
+}
+
+fn is_excluded(mode: Mode, given: &Given<'_>, option: Opt) -> bool
+    ensures { result ≡ is_excluded mode (given_by given.now) option }
+{
+    given.get(option).is_some() && !needs(mode, option)
+}
+
+fn first_missing(mode: Mode, given: &Given<'_>) -> Option<Opt>
+    ensures { result ≡ find (is_missing mode (given_by given.now)) options }
+{
+    OPTIONS
+        .iter()
+        .copied()
+        .find(|option| is_missing(mode, given, *option))
+}
+
+fn first_excluded(mode: Mode, given: &Given<'_>) -> Option<Opt>
+    ensures { result ≡ find (is_excluded mode (given_by given.now)) options }
+{
+    OPTIONS
+        .iter()
+        .copied()
+        .find(|option| is_excluded(mode, given, *option))
+}
+
+fn first_bad(given: &Given<'_>) -> Option<Opt>
+    ensures { result ≡ find (is_bad (given_by given.now)) options }
+{
+    OPTIONS
+        .iter()
+        .copied()
+        .find(|option| is_bad(given, *option))
+}
+
+fn are_equal(a: Option<&str>, b: Option<&str>) -> bool
+    ensures { result ≡ are_equal (option_map (λ text. text.now) a.entry) (option_map (λ text. text.now) b.entry) }
+{
+    match (a, b) {
+        (Some(a), Some(b)) => a == b,
+        _ => false,
+    }
+}
+
+/// The first reason against what is given for a mode.
+fn fault_in(mode: Mode, given: &Given<'_>) -> Option<WordFault>
+    ensures { result ≡ fault_in mode (given_by given.now) }
+{
+    if let Some(option) = first_missing(mode, given) {
+        return Some(WordFault::Missing(option));
+    }
+    if let Some(option) = first_excluded(mode, given) {
+        return Some(WordFault::Excluded(option));
+    }
+    if let Some(option) = first_bad(given) {
+        return Some(WordFault::BadValue(option));
+    }
+    if are_equal(given.spef, given.cons) {
+        return Some(WordFault::Equal(Opt::Spef, Opt::Cons));
+    }
+    None
+}
+
+/// The mode that is asked for, or the first reason against what is given.
+#[tactic(auto, unfolding(crate::specs::Request::fault_of))]
+fn judge(given: &Given<'_>) -> Result<Mode, WordFault>
+    ensures { Judges result (given_by given.now) }
+{
+    let Some(name) = given.mode else {
+        return Err(WordFault::Missing(Opt::Mode));
+    };
+    let Some(mode) = mode_of(name) else {
+        return Err(WordFault::BadValue(Opt::Mode));
+    };
+    match fault_in(mode, given) {
+        None => Ok(mode),
+        Some(fault) => Err(fault),
+    }
+}
+
+/// Copies a text, where there is one.
+fn text_of(alloc: Global, text: Option<&str>) -> Result<Option<Text>, Memory>
+    ensures { IfOk result (λ copy. copy ≡ option_map (λ bytes. bytes.now) text.entry) }
+{
+    match text {
+        None => Ok(None),
+        Some(text) => Ok(Some(Text::from_string(String::from_str(alloc, text)?))),
+    }
+}
+
+fn copied(alloc: Global, mode: Mode, given: &Given<'_>) -> Result<Ask, Memory>
+    ensures mode { IfOk result (λ ask. ask.mode ≡ mode) }
+    ensures spef { IfOk result (λ ask. ask.spef ≡ (given_by given.now).spef) }
+    ensures cons { IfOk result (λ ask. ask.cons ≡ (given_by given.now).cons) }
+    ensures net { IfOk result (λ ask. ask.net ≡ (given_by given.now).net) }
+{
+    let spef = text_of(alloc, given.spef)?;
+    let cons = text_of(alloc, given.cons)?;
+    let net = text_of(alloc, given.net)?;
+    Ok(Ask {
+        mode,
+        spef,
+        cons,
+        net,
+    })
+}
+
+/// Reads the words of the command line, without the program's own name.
+///
+/// Each option is `--name value` or `--name=value`, in any order, at most once; a value that stands in a word of its
+/// own does not begin with `-`. Mode `wire` asks for `--spef` and `--net`, mode `time` for `--cons` too. The faults
+/// come in the order of `WordFault`, and of one kind the first option in the order of `Opt`; `Memory` comes only where
+/// there is no other.
+pub fn read_words(alloc: Global, words: &[String]) -> Result<Ask, WordFault>
+    ensures reads { ReadsWords result (texts words.now) }
+    ensures cons { IfOk result (λ ask. HasCons ask.mode ask.cons) }
+{
+    let Some(given) = Given::of(words) else {
+        return Err(WordFault::Unread);
+    };
+    match judge(&given) {
+        Ok(mode) => Ok(copied(alloc, mode, &given)?),
+        Err(fault) => Err(fault),
+    }
+}

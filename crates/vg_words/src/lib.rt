@@ -1,0 +1,17 @@
+//! The words of the command line: what they ask for, or the first reason why they ask for nothing.
+#![tactic(auto)]
+
+mod ask;
+mod given;
+mod judge;
+mod laws;
+mod option;
+mod setting;
+
+pub use ask::{Ask, Mode, WordFault};
+pub use judge::read_words;
+pub use laws::one_request;
+pub use option::Opt;
+
+#[cfg(test)]
+mod tests;

@@ -1,0 +1,56 @@
+ghost use Rattle.std.specs.Prelude.{◌≡◌};
+ghost use Rattle.vg_words.specs.Options.{name_of, option_of, is_same};
+
+/// An option of the command line. Refusals name the first in this order.
+#[derive(Clone, Copy, Debug, PartialEq, Eq)]
+pub enum Opt {
+    /// What to do.
+    Mode,
+    /// The name of the SPEF file.
+    Spef,
+    /// The name of the constraints file.
+    Cons,
+    /// The name of the net.
+    Net,
+}
+
+/// All options, in order.
+pub const OPTIONS: [Opt; 4] = [Opt::Mode, Opt::Spef, Opt::Cons, Opt::Net];
+
+impl Opt {
+    /// The option as a word.
+    pub fn name(self) -> &'static str
+        ensures { result.now ≡ name_of self }
+    {
+        match self {
+            Opt::Mode => "--mode",
+            Opt::Spef => "--spef",
+            Opt::Cons => "--cons",
+            Opt::Net => "--net",
+        }
+    }
+
+    /// Whether both are one option.
+    pub(crate) fn is_same(self, other: Opt) -> bool
+        ensures { result ≡ is_same self other }
+    {
+        self == other
+    }
+
+    /// The option that a word names.
+    pub(crate) fn of(word: &str) -> Option<Opt>
+        ensures { result ≡ option_of word.now }
+    {
+        if word == "--mode" {
+            Some(Opt::Mode)
+        } else if word == "--spef" {
+            Some(Opt::Spef)
+        } else if word == "--cons" {
+            Some(Opt::Cons)
+        } else if word == "--net" {
+            Some(Opt::Net)
+        } else {
+            None
+        }
+    }
+}
