@@ -5,7 +5,7 @@ use Rattle.vg_scan.specs.Lines.{lines_of}
 use Rattle.vginsert_top.specs.Net.{IsPlain, refusal}
 use Rattle.vginsert_top.specs.Plain.{PlainNet}
 use Rattle.vginsert_top.specs.declared.plain.answer.Answer.{Answer}
-use Rattle.vginsert_top.specs.declared.plain.answer.Answer.TheVariants.{Delays, Refused}
+use Rattle.vginsert_top.specs.declared.plain.answer.Answer.TheVariants.{Report, Refused}
 use Rattle.vginsert_top.specs.declared.plain.read.RowsFault.{RowsFault}
 use Rattle.vginsert_top.specs.declared.plain.read.RowsFault.TheVariants.{NotPlain, Memory}
 
@@ -20,10 +20,10 @@ module _ (file name : List ℕ) where
 
   -- another net's text
   pub unknown : (answer : Answer) (net : PlainNet) → IsPlain net (lines_of file) → net.name ≢ name → IsRefused (refusal name 1 (codes "UnknownNet")) answer → Answers (Ok answer) file name
-  unknown (Delays text) net plain other refused = absurd refused
+  unknown (Report text) net plain other refused = absurd refused
   unknown (Refused text) net plain other refused = inl (record { net = net; plain = plain; other = other; text_is = refused })
 
   -- the net's own text
   pub judged : (answer : Answer) (own : List ℕ) → own ≡ name → Judges file own answer → Answers (Ok answer) file name
-  judged (Delays text) own same judges = subst (λ n. Judges file n (Delays text)) same judges
+  judged (Report text) own same judges = subst (λ n. Judges file n (Report text)) same judges
   judged (Refused text) own same judges = subst (λ n. Judges file n (Refused text)) same judges

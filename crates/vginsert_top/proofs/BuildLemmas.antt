@@ -1,14 +1,14 @@
 -- Nodes built one after another are those of the tree.
-use Rattle.std.proofs.Common.{◌≡◌, ℕ, zero, suc, ◌+◌, ◌<◌, List, [], ◌∷◌, ◌++◌, map, length, take, drop, get_or, refl, sym, ap, ◌∙◌, arith, add-one}
-use Rattle.std.proofs.lemmas.List.{take_more, get_or-map, length-map}
+use Rattle.std.proofs.Common.{◌≡◌, ℕ, zero, suc, ◌+◌, ◌<◌, ◌≤◌, List, [], ◌∷◌, ◌++◌, map, length, take, drop, get_or, refl, sym, ap, ◌∙◌, arith, add-one}
+use Rattle.std.proofs.lemmas.List.{take_more, length-map}
 use Rattle.elmore.specs.Trees.{IsTree, parent_of}
 use Rattle.elmore.specs.declared.tree.Node.{Node}
 use Rattle.vginsert_top.specs.Among.{place_among}
 use Rattle.vginsert_top.specs.Build.{nodes_behind, nodes_from}
-use Rattle.vginsert_top.specs.Net.{node_behind, tree_of}
-use Rattle.vginsert_top.specs.Plain.{Resistor, Capacitor}
+use Rattle.vginsert_top.specs.Net.{tree_of}
+use Rattle.vginsert_top.specs.Plain.{Resistor}
 use Rattle.vginsert_top.specs.Rows.{resistor_in}
-use Rattle.vginsert_top.specs.Tree.{nodes_of, parents_of, capacitance_of, AreInTreeOrder}
+use Rattle.vginsert_top.specs.Tree.{nodes_of, parents_of, AreInTreeOrder}
 use Rattle.vginsert_top.specs.declared.plain.rows.ResistorRow.{ResistorRow}
 
 length-nodes_behind : (parents sums : List ℕ) (rows : List ResistorRow) → length parents ≡ length rows → length sums ≡ length rows → length (nodes_behind parents sums rows) ≡ length rows
@@ -65,36 +65,45 @@ seconds : (f : List ℕ → ℕ) (ress : List Resistor) → map f (map (λ res. 
 seconds f [] = refl
 seconds f (res ∷ ress) = ap (λ (ns : List ℕ). f res.to ∷ ns) (seconds f ress)
 
-pub built_tree : (bytes driver : List ℕ) (rows : List ResistorRow) (caps : List Capacitor) (parents sums : List ℕ)
-    → parents ≡ parents_of driver (map (resistor_in bytes) rows) → sums ≡ map (capacitance_of caps) (nodes_of driver (map (resistor_in bytes) rows))
-    → nodes_from parents sums rows ≡ tree_of driver (map (resistor_in bytes) rows) caps
-built_tree bytes driver rows caps parents sums e f =
+pub built_tree : (bytes driver : List ℕ) (rows : List ResistorRow) (c : List ℕ → ℕ) (parents sums : List ℕ)
+    → parents ≡ parents_of driver (map (resistor_in bytes) rows) → sums ≡ map c (nodes_of driver (map (resistor_in bytes) rows))
+    → nodes_from parents sums rows ≡ tree_of driver (map (resistor_in bytes) rows) c
+built_tree bytes driver rows c parents sums e f =
     let ress = map (resistor_in bytes) rows in
     (λ i. nodes_from (e i) (f i) rows)
-    ∙ ap (λ ss. record { parent = 0; r = 0; c = capacitance_of caps driver } ∷ nodes_behind (parents_of driver ress) ss rows) (seconds (capacitance_of caps) ress)
-    ∙ ap (λ nodes. record { parent = 0; r = 0; c = capacitance_of caps driver } ∷ nodes)
-    (behind_all bytes (λ res. place_among (nodes_of driver ress) res.from) (λ res. capacitance_of caps res.to) rows)
+    ∙ ap (λ ss. record { parent = 0; r = 0; c = c driver } ∷ nodes_behind (parents_of driver ress) ss rows) (seconds c ress)
+    ∙ ap (λ nodes. record { parent = 0; r = 0; c = c driver } ∷ nodes)
+    (behind_all bytes (λ res. place_among (nodes_of driver ress) res.from) (λ res. c res.to) rows)
 
--- resistors in tree order make a tree
-pub tree_is : (driver : List ℕ) (ress : List Resistor) (caps : List Capacitor) → AreInTreeOrder driver ress → IsTree (tree_of driver ress caps)
-tree_is driver ress caps order = record {
+-- nodes whose parents stand before them make a tree
+pub tree_is : (parents sums : List ℕ) (rows : List ResistorRow) → length parents ≡ length rows → length sums ≡ length rows + 1
+    → ((i : ℕ) → i < length rows → get_or parents i 0 ≤ i) → IsTree (nodes_from parents sums rows)
+tree_is parents sums rows e f order = record {
   some_node = omega arith;
   root = refl;
   bare_root = refl;
   smaller = λ v v_pos v_n. below v v_pos v_n;
 }
   where
-    nodes : List (List ℕ)
-    nodes = nodes_of driver ress
-
-    below : (v : ℕ) → 0 < v → v < length (tree_of driver ress caps) → parent_of (tree_of driver ress caps) v < v
+    below : (v : ℕ) → 0 < v → v < length (nodes_from parents sums rows) → parent_of (nodes_from parents sums rows) v < v
     below zero l h = absurd (omega arith)
     below (suc i) l h =
-        let size : length (map (node_behind (nodes_of driver ress) caps) ress) ≡ length ress = length-map ress (node_behind (nodes_of driver ress) caps) in
-        let n : i < length ress = omega arith in
-        let d : Resistor = record { from = []; to = []; value = 0 } in
-        let at : parent_of (tree_of driver ress caps) (suc i) ≡ place_among (nodes_of driver ress) (get_or ress i d).from =
-        ap (λ (node : Node). node.parent) (get_or-map (node_behind (nodes_of driver ress) caps) ress i d (record { parent = suc i; r = 0; c = 0 }) n) in
-        let same : get_or (parents_of driver ress) i 0 ≡ place_among (nodes_of driver ress) (get_or ress i d).from =
-        get_or-map (λ (res : Resistor). place_among (nodes_of driver ress) res.from) ress i d 0 n in
-        omega (arith, at, same, order.earlier i n)
+        let n : i < length rows = omega (arith, nodes_size parents sums rows e f) in
+        let d : ResistorRow = record { from = record { from = 0; to = 0 }; to = record { from = 0; to = 0 }; value = 0 } in
+        let at : parent_of (nodes_from parents sums rows) (suc i) ≡ get_or parents i 0 =
+        ap (λ (node : Node). node.parent) (behind_at parents (drop 1 sums) rows i (record { parent = suc i; r = 0; c = 0 }) d e (size_one sums (length rows) f) n) in
+        omega (arith, at, order i n)
+
+-- the parents of resistors in tree order
+pub parents_count : (bytes driver : List ℕ) (rows : List ResistorRow) (parents : List ℕ) → parents ≡ parents_of driver (map (resistor_in bytes) rows) → length parents ≡ length rows
+parents_count bytes driver rows parents e =
+    ap length e
+    ∙ length-map (map (resistor_in bytes) rows) (λ (res : Resistor). place_among (nodes_of driver (map (resistor_in bytes) rows)) res.from)
+    ∙ length-map rows (resistor_in bytes)
+
+pub earlier_are : (bytes driver : List ℕ) (rows : List ResistorRow) (parents : List ℕ) → parents ≡ parents_of driver (map (resistor_in bytes) rows)
+    → AreInTreeOrder driver (map (resistor_in bytes) rows) → (i : ℕ) → i < length rows → get_or parents i 0 ≤ i
+earlier_are bytes driver rows parents e order i h =
+    let n : length (map (resistor_in bytes) rows) ≡ length rows = length-map rows (resistor_in bytes) in
+    let at : get_or parents i 0 ≡ get_or (parents_of driver (map (resistor_in bytes) rows)) i 0 = ap (λ (ps : List ℕ). get_or ps i 0) e in
+    omega (arith, at, order.earlier i (omega (arith, n)))

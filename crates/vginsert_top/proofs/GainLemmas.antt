@@ -1,14 +1,8 @@
 -- Outputs that gain pieces one after another.
-use Rattle.std.proofs.Common.{◌≡◌, ◌⊎◌, inl, inr, ℕ, ◌+◌, ◌^◌, ◌≤◌, List, ◌++◌, length, take, sym, ap, ◌∙◌, subst, arith, append_assoc, length-append, Option, Some, None, IfSome, Result, Ok, Err, OnErr}
+use Rattle.std.proofs.Common.{◌≡◌, ℕ, ◌+◌, List, ◌++◌, length, take, sym, ap, ◌∙◌, subst, arith, append_assoc, length-append, Option, Some, None, Result, Ok, Err, OnErr}
 use Rattle.std.proofs.Math.Seq.{take-append-add}
 use Rattle.std.proofs.lemmas.List.{take-append-le}
 use Rattle.vg_store.specs.Writing.{Gains, GainsPrefix}
-use Rattle.vginsert_top.specs.Outcome.{IsDelays, IsRefusal}
-use Rattle.vg_store.specs.Causes.{Rose}
-use Rattle.vginsert_top.specs.Run.{PrintsDelays, PrintsRefusal}
-use Rattle.vginsert_top.specs.Ending.{Ends}
-use Rattle.vginsert_top.specs.declared.program.Ending.{Ending}
-use Rattle.vginsert_top.specs.declared.program.Ending.TheVariants.{Done, Refused, WriteFault}
 
 abbrev Bytes : Type 0
 Bytes = List ℕ
@@ -32,30 +26,6 @@ pub prefix_within : (a b : Option Bytes) (x y : Bytes) → GainsPrefix a b x →
 prefix_within a b x y p =
     (p.0, omega (arith, p.1, length-append x y), subst (λ (l : Bytes). Gains a b l) (sym (take-append-le p.0 x y p.1)) p.2)
 
-pub delays_of_file : (told : Option Bytes) (bytes net text : Bytes) (Gained : Bytes → Type 0) → IfSome told (λ file. bytes ≡ file) → length bytes ≤ 2 ^ 28 → IsDelays bytes net text → Gained text → PrintsDelays told net Gained
-delays_of_file told bytes net text Gained whole short is gained = (bytes, whole, short, (text, is, gained))
-
-pub refusal_of_file : (told : Option Bytes) (bytes net text : Bytes) (Gained : Bytes → Type 0) → IfSome told (λ file. bytes ≡ file) → length bytes ≤ 2 ^ 28 → IsRefusal bytes net text → Gained text → PrintsRefusal told net Gained
-refusal_of_file told bytes net text Gained whole short is gained = (bytes, whole, short, (text, is, gained))
-
--- how printing ends
-abbrev pub IsPrinted : Option Bytes → Option Bytes → ℕ → ℕ → Bytes → Ending → Ending → Type 0
-IsPrinted old new before now text wanted ending = (ending ≡ wanted × Gains old new text) ⊎ (ending ≡ WriteFault × Rose before now × GainsPrefix old new text)
-
-module _ (told : Option Bytes) (spef net : Bytes) (old new : Option Bytes) (read_before read_now : ℕ) (blame : Option Bytes) (before now : ℕ) (ending : Ending) (bytes text : Bytes)
-    (whole : IfSome told (λ file. bytes ≡ file)) (short : length bytes ≤ 2 ^ 28) where
-  pub delays_end : IsDelays bytes net text → IsPrinted old new before now text Done ending → Ends told spef net old new read_before read_now blame before now ending
-  delays_end is (inl (e, g)) =
-      subst (λ (x : Ending). Ends told spef net old new read_before read_now blame before now x) (sym e)
-      (delays_of_file told bytes net text (Gains old new) whole short is g)
-  delays_end is (inr (e, r, p)) =
-      subst (λ (x : Ending). Ends told spef net old new read_before read_now blame before now x) (sym e)
-      (r, inl (delays_of_file told bytes net text (GainsPrefix old new) whole short is p))
-
-  pub refusal_ends : IsRefusal bytes net text → IsPrinted old new before now text Refused ending → Ends told spef net old new read_before read_now blame before now ending
-  refusal_ends is (inl (e, g)) =
-      subst (λ (x : Ending). Ends told spef net old new read_before read_now blame before now x) (sym e)
-      (refusal_of_file told bytes net text (Gains old new) whole short is g)
-  refusal_ends is (inr (e, r, p)) =
-      subst (λ (x : Ending). Ends told spef net old new read_before read_now blame before now x) (sym e)
-      (r, inr (refusal_of_file told bytes net text (GainsPrefix old new) whole short is p))
+-- three pieces, and then the rest
+pub five : (a b c rest : Bytes) → (a ++ (b ++ c)) ++ rest ≡ a ++ (b ++ (c ++ rest))
+five a b c rest = append_assoc a (b ++ c) rest ∙ ap (λ (l : Bytes). a ++ l) (append_assoc b c rest)

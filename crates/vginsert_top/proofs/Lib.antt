@@ -10,6 +10,8 @@ pub mod RowLemmas
 pub mod ShapeLemmas
 pub mod SinkLemmas
 pub mod WholeLemmas
-pub mod WordLists
+pub mod TimeLemmas
+pub mod TimeAnswers
 pub mod GainLemmas
 pub mod EndingLemmas
+pub mod RunLemmas

@@ -7,9 +7,11 @@ use Rattle.std.proofs.lemmas.Slice.Eq.{bytes_eq-Decides}
 use Rattle.std.specs.Str.{bytes_eq}
 use Rattle.vginsert_top.specs.declared.plain.heading.Heading.{Heading}
 use Rattle.vg_scan.specs.Lines.{Line}
-use Rattle.vginsert_top.specs.Plain.{PlainNet, HasLinesOf, line_eq, head, is_heading, are_headings, header_order, name_line, pin_line, capacitor_line, resistor_line}
+use Rattle.vginsert_top.specs.Net.{IsPlain}
+use Rattle.vginsert_top.specs.Plain.{PlainNet, HasLinesOf, line_eq, head, is_heading, are_headings, header_order, name_line, connection_line, capacitor_line, resistor_line}
+use Rattle.vginsert_top.specs.declared.plain.line.Side.TheVariants.{Driver, Sink}
 use Rattle.vginsert_top.specs.Shape.{and_then, after, after_headings, is_head, first, first_with, leading, leading_with, past, past_with, some_rows, section, front, whole, said}
-use Rattle.vginsert_top.proofs.ShapeLemmas.{pin_line_len, capacitor_line_len, resistor_line_len, section_yes}
+use Rattle.vginsert_top.proofs.ShapeLemmas.{connection_line_len, capacitor_line_len, resistor_line_len, section_yes}
 
 -- one step after another
 then_some : {X Y : Type 0} {o : Option X} {more : X → Option Y} {y : Y} → and_then o more ≡ Some y → (x : X) × (o ≡ Some x) × (more x ≡ Some y)
@@ -152,12 +154,12 @@ whole_there found net (l ∷ ls) e = absurd (cc)
 -- the name and the driver
 front_there : (text : List Line) (found : List ℕ × List ℕ × List Line) → front text ≡ Some found
     → (header : List Line) × (net_head : Line) × (driver_line : Line) × (text ≡ header ++ net_head ∷ head (codes "*CONN") ∷ driver_line ∷ found.2)
-    × (are_headings header_order header ≡ true) × (name_line net_head ≡ Some found.0) × (pin_line (codes "O") driver_line ≡ Some found.1)
+    × (are_headings header_order header ≡ true) × (name_line net_head ≡ Some found.0) × (connection_line Driver driver_line ≡ Some found.1)
 unfolding front
 front_there text found e =
     let (net_lines, e1, more1) = then_some e in
     let (name, e2, more2) = then_some more1 in
-    let (pin_lines, e3, more3) = then_some more2 in
+    let (connection_lines, e3, more3) = then_some more2 in
     let (driver, e4, more4) = then_some more3 in
     let (header, f1, says1) = headings_there header_order text net_lines e1 in
     let (net_head, says2, f2) = first_there e2 in
@@ -172,12 +174,12 @@ front_there text found e =
       says4 ∙ ap (λ m. Some m.1) n,
     )
 
-front_in : (header : List Line) (net_head driver_line : Line) (rest : List Line) (name driver : List ℕ) → are_headings header_order header ≡ true → name_line net_head ≡ Some name → pin_line (codes "O") driver_line ≡ Some driver
+front_in : (header : List Line) (net_head driver_line : Line) (rest : List Line) (name driver : List ℕ) → are_headings header_order header ≡ true → name_line net_head ≡ Some name → connection_line Driver driver_line ≡ Some driver
     → front (header ++ net_head ∷ head (codes "*CONN") ∷ driver_line ∷ rest) ≡ Some (name, driver, rest)
 unfolding front and_then
 front_in header net_head driver_line rest name driver e f g =
     let conn = head (codes "*CONN") in
-    rw (headings_in header_order header (net_head ∷ conn ∷ driver_line ∷ rest) e, first_in name_line net_head (conn ∷ driver_line ∷ rest) name f, head_in (codes "*CONN") (driver_line ∷ rest), first_in (pin_line (codes "O")) driver_line rest driver g) refl
+    rw (headings_in header_order header (net_head ∷ conn ∷ driver_line ∷ rest) e, first_in name_line net_head (conn ∷ driver_line ∷ rest) name f, head_in (codes "*CONN") (driver_line ∷ rest), first_in (connection_line Driver) driver_line rest driver g) refl
 
 pub whole_none : (found : PlainNet) (rest : List Line) → rest ≢ [] → whole found rest ≡ None
 whole_none found [] n = absurd (n refl)
@@ -228,11 +230,11 @@ said_in net text h =
     let cap_lines = head (codes "*CAP") ∷ (h.caps ++ res_lines) in
     let end_none = resistor_line_len (head (codes "*END")) (omega arith) in
     let res_none = capacitor_line_len (head (codes "*RES")) (omega arith) in
-    let cap_none = pin_line_len (codes "I") (head (codes "*CAP")) (omega arith) in
+    let cap_none = connection_line_len Sink (head (codes "*CAP")) (omega arith) in
     rw (
       h.all,
       front_in h.header h.net_head h.driver (h.sinks ++ cap_lines) net.name net.driver h.header_says h.head_says h.driver_says,
-      rows_in (pin_line (codes "I")) h.sinks net.sinks (head (codes "*CAP")) (h.caps ++ res_lines) h.sinks_say h.some_sink cap_none,
+      rows_in (connection_line Sink) h.sinks net.sinks (head (codes "*CAP")) (h.caps ++ res_lines) h.sinks_say h.some_sink cap_none,
       section_in (codes "*CAP") capacitor_line h.caps net.caps (head (codes "*RES")) (h.ress ++ end) h.caps_say h.some_cap res_none,
       section_in (codes "*RES") resistor_line h.ress net.ress (head (codes "*END")) [] h.ress_say h.some_res end_none,
       head_in (codes "*END") [],
@@ -244,3 +246,7 @@ none_said text e net h = let f : None ≡ Some net = sym e ∙ said_in net text 
 
 pub said_alone : (found : PlainNet) (text : List Line) → said text ≡ Some found → (net : PlainNet) → HasLinesOf net text → net ≡ found
 said_alone found text e net h = same_Some net found (sym (said_in net text h) ∙ e)
+
+-- a text is that of at most one net
+pub one_net : (text : List Line) (a b : PlainNet) → IsPlain a text → IsPlain b text → a ≡ b
+one_net text a b p q = said_alone b text (said_in b text q.lines) a p.lines

@@ -6,7 +6,8 @@ use Rattle.std.specs.Str.{bytes_eq}
 use Rattle.vginsert_top.specs.declared.plain.heading.Heading.{Heading}
 use Rattle.vginsert_top.specs.declared.plain.heading.Heading.TheVariants.{Spef}
 use Rattle.vg_scan.specs.Lines.{Line}
-use Rattle.vginsert_top.specs.Plain.{line_eq, is_heading, name_line, pin_line, capacitor_line, resistor_line}
+use Rattle.vginsert_top.specs.Plain.{line_eq, is_heading, name_line, connection_line, capacitor_line, resistor_line}
+use Rattle.vginsert_top.specs.declared.plain.line.Side.{Side}
 use Rattle.vginsert_top.specs.Shape.{and_then, after, after_headings, leading, past, some_rows, is_head, section}
 
 and_false : (a b : Bool) → b ≡ false → (a && b) ≡ false
@@ -25,10 +26,10 @@ unfolding name_line
 name_line_len (a ∷ b ∷ c ∷ []) n = absurd (n refl)
 name_line_len _ n = refl
 
-pub pin_line_len : (direction : List ℕ) (ws : Line) → length ws ≢ 3 → pin_line direction ws ≡ None
-unfolding pin_line
-pin_line_len d (a ∷ b ∷ c ∷ []) n = absurd (n refl)
-pin_line_len d _ n = refl
+pub connection_line_len : (side : Side) (ws : Line) → length ws ≢ 3 → connection_line side ws ≡ None
+unfolding connection_line
+connection_line_len side (a ∷ b ∷ c ∷ []) n = absurd (n refl)
+connection_line_len side _ n = refl
 
 pub capacitor_line_len : (ws : Line) → length ws ≢ 3 → capacitor_line ws ≡ None
 unfolding capacitor_line

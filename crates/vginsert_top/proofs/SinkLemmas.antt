@@ -30,7 +30,7 @@ lines_more f n =
     ∙ ap (λ l. flat_map f (range_with_len 0 n) ++ l) (append-nil (f (0 + n)) ∙ ap f (omega arith))
 
 -- the first of names that differ is none of the others
-first_apart : (name : List ℕ) (names : List (List ℕ)) → AllPairs ◌≢◌ (name ∷ names) → is_among names name ≡ false
+pub first_apart : (name : List ℕ) (names : List (List ℕ)) → AllPairs ◌≢◌ (name ∷ names) → is_among names name ≡ false
 first_apart name names differ =
     list_any_none (bytes_eq name) names (λ k d h.
     other_bytes name (get_or names k d) (λ same. differ 0 (suc k) d (omega arith) (omega arith) same))
@@ -39,23 +39,26 @@ first_apart name names differ =
 pub driver_lines : (net : PlainNet) → IsInTreeOrder net → sink_lines_at net 0 ≡ []
 driver_lines net order = ap (λ b. cond b (sink_line net.driver (delay_in (tree_in net) 0)) []) (first_apart net.driver net.sinks order.connections_differ)
 
--- a node behind a resistor has one where it is a connection
+-- the node behind a resistor is a connection where it is a sink, for it is not the driver
+pub name_behind : (net : PlainNet) (i : ℕ) (row : Resistor) → i < length net.ress → row ≡ get_or net.ress i row → get_or (nodes_of net.driver net.ress) (i + 1) [] ≡ row.to
+name_behind net i row h e =
+    ap (λ k. get_or (nodes_of net.driver net.ress) k []) (add-one i)
+    ∙ get_or-map (λ (res : Resistor). res.to) net.ress i row [] h
+    ∙ ap (λ (res : Resistor). res.to) (sym e)
+
+pub behind_apart : (net : PlainNet) (i : ℕ) (row : Resistor) → IsInTreeOrder net → i < length net.ress → row ≡ get_or net.ress i row
+    → is_among (connections_of net) row.to ≡ is_among net.sinks row.to
+behind_apart net i row order h e =
+    let size : length (map (λ (res : Resistor). res.to) net.ress) ≡ length net.ress = length-map net.ress (λ res. res.to) in
+    ap (λ b. b || is_among net.sinks row.to)
+    (other_bytes row.to net.driver (λ same. order.resistors.nodes_differ 0 (i + 1) [] (omega arith) (omega arith) (sym (name_behind net i row h e ∙ same))))
+
+-- and it has a line there
 pub node_lines : (net : PlainNet) (i : ℕ) (row : Resistor) → IsInTreeOrder net → i < length net.ress → row ≡ get_or net.ress i row
     → cond (is_among (connections_of net) row.to) (codes "sink " ++ row.to ++ codes " " ++ decimal (delay_in (tree_in net) (i + 1)) ++ codes "\n") [] ≡ sink_lines_at net (i + 1)
 node_lines net i row order h e =
-    let d : List ℕ = [] in
-    let at : get_or (nodes_of net.driver net.ress) (i + 1) [] ≡ row.to =
-    ap (λ k. get_or (nodes_of net.driver net.ress) k []) (add-one i)
-    ∙ get_or-map (λ (res : Resistor). res.to) net.ress i row [] h
-    ∙ ap (λ (res : Resistor). res.to) (sym e) in
-    let apart : bytes_eq row.to net.driver ≡ false =
-    other_bytes row.to net.driver (λ same. order.resistors.nodes_differ 0 (i + 1) [] (omega arith) (omega (arith, size net.ress)) (sym (at ∙ same))) in
-    ap (λ b. cond (b || is_among net.sinks row.to) (sink_line row.to (delay_in (tree_in net) (i + 1))) []) apart
-    ∙ ap (λ name. cond (is_among net.sinks name) (sink_line name (delay_in (tree_in net) (i + 1))) []) (sym at)
-  where
-    size : (ress : List Resistor) → length (map (λ (res : Resistor). res.to) ress) ≡ length ress
-    size [] = refl
-    size (res ∷ ress) = ap suc (size ress)
+    ap (λ b. cond b (sink_line row.to (delay_in (tree_in net) (i + 1))) []) (behind_apart net i row order h e)
+    ∙ ap (λ name. cond (is_among net.sinks name) (sink_line name (delay_in (tree_in net) (i + 1))) []) (sym (name_behind net i row h e))
 
 pub total_is : (bytes : List ℕ) (rows : List CapacitorRow) → sum_by (λ row. row.value) rows ≡ sum_by (λ cap. cap.value) (map (capacitor_in bytes) rows)
 total_is bytes [] = refl

@@ -8,7 +8,10 @@ pub mod Net
 pub mod Build
 pub mod Outcome
 pub mod Answer
-pub mod Request
+pub mod Faults
+pub mod Timing
+pub mod TimeEnds
+pub mod TimeAnswer
 pub mod Run
 pub mod Ending
 pub mod Laws

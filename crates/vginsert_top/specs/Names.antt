@@ -21,6 +21,10 @@ owner node = before_first is_colon node
 abbrev pub leaf : List ℕ → List ℕ
 leaf node = after_first is_colon node
 
--- a name, a colon and a name
+-- a name, a colon and a name: a pin, or a node of a net
 unfoldable pub is_node : List ℕ → Bool
 is_node node = is_name (owner node) && is_name (leaf node)
+
+-- a port is called by its name alone
+abbrev pub is_node_or_port : List ℕ → Bool
+is_node_or_port node = is_node node || is_name node

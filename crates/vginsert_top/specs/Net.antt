@@ -6,7 +6,7 @@ use Rattle.elmore.specs.Wire.{delay_in}
 use Rattle.elmore.specs.declared.tree.Node.{Node}
 use Rattle.vginsert_top.specs.Among.{is_among, place_among}
 use Rattle.vg_scan.specs.Lines.{Line}
-use Rattle.vginsert_top.specs.Plain.{PlainNet, Capacitor, Resistor, HasLinesOf}
+use Rattle.vginsert_top.specs.Plain.{PlainNet, Resistor, HasLinesOf}
 use Rattle.vginsert_top.specs.Tree.{nodes_of, capacitance_of, IsInTreeOrder}
 
 -- a text is plain and is that of the net
@@ -14,16 +14,17 @@ pub record IsPlain (net : PlainNet) (text : List Line) : Type 0 where
   pub lines : HasLinesOf net text
   pub order : IsInTreeOrder net
 
--- the second node of a resistor, whose parent is the first
-abbrev pub node_behind : List (List ℕ) → List Capacitor → Resistor → Node
-node_behind nodes caps res = record { parent = place_among nodes res.from; r = res.value; c = capacitance_of caps res.to }
+-- the second node of a resistor, whose parent is the first, where each node has this capacitance
+abbrev pub node_behind : List (List ℕ) → (List ℕ → ℕ) → Resistor → Node
+node_behind nodes c res = record { parent = place_among nodes res.from; r = res.value; c = c res.to }
 
 -- the tree, in tree order
-abbrev pub tree_of : List ℕ → List Resistor → List Capacitor → List Node
-tree_of driver ress caps = record { parent = 0; r = 0; c = capacitance_of caps driver } ∷ map (node_behind (nodes_of driver ress) caps) ress
+abbrev pub tree_of : List ℕ → List Resistor → (List ℕ → ℕ) → List Node
+tree_of driver ress c = record { parent = 0; r = 0; c = c driver } ∷ map (node_behind (nodes_of driver ress) c) ress
 
+-- the tree of a net's own capacitors
 abbrev pub tree_in : PlainNet → List Node
-tree_in net = tree_of net.driver net.ress net.caps
+tree_in net = tree_of net.driver net.ress (capacitance_of net.caps)
 
 -- at most 65,536 nodes and 2^20 capacitor lines, and within the limits of resistance and capacitance
 pub record IsWithinNetLimits (net : PlainNet) : Type 0 where

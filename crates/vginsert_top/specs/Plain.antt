@@ -4,8 +4,10 @@ use Rattle.std.specs.Str.{bytes_eq}
 use Rattle.vg_num.specs.Number.{scaled}
 use Rattle.vg_num.specs.declared.fault.NumFault.{NumFault}
 use Rattle.vg_scan.specs.Lines.{Line}
-use Rattle.vginsert_top.specs.Names.{is_name, is_node}
+use Rattle.vginsert_top.specs.Names.{is_name, is_node, is_node_or_port}
 use Rattle.vginsert_top.specs.declared.plain.heading.Heading.{Heading}
+use Rattle.vginsert_top.specs.declared.plain.line.Side.{Side}
+use Rattle.vginsert_top.specs.declared.plain.line.Side.TheVariants.{Driver, Sink}
 use Rattle.vginsert_top.specs.declared.plain.heading.Heading.TheVariants.{Spef, Design, Date, Vendor, Program, Version, DesignFlow, Divider, Delimiter, BusDelimiter, TimeUnit, CapacitanceUnit, ResistanceUnit, InductanceUnit}
 
 -- the same words
@@ -85,19 +87,37 @@ unfoldable pub name_line : Line → Option (List ℕ)
 name_line (kind ∷ name ∷ value ∷ []) = if bytes_eq kind (codes "*D_NET") && is_name name then name_with name (value_at value) else None
 name_line _ = None
 
+-- an output pin drives a net, and an input pin is a sink of it
+abbrev pub pin_direction : Side → List ℕ
+pin_direction Driver = codes "O"
+pin_direction Sink = codes "I"
+
+-- of the ports of a design it is the inputs that drive
+abbrev pub port_direction : Side → List ℕ
+port_direction Driver = codes "I"
+port_direction Sink = codes "O"
+
 -- `*I NODE DIRECTION`
-unfoldable pub pin_line : List ℕ → Line → Option (List ℕ)
-pin_line direction (kind ∷ node ∷ given ∷ []) = if bytes_eq kind (codes "*I") && is_node node && bytes_eq given direction then Some node else None
-pin_line direction _ = None
+abbrev pub is_pin : Side → List ℕ → List ℕ → List ℕ → Bool
+is_pin side kind node given = bytes_eq kind (codes "*I") && is_node node && bytes_eq given (pin_direction side)
+
+-- `*P NAME DIRECTION`
+abbrev pub is_port : Side → List ℕ → List ℕ → List ℕ → Bool
+is_port side kind node given = bytes_eq kind (codes "*P") && is_name node && bytes_eq given (port_direction side)
+
+-- the line of a connection on this side: of a pin or of a port
+unfoldable pub connection_line : Side → Line → Option (List ℕ)
+connection_line side (kind ∷ node ∷ given ∷ []) = if is_pin side kind node given || is_port side kind node given then Some node else None
+connection_line side _ = None
 
 -- `ID NODE VALUE`
 unfoldable pub capacitor_line : Line → Option Capacitor
-capacitor_line (id ∷ node ∷ value ∷ []) = if is_node node then capacitor_with node (value_at value) else None
+capacitor_line (id ∷ node ∷ value ∷ []) = if is_node_or_port node then capacitor_with node (value_at value) else None
 capacitor_line _ = None
 
 -- `ID NODE NODE VALUE`
 unfoldable pub resistor_line : Line → Option Resistor
-resistor_line (id ∷ from ∷ to ∷ value ∷ []) = if is_node from && is_node to then resistor_with from to (value_at value) else None
+resistor_line (id ∷ from ∷ to ∷ value ∷ []) = if is_node_or_port from && is_node_or_port to then resistor_with from to (value_at value) else None
 resistor_line _ = None
 
 -- a line of one word
@@ -115,8 +135,8 @@ pub record HasLinesOf (net : PlainNet) (text : List Line) : Type 0 where
   pub all : text ≡ header ++ net_head ∷ head (codes "*CONN") ∷ driver ∷ (sinks ++ head (codes "*CAP") ∷ (caps ++ head (codes "*RES") ∷ (ress ++ head (codes "*END") ∷ [])))
   pub header_says : are_headings header_order header ≡ true
   pub head_says : name_line net_head ≡ Some net.name
-  pub driver_says : pin_line (codes "O") driver ≡ Some net.driver
-  pub sinks_say : map (pin_line (codes "I")) sinks ≡ map Some net.sinks
+  pub driver_says : connection_line Driver driver ≡ Some net.driver
+  pub sinks_say : map (connection_line Sink) sinks ≡ map Some net.sinks
   pub caps_say : map capacitor_line caps ≡ map Some net.caps
   pub ress_say : map resistor_line ress ≡ map Some net.ress
   pub some_sink : 0 < length sinks

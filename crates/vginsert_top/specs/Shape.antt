@@ -2,7 +2,8 @@
 use Rattle.std.specs.Prelude.{ℕ, Bool, List, [], ◌∷◌, length, drop, codes, nat_lt, if◌then◌else◌, Option, Some, None}
 use Rattle.vg_scan.specs.Lines.{Line, lines_of}
 use Rattle.vginsert_top.specs.declared.plain.heading.Heading.{Heading}
-use Rattle.vginsert_top.specs.Plain.{PlainNet, is_heading, header_order, line_eq, head, name_line, pin_line, capacitor_line, resistor_line}
+use Rattle.vginsert_top.specs.Plain.{PlainNet, is_heading, header_order, line_eq, head, name_line, connection_line, capacitor_line, resistor_line}
+use Rattle.vginsert_top.specs.declared.plain.line.Side.TheVariants.{Driver, Sink}
 
 -- the lines from a place on
 abbrev pub lines_from : List ℕ → ℕ → List Line
@@ -70,8 +71,8 @@ unfoldable pub front : List Line → Option (List ℕ × List ℕ × List Line)
 front text =
     and_then (after_headings header_order text) (λ net_lines.
     and_then (first name_line net_lines) (λ (name, conn_lines).
-    and_then (after (is_head (codes "*CONN")) conn_lines) (λ pin_lines.
-    and_then (first (pin_line (codes "O")) pin_lines) (λ (driver, sink_lines). Some (name, driver, sink_lines)))))
+    and_then (after (is_head (codes "*CONN")) conn_lines) (λ connection_lines.
+    and_then (first (connection_line Driver) connection_lines) (λ (driver, sink_lines). Some (name, driver, sink_lines)))))
 
 abbrev pub whole : PlainNet → List Line → Option PlainNet
 whole net [] = Some net
@@ -81,7 +82,7 @@ whole net (l ∷ ls) = None
 unfoldable pub said : List Line → Option PlainNet
 said text =
     and_then (front text) (λ (name, driver, sink_lines).
-    and_then (some_rows (pin_line (codes "I")) sink_lines) (λ (sinks, cap_lines).
+    and_then (some_rows (connection_line Sink) sink_lines) (λ (sinks, cap_lines).
     and_then (section (codes "*CAP") capacitor_line cap_lines) (λ (caps, res_lines).
     and_then (section (codes "*RES") resistor_line res_lines) (λ (ress, end_lines).
     and_then (after (is_head (codes "*END")) end_lines) (whole (record { name = name; driver = driver; sinks = sinks; caps = caps; ress = ress }))))))

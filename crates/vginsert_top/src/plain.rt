@@ -17,5 +17,10 @@ mod rows;
 mod section;
 mod words;
 
-pub use answer::{Answer, answer_for};
-pub use read::RowsFault;
+pub use answer::{Answer, answer_for, is_few, refused};
+pub use build::build_tree;
+pub use names::is_node;
+pub use order::{Placed, place as place_rows};
+pub use read::{RowsFault, read_rows};
+pub use rows::{ResistorRow, Rows};
+pub use words::is_text;

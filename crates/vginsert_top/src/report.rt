@@ -1,9 +1,12 @@
 //! The lines of reports.
-ghost use Rattle.std.specs.Prelude.{◌≡◌, ◌++◌, OnOk, codes, decimal};
+ghost use Rattle.std.specs.Prelude.{◌≡◌, ◌++◌, OnOk, IfOk, codes, decimal};
 ghost use Rattle.std.specs.Fmt.{signed_decimal};
 ghost use Rattle.vginsert_top.specs.Net.{total_line, refusal};
+ghost use Rattle.vginsert_top.specs.Faults.{cons_kind, cons_fault};
 
-use vg_num::{Memory, print_signed};
+use std::alloc::Global;
+use vg_cons::{ConsFault, ConsKind};
+use vg_num::{Memory, NumFault, print_signed};
 
 /// Appends bytes.
 fn push(bytes: &[u8], to: &mut Vec<u8>) -> Result<(), Memory>
@@ -49,4 +52,66 @@ pub fn print_refusal(name: &[u8], number: u8, kind: &[u8], to: &mut Vec<u8>) -> 
     push(kind, to)?;
     push(b"\n", to)?;
     Ok(())
+}
+
+/// Appends `net NAME slack S`, with S in zeptoseconds.
+fn print_value(name: &[u8], slack: i128, to: &mut Vec<u8>) -> Result<(), Memory>
+    ensures { OnOk result (to.new.items ≡ to.old.items ++ (codes "net " ++ (name.now ++ (codes " slack " ++ signed_decimal slack)))) }
+{
+    push(b"net ", to)?;
+    push(name, to)?;
+    push(b" slack ", to)?;
+    print_signed(slack, to)?;
+    Ok(())
+}
+
+/// Appends ` polarity POLARITY` and the line's end; the polarity is told in two pieces.
+fn print_polarity(polarity: &[u8], node: &[u8], to: &mut Vec<u8>) -> Result<(), Memory>
+    ensures { OnOk result (to.new.items ≡ to.old.items ++ (codes " polarity " ++ (polarity.now ++ (node.now ++ codes "\n")))) }
+{
+    push(b" polarity ", to)?;
+    push(polarity, to)?;
+    push(node, to)?;
+    push(b"\n", to)?;
+    Ok(())
+}
+
+/// Appends `net NAME slack S polarity POLARITY`, with S in zeptoseconds; the polarity is told in two pieces.
+pub fn print_slack(
+    name: &[u8],
+    slack: i128,
+    polarity: &[u8],
+    node: &[u8],
+    to: &mut Vec<u8>,
+) -> Result<(), Memory>
+    ensures { OnOk result (to.new.items ≡ to.old.items ++ (codes "net " ++ (name.now ++ (codes " slack " ++ (signed_decimal slack ++ (codes " polarity " ++ (polarity.now ++ (node.now ++ codes "\n")))))))) }
+{
+    print_value(name, slack, to)?;
+    print_polarity(polarity, node, to)?;
+    Ok(())
+}
+
+/// The name of a fault of constraints.
+fn kind_name(kind: ConsKind) -> &'static [u8]
+    ensures { result.now ≡ cons_kind kind }
+{
+    match kind {
+        ConsKind::Version => b"Version",
+        ConsKind::Word => b"Word",
+        ConsKind::Number(NumFault::Form) => b"Number Form",
+        ConsKind::Number(NumFault::Negative) => b"Number Negative",
+        ConsKind::Number(NumFault::TooLarge) => b"Number TooLarge",
+        ConsKind::Twice => b"Twice",
+        ConsKind::Memory => b"Memory",
+    }
+}
+
+/// A fault of constraints as text: `KIND line L`.
+pub fn cons_fault(alloc: Global, fault: ConsFault) -> Result<Vec<u8>, Memory>
+    ensures { IfOk result (λ text. text.items ≡ cons_fault fault) }
+{
+    let mut text = Vec::from_slice(alloc, kind_name(fault.kind))?;
+    push(b" line ", &mut text)?;
+    print_signed(fault.line as i128, &mut text)?;
+    Ok(text)
 }

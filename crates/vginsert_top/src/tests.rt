@@ -1,7 +1,7 @@
 //! Whole runs over files in memory.
 ghost use Rattle.std.specs.Prelude.{◌≤◌};
 
-use crate::{WordFault, read_words, run};
+use crate::run;
 use std::alloc::Global;
 use std::process::Abort;
 use std::test::Fail;
@@ -37,6 +37,7 @@ fn run_on(
     alloc: Global,
     words: &str,
     text: &str,
+    cons: &str,
     chunk: usize,
     failing: Failing<'_>,
 ) -> Result<Ending, Fail>
@@ -45,6 +46,7 @@ fn run_on(
     let words = words_of(alloc, words)?;
     let mut files = MemFiles::new(alloc, chunk, failing.0)?;
     files.add("a.spef", text.as_bytes())?;
+    files.add("c.txt", cons.as_bytes())?;
     let mut out = MemOut::new(alloc, chunk, failing.1)?;
     let mut err = MemOut::new(alloc, chunk, failing.2)?;
     let status = run(alloc, &words, &mut files, &mut out, &mut err);
@@ -54,12 +56,18 @@ fn run_on(
 /// The words, the text after the header, the status, and the text of the output that is not empty.
 type Row<'a> = (&'a str, &'a str, u8, &'a str);
 
-fn expect_row(rt: &impl Abort, alloc: Global, row: Row<'_>, chunk: usize) -> Result<(), Fail>
+fn expect_row(
+    rt: &impl Abort,
+    alloc: Global,
+    row: Row<'_>,
+    cons: &str,
+    chunk: usize,
+) -> Result<(), Fail>
     requires { 1 ≤ chunk }
 {
     let (words, section, wanted, line) = row;
     let text = format!(in alloc; "{HEADER}{section}")?;
-    let (status, out, err) = run_on(alloc, words, text.as_str(), chunk, (&[], &[], &[]))?;
+    let (status, out, err) = run_on(alloc, words, text.as_str(), cons, chunk, (&[], &[], &[]))?;
     let (printed, told) = if wanted == 0 || wanted == 2 {
         (line, "")
     } else {
@@ -87,12 +95,7 @@ fn answers_each_row(rt: HostRuntime) -> Result<(), Fail> {
             3,
             "vginsert: words refused\n",
         ),
-        (
-            "--mode wire --net n1 --spef a.spef",
-            NET,
-            3,
-            "vginsert: words refused\n",
-        ),
+        ("--net=n1 --mode=wire --spef a.spef", NET, 0, DELAYS),
         (
             "--mode wire --spef a.spef --net -n1",
             NET,
@@ -103,7 +106,7 @@ fn answers_each_row(rt: HostRuntime) -> Result<(), Fail> {
             "--mode wire --spef a.spef",
             NET,
             3,
-            "vginsert: words refused\n",
+            "vginsert: words refused: missing option --net\n",
         ),
         (
             "--mode wire --spef b.spef --net n1",
@@ -203,8 +206,8 @@ fn answers_each_row(rt: HostRuntime) -> Result<(), Fail> {
         (WORDS, "", 4, NOT_YET),
     ];
     for row in rows {
-        expect_row(&rt, rt.alloc(), row, 1)?;
-        expect_row(&rt, rt.alloc(), row, 1 << 20)?;
+        expect_row(&rt, rt.alloc(), row, "", 1)?;
+        expect_row(&rt, rt.alloc(), row, "", 1 << 20)?;
     }
     Ok(())
 }
@@ -214,7 +217,7 @@ fn refuses_other_units(rt: HostRuntime) -> Result<(), Fail> {
     let text = format!(in rt.alloc(); "{HEADER}{NET}")?;
     let (front, back) = text.as_str().split_once("1 FF").ok_or("no unit")?;
     let other = format!(in rt.alloc(); "{front}1 PF{back}")?;
-    let (status, out, err) = run_on(rt.alloc(), WORDS, other.as_str(), 64, (&[], &[], &[]))?;
+    let (status, out, err) = run_on(rt.alloc(), WORDS, other.as_str(), "", 64, (&[], &[], &[]))?;
     assert_eq!(rt; status, 4);
     assert_eq!(rt; out.as_bytes(), "".as_bytes());
     assert_eq!(rt; err.as_bytes(), NOT_YET.as_bytes());
@@ -225,14 +228,21 @@ fn refuses_other_units(rt: HostRuntime) -> Result<(), Fail> {
 #[test]
 fn fails_where_a_call_fails(rt: HostRuntime) -> Result<(), Fail> {
     let text = format!(in rt.alloc(); "{HEADER}{NET}")?;
-    let (status, out, err) = run_on(rt.alloc(), WORDS, text.as_str(), 1, (&[], &[], &[]))?;
+    let (status, out, err) = run_on(rt.alloc(), WORDS, text.as_str(), "", 1, (&[], &[], &[]))?;
     assert_eq!(rt;
         (status, out.as_bytes(), err.as_bytes()),
         (0, DELAYS.as_bytes(), b"".as_slice())
     );
     let calls = text.len() as u64 / 64 + 3;
     for call in 0..calls {
-        let (status, out, err) = run_on(rt.alloc(), WORDS, text.as_str(), 64, (&[call], &[], &[]))?;
+        let (status, out, err) = run_on(
+            rt.alloc(),
+            WORDS,
+            text.as_str(),
+            "",
+            64,
+            (&[call], &[], &[]),
+        )?;
         assert_eq!(rt; status, 5, "call {call}");
         assert_eq!(rt; out.as_bytes(), "".as_bytes());
         assert_eq!(rt;
@@ -240,7 +250,14 @@ fn fails_where_a_call_fails(rt: HostRuntime) -> Result<(), Fail> {
             "vginsert: read failed: a.spef\n".as_bytes()
         );
     }
-    let (status, _, _) = run_on(rt.alloc(), WORDS, text.as_str(), 64, (&[calls], &[], &[]))?;
+    let (status, _, _) = run_on(
+        rt.alloc(),
+        WORDS,
+        text.as_str(),
+        "",
+        64,
+        (&[calls], &[], &[]),
+    )?;
     assert_eq!(rt; status, 0);
     Ok(())
 }
@@ -249,7 +266,7 @@ fn fails_where_a_call_fails(rt: HostRuntime) -> Result<(), Fail> {
 fn tells_what_it_can(rt: HostRuntime) -> Result<(), Fail> {
     let text = format!(in rt.alloc(); "{HEADER}{NET}")?;
     // The second piece of standard output fails.
-    let (status, out, err) = run_on(rt.alloc(), WORDS, text.as_str(), 8, (&[], &[1], &[]))?;
+    let (status, out, err) = run_on(rt.alloc(), WORDS, text.as_str(), "", 8, (&[], &[1], &[]))?;
     assert_eq!(rt; status, 6);
     assert_eq!(rt; out.as_bytes(), "net n1 t".as_bytes());
     assert_eq!(rt;
@@ -257,10 +274,10 @@ fn tells_what_it_can(rt: HostRuntime) -> Result<(), Fail> {
         "vginsert: write failed: standard output\n".as_bytes()
     );
     // Standard error fails too, and the status stays.
-    let (status, _, err) = run_on(rt.alloc(), WORDS, text.as_str(), 8, (&[], &[1], &[2]))?;
+    let (status, _, err) = run_on(rt.alloc(), WORDS, text.as_str(), "", 8, (&[], &[1], &[2]))?;
     assert_eq!(rt; status, 6);
     assert_eq!(rt; err.as_bytes(), "vginsert: write ".as_bytes());
-    let (status, out, err) = run_on(rt.alloc(), "--help", text.as_str(), 8, (&[], &[], &[0]))?;
+    let (status, out, err) = run_on(rt.alloc(), "--help", text.as_str(), "", 8, (&[], &[], &[0]))?;
     assert_eq!(rt;
         (status, out.as_bytes(), err.as_bytes()),
         (3, b"".as_slice(), b"".as_slice())
@@ -268,15 +285,92 @@ fn tells_what_it_can(rt: HostRuntime) -> Result<(), Fail> {
     Ok(())
 }
 
+/// A net from a port to a port.
+const PORTS: &str =
+    "*D_NET p 200\n*CONN\n*P a I\n*P z O\n*CAP\n1 p:1 100\n2 z 100\n*RES\n1 a p:1 1000\n2 p:1 z 1000\n*END\n";
+
+const TIME: &str = "--mode time --spef a.spef --cons c.txt --net p";
+
 #[test]
-fn reads_words(rt: HostRuntime) -> Result<(), Fail> {
-    let words = words_of(rt.alloc(), WORDS)?;
-    let ask = read_words(rt.alloc(), &words).ok().ok_or("no request")?;
-    assert_eq!(rt; ask.spef.as_ref().map(|name| name.as_str()), Some("a.spef"));
-    assert_eq!(rt; ask.net.as_ref().map(|name| name.as_str()), Some("n1"));
-    assert_eq!(rt;
-        read_words(rt.alloc(), &words[1..]).err(),
-        Some(WordFault::Unread)
-    );
+fn times_each_row(rt: HostRuntime) -> Result<(), Fail> {
+    let rows = [
+        (
+            TIME,
+            PORTS,
+            "vgcons 1\nrequired z 400\ndrive a 1000 10\nload z 2\n",
+            0,
+            "net p slack -116000000000 polarity right\n",
+        ),
+        (
+            TIME,
+            PORTS,
+            "vgcons 1\nrequired z 400\ndrive a 1000 10\nload z 2\narrival a 5\nwant z inverted",
+            0,
+            "net p slack -121000000000 polarity wrong z\n",
+        ),
+        (
+            TIME,
+            PORTS,
+            "vgcons 1\ndrive a 1000 10\nload z 2\n",
+            2,
+            "net p refused 15 Unconstrained z\n",
+        ),
+        (
+            TIME,
+            PORTS,
+            "vgcons 1\nrequired z 400\ndrive a 1000 10\nload z -2\n",
+            4,
+            "vginsert: c.txt: Number Negative line 4\n",
+        ),
+        (
+            TIME,
+            PORTS,
+            "vgcons 1\ndefault required 400\ndrive a 1000000.001 0\n",
+            2,
+            "net p refused 16 TooLarge\n",
+        ),
+        (
+            "--mode time --spef a.spef --cons c.txt --net n1",
+            NET,
+            "vgcons 1\nrequired u2:A 400\n",
+            2,
+            "net n1 refused 0 NotYet\n",
+        ),
+        (
+            "--mode time --spef a.spef --cons c.txt --net q",
+            PORTS,
+            "vgcons 1",
+            2,
+            "net q refused 1 UnknownNet\n",
+        ),
+        (TIME, "*END\n", "", 4, NOT_YET),
+        (TIME, PORTS, "", 4, "vginsert: c.txt: Version line 1\n"),
+        (
+            "--mode time --spef a.spef --cons d.txt --net p",
+            PORTS,
+            "",
+            5,
+            "vginsert: read failed: d.txt\n",
+        ),
+        (
+            "--mode time --spef a.spef --cons a.spef --net p",
+            PORTS,
+            "",
+            3,
+            "vginsert: words refused: equal names --spef --cons\n",
+        ),
+        (
+            "--mode wire --spef a.spef --net p",
+            PORTS,
+            "",
+            0,
+            "net p total 200000\nsink z 300000000000\n",
+        ),
+    ];
+    for (words, section, cons, status, line) in rows {
+        let row = (words, section, status, line);
+        expect_row(&rt, rt.alloc(), row, cons, 1)?;
+        expect_row(&rt, rt.alloc(), row, cons, 1 << 20)?;
+    }
     Ok(())
 }

@@ -1,11 +1,11 @@
 //! What is said of a net that is asked for.
-ghost use Rattle.std.specs.Prelude.{IfOk};
+ghost use Rattle.std.specs.Prelude.{◌↔◌, ◌<◌, ◌≤◌, ◌^◌, length, IsTrue, IfOk};
 ghost use Rattle.vginsert_top.specs.Answer.{Answers, IsRefused, Judges, IsPlacedIn};
 ghost use Rattle.vg_scan.specs.Lines.{lines_of};
 ghost use Rattle.vginsert_top.specs.Net.{IsPlain, refusal};
 ghost use Rattle.vginsert_top.specs.Rows.{net_in, part_at};
 
-use crate::plain::build::build_tree;
+use crate::plain::build::own_tree;
 use crate::plain::delays::report_delays;
 use crate::plain::order::{Placed, place};
 use crate::plain::read::{RowsFault, read_rows};
@@ -19,8 +19,8 @@ use vg_scan::text_at;
 /// What is said of a net, as text.
 #[derive(Drop)]
 pub enum Answer {
-    /// Its wire delays.
-    Delays(Vec<u8>),
+    /// What was asked for.
+    Report(Vec<u8>),
     /// Why it is refused.
     Refused(Vec<u8>),
 }
@@ -32,12 +32,19 @@ const MOST_NODES: usize = 65_536;
 const MOST_CAPACITORS: usize = 1 << 20;
 
 /// The text that refuses a net.
-fn refused(alloc: Global, name: &[u8], number: u8, kind: &[u8]) -> Result<Answer, Memory>
+pub fn refused(alloc: Global, name: &[u8], number: u8, kind: &[u8]) -> Result<Answer, Memory>
     ensures { IfOk result (IsRefused (refusal name.now number kind.now)) }
 {
     let mut text = Vec::new(alloc);
     print_refusal(name, number, kind, &mut text)?;
     Ok(Answer::Refused(text))
+}
+
+/// Whether a net has at most 65,536 nodes and 2^20 capacitor lines.
+pub fn is_few(rows: &Rows) -> bool
+    ensures { IsTrue result ↔ ((length rows.now.ress.items < 65536) × (length rows.now.caps.items ≤ 2 ^ 20)) }
+{
+    rows.ress.len() < MOST_NODES && rows.caps.len() <= MOST_CAPACITORS
 }
 
 /// What is said of the net of a plain text.
@@ -47,14 +54,14 @@ fn judge(alloc: Global, bytes: &[u8], rows: &Rows, placed: &Placed) -> Result<An
     ensures { IfOk result (Judges bytes.now (part_at bytes.now rows.now.name)) }
 {
     let name = text_at(bytes, rows.name);
-    if rows.ress.len() >= MOST_NODES || rows.caps.len() > MOST_CAPACITORS {
+    if !is_few(rows) {
         return refused(alloc, name, 16, b"TooLarge");
     }
-    let tree = build_tree(alloc, bytes, rows, placed)?;
+    let tree = own_tree(alloc, bytes, rows, placed)?;
     if !tree.is_within_limits() {
         return refused(alloc, name, 16, b"TooLarge");
     }
-    Ok(Answer::Delays(report_delays(alloc, bytes, rows, placed, &tree)?))
+    Ok(Answer::Report(report_delays(alloc, bytes, rows, placed, &tree)?))
 }
 
 /// What is said of the net of this name, where the text is plain.

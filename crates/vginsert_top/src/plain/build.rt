@@ -1,10 +1,11 @@
 //! The tree of a placed net.
-ghost use Rattle.std.specs.Prelude.{◌≡◌, ℕ, ◌+◌, ◌*◌, ◌^◌, ◌<◌, ◌≤◌, length, map, take, IfOk, slice_index};
+ghost use Rattle.std.specs.Prelude.{◌≡◌, ℕ, ◌+◌, ◌*◌, ◌^◌, ◌<◌, ◌≤◌, List, length, map, take, IfOk, slice_index};
 ghost use Rattle.std.specs.List.{sum_by};
-ghost use Rattle.vginsert_top.specs.Net.{tree_in};
+ghost use Rattle.vginsert_top.specs.Net.{tree_of, tree_in};
+ghost use Rattle.vginsert_top.specs.Answer.{IsPlacedIn};
 ghost use Rattle.vginsert_top.specs.Build.{nodes_from};
-ghost use Rattle.vginsert_top.specs.Rows.{part_at, resistor_in, capacitor_in, net_in};
-ghost use Rattle.vginsert_top.specs.Tree.{AreInTreeOrder, nodes_of, parents_of, capacitance_of};
+ghost use Rattle.vginsert_top.specs.Rows.{part_at, resistor_in, net_in};
+ghost use Rattle.vginsert_top.specs.Tree.{AreInTreeOrder, nodes_of, parents_of};
 
 use crate::plain::order::Placed;
 use crate::plain::rows::{CapacitorRow, ResistorRow, Rows};
@@ -59,17 +60,34 @@ fn build_nodes(
     Ok(nodes)
 }
 
-/// The tree of a net of at most 65,536 nodes.
-pub fn build_tree(alloc: Global, bytes: &[u8], rows: &Rows, placed: &Placed) -> Result<Tree, Memory>
+/// The tree of a net of at most 65,536 nodes, whose nodes have these capacitances (aF), in tree order.
+pub fn build_tree(
+    alloc: Global,
+    bytes: &[u8],
+    rows: &Rows,
+    parents: &[usize],
+    sums: &[u128],
+) -> Result<Tree, Memory>
     requires few { length rows.now.ress.items < 65536 }
     requires order { AreInTreeOrder (part_at bytes.now rows.now.driver) (map (resistor_in bytes.now) rows.now.ress.items) }
-    requires parents { placed.now.parents.items ≡ parents_of (part_at bytes.now rows.now.driver) (map (resistor_in bytes.now) rows.now.ress.items) }
-    requires sums { placed.now.sums.items ≡ map (capacitance_of (map (capacitor_in bytes.now) rows.now.caps.items)) (nodes_of (part_at bytes.now rows.now.driver) (map (resistor_in bytes.now) rows.now.ress.items)) }
-    ensures { IfOk result (λ tree. tree.nodes ≡ tree_in (net_in bytes.now rows.now)) }
+    requires parents { parents.now ≡ parents_of (part_at bytes.now rows.now.driver) (map (resistor_in bytes.now) rows.now.ress.items) }
+    requires sums { length sums.now ≡ length rows.now.ress.items + 1 }
+    ensures { IfOk result (λ tree. (c : List ℕ → ℕ) → sums.now ≡ map c (nodes_of (part_at bytes.now rows.now.driver) (map (resistor_in bytes.now) rows.now.ress.items)) → tree.nodes ≡ tree_of (part_at bytes.now rows.now.driver) (map (resistor_in bytes.now) rows.now.ress.items) c) }
 {
     let _ = bytes;
-    let nodes = build_nodes(alloc, &rows.ress, &placed.parents, &placed.sums)?;
+    let nodes = build_nodes(alloc, &rows.ress, parents, sums)?;
     Ok(Tree {
         nodes: Row::from_vec(nodes),
     })
+}
+
+/// The tree of a net's own capacitors.
+pub fn own_tree(alloc: Global, bytes: &[u8], rows: &Rows, placed: &Placed) -> Result<Tree, Memory>
+    requires few { length rows.now.ress.items < 65536 }
+    requires order { AreInTreeOrder (part_at bytes.now rows.now.driver) (map (resistor_in bytes.now) rows.now.ress.items) }
+    requires placed { IsPlacedIn placed.now (net_in bytes.now rows.now) }
+    ensures { IfOk result (λ tree. tree.nodes ≡ tree_in (net_in bytes.now rows.now)) }
+{
+    let tree = build_tree(alloc, bytes, rows, &placed.parents, &placed.sums)?;
+    Ok(tree)
 }

@@ -6,7 +6,8 @@ ghost use Rattle.vginsert_top.specs.Rows.{IsIn, part_at};
 ghost use Rattle.vginsert_top.specs.Shape.{lines_from, after_headings, front};
 
 use crate::plain::heading::HEADER;
-use crate::plain::place::{heading_at, name_at, pin_at, word_at};
+use crate::plain::line::Side;
+use crate::plain::place::{connection_at, heading_at, name_at, word_at};
 use vg_scan::Span;
 
 /// Where the line after the header begins.
@@ -28,7 +29,7 @@ pub fn front_of(bytes: &[u8]) -> Option<(Span, Span, usize)>
 {
     let net = header_end(bytes)?;
     let (name, conn) = name_at(bytes, net)?;
-    let pins = word_at(bytes, conn, b"*CONN")?;
-    let (driver, sinks) = pin_at(bytes, pins, b"O")?;
+    let first = word_at(bytes, conn, b"*CONN")?;
+    let (driver, sinks) = connection_at(bytes, first, Side::Driver)?;
     Some((name, driver, sinks))
 }

@@ -2,10 +2,10 @@
 ghost use Rattle.std.specs.Prelude.{◌≡◌, option_map, IfSome};
 ghost use Rattle.std.specs.Result.{result_ok};
 ghost use Rattle.vg_scan.specs.Lines.{words};
-ghost use Rattle.vginsert_top.specs.Plain.{value_at, name_line, pin_line, capacitor_line, resistor_line};
+ghost use Rattle.vginsert_top.specs.Plain.{value_at, name_line, connection_line, capacitor_line, resistor_line, pin_direction, port_direction, is_pin, is_port};
 ghost use Rattle.vginsert_top.specs.Rows.{IsIn, part_at, capacitor_in, resistor_in, CapacitorIn, ResistorIn};
 
-use crate::plain::names::{is_name, is_node};
+use crate::plain::names::{is_name, is_node, is_node_or_port};
 use crate::plain::rows::{CapacitorRow, ResistorRow};
 use crate::plain::words::{four_words, is_text, three_words};
 use vg_num::read_scaled;
@@ -34,18 +34,60 @@ pub fn name_on(bytes: &[u8], line: Span) -> Option<Span>
     Some(name)
 }
 
-/// The node on a pin's line of this direction.
-#[tactic(auto, unfolding(crate::specs::Plain::pin_line), using(crate::proofs::ShapeLemmas::pin_line_len))]
-pub fn pin_on(bytes: &[u8], line: Span, direction: &[u8]) -> Option<Span>
+/// On which side of a net a connection stands.
+#[derive(Clone, Copy, Debug, PartialEq, Eq)]
+pub enum Side {
+    /// It drives the net.
+    Driver,
+    /// The net ends there.
+    Sink,
+}
+
+/// The direction of a pin on this side.
+fn pin_direction(side: Side) -> &'static [u8]
+    ensures { result.now ≡ pin_direction side }
+{
+    match side {
+        Side::Driver => b"O",
+        Side::Sink => b"I",
+    }
+}
+
+/// The direction of a port on this side.
+fn port_direction(side: Side) -> &'static [u8]
+    ensures { result.now ≡ port_direction side }
+{
+    match side {
+        Side::Driver => b"I",
+        Side::Sink => b"O",
+    }
+}
+
+fn is_pin(bytes: &[u8], side: Side, kind: Span, node: Span, given: Span) -> bool
+    ensures { result ≡ is_pin side (part_at bytes.now kind) (part_at bytes.now node) (part_at bytes.now given) }
+{
+    is_text(bytes, kind, b"*I")
+        && is_node(text_at(bytes, node))
+        && is_text(bytes, given, pin_direction(side))
+}
+
+fn is_port(bytes: &[u8], side: Side, kind: Span, node: Span, given: Span) -> bool
+    ensures { result ≡ is_port side (part_at bytes.now kind) (part_at bytes.now node) (part_at bytes.now given) }
+{
+    is_text(bytes, kind, b"*P")
+        && is_name(text_at(bytes, node))
+        && is_text(bytes, given, port_direction(side))
+}
+
+/// The node on the line of a connection on this side.
+#[tactic(auto, unfolding(crate::specs::Plain::connection_line), using(crate::proofs::ShapeLemmas::connection_line_len))]
+pub fn connection_on(bytes: &[u8], line: Span, side: Side) -> Option<Span>
     requires { IsIn bytes.now line }
-    ensures said { option_map (part_at bytes.now) result ≡ pin_line direction.now (words (part_at bytes.now line)) }
+    ensures said { option_map (part_at bytes.now) result ≡ connection_line side (words (part_at bytes.now line)) }
     ensures within { IfSome result (IsIn bytes.now) }
 {
     let (kind, node, given) = three_words(bytes, line)?;
-    if is_text(bytes, kind, b"*I")
-        && is_node(text_at(bytes, node))
-        && is_text(bytes, given, direction)
-    {
+    if is_pin(bytes, side, kind, node, given) || is_port(bytes, side, kind, node, given) {
         Some(node)
     } else {
         None
@@ -60,7 +102,7 @@ pub fn capacitor_on(bytes: &[u8], line: Span) -> Option<CapacitorRow>
     ensures within { IfSome result (CapacitorIn bytes.now) }
 {
     let (_, node, value) = three_words(bytes, line)?;
-    if !is_node(text_at(bytes, node)) {
+    if !is_node_or_port(text_at(bytes, node)) {
         return None;
     }
     let value = value_at(bytes, value)?;
@@ -75,7 +117,7 @@ pub fn resistor_on(bytes: &[u8], line: Span) -> Option<ResistorRow>
     ensures within { IfSome result (ResistorIn bytes.now) }
 {
     let (_, from, to, value) = four_words(bytes, line)?;
-    if !is_node(text_at(bytes, from)) || !is_node(text_at(bytes, to)) {
+    if !is_node_or_port(text_at(bytes, from)) || !is_node_or_port(text_at(bytes, to)) {
         return None;
     }
     let value = value_at(bytes, value)?;

@@ -2,7 +2,7 @@
 ghost use Rattle.std.specs.Prelude.{◌≡◌};
 ghost use Rattle.std.specs.List.{list_all, position};
 ghost use Rattle.vg_num.specs.Number.{are_digits, is_digit};
-ghost use Rattle.vginsert_top.specs.Names.{is_colon, is_name, is_name_byte, is_node};
+ghost use Rattle.vginsert_top.specs.Names.{is_colon, is_name, is_name_byte, is_node, is_node_or_port};
 ghost use Rattle.vginsert_top.specs.Tree.{is_inner};
 
 fn is_name_byte(byte: u8) -> bool
@@ -38,6 +38,13 @@ pub fn is_node(text: &[u8]) -> bool
         None => false,
         Some(at) => is_name(&text[..at]) && is_name(&text[at + 1..]),
     }
+}
+
+/// Whether a text is a node's, or a port's name.
+pub fn is_node_or_port(text: &[u8]) -> bool
+    ensures { result ≡ is_node_or_port text.now }
+{
+    is_node(text) || is_name(text)
 }
 
 fn has_only_digits(text: &[u8]) -> bool

@@ -131,6 +131,7 @@ fn sum_capacitors(
     requires differ { AllPairs ◌≢◌ nodes.now }
     ensures stand { IfOk result (λ _. list_all (λ cap. is_among nodes.now cap.node) (map (capacitor_in bytes.now) caps.now) ≡ true) }
     ensures sums { IfOk result (λ sums. sums.items ≡ map (capacitance_of (map (capacitor_in bytes.now) caps.now)) nodes.now) }
+    ensures small { IfOk result (λ sums. (v : ℕ) → slice_index sums.items v < 2 ^ 127) }
     ensures not_plain { IsErrOf result RowsFault.NotPlain → list_all (λ cap. is_among nodes.now cap.node) (map (capacitor_in bytes.now) caps.now) ≡ false }
 {
     let count = nodes.len();
@@ -199,6 +200,7 @@ pub fn place(alloc: Global, bytes: &[u8], rows: &Rows) -> Result<Placed, RowsFau
     ensures connections { IfOk result (λ placed. placed.connections ≡ connections_of (net_in bytes.now rows.now)) }
     ensures parents { IfOk result (λ placed. placed.parents.items ≡ parents_of (part_at bytes.now rows.now.driver) (map (resistor_in bytes.now) rows.now.ress.items)) }
     ensures sums { IfOk result (λ placed. placed.sums.items ≡ map (capacitance_of (map (capacitor_in bytes.now) rows.now.caps.items)) (nodes_of (part_at bytes.now rows.now.driver) (map (resistor_in bytes.now) rows.now.ress.items))) }
+    ensures small { IfOk result (λ placed. (v : ℕ) → slice_index placed.sums.items v < 2 ^ 127) }
     ensures not_plain { IsErrOf result RowsFault.NotPlain → IsInTreeOrder (net_in bytes.now rows.now) → ⊥ }
 {
     let (nodes, parents) = place_nodes(alloc, bytes, rows.driver, &rows.ress)?;

@@ -1,11 +1,11 @@
 //! What the line at a place says, and where the next one begins.
 ghost use Rattle.std.specs.Prelude.{◌≡◌, ◌≢◌, ◌<◌, ◌≤◌, [], MatchBool, length, option_map, IfSome};
-ghost use Rattle.vginsert_top.specs.Plain.{is_heading, name_line, pin_line, capacitor_line, resistor_line};
+ghost use Rattle.vginsert_top.specs.Plain.{is_heading, name_line, connection_line, capacitor_line, resistor_line};
 ghost use Rattle.vginsert_top.specs.Rows.{IsIn, part_at, capacitor_in, resistor_in, CapacitorIn, ResistorIn};
 ghost use Rattle.vginsert_top.specs.Shape.{lines_from, seen, is_head, after, first};
 
 use crate::plain::heading::{Heading, is_heading};
-use crate::plain::line::{capacitor_on, name_on, pin_on, resistor_on};
+use crate::plain::line::{Side, capacitor_on, connection_on, name_on, resistor_on};
 use crate::plain::rows::{CapacitorRow, ResistorRow};
 use crate::plain::words::is_one;
 use vg_scan::{Span, next_line};
@@ -60,16 +60,16 @@ pub fn name_at(bytes: &[u8], at: usize) -> Option<(Span, usize)>
     Some((name, next))
 }
 
-/// The pin of this direction at a place.
+/// The connection on this side at a place.
 #[tactic(auto, unfolding(crate::specs::Shape::first))]
-pub fn pin_at(bytes: &[u8], at: usize, direction: &[u8]) -> Option<(Span, usize)>
+pub fn connection_at(bytes: &[u8], at: usize, side: Side) -> Option<(Span, usize)>
     requires { at ≤ length bytes.now }
-    ensures said { option_map (seen (part_at bytes.now) bytes.now) result ≡ first (pin_line direction.now) (lines_from bytes.now at) }
+    ensures said { option_map (seen (part_at bytes.now) bytes.now) result ≡ first (connection_line side) (lines_from bytes.now at) }
     ensures within { IfSome result (λ found. IsIn bytes.now found.0 × (at < found.1) × (found.1 ≤ length bytes.now)) }
 {
     let (line, next) = next_line(bytes, at)?;
-    let pin = pin_on(bytes, line, direction)?;
-    Some((pin, next))
+    let node = connection_on(bytes, line, side)?;
+    Some((node, next))
 }
 
 /// The capacitor at a place.

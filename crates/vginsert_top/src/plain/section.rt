@@ -1,11 +1,12 @@
 //! The rows of a text: as many as stand one after another.
 ghost use Rattle.std.specs.Prelude.{◌≡◌, ◌≤◌, length, map, codes, IfOk, IsErrOf};
 ghost use Rattle.std.specs.List.{All};
-ghost use Rattle.vginsert_top.specs.Plain.{pin_line, capacitor_line, resistor_line};
+ghost use Rattle.vginsert_top.specs.Plain.{connection_line, capacitor_line, resistor_line};
 ghost use Rattle.vginsert_top.specs.Rows.{IsIn, part_at, capacitor_in, resistor_in, CapacitorIn, ResistorIn};
 ghost use Rattle.vginsert_top.specs.Shape.{lines_from, seen, leading, past, some_rows, section};
 
-use crate::plain::place::{capacitor_at, pin_at, resistor_at, word_at};
+use crate::plain::line::Side;
+use crate::plain::place::{capacitor_at, connection_at, resistor_at, word_at};
 use crate::plain::read::RowsFault;
 use crate::plain::rows::{CapacitorRow, ResistorRow};
 use std::alloc::{AllocError, Global};
@@ -17,13 +18,13 @@ fn leading_sinks(
     start: usize,
 ) -> Result<(Vec<Span>, usize), AllocError>
     requires { start ≤ length bytes.now }
-    ensures said { IfOk result (λ found. map (part_at bytes.now) found.0.items ≡ leading (pin_line (codes "I")) (lines_from bytes.now start)) }
-    ensures rest { IfOk result (λ found. lines_from bytes.now found.1 ≡ past (pin_line (codes "I")) (lines_from bytes.now start)) }
+    ensures said { IfOk result (λ found. map (part_at bytes.now) found.0.items ≡ leading (connection_line Side.Sink) (lines_from bytes.now start)) }
+    ensures rest { IfOk result (λ found. lines_from bytes.now found.1 ≡ past (connection_line Side.Sink) (lines_from bytes.now start)) }
     ensures within { IfOk result (λ found. All (IsIn bytes.now) found.0.items × (found.1 ≤ length bytes.now)) }
 {
     let mut sinks = Vec::new(alloc);
     let mut at = start;
-    'sink: while let Some((sink, next)) = pin_at(bytes, at, b"I") {
+    'sink: while let Some((sink, next)) = connection_at(bytes, at, Side::Sink) {
         sinks.push(sink)?;
         at = next;
     }
@@ -71,9 +72,9 @@ fn leading_resistors(
 /// The sinks at a place, one or more.
 pub fn read_sinks(alloc: Global, bytes: &[u8], at: usize) -> Result<(Vec<Span>, usize), RowsFault>
     requires { at ≤ length bytes.now }
-    ensures said { IfOk result (λ found. some_rows (pin_line (codes "I")) (lines_from bytes.now at) ≡ Some (seen (λ rows. map (part_at bytes.now) rows.items) bytes.now found)) }
+    ensures said { IfOk result (λ found. some_rows (connection_line Side.Sink) (lines_from bytes.now at) ≡ Some (seen (λ rows. map (part_at bytes.now) rows.items) bytes.now found)) }
     ensures within { IfOk result (λ found. All (IsIn bytes.now) found.0.items × (found.1 ≤ length bytes.now)) }
-    ensures not_plain { IsErrOf result RowsFault.NotPlain → some_rows (pin_line (codes "I")) (lines_from bytes.now at) ≡ None }
+    ensures not_plain { IsErrOf result RowsFault.NotPlain → some_rows (connection_line Side.Sink) (lines_from bytes.now at) ≡ None }
 {
     let (sinks, next) = leading_sinks(alloc, bytes, at)?;
     if sinks.is_empty() {

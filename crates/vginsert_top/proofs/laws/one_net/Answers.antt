@@ -1,4 +1,4 @@
-use Rattle.vginsert_top.proofs.EndingLemmas.{one_net}
+use Rattle.vginsert_top.proofs.NetLemmas.{one_net}
 use Rattle.vginsert_top.proofs.laws.one_net.Goals as goal
 
 pub returns : goal.returns

@@ -10,15 +10,15 @@ pub returns-in_err-name-clause-said : goal.returns-in_err-name-clause-said
 unfolding front and_then
 returns-in_err-name-clause-said c = rw (c.from_residual-in_err-name.ensures, ← c.in_ok-net.ensures.said, ← c.in_err-name.ensures.said) refl
 
-pub returns-in_err-pins-clause-said : goal.returns-in_err-pins-clause-said
+pub returns-in_err-first-clause-said : goal.returns-in_err-first-clause-said
 unfolding front and_then
-returns-in_err-pins-clause-said c = rw (c.from_residual-in_err-pins.ensures, ← c.in_ok-net.ensures.said, ← c.in_ok-name.ensures.said, ← c.in_err-pins.ensures.said) refl
+returns-in_err-first-clause-said c = rw (c.from_residual-in_err-first.ensures, ← c.in_ok-net.ensures.said, ← c.in_ok-name.ensures.said, ← c.in_err-first.ensures.said) refl
 
 pub returns-in_err-driver-clause-said : goal.returns-in_err-driver-clause-said
 unfolding front and_then
 returns-in_err-driver-clause-said c =
-    rw (c.from_residual-in_err-driver.ensures, ← c.in_ok-net.ensures.said, ← c.in_ok-name.ensures.said, ← c.in_ok-pins.ensures.said, ← c.in_err-driver.ensures.said) refl
+    rw (c.from_residual-in_err-driver.ensures, ← c.in_ok-net.ensures.said, ← c.in_ok-name.ensures.said, ← c.in_ok-first.ensures.said, ← c.in_err-driver.ensures.said) refl
 
 pub returns-clause-said : goal.returns-clause-said
 unfolding front and_then
-returns-clause-said c = rw (← c.in_ok-net.ensures.said, ← c.in_ok-name.ensures.said, ← c.in_ok-pins.ensures.said, ← c.in_ok-driver.ensures.said) refl
+returns-clause-said c = rw (← c.in_ok-net.ensures.said, ← c.in_ok-name.ensures.said, ← c.in_ok-first.ensures.said, ← c.in_ok-driver.ensures.said) refl
