@@ -1,5 +1,9 @@
 pub mod Bare
+pub mod ClearedLemmas
 pub mod LineLemmas
 pub mod Spelled
 pub mod WordLemmas
 pub mod NodeLemmas
+pub mod PrintedLemmas
+pub mod CutLemmas
+pub mod BlankLemmas

@@ -1,5 +1,10 @@
 pub mod Lines
+pub mod Spans
+pub mod Comments
 pub mod Separators
+pub mod Distinct
 pub mod Names
 pub mod Readings
+pub mod Printed
+pub mod References
 pub mod Nodes

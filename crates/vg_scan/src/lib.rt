@@ -1,21 +1,34 @@
-//! Lines and words of a text, names, and the names of SPEF.
+//! Comments, lines and words of a text, names, and the names of SPEF.
 //!
-//! Nothing here copies a text: its parts are spans, and only a name takes memory.
+//! The parts of a text are spans. Only a name, and the one copy of a text without its comments, take memory.
 #![tactic(auto)]
 
 mod chars;
+mod comments;
 mod fault;
+mod laws;
 mod lines;
 mod name;
+mod names;
 mod nodes;
+mod print;
+mod reference;
+mod scan;
 mod spef;
+mod words;
 
 pub use chars::Chars;
+pub use comments::{Comments, skip_comments};
 pub use fault::NameFault;
+pub use laws::{comments_keep_lines, reads_names_again};
 pub use lines::{Span, line_of, next_line, next_word, text_at};
-pub use name::{Name, NodeName};
+pub use name::{Name, NetNames, NodeName};
+pub use names::Names;
 pub use nodes::{inner_name, node_name, port_name};
+pub use print::print_spef_name;
+pub use reference::{index_of, is_reference};
 pub use spef::{spef_name, split_node};
+pub use words::words_of;
 
 #[cfg(test)]
 mod tests;

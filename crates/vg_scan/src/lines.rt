@@ -1,6 +1,6 @@
 //! Lines and words.
 
-ghost use Rattle.std.specs.Prelude.{◌≡◌, ℕ, ◌+◌, ◌<◌, ◌≤◌, ◌∷◌, [], length, take, drop, MatchOption, ⊤, ◌↔◌, IsNone};
+ghost use Rattle.std.specs.Prelude.{◌≡◌, ℕ, true, slice_index, ◌-◌, ◌+◌, ◌<◌, ◌≤◌, ◌∷◌, [], length, take, drop, MatchOption, ⊤, ◌↔◌, IsNone};
 ghost use Rattle.std.specs.List.{position, AllPass};
 ghost use Rattle.std.specs.Str.Lines.{lines};
 ghost use Rattle.vg_scan.specs.Lines.{is_blank, is_ink, is_newline, line_number, lines_of, words, part};
@@ -38,6 +38,9 @@ fn ink_at(bytes: &[u8]) -> Option<usize>
 fn line_lengths(text: &[u8]) -> (usize, usize)
     requires { 0 < length text.now }
     ensures line { lines text.now ≡ take result.0 text.now ∷ lines (drop result.1 text.now) }
+    // The same of the text's parts from its start on.
+    ensures cut { (m : ℕ) → result.1 ≤ m → lines (take m text.now) ≡ take result.0 text.now ∷ lines (take (m - result.1) (drop result.1 text.now)) }
+    ensures last { (m : ℕ) → 0 < m → m ≤ result.0 → lines (take m text.now) ≡ take m text.now ∷ [] }
     ensures place { (result.0 ≤ result.1) × (0 < result.1) × (result.1 ≤ length text.now) }
 {
     match newline_at(text) {
@@ -60,6 +63,9 @@ pub fn next_line(bytes: &[u8], at: usize) -> Option<(Span, usize)>
     requires { at ≤ length bytes.now }
     ensures line { MatchOption result (lines (drop at bytes.now) ≡ []) (λ found. lines (drop at bytes.now) ≡ part bytes.now found.0.from found.0.to ∷ lines (drop found.1 bytes.now)) }
     ensures words { MatchOption result (lines_of (drop at bytes.now) ≡ []) (λ found. lines_of (drop at bytes.now) ≡ words (part bytes.now found.0.from found.0.to) ∷ lines_of (drop found.1 bytes.now)) }
+    // The same where the text ends earlier: in a later line, or in this one.
+    ensures cut { MatchOption result ⊤ (λ found. (m : ℕ) → found.1 ≤ m → lines_of (part bytes.now at m) ≡ words (part bytes.now found.0.from found.0.to) ∷ lines_of (part bytes.now found.1 m)) }
+    ensures last { MatchOption result ⊤ (λ found. (m : ℕ) → at < m → m ≤ found.0.to → lines_of (part bytes.now at m) ≡ words (part bytes.now at m) ∷ []) }
     ensures place { MatchOption result (at ≡ length bytes.now) (λ found. (found.0.from ≡ at) × (at ≤ found.0.to) × (found.0.to ≤ found.1) × (at < found.1) × (found.1 ≤ length bytes.now)) }
 {
     if at == bytes.len() {
@@ -79,6 +85,9 @@ pub fn next_line(bytes: &[u8], at: usize) -> Option<(Span, usize)>
 fn word_in(line: &[u8]) -> Option<(usize, usize)>
     ensures blank { IsNone result ↔ AllPass is_blank line.now }
     ensures word { MatchOption result (words line.now ≡ []) (λ found. words line.now ≡ part line.now found.0 found.1 ∷ words (drop found.1 line.now)) }
+    ensures before { MatchOption result ⊤ (λ found. (k : ℕ) → k < found.0 → is_blank (slice_index line.now k) ≡ true) }
+    ensures ink { MatchOption result ⊤ (λ found. is_ink (slice_index line.now found.0) ≡ true) }
+    ensures alone { MatchOption result ⊤ (λ found. words (take found.1 line.now) ≡ part line.now found.0 found.1 ∷ []) }
     ensures place { MatchOption result ⊤ (λ found. (found.0 < found.1) × (found.1 ≤ length line.now)) }
 {
     match ink_at(line) {
@@ -95,6 +104,10 @@ pub fn next_word(bytes: &[u8], within: Span) -> Option<(Span, Span)>
     requires { (within.from ≤ within.to) × (within.to ≤ length bytes.now) }
     ensures blank { IsNone result ↔ AllPass is_blank (part bytes.now within.from within.to) }
     ensures word { MatchOption result (words (part bytes.now within.from within.to) ≡ []) (λ found. words (part bytes.now within.from within.to) ≡ part bytes.now found.0.from found.0.to ∷ words (part bytes.now found.1.from found.1.to)) }
+    // Only blanks stand before the word, and it is the only word up to its end.
+    ensures before { MatchOption result ⊤ (λ found. (k : ℕ) → within.from ≤ k → k < found.0.from → is_blank (slice_index bytes.now k) ≡ true) }
+    ensures ink { MatchOption result ⊤ (λ found. is_ink (slice_index bytes.now found.0.from) ≡ true) }
+    ensures alone { MatchOption result ⊤ (λ found. words (part bytes.now within.from found.0.to) ≡ part bytes.now found.0.from found.0.to ∷ []) }
     ensures place { MatchOption result ⊤ (λ found. (within.from ≤ found.0.from) × (found.0.from < found.0.to) × (found.0.to ≤ found.1.from) × (found.1.from ≤ found.1.to) × (found.1.to ≡ within.to)) }
 {
     let start = within.from;

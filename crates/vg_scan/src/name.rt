@@ -9,7 +9,7 @@ ghost use Rattle.std.proofs.Common.{rules};
 use std::alloc::Global;
 use std::hash::{Hash, Hasher};
 use std::marker::Model;
-use vg_num::Memory;
+use vg_num::{Memory, Row};
 
 /// A name: a list of bytes.
 #[derive(Debug, Drop)]
@@ -76,4 +76,12 @@ impl Hash for Name {
 pub struct NodeName {
     pub owner: Name,
     pub leaf: Name,
+}
+
+/// The names of a net, of its nodes, and of the cells that are known at them.
+#[derive(Drop)]
+pub struct NetNames {
+    pub net: Name,
+    pub nodes: Row<NodeName>,
+    pub cells: Row<Name>,
 }

@@ -70,3 +70,59 @@ fn lines_and_words(rt: HostRuntime) {
     assert_eq!(rt; (line_of(text, 4), line_of(text, 5)), (1, 2));
     assert_eq!(rt; text_at(text, at(6, 9)), b"cd".as_slice());
 }
+
+#[test]
+fn comments(rt: HostRuntime) -> Result<(), Fail> {
+    let rows: [(&[u8], &[u8]); 6] = [
+        (b"a // b\nc", b"a     \nc"),
+        (b"a /*/ b\n*/ c", b"a      \n   c"),
+        (b"a /* b", b"a     "),
+        (b"\"// \" // \"", b"\"// \"     "),
+        (b"\"/* \n/**/b", b"\"/* \n    b"),
+        (b"a\\// /b", b"a\\// /b"),
+    ];
+    for (text, clear) in rows {
+        let read = skip_comments(rt.alloc(), text, Comments::Spef)?;
+        assert_eq!(rt; read.as_slice(), clear);
+    }
+    Ok(())
+}
+
+#[test]
+fn printed_names(rt: HostRuntime) -> Result<(), Fail> {
+    let rows: [(&[u8], &[u8]); 3] = [
+        (b"u1/d[3]", b"u1\\/d<3>"),
+        (b"*1", b"\\*1"),
+        (b"a.b<", b"a\\.b\\<"),
+    ];
+    for (name, text) in rows {
+        let mut printed = Vec::new(rt.alloc());
+        let name = Name::from_bytes(rt.alloc(), name)?;
+        print_spef_name(&name, &CHARS, &mut printed)?;
+        assert_eq!(rt; printed.as_slice(), text);
+    }
+    Ok(())
+}
+
+#[test]
+fn numbered_names(rt: HostRuntime) -> Result<(), Fail> {
+    let mut names = Names::new(rt.alloc());
+    for (text, id) in [(b"a", 0), (b"b", 1), (b"a", 0), (b"c", 2)] {
+        let name = Name::from_bytes(rt.alloc(), text)?;
+        if names.len() < 4 {
+            assert_eq!(rt; names.intern(name)?, id);
+        }
+    }
+    assert_eq!(rt; names.len(), 3);
+    assert_eq!(rt; names.find(&Name::from_bytes(rt.alloc(), b"c")?), Some(2));
+    assert_eq!(rt; names.find(&Name::from_bytes(rt.alloc(), b"d")?), None);
+    Ok(())
+}
+
+#[test]
+fn references(rt: HostRuntime) {
+    assert_eq!(rt; index_of(b"*12"), Some(b"12".as_slice()));
+    for text in [b"*".as_slice(), b"12", b"\\*12", b"*1a", b""] {
+        assert_eq!(rt; index_of(text), None);
+    }
+}

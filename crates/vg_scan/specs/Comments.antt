@@ -1,0 +1,37 @@
+-- Comments, made blank.
+use Rattle.std.specs.Prelude.{◌≡◌, ◌≢◌, ℕ, ◌==◌, ◌<◌, ◌≤◌, ◌⊎◌, ◌&&◌, ◌||◌, List, [], ◌∷◌, ◌++◌, length, drop, if◌then◌else◌}
+use Rattle.vg_scan.specs.declared.comments.Comments.{Comments}
+use Rattle.vg_scan.specs.declared.comments.Comments.TheVariants.{Spef}
+use Rattle.vg_scan.specs.declared.scan.Scan.{Scan}
+use Rattle.vg_scan.specs.declared.scan.Scan.TheVariants.{Outside, Quoted, InLine, InBlock}
+
+-- a byte of a comment: a line end stays, every other byte becomes a space
+abbrev pub blanked : ℕ → ℕ
+blanked b = if b == 10 then 10 else 32
+
+-- What a text becomes whose bytes go on in this. A mark of two bytes is taken at once, so that `/*/` does not close itself.
+unfoldable pub cleared_in : Scan → List ℕ → List ℕ
+cleared_in scan [] = []
+cleared_in Outside (b ∷ []) = b ∷ []
+cleared_in Outside (b ∷ c ∷ bs) =
+    if b == 92 then b ∷ c ∷ cleared_in Outside bs
+    else (if b == 34 then b ∷ cleared_in Quoted (c ∷ bs)
+    else (if (b == 47) && (c == 47) then 32 ∷ 32 ∷ cleared_in InLine bs
+    else (if (b == 47) && (c == 42) then 32 ∷ 32 ∷ cleared_in InBlock bs
+    else b ∷ cleared_in Outside (c ∷ bs))))
+cleared_in Quoted (b ∷ bs) = b ∷ (if (b == 34) || (b == 10) then cleared_in Outside bs else cleared_in Quoted bs)
+cleared_in InLine (b ∷ bs) = if b == 10 then b ∷ cleared_in Outside bs else 32 ∷ cleared_in InLine bs
+cleared_in InBlock (b ∷ []) = blanked b ∷ []
+cleared_in InBlock (b ∷ c ∷ bs) = if (b == 42) && (c == 47) then 32 ∷ 32 ∷ cleared_in Outside bs else blanked b ∷ cleared_in InBlock (c ∷ bs)
+
+-- a text whose comments are blank
+abbrev pub without_comments : Comments → List ℕ → List ℕ
+without_comments Spef text = cleared_in Outside text
+
+-- a byte stays, or it is no newline and becomes a space
+abbrev pub StaysOrBlanks : ℕ → ℕ → Type 0
+StaysOrBlanks b c = (c ≡ b) ⊎ ((b ≢ 10) × (c ≡ 32))
+
+-- the rest is cleared as before, with what was written
+abbrev pub Goes : List ℕ → Scan → ℕ → List ℕ → Scan → ℕ → List ℕ → Type 0
+Goes bytes scan at out next to written = (written ++ cleared_in next (drop to bytes) ≡ out ++ cleared_in scan (drop at bytes)) × (at < to) × (to ≤ length bytes)

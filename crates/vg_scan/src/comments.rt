@@ -1,0 +1,163 @@
+//! Comments, made blank.
+
+ghost use Rattle.std.specs.Prelude.{◌≡◌, ◌<◌, ◌+◌, ◌++◌, ◌∷◌, [], IfOk, OnOk, length};
+ghost use Rattle.vg_scan.specs.declared.scan.Scan.TheVariants.{Outside, Quoted, InLine, InBlock};
+ghost use Rattle.vg_scan.specs.Comments.{blanked, Goes, without_comments};
+ghost use Rattle.vg_scan.specs.declared.comments.Comments.TheVariants.{Spef};
+
+use crate::scan::Scan;
+use std::alloc::Global;
+use vg_num::Memory;
+
+fn push_two(out: &mut Vec<u8>, first: u8, second: u8) -> Result<(), Memory>
+    ensures { OnOk result (out.new.items ≡ out.old.items ++ first ∷ second ∷ []) }
+{
+    out.push(first)?;
+    out.push(second)?;
+    Ok(())
+}
+
+fn step_outside(bytes: &[u8], at: usize, out: &mut Vec<u8>) -> Result<(Scan, usize), Memory>
+    requires { at + 1 < length bytes.now }
+    ensures { IfOk result (λ r. Goes bytes.now Outside at out.old.items r.0 r.1 out.new.items) }
+{
+    let b = bytes[at];
+    let c = bytes[at + 1];
+    if b == b'\\' {
+        push_two(out, b, c)?;
+        return Ok((Scan::Outside, at + 2));
+    }
+    if b == b'"' {
+        out.push(b)?;
+        return Ok((Scan::Quoted, at + 1));
+    }
+    if b == b'/' && c == b'/' {
+        push_two(out, b' ', b' ')?;
+        return Ok((Scan::InLine, at + 2));
+    }
+    if b == b'/' && c == b'*' {
+        push_two(out, b' ', b' ')?;
+        return Ok((Scan::InBlock, at + 2));
+    }
+    out.push(b)?;
+    Ok((Scan::Outside, at + 1))
+}
+
+#[tactic(auto, using(crate::proofs::ClearedLemmas::one), unfolding(crate::specs::Comments::cleared_in))]
+fn step_quoted(bytes: &[u8], at: usize, out: &mut Vec<u8>) -> Result<(Scan, usize), Memory>
+    requires { at < length bytes.now }
+    ensures { IfOk result (λ r. Goes bytes.now Quoted at out.old.items r.0 r.1 out.new.items) }
+{
+    let b = bytes[at];
+    out.push(b)?;
+    let next = if b == b'"' || b == b'\n' {
+        Scan::Outside
+    } else {
+        Scan::Quoted
+    };
+    Ok((next, at + 1))
+}
+
+#[tactic(auto, using(crate::proofs::ClearedLemmas::one), unfolding(crate::specs::Comments::cleared_in))]
+fn step_line(bytes: &[u8], at: usize, out: &mut Vec<u8>) -> Result<(Scan, usize), Memory>
+    requires { at < length bytes.now }
+    ensures { IfOk result (λ r. Goes bytes.now InLine at out.old.items r.0 r.1 out.new.items) }
+{
+    if bytes[at] == b'\n' {
+        out.push(b'\n')?;
+        return Ok((Scan::Outside, at + 1));
+    }
+    out.push(b' ')?;
+    Ok((Scan::InLine, at + 1))
+}
+
+fn blank(byte: u8) -> u8
+    ensures { result ≡ blanked byte }
+{
+    if byte == b'\n' { byte } else { b' ' }
+}
+
+fn step_block(bytes: &[u8], at: usize, out: &mut Vec<u8>) -> Result<(Scan, usize), Memory>
+    requires { at + 1 < length bytes.now }
+    ensures { IfOk result (λ r. Goes bytes.now InBlock at out.old.items r.0 r.1 out.new.items) }
+{
+    if bytes[at] == b'*' && bytes[at + 1] == b'/' {
+        push_two(out, b' ', b' ')?;
+        return Ok((Scan::Outside, at + 2));
+    }
+    let b = bytes[at];
+    out.push(blank(b))?;
+    Ok((Scan::InBlock, at + 1))
+}
+
+#[tactic(auto, using(crate::proofs::ClearedLemmas::one), unfolding(crate::specs::Comments::cleared_in))]
+fn step_last(
+    bytes: &[u8],
+    at: usize,
+    scan: Scan,
+    out: &mut Vec<u8>,
+) -> Result<(Scan, usize), Memory>
+    requires { at + 1 ≡ length bytes.now }
+    ensures { IfOk result (λ r. Goes bytes.now scan at out.old.items r.0 r.1 out.new.items) }
+{
+    let b = bytes[at];
+    let byte = match scan {
+        Scan::Outside => b,
+        Scan::Quoted => b,
+        Scan::InLine => if b == b'\n' { b } else { b' ' },
+        Scan::InBlock => if b == b'\n' { b } else { b' ' },
+    };
+    out.push(byte)?;
+    Ok((scan, at + 1))
+}
+
+fn step(bytes: &[u8], at: usize, scan: Scan, out: &mut Vec<u8>) -> Result<(Scan, usize), Memory>
+    requires { at < length bytes.now }
+    ensures { IfOk result (λ r. Goes bytes.now scan at out.old.items r.0 r.1 out.new.items) }
+{
+    if at + 1 == bytes.len() {
+        return step_last(bytes, at, scan, out);
+    }
+    match scan {
+        Scan::Outside => step_outside(bytes, at, out),
+        Scan::Quoted => step_quoted(bytes, at, out),
+        Scan::InLine => step_line(bytes, at, out),
+        Scan::InBlock => step_block(bytes, at, out),
+    }
+}
+
+/// Which comments a text has.
+#[derive(Clone, Copy, Debug, PartialEq, Eq)]
+pub enum Comments {
+    /// Those of SPEF (IEEE Std 1481).
+    ///
+    /// One runs from `//` to its line's end, or from `/*` to the next `*/`, else to the text's end. None begins in a
+    /// string, which ends at its second quote or at its line's end. Outside strings a backslash hides the byte after it.
+    Spef,
+}
+
+/// The text with a space in place of each byte of its comments that is no newline. Answers `Memory` where there is no
+/// room.
+pub fn skip_comments(alloc: Global, bytes: &[u8], kind: Comments) -> Result<Vec<u8>, Memory>
+    ensures text { IfOk result (λ text. text.items ≡ without_comments kind bytes.now) }
+    ensures length { IfOk result (λ text. length text.items ≡ length bytes.now) }
+{
+    let text = match kind {
+        Comments::Spef => skip_spef_comments(alloc, bytes)?,
+    };
+    Ok(text)
+}
+
+fn skip_spef_comments(alloc: Global, bytes: &[u8]) -> Result<Vec<u8>, Memory>
+    ensures { IfOk result (λ text. text.items ≡ without_comments Spef bytes.now) }
+{
+    let mut out = Vec::with_capacity(alloc, bytes.len())?;
+    let mut scan = Scan::Outside;
+    let mut at = 0;
+    'byte: while at < bytes.len() {
+        let (next, to) = step(bytes, at, scan, &mut out)?;
+        scan = next;
+        at = to;
+    }
+    Ok(out)
+}

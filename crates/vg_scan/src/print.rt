@@ -1,0 +1,42 @@
+//! Names of SPEF, printed.
+
+ghost use Rattle.std.specs.Prelude.{◌≡◌, ◌++◌, OnOk};
+ghost use Rattle.vg_scan.specs.Printed.{is_own, printed, printed_byte, IsPrintable};
+
+use crate::chars::Chars;
+use crate::name::Name;
+use vg_num::Memory;
+
+/// Whether a byte stands for itself whatever the header says.
+fn is_own(byte: u8) -> bool
+    ensures { result ≡ is_own byte }
+{
+    byte.is_ascii_alphanumeric() || byte == b'_'
+}
+
+fn print_byte(byte: u8, chars: &Chars, to: &mut Vec<u8>) -> Result<(), Memory>
+    ensures { OnOk result (to.new.items ≡ to.old.items ++ printed_byte chars.now byte) }
+{
+    if is_own(byte) {
+        to.push(byte)?;
+    } else if byte == b'[' {
+        to.push(chars.bus_left)?;
+    } else if byte == b']' {
+        to.push(chars.bus_right)?;
+    } else {
+        to.extend_from_slice(&[b'\\', byte])?;
+    }
+    Ok(())
+}
+
+/// Prints a text whose canonical name is this name (IEEE Std 1481). Answers `Memory` where there is no room, and then a
+/// part of the text may have been printed.
+pub fn print_spef_name(name: &Name, chars: &Chars, to: &mut Vec<u8>) -> Result<(), Memory>
+    requires { IsPrintable name.now }
+    ensures { OnOk result (to.new.items ≡ to.old.items ++ printed chars.now name.now) }
+{
+    'byte: for byte in name.as_bytes() {
+        print_byte(*byte, chars, to)?;
+    }
+    Ok(())
+}
