@@ -1,0 +1,20 @@
+use Rattle.std.proofs.Common.{◌≡◌, ◌≤◌, ◌-◌, drop, length}
+use Rattle.vg_scan.specs.Lines.{lines_of}
+use Rattle.spef_file.specs.States.{START}
+use Rattle.spef_file.specs.Readings.{read}
+use Rattle.spef_file.specs.Views.{seen, IsWhole}
+use Rattle.spef_file.specs.NetSpans.{AreSpans}
+use Rattle.spef_file.proofs.read.read_lines.Given as goal
+
+abbrev pub invariant-line : goal.invariant-line
+invariant-line l = record {
+  reads : read START (lines_of l.bytes) ≡ read (seen l.reader) (lines_of (drop l.at l.bytes));
+  rest : lines_of (drop l.at l.bytes) ≡ drop l.reader.count (lines_of l.bytes);
+  spans : AreSpans l.bytes (lines_of l.bytes) l.reader.nets.rows.items;
+  whole : IsWhole l.reader;
+  within : l.at ≤ length l.bytes;
+  counted : l.reader.count ≤ l.at;
+}
+
+abbrev pub decreases-line : goal.decreases-line
+decreases-line l = length l.bytes - l.at

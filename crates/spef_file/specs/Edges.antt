@@ -1,0 +1,23 @@
+-- What a line is to a net.
+use Rattle.std.specs.Prelude.{◌≡◌, ℕ, ◌≤◌, ◌<◌, true, false, List, [], ◌∷◌, codes}
+use Rattle.vg_scan.specs.Lines.{Line, words, part}
+use Rattle.vg_scan.specs.Spans.{part_at}
+use Rattle.vg_scan.specs.declared.lines.Span.{Span}
+use Rattle.spef_file.specs.declared.edge.Edge.{Edge}
+use Rattle.spef_file.specs.declared.edge.Edge.TheVariants.{End, Head, Inner}
+use Rattle.spef_file.specs.States.{is_end, is_head}
+
+abbrev pub IsEdgeOf : Line → Edge → Type 0
+IsEdgeOf line (End _) = is_end line ≡ true
+IsEdgeOf line Head = (is_end line ≡ false) × (is_head line ≡ true)
+IsEdgeOf line Inner = (is_end line ≡ false) × (is_head line ≡ false)
+
+-- where the first word of an end line ends
+abbrev pub IsPlace : List ℕ → Span → Edge → Type 0
+IsPlace bytes line (End to) = (words (part bytes line.from to) ≡ codes "*END" ∷ []) × (line.from < to) × (to ≤ line.to)
+IsPlace bytes line Head = Unit {0}
+IsPlace bytes line Inner = Unit {0}
+
+-- what a line of a text is
+abbrev pub IsEdge : List ℕ → Span → Edge → Type 0
+IsEdge bytes line edge = IsEdgeOf (words (part_at bytes line)) edge × IsPlace bytes line edge

@@ -1,0 +1,12 @@
+pub mod Openings
+pub mod Words
+pub mod Marks
+pub mod Units
+pub mod Headers
+pub mod States
+pub mod Readings
+pub mod Tables
+pub mod Edges
+pub mod Views
+pub mod Shown
+pub mod NetSpans

@@ -1,0 +1,51 @@
+-- Where the nets of a file stand.
+use Rattle.std.specs.Prelude.{◌≡◌, ℕ, ◌-◌, ◌<◌, ◌≤◌, true, List, [], ◌∷◌, ◌++◌, take, drop, length, slice_index, unwrap_or, codes, Result, Ok, Err}
+use Rattle.std.specs.List.{All}
+use Rattle.vg_scan.specs.Lines.{Line, lines_of, words, part, is_ink}
+use Rattle.vg_scan.specs.Spans.{part_at}
+use Rattle.vg_scan.specs.declared.lines.Span.{Span}
+use Rattle.spef_file.specs.declared.fault.SpefKind.{SpefKind}
+use Rattle.spef_file.specs.declared.reader.Reader.{Reader}
+use Rattle.spef_file.specs.declared.section.Section.{Section}
+use Rattle.spef_file.specs.States.{end_at}
+
+-- the lines of a net between its head and its end, where these lines follow its head
+abbrev pub inner_lines : List Line → List Line
+inner_lines later = take (unwrap_or (end_at later) 0) later
+
+-- the lines that follow a net's head, up to the word `*END`
+abbrev pub up_to_end : List Line → List Line
+up_to_end later = inner_lines later ++ (codes "*END" ∷ []) ∷ []
+
+-- the lines of a net with its head and its end, up to the word `*END`, where its head is the first of these lines
+abbrev pub net_lines : List Line → List Line
+net_lines [] = []
+net_lines (head ∷ later) = head ∷ up_to_end later
+
+-- a section's part of a text without comments is the net whose head is the line of its number
+pub record IsSpan (clear : List ℕ) (lines : List Line) (section : Section) : Type 0 where
+  pub net : lines_of (part clear section.from section.to) ≡ net_lines (drop (section.line - 1) lines)
+  pub ink : is_ink (slice_index clear section.from) ≡ true
+  pub order : (section.from < section.to) × (section.to ≤ length clear)
+
+abbrev pub AreSpans : List ℕ → List Line → List Section → Type 0
+AreSpans clear lines sections = All (IsSpan clear lines) sections
+
+-- where these lines follow so many others, the sections before a line is taken and after it are right, and so is the count of the lines
+abbrev pub StaysRight : List ℕ → ℕ → ℕ → ℕ → ℕ → List Section → List Section → Line → Type 0
+StaysRight clear next to count new_count sections new_sections line =
+    (lines : List Line) → drop count lines ≡ line ∷ lines_of (drop next clear) → AreSpans clear lines sections → AreSpans clear lines new_sections × (drop new_count lines ≡ lines_of (drop to clear))
+
+abbrev pub KeepsSpans : List ℕ → ℕ → Result ℕ SpefKind → Reader → Reader → Line → Type 0
+KeepsSpans clear next (Ok to) old new line = StaysRight clear next to old.count new.count old.nets.rows.items new.nets.rows.items line
+KeepsSpans clear next (Err _) old new line = Unit {0}
+
+-- the text's parts that begin with a line go on with the lines after it
+abbrev pub GoesOn : List ℕ → ℕ → ℕ → Line → Type 0
+GoesOn clear at next line = (m : ℕ) → next ≤ m → lines_of (part clear at m) ≡ line ∷ lines_of (part clear next m)
+
+-- a line of a text, and where the next one begins
+pub record IsLine (clear : List ℕ) (span : Span) (next : ℕ) (line : Line) : Type 0 where
+  pub here : line ≡ words (part_at clear span)
+  pub order : (span.from ≤ span.to) × (span.to ≤ next) × (next ≤ length clear)
+  pub on : GoesOn clear span.from next line

@@ -1,0 +1,165 @@
+-- What the lines of a SPEF file have said so far.
+use Rattle.std.specs.Prelude.{ℕ, ◌+◌, ◌&&◌, not, nat_lt, Bool, true, false, List, [], ◌∷◌, ◌++◌, map, if◌then◌else◌, codes, refl, Option, Some, None, option_map, option_and_then, unwrap_or, is_some, Result, Ok, Err}
+use Rattle.std.specs.List.{list_any}
+use Rattle.std.specs.Map.{lookup}
+use Rattle.std.specs.Str.{bytes_eq}
+use Rattle.vg_scan.specs.Lines.{Line}
+use Rattle.vg_scan.specs.Names.{canonical}
+use Rattle.vg_scan.specs.References.{is_reference, index_of}
+use Rattle.vg_scan.specs.declared.chars.Chars.{Chars}
+use Rattle.spef_file.specs.declared.fault.SpefKind.{SpefKind}
+use Rattle.spef_file.specs.declared.fault.SpefKind.TheVariants.{MapTwice, MapUnknown, NoEnd, Stray, NetTwice, Unsupported}
+use Rattle.spef_file.specs.declared.heading.Heading.{Heading}
+use Rattle.spef_file.specs.declared.opening.Opening.{Opening}
+use Rattle.spef_file.specs.declared.opening.Opening.TheVariants.{Map, Passed, Net, Foreign, Nothing}
+use Rattle.spef_file.specs.declared.opening.Region.{Region}
+use Rattle.spef_file.specs.declared.opening.Region.TheVariants.{Outside, InMap, InPassed}
+use Rattle.spef_file.specs.Words.{first_word, second_word, has_words}
+use Rattle.spef_file.specs.Openings.{opening_of, is_net}
+use Rattle.spef_file.specs.Headers.{header_line, is_idle}
+
+-- the head of a net: its canonical name, whether it is reduced, and the number of its line
+pub record NetHead : Type 0 where
+  pub name : List ℕ
+  pub reduced : Bool
+  pub line : ℕ
+
+pub record State : Type 0 where
+  -- how many header lines there were
+  pub headed : ℕ
+  pub heading : Heading
+  -- where the next line stands, and whether in a net
+  pub region : Region
+  pub in_net : Bool
+  -- how many lines there were
+  pub count : ℕ
+  -- the digits of each index, and its name
+  pub names : List (List ℕ × List ℕ)
+  pub nets : List NetHead
+
+abbrev pub NO_HEADING : Heading
+NO_HEADING = record {
+  chars = record { divider = 47; delimiter = 58; bus_left = 91; bus_right = 93; divides = refl; delimits = refl; encloses = refl };
+  c_places = 0;
+  r_places = 0;
+}
+
+-- before the first line
+abbrev pub START : State
+START = record { headed = 0; heading = NO_HEADING; region = Outside; in_net = false; count = 0; names = []; nets = [] }
+
+-- `*digits name`
+abbrev pub row_of : Option (List ℕ) → Option (List ℕ) → Option (List ℕ × List ℕ)
+row_of (Some index) (Some name) = Some (index, name)
+row_of _ _ = None
+
+abbrev pub map_line : Chars → Line → Option (List ℕ × List ℕ)
+map_line chars (index ∷ name ∷ []) = row_of (index_of index) (canonical chars name)
+map_line chars _ = None
+
+-- the name of an index
+abbrev pub mapped : List (List ℕ × List ℕ) → List ℕ → Option (List ℕ)
+mapped names index = lookup (bytes_eq index) names
+
+-- the name of a net's head: an index that is mapped, or a name
+abbrev pub head_name : Chars → List (List ℕ × List ℕ) → List ℕ → Option (List ℕ)
+head_name chars names word = if is_reference word then option_and_then (mapped names) (index_of word) else canonical chars word
+
+abbrev pub is_end : Line → Bool
+is_end line = bytes_eq (first_word line) (codes "*END")
+
+abbrev pub is_head : Line → Bool
+is_head line = is_net (first_word line)
+
+-- how many lines stand before the end of a net, which comes before the next head
+abbrev pub end_at : List Line → Option ℕ
+end_at [] = None
+end_at (line ∷ later) = if is_end line then Some 0 else (if is_head line then None else option_map (λ n. n + 1) (end_at later))
+
+-- what is said after one more line
+
+abbrev pub head_of : State → Line → NetHead
+head_of s line = record {
+  name = unwrap_or (head_name s.heading.chars s.names (second_word line)) [];
+  reduced = bytes_eq (first_word line) (codes "*R_NET");
+  line = s.count + 1;
+}
+
+abbrev pub with_heading : State → Result Heading SpefKind → State
+with_heading s (Ok heading) = record s { headed = s.headed + 1; heading = heading }
+with_heading s (Err _) = s
+
+abbrev pub with_row : State → Option (List ℕ × List ℕ) → State
+with_row s (Some row) = record s { names = s.names ++ row ∷ [] }
+with_row s None = s
+
+abbrev pub after_nothing : Region → State → Line → State
+after_nothing InMap s line = with_row s (map_line s.heading.chars line)
+after_nothing Outside s line = s
+after_nothing InPassed s line = s
+
+abbrev pub after_body : Opening → State → Line → State
+after_body Map s line = record s { region = InMap }
+after_body Passed s line = record s { region = InPassed }
+after_body Net s line = record s { region = Outside; in_net = true; nets = s.nets ++ head_of s line ∷ [] }
+after_body Foreign s line = s
+after_body Nothing s line = after_nothing s.region s line
+
+abbrev pub after_header : State → Line → State
+after_header s line = if is_idle s.headed line then s else with_heading s (header_line s.headed s.heading line)
+
+abbrev pub after_uncounted : State → Line → State
+after_uncounted s line =
+    if s.in_net then (if is_end line then record s { in_net = false } else s)
+    else (if nat_lt s.headed 14 then after_header s line else after_body (opening_of (first_word line)) s line)
+
+abbrev pub counted : State → State
+counted s = record s { count = s.count + 1 }
+
+unfoldable pub after : State → Line → State
+after s line = counted (after_uncounted s line)
+
+-- the fault of a line, given what is said before it, and the lines after it
+
+abbrev pub fault_in : {A : Type 0} → Result A SpefKind → Option SpefKind
+fault_in (Ok _) = None
+fault_in (Err kind) = Some kind
+
+abbrev pub is_mapped : List (List ℕ × List ℕ) → List ℕ → Bool
+is_mapped names index = is_some (mapped names index)
+
+abbrev pub is_taken : List NetHead → List ℕ → Bool
+is_taken nets name = list_any (bytes_eq name) (map (λ net. net.name) nets)
+
+abbrev pub row_fault : List (List ℕ × List ℕ) → Option (List ℕ × List ℕ) → Option SpefKind
+row_fault names (Some row) = if is_mapped names row.0 then Some MapTwice else None
+row_fault names None = Some Stray
+
+abbrev pub name_fault : List NetHead → Option (List ℕ) → Option SpefKind
+name_fault nets (Some name) = if is_taken nets name then Some NetTwice else None
+name_fault nets None = Some Stray
+
+abbrev pub head_fault : State → Line → List Line → Option SpefKind
+head_fault s line later =
+    let word = second_word line in
+    let name = head_name s.heading.chars s.names word in
+    if is_reference word && not (is_some name) then Some MapUnknown
+    else (if is_some (end_at later) then name_fault s.nets name else Some NoEnd)
+
+abbrev pub nothing_fault : Region → State → Line → Option SpefKind
+nothing_fault Outside s line = Some Stray
+nothing_fault InMap s line = row_fault s.names (map_line s.heading.chars line)
+nothing_fault InPassed s line = None
+
+abbrev pub body_fault : Opening → State → Line → List Line → Option SpefKind
+body_fault Map s line later = None
+body_fault Passed s line later = None
+body_fault Net s line later = head_fault s line later
+body_fault Foreign s line later = Some Unsupported
+body_fault Nothing s line later = if has_words line then nothing_fault s.region s line else None
+
+unfoldable pub fault_of : State → Line → List Line → Option SpefKind
+fault_of s line later =
+    if s.in_net then None
+    else (if nat_lt s.headed 14 then (if is_idle s.headed line then None else fault_in (header_line s.headed s.heading line))
+    else body_fault (opening_of (first_word line)) s line later)

@@ -1,0 +1,70 @@
+-- What the code's values stand for, and what may come where memory is wanted.
+use Rattle.std.specs.Prelude.{◌≡◌, ℕ, ◌+◌, ◌≤◌, true, false, List, ◌∷◌, ◌++◌, [], length, map, drop, Option, Some, None, Result, Ok, Err}
+use Rattle.vg_scan.specs.Lines.{Line, lines_of}
+use Rattle.vg_scan.specs.Names.{canonical}
+use Rattle.vg_scan.specs.References.{is_reference}
+use Rattle.vg_scan.specs.declared.chars.Chars.{Chars}
+use Rattle.vg_scan.specs.declared.name.Name.{Name}
+use Rattle.spef_file.specs.declared.fault.SpefKind.{SpefKind}
+use Rattle.spef_file.specs.declared.fault.SpefKind.TheVariants.{Memory, MapUnknown}
+use Rattle.spef_file.specs.declared.map_table.MapTable.{MapTable}
+use Rattle.spef_file.specs.declared.section.Section.{Section}
+use Rattle.spef_file.specs.declared.reader.Reader.{Reader}
+use Rattle.spef_file.specs.Headers.{IsSmall}
+use Rattle.spef_file.specs.States.{State, NetHead, head_name, row_fault, map_line}
+use Rattle.spef_file.specs.Readings.{read}
+use Rattle.spef_file.specs.Tables.{IsIndexed, AreNamed}
+
+abbrev pub head_in : Section → NetHead
+head_in section = record { name = section.name; reduced = section.reduced; line = section.line }
+
+abbrev pub heads_in : List Section → List NetHead
+heads_in sections = map head_in sections
+
+abbrev pub seen : Reader → State
+seen r = record { headed = r.headed; heading = r.heading; region = r.region; in_net = false; count = r.count; names = r.map.rows.items; nets = heads_in r.nets.rows.items }
+
+-- the tables are those of the rows, and all counts are as large as they may be
+pub record IsWhole (r : Reader) : Type 0 where
+  pub indexed : IsIndexed r.map
+  pub named : AreNamed r.nets.names r.nets.rows.items
+  pub small : IsSmall r.heading
+  pub few : length r.nets.rows.items ≤ r.count
+
+-- this fault, or want of memory
+abbrev pub IsFaultOrMemory : Option SpefKind → SpefKind → Type 0
+IsFaultOrMemory fault Memory = Unit {0}
+IsFaultOrMemory fault kind = fault ≡ Some kind
+
+-- reading fails at this line, or memory is wanted
+abbrev pub Fails : SpefKind → State → Line → List Line → Type 0
+Fails Memory s line later = Unit {0}
+Fails kind s line later = read s (line ∷ later) ≡ Err (record { kind = kind; line = s.count + 1 })
+
+-- reading passes a line, whatever follows
+abbrev pub Passes : Result (Unit {0}) SpefKind → State → State → Line → Type 0
+Passes (Ok _) old new line = (later : List Line) → read old (line ∷ later) ≡ read new later
+Passes (Err kind) old new line = (later : List Line) → Fails kind old line later
+
+-- reading passes a line, and those after it up to a place
+abbrev pub GoesTo : List ℕ → ℕ → Result ℕ SpefKind → State → State → Line → Type 0
+GoesTo bytes next (Ok to) old new line = read old (line ∷ lines_of (drop next bytes)) ≡ read new (lines_of (drop to bytes))
+GoesTo bytes next (Err kind) old new line = Fails kind old line (lines_of (drop next bytes))
+
+-- a row of a name map is added, or its fault is answered
+abbrev pub AddsRow : Result (Unit {0}) SpefKind → Chars → MapTable → MapTable → Line → Type 0
+AddsRow (Ok _) chars old new line = (row : List ℕ × List ℕ) × (map_line chars line ≡ Some row) × (row_fault old.rows.items (Some row) ≡ None) × (new.rows.items ≡ old.rows.items ++ row ∷ []) × IsIndexed new
+AddsRow (Err kind) chars old new line = IsFaultOrMemory (row_fault old.rows.items (map_line chars line)) kind
+
+-- the name of a head, none where its text is bad, or the fault of a reference
+abbrev pub IsHeadName : Chars → List (List ℕ × List ℕ) → List ℕ → Result (Option Name) SpefKind → Type 0
+IsHeadName chars rows word (Ok (Some name)) = head_name chars rows word ≡ Some name
+IsHeadName chars rows word (Ok None) = (head_name chars rows word ≡ None) × (is_reference word ≡ false)
+IsHeadName chars rows word (Err Memory) = Unit {0}
+IsHeadName chars rows word (Err kind) = (kind ≡ MapUnknown) × (head_name chars rows word ≡ None) × (is_reference word ≡ true)
+
+-- the name that a word is, or none
+abbrev pub CanonicalName : Chars → List ℕ → Result (Option Name) SpefKind → Type 0
+CanonicalName chars word (Ok (Some name)) = canonical chars word ≡ Some name
+CanonicalName chars word (Ok None) = canonical chars word ≡ None
+CanonicalName chars word (Err kind) = kind ≡ Memory

@@ -1,0 +1,74 @@
+//! The end of a net.
+
+ghost use Rattle.std.specs.Prelude.{◌≡◌, ◌≤◌, ◌<◌, ◌+◌, drop, length, option_map, IfSome};
+ghost use Rattle.vg_scan.specs.Lines.{lines_of, part};
+ghost use Rattle.vg_scan.specs.Spans.{IsIn};
+ghost use Rattle.spef_file.specs.States.{end_at};
+ghost use Rattle.spef_file.specs.NetSpans.{up_to_end};
+ghost use Rattle.spef_file.specs.Edges.{IsEdge};
+
+use crate::opening::{is_net, same};
+use vg_scan::{Span, next_line, next_word, text_at};
+
+/// What a line is to the net that it may stand in.
+#[derive(Clone, Copy)]
+pub(crate) enum Edge {
+    /// The end, whose first word ends here.
+    End(usize),
+    /// The head of another net.
+    Head,
+    /// Neither.
+    Inner,
+}
+
+/// Where a net ends.
+#[derive(Clone, Copy)]
+pub(crate) struct NetEnd {
+    /// How many lines stand before its end.
+    pub lines: usize,
+    /// Where the word `*END` ends.
+    pub to: usize,
+    /// Where the line after it begins.
+    pub next: usize,
+}
+
+fn edge_of(bytes: &[u8], line: Span) -> Edge
+    requires { IsIn bytes.now line }
+    ensures { IsEdge bytes.now line result }
+{
+    match next_word(bytes, line) {
+        None => Edge::Inner,
+        Some((span, _)) => {
+            let word = text_at(bytes, span);
+            if same(word, b"*END") {
+                Edge::End(span.to)
+            } else if is_net(word) {
+                Edge::Head
+            } else {
+                Edge::Inner
+            }
+        }
+    }
+}
+
+/// The end of a net whose head's line ends before a place. `None`: another head or the text's end comes first.
+pub(crate) fn find_end(bytes: &[u8], from: usize) -> Option<NetEnd>
+    requires { from ≤ length bytes.now }
+    ensures lines { option_map (λ end. end.lines) result ≡ end_at (lines_of (drop from bytes.now)) }
+    ensures rest { IfSome result (λ end. lines_of (drop end.next bytes.now) ≡ drop (end.lines + 1) (lines_of (drop from bytes.now))) }
+    ensures span { IfSome result (λ end. lines_of (part bytes.now from end.to) ≡ up_to_end (lines_of (drop from bytes.now))) }
+    ensures place { IfSome result (λ end. (from < end.to) × (from + end.lines < end.next) × (end.to ≤ end.next) × (end.next ≤ length bytes.now)) }
+{
+    let mut at = from;
+    let mut lines = 0;
+    'line: while let Some((line, next)) = next_line(bytes, at) {
+        match edge_of(bytes, line) {
+            Edge::End(to) => return Some(NetEnd { lines, to, next }),
+            Edge::Head => return None,
+            Edge::Inner => {}
+        }
+        lines += 1;
+        at = next;
+    }
+    None
+}

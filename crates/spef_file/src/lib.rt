@@ -1,0 +1,30 @@
+//! The index of a SPEF file (IEEE Std 1481): its header, its name map, and where its nets stand.
+#![tactic(auto)]
+
+mod edge;
+mod fault;
+mod header;
+mod header_line;
+mod heading;
+mod indices;
+mod lines;
+mod look;
+mod map_table;
+mod marks;
+mod net_table;
+mod opening;
+mod read;
+mod reader;
+mod section;
+mod spef_index;
+mod units;
+
+pub use fault::{SpefFault, SpefKind};
+pub use header::Header;
+pub use look::{mapped, net_at};
+pub use read::index;
+pub use section::Section;
+pub use spef_index::SpefIndex;
+
+#[cfg(test)]
+mod tests;

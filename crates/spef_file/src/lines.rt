@@ -1,0 +1,347 @@
+//! One line of a file after another.
+
+ghost use Rattle.std.specs.Prelude.{◌≡◌, ◌<◌, ◌≤◌, ◌^◌, ◌+◌, ◌∷◌, length, drop, OnOk, IfOk, ℕ, true, slice_index};
+ghost use Rattle.vg_scan.specs.Lines.{lines_of, words, part, is_ink};
+ghost use Rattle.spef_file.specs.NetSpans.{IsLine, KeepsSpans};
+ghost use Rattle.vg_scan.specs.Spans.{IsIn, words_at, part_at};
+ghost use Rattle.spef_file.specs.Words.{first_word, second_word, has_words};
+ghost use Rattle.spef_file.specs.Openings.{opening_of};
+ghost use Rattle.spef_file.specs.Tables.{IsIndexed};
+ghost use Rattle.spef_file.specs.Views.{seen, IsWhole, Passes, GoesTo, AddsRow, IsHeadName, CanonicalName};
+ghost use Rattle.spef_file.specs.declared.opening.Opening.TheVariants.{Nothing, Net};
+ghost use Rattle.std.specs.Prelude.{Ok};
+
+use crate::edge::find_end;
+use crate::fault::SpefKind;
+use crate::header_line::{first_word, header_line, is_idle};
+use crate::map_table::{MapTable, add_row, name_of};
+use crate::net_table::add_net;
+use crate::opening::{Opening, Region, opening_of, same};
+use crate::reader::Reader;
+use crate::section::Section;
+use std::alloc::Global;
+use vg_scan::{
+    Chars, Name, NameFault, Span, index_of, is_reference, next_word, spef_name, text_at, words_of,
+};
+
+/// Takes a line of the header, or one that says nothing there.
+pub(crate) fn take_header_line(
+    reader: &mut Reader,
+    bytes: &[u8],
+    words: &[Span],
+) -> Result<(), SpefKind>
+    requires headed { reader.old.headed < 14 }
+    requires whole { IsWhole reader.old }
+    requires few { reader.old.count < 2 ^ 28 }
+    ensures passes { Passes result (seen reader.old) (seen reader.new) (words_at bytes.now words.now) }
+    ensures whole { OnOk result (IsWhole reader.new) }
+    ensures nets { OnOk result (reader.new.nets.rows.items ≡ reader.old.nets.rows.items) }
+    ensures count { OnOk result (reader.new.count ≡ reader.old.count + 1) }
+{
+    if is_idle(reader.headed, bytes, words) {
+        reader.count += 1;
+        return Ok(());
+    }
+    match header_line(reader.headed, &reader.heading, bytes, words) {
+        Err(kind) => Err(kind),
+        Ok(heading) => {
+            reader.heading = heading;
+            reader.headed += 1;
+            reader.count += 1;
+            Ok(())
+        }
+    }
+}
+
+/// The name that a word is.
+fn canonical_name(alloc: Global, word: &[u8], chars: &Chars) -> Result<Option<Name>, SpefKind>
+    ensures { CanonicalName chars.now word.now result }
+{
+    match spef_name(alloc, word, chars) {
+        Ok(name) => Ok(Some(name)),
+        Err(NameFault::Bad) => Ok(None),
+        Err(NameFault::Memory) => Err(SpefKind::Memory),
+    }
+}
+
+/// Adds the row of a name map that a line states.
+fn take_row(
+    alloc: Global,
+    table: &mut MapTable,
+    chars: &Chars,
+    bytes: &[u8],
+    words: &[Span],
+) -> Result<(), SpefKind>
+    requires { IsIndexed table.old }
+    ensures { AddsRow result chars.now table.old table.new (words_at bytes.now words.now) }
+{
+    let [index, name] = words else {
+        return Err(SpefKind::Stray);
+    };
+    let Some(index) = index_of(text_at(bytes, *index)) else {
+        return Err(SpefKind::Stray);
+    };
+    match canonical_name(alloc, text_at(bytes, *name), chars)? {
+        None => Err(SpefKind::Stray),
+        Some(name) => match add_row(alloc, table, index, name) {
+            Ok(true) => Ok(()),
+            Ok(false) => Err(SpefKind::MapTwice),
+            Err(_) => Err(SpefKind::Memory),
+        },
+    }
+}
+
+/// Takes a line that opens nothing.
+fn take_other_line(
+    alloc: Global,
+    reader: &mut Reader,
+    bytes: &[u8],
+    words: &[Span],
+) -> Result<(), SpefKind>
+    requires headed { 14 ≤ reader.old.headed }
+    requires opens { opening_of (first_word (words_at bytes.now words.now)) ≡ Nothing }
+    requires whole { IsWhole reader.old }
+    requires few { reader.old.count < 2 ^ 28 }
+    ensures passes { Passes result (seen reader.old) (seen reader.new) (words_at bytes.now words.now) }
+    ensures whole { OnOk result (IsWhole reader.new) }
+    ensures nets { OnOk result (reader.new.nets.rows.items ≡ reader.old.nets.rows.items) }
+    ensures count { OnOk result (reader.new.count ≡ reader.old.count + 1) }
+{
+    if words.is_empty() {
+        reader.count += 1;
+        return Ok(());
+    }
+    match reader.region {
+        Region::Outside => Err(SpefKind::Stray),
+        Region::InPassed => {
+            reader.count += 1;
+            Ok(())
+        }
+        Region::InMap => match take_row(
+            alloc,
+            &mut reader.map,
+            &reader.heading.chars,
+            bytes,
+            words,
+        ) {
+            Err(kind) => Err(kind),
+            Ok(()) => {
+                reader.count += 1;
+                Ok(())
+            }
+        },
+    }
+}
+
+/// The name of a net's head, by its second word. `None`: the word is no name.
+///
+/// Answers `MapUnknown` where the word refers to an index that is not mapped, and `Memory` where there is no room.
+fn head_name(
+    alloc: Global,
+    table: &MapTable,
+    chars: &Chars,
+    word: &[u8],
+) -> Result<Option<Name>, SpefKind>
+    requires { IsIndexed table.now }
+    ensures { IsHeadName chars.now table.now.rows.items word.now result }
+{
+    if !is_reference(word) {
+        return canonical_name(alloc, word, chars);
+    }
+    let Some(index) = index_of(word) else {
+        return Err(SpefKind::MapUnknown);
+    };
+    let Some(name) = name_of(&table.indices, table.rows.as_slice(), index) else {
+        return Err(SpefKind::MapUnknown);
+    };
+    match Name::from_bytes(alloc, name.as_bytes()) {
+        Ok(name) => Ok(Some(name)),
+        Err(_) => Err(SpefKind::Memory),
+    }
+}
+
+/// The second of some words, or no text.
+fn second_word<'a>(bytes: &'a [u8], words: &[Span]) -> &'a [u8]
+    ensures { result.now ≡ second_word (words_at bytes.now words.now) }
+{
+    match words {
+        [_, word, ..] => text_at(bytes, *word),
+        _ => b"",
+    }
+}
+
+/// Where the first word of a line begins.
+fn start_of(bytes: &[u8], line: Span) -> usize
+    requires { IsIn bytes.now line }
+    ensures starts { (m : ℕ) → result < m → m ≤ length bytes.now → lines_of (part bytes.now result m) ≡ lines_of (part bytes.now line.from m) }
+    ensures ink { has_words (words (part_at bytes.now line)) ≡ true → is_ink (slice_index bytes.now result) ≡ true }
+    ensures place { (line.from ≤ result) × (result ≤ line.to) }
+{
+    match next_word(bytes, line) {
+        None => line.from,
+        Some((word, _)) => word.from,
+    }
+}
+
+/// Takes a net from its head on, of whose name this is known.
+fn take_named_net(
+    alloc: Global,
+    reader: &mut Reader,
+    bytes: &[u8],
+    words: &[Span],
+    line: Span,
+    next: usize,
+    name: Option<Name>,
+) -> Result<usize, SpefKind>
+    requires headed { 14 ≤ reader.old.headed }
+    requires opens { opening_of (first_word (words_at bytes.now words.now)) ≡ Net }
+    requires whole { IsWhole reader.old }
+    requires few { reader.old.count < 2 ^ 28 }
+    requires line { IsLine bytes.now line next (words_at bytes.now words.now) }
+    requires place { (next ≤ length bytes.now) × (length bytes.now ≤ 2 ^ 28) }
+    requires name { IsHeadName reader.old.heading.chars reader.old.map.rows.items (second_word (words_at bytes.now words.now)) (Ok name) }
+    ensures goes { GoesTo bytes.now next result (seen reader.old) (seen reader.new) (words_at bytes.now words.now) }
+    ensures whole { OnOk result (IsWhole reader.new) }
+    ensures spans { KeepsSpans bytes.now next result reader.old reader.new (words_at bytes.now words.now) }
+    ensures place { IfOk result (λ to. (next ≤ to) × (to ≤ length bytes.now) × (reader.new.count + next ≤ reader.old.count + 1 + to)) }
+{
+    let Some(end) = find_end(bytes, next) else {
+        return Err(SpefKind::NoEnd);
+    };
+    let Some(name) = name else {
+        return Err(SpefKind::Stray);
+    };
+    let net = Section {
+        name,
+        reduced: same(first_word(bytes, words), b"*R_NET"),
+        from: start_of(bytes, line),
+        to: end.to,
+        line: reader.count + 1,
+    };
+    match add_net(alloc, &mut reader.nets, net) {
+        Ok(true) => {
+            reader.region = Region::Outside;
+            reader.count += end.lines + 2;
+            Ok(end.next)
+        }
+        Ok(false) => Err(SpefKind::NetTwice),
+        Err(_) => Err(SpefKind::Memory),
+    }
+}
+
+/// Takes a net from its head on.
+fn take_net(
+    alloc: Global,
+    reader: &mut Reader,
+    bytes: &[u8],
+    words: &[Span],
+    line: Span,
+    next: usize,
+) -> Result<usize, SpefKind>
+    requires headed { 14 ≤ reader.old.headed }
+    requires opens { opening_of (first_word (words_at bytes.now words.now)) ≡ Net }
+    requires whole { IsWhole reader.old }
+    requires few { reader.old.count < 2 ^ 28 }
+    requires line { IsLine bytes.now line next (words_at bytes.now words.now) }
+    requires place { (next ≤ length bytes.now) × (length bytes.now ≤ 2 ^ 28) }
+    ensures goes { GoesTo bytes.now next result (seen reader.old) (seen reader.new) (words_at bytes.now words.now) }
+    ensures whole { OnOk result (IsWhole reader.new) }
+    ensures spans { KeepsSpans bytes.now next result reader.old reader.new (words_at bytes.now words.now) }
+    ensures place { IfOk result (λ to. (next ≤ to) × (to ≤ length bytes.now) × (reader.new.count + next ≤ reader.old.count + 1 + to)) }
+{
+    let word = second_word(bytes, words);
+    match head_name(alloc, &reader.map, &reader.heading.chars, word) {
+        Err(kind) => Err(kind),
+        Ok(name) => take_named_net(alloc, reader, bytes, words, line, next, name),
+    }
+}
+
+/// Takes a line after the header, and a net with its head, and says where the next line begins.
+fn take_body_line(
+    alloc: Global,
+    reader: &mut Reader,
+    bytes: &[u8],
+    words: &[Span],
+    line: Span,
+    next: usize,
+) -> Result<usize, SpefKind>
+    requires headed { 14 ≤ reader.old.headed }
+    requires whole { IsWhole reader.old }
+    requires few { reader.old.count < 2 ^ 28 }
+    requires line { IsLine bytes.now line next (words_at bytes.now words.now) }
+    requires place { (next ≤ length bytes.now) × (length bytes.now ≤ 2 ^ 28) }
+    ensures goes { GoesTo bytes.now next result (seen reader.old) (seen reader.new) (words_at bytes.now words.now) }
+    ensures whole { OnOk result (IsWhole reader.new) }
+    ensures spans { KeepsSpans bytes.now next result reader.old reader.new (words_at bytes.now words.now) }
+    ensures place { IfOk result (λ to. (next ≤ to) × (to ≤ length bytes.now) × (reader.new.count + next ≤ reader.old.count + 1 + to)) }
+{
+    match opening_of(first_word(bytes, words)) {
+        Opening::Map => {
+            reader.region = Region::InMap;
+            reader.count += 1;
+            Ok(next)
+        }
+        Opening::Passed => {
+            reader.region = Region::InPassed;
+            reader.count += 1;
+            Ok(next)
+        }
+        Opening::Net => take_net(alloc, reader, bytes, words, line, next),
+        Opening::Foreign => Err(SpefKind::Unsupported),
+        Opening::Nothing => match take_other_line(alloc, reader, bytes, words) {
+            Err(kind) => Err(kind),
+            Ok(()) => Ok(next),
+        },
+    }
+}
+
+/// Takes the words of a line, and a net with its head, and says where the next line begins.
+fn take_words(
+    alloc: Global,
+    reader: &mut Reader,
+    bytes: &[u8],
+    words: &[Span],
+    line: Span,
+    next: usize,
+) -> Result<usize, SpefKind>
+    requires whole { IsWhole reader.old }
+    requires few { reader.old.count < 2 ^ 28 }
+    requires line { IsLine bytes.now line next (words_at bytes.now words.now) }
+    requires place { (next ≤ length bytes.now) × (length bytes.now ≤ 2 ^ 28) }
+    ensures goes { GoesTo bytes.now next result (seen reader.old) (seen reader.new) (words_at bytes.now words.now) }
+    ensures whole { OnOk result (IsWhole reader.new) }
+    ensures spans { KeepsSpans bytes.now next result reader.old reader.new (words_at bytes.now words.now) }
+    ensures place { IfOk result (λ to. (next ≤ to) × (to ≤ length bytes.now) × (reader.new.count + next ≤ reader.old.count + 1 + to)) }
+{
+    if reader.headed >= 14 {
+        return take_body_line(alloc, reader, bytes, words, line, next);
+    }
+    match take_header_line(reader, bytes, words) {
+        Err(kind) => Err(kind),
+        Ok(()) => Ok(next),
+    }
+}
+
+/// Takes a line, and a net with its head, and says where the next line begins. The list is to hold the line's words.
+pub(crate) fn take_line(
+    alloc: Global,
+    reader: &mut Reader,
+    bytes: &[u8],
+    line: Span,
+    next: usize,
+    found: &mut Vec<Span>,
+) -> Result<usize, SpefKind>
+    requires line { IsLine bytes.now line next (words (part_at bytes.now line)) }
+    requires whole { IsWhole reader.old }
+    requires few { reader.old.count < 2 ^ 28 }
+    requires place { (next ≤ length bytes.now) × (length bytes.now ≤ 2 ^ 28) }
+    ensures goes { GoesTo bytes.now next result (seen reader.old) (seen reader.new) (words (part_at bytes.now line)) }
+    ensures whole { OnOk result (IsWhole reader.new) }
+    ensures spans { KeepsSpans bytes.now next result reader.old reader.new (words (part_at bytes.now line)) }
+    ensures place { IfOk result (λ to. (next ≤ to) × (to ≤ length bytes.now) × (reader.new.count + next ≤ reader.old.count + 1 + to)) }
+{
+    match words_of(bytes, line, found) {
+        Err(_) => Err(SpefKind::Memory),
+        Ok(()) => take_words(alloc, reader, bytes, found.as_slice(), line, next),
+    }
+}

@@ -1,0 +1,136 @@
+//! The lines of a file, one after another, and the index that they give.
+
+ghost use Rattle.std.specs.Prelude.{◌≡◌, ◌<◌, ◌≤◌, ◌^◌, length, drop, IfOk, IfErr, ◌⊎◌, Ok, Err, []};
+ghost use Rattle.vg_scan.specs.Lines.{lines_of};
+ghost use Rattle.spef_file.specs.declared.fault.SpefKind.TheVariants.{Memory};
+ghost use Rattle.spef_file.specs.States.{START};
+ghost use Rattle.spef_file.specs.Readings.{read, file_lines, file_of, said};
+ghost use Rattle.spef_file.specs.NetSpans.{AreSpans};
+ghost use Rattle.vg_scan.specs.Comments.{without_comments};
+ghost use Rattle.vg_scan.specs.declared.comments.Comments.TheVariants.{Spef};
+ghost use Rattle.spef_file.specs.Views.{seen, IsWhole};
+ghost use Rattle.spef_file.specs.Shown.{shown};
+
+use crate::fault::{SpefFault, SpefKind};
+use crate::header::Header;
+use crate::heading::Heading;
+use crate::indices::Indices;
+use crate::lines::take_line;
+use crate::map_table::MapTable;
+use crate::net_table::NetTable;
+use crate::opening::Region;
+use crate::reader::Reader;
+use crate::spef_index::SpefIndex;
+use std::alloc::Global;
+use vg_num::Row;
+use vg_scan::{Chars, Comments, Names, next_line, skip_comments};
+
+/// What is said before the first line.
+fn start(alloc: Global) -> Reader
+    ensures seen { seen result ≡ START }
+    ensures whole { IsWhole result }
+    ensures empty { (result.nets.rows.items ≡ []) × (result.count ≡ 0) }
+{
+    let chars = Chars {
+        divider: b'/',
+        delimiter: b':',
+        bus_left: b'[',
+        bus_right: b']',
+    };
+    Reader {
+        headed: 0,
+        heading: Heading {
+            chars,
+            c_places: 0,
+            r_places: 0,
+        },
+        region: Region::Outside,
+        count: 0,
+        map: MapTable {
+            indices: Indices::new(alloc),
+            rows: Vec::new(alloc),
+        },
+        nets: NetTable {
+            names: Names::new(alloc),
+            rows: Vec::new(alloc),
+        },
+    }
+}
+
+/// What all lines say of a text that has no comments.
+fn read_lines(alloc: Global, bytes: &[u8]) -> Result<Reader, SpefFault>
+    requires { length bytes.now ≤ 2 ^ 28 }
+    ensures said { IfOk result (λ reader. read START (lines_of bytes.now) ≡ Ok (seen reader)) }
+    ensures whole { IfOk result IsWhole }
+    ensures spans { IfOk result (λ reader. AreSpans bytes.now (lines_of bytes.now) reader.nets.rows.items) }
+    ensures fault { IfErr result (λ fault. (fault.kind ≡ Memory) ⊎ (read START (lines_of bytes.now) ≡ Err fault)) }
+{
+    let mut reader = start(alloc);
+    let mut found = Vec::new(alloc);
+    let mut at = 0;
+    'line: while let Some((line, next)) = next_line(bytes, at) {
+        let number = reader.count + 1;
+        match take_line(alloc, &mut reader, bytes, line, next, &mut found) {
+            Err(kind) => return Err(SpefFault { kind, line: number }),
+            Ok(to) => {
+                at = to;
+            }
+        }
+    }
+    Ok(reader)
+}
+
+/// The index that the lines give.
+fn finish(reader: Reader) -> SpefIndex
+    requires { IsWhole reader }
+    ensures shown { shown result ≡ said (seen reader) }
+    ensures sections { result.sections ≡ reader.nets.rows.items }
+{
+    let header = Header {
+        chars: reader.heading.chars,
+        c_places: i32::from(reader.heading.c_places),
+        r_places: i32::from(reader.heading.r_places),
+    };
+    let MapTable { indices, rows } = reader.map;
+    let map = Row::from_vec(rows);
+    let NetTable { names, rows } = reader.nets;
+    let sections = Row::from_vec(rows);
+    SpefIndex {
+        header,
+        map,
+        sections,
+        indices,
+        names,
+    }
+}
+
+/// The index of a SPEF file (IEEE Std 1481), or its first fault. The doc of each `SpefKind` says when it is answered; of
+/// two kinds on one line the first in the order of the enum is. A header line that is missing is reported at the last
+/// line, or at line 1 of an empty file.
+///
+/// Answers `Memory` where there is no room, with the line at which it was wanted.
+pub fn index(alloc: Global, bytes: &[u8]) -> Result<SpefIndex, SpefFault>
+    requires { length bytes.now ≤ 2 ^ 28 }
+    ensures said { IfOk result (λ index. file_of bytes.now ≡ Ok (shown index)) }
+    ensures spans { IfOk result (λ index. AreSpans (without_comments Spef bytes.now) (file_lines bytes.now) index.sections) }
+    ensures fault { IfErr result (λ fault. (fault.kind ≡ Memory) ⊎ (file_of bytes.now ≡ Err fault)) }
+{
+    let Ok(clear) = skip_comments(alloc, bytes, Comments::Spef) else {
+        return Err(SpefFault {
+            kind: SpefKind::Memory,
+            line: 1,
+        });
+    };
+    match read_lines(alloc, clear.as_slice()) {
+        Err(fault) => Err(fault),
+        Ok(reader) => {
+            if reader.headed < 14 {
+                return Err(SpefFault {
+                    kind: SpefKind::Header,
+                    line: reader.count.max(1),
+                });
+            }
+            Ok(finish(reader))
+        }
+    }
+}

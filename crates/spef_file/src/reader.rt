@@ -1,0 +1,17 @@
+use crate::heading::Heading;
+use crate::map_table::MapTable;
+use crate::net_table::NetTable;
+use crate::opening::Region;
+
+/// What the lines of a file have said so far.
+#[derive(Drop)]
+pub(crate) struct Reader {
+    /// How many header lines there were.
+    pub headed: usize,
+    pub heading: Heading,
+    pub region: Region,
+    /// How many lines there were.
+    pub count: usize,
+    pub map: MapTable,
+    pub nets: NetTable,
+}
