@@ -1,0 +1,19 @@
+//! Nets of resistors and capacitors as trees, breadth first from the root.
+//!
+//! Resistances are whole milliohms (mΩ), capacitances whole attofarads (aF).
+#![tactic(auto)]
+
+mod caps;
+mod fault;
+#[cfg(test)]
+mod fixtures;
+mod laws;
+mod links;
+mod net;
+mod search;
+#[cfg(test)]
+mod tests;
+
+pub use fault::TreeFault;
+pub use laws::one_tree;
+pub use net::{Built, build};

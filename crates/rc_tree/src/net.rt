@@ -1,0 +1,83 @@
+ghost use Rattle.std.specs.Prelude.{◌≡◌, ℕ, ◌+◌, ◌<◌, map, length, IfOk, MatchResult};
+ghost use Rattle.elmore.specs.Trees.{IsTree};
+ghost use Rattle.rc_tree.specs.Nets.{IsNet};
+ghost use Rattle.rc_tree.specs.Search.{node_of, place_at};
+ghost use Rattle.rc_tree.specs.Faults.{IsFaultOf};
+ghost use Rattle.rc_tree.specs.Answers.{IsTreeOf};
+
+use crate::caps::sum_caps;
+use crate::fault::TreeFault;
+use crate::links::link;
+use crate::search::{Place, first_unseen, search};
+use elmore::{Node, Tree};
+use std::alloc::Global;
+use vg_num::{Memory, Row};
+
+/// A net as a tree.
+#[derive(Drop)]
+pub struct Built {
+    /// The tree, breadth first from the root.
+    pub tree: Tree,
+    /// For each node of the tree the number that was given for it.
+    pub order: Row<u32>,
+}
+
+/// The tree of a net of `n` numbered nodes: its root, its capacitors (a node, aF) and its resistors (two ends, mΩ), in
+/// any order and direction. Capacitors at one node add up. Nodes of the tree are in breadth-first order from the root,
+/// and the neighbours that one adds are in the order of the resistors. The time is linear in the sizes.
+///
+/// Answers `Floating` of the node of the least number that no chain of resistors joins to the root; where none floats,
+/// `Loop` if the resistors are not one fewer than the nodes, as with two resistors side by side or from a node to
+/// itself; `Memory` where there is none.
+pub fn build(
+    alloc: Global,
+    n: usize,
+    root: u32,
+    caps: &[(u32, u64)],
+    edges: &[(u32, u32, u64)],
+) -> Result<Built, TreeFault>
+    requires { IsNet n root caps.now edges.now }
+    ensures { MatchResult result (λ built. IsTreeOf n root caps.now edges.now built.tree.nodes built.order) (λ fault. IsFaultOf n edges.now root fault) }
+{
+    let links = link(alloc, n, edges)?;
+    let reached = search(alloc, n, root, edges, &links)?;
+    if let Some(v) = first_unseen(&reached.seen) {
+        return Err(TreeFault::Floating(v));
+    }
+    if edges.len() + 1 != n {
+        return Err(TreeFault::Loop);
+    }
+    let sums = sum_caps(alloc, n, caps)?;
+    let built = tree_of(alloc, &reached.places, &sums)?;
+    Ok(built)
+}
+
+/// The tree of these places, whose nodes have these capacitances (aF).
+fn tree_of(alloc: Global, places: &[Place], sums: &[u128]) -> Result<Built, Memory>
+    requires within { (i : ℕ) → i < length places.now → (place_at places.now i).node < length sums.now }
+    requires tree { IsTree (map (node_of sums.now) places.now) }
+    ensures nodes { IfOk result (λ built. built.tree.nodes ≡ map (node_of sums.now) places.now) }
+    ensures order { IfOk result (λ built. built.order ≡ map (λ place. place.node) places.now) }
+{
+    let nodes = Row::from_vec(nodes_of(alloc, places, sums)?);
+    let order = places.iter().map(|place| place.node).collect(alloc)?;
+    Ok(Built {
+        tree: Tree { nodes },
+        order: Row::from_vec(order),
+    })
+}
+
+fn nodes_of(alloc: Global, places: &[Place], sums: &[u128]) -> Result<Vec<Node>, Memory>
+    requires { (i : ℕ) → i < length places.now → (place_at places.now i).node < length sums.now }
+    ensures { IfOk result (λ nodes. nodes.items ≡ map (node_of sums.now) places.now) }
+{
+    let mut nodes = Vec::new(alloc);
+    'places: for place in places {
+        nodes.push(Node {
+            parent: place.parent,
+            r: place.r,
+            c: sums[place.node as usize],
+        })?;
+    }
+    Ok(nodes)
+}

@@ -1,0 +1,155 @@
+//! The search from the root, in breadth.
+
+ghost use Rattle.std.specs.Prelude.{◌≡◌, ◌≢◌, ℕ, ◌+◌, ◌<◌, ◌≤◌, ◌^◌, ◌⊎◌, true, List, length, IfOk, slice_set, MatchOption};
+ghost use Rattle.rc_tree.specs.Chains.{edge_at, Joins};
+ghost use Rattle.rc_tree.specs.Links.{AreLinks, IsEndOf};
+ghost use Rattle.rc_tree.specs.Search.{is_seen, place_at, root_of, with_place, IsScan, IsSearch};
+
+use crate::links::{Links, Next};
+use std::alloc::Global;
+use std::mem;
+use vg_num::Memory;
+
+/// A node that was reached.
+#[derive(Clone, Copy)]
+pub(crate) struct Place {
+    /// The node's number.
+    pub(crate) node: u32,
+    /// The place of its parent; the root's own.
+    pub(crate) parent: u32,
+    /// The number of the resistor from there; 0 at the root.
+    pub(crate) edge: u32,
+    /// That resistor (mΩ); 0 at the root.
+    pub(crate) r: u64,
+}
+
+/// The nodes that were reached, in their order, and for each node whether it is one of them.
+#[derive(Drop)]
+pub(crate) struct Reached {
+    pub(crate) places: Vec<Place>,
+    pub(crate) seen: Vec<bool>,
+}
+
+/// All nodes that are joined to the root, breadth first.
+pub(crate) fn search(
+    alloc: Global,
+    n: usize,
+    root: u32,
+    edges: &[(u32, u32, u64)],
+    links: &Links,
+) -> Result<Reached, Memory>
+    requires some { n ≤ 2 ^ 28 }
+    requires root_node { root < n }
+    requires count { length edges.now ≤ 2 ^ 28 }
+    requires from_nodes { (j : ℕ) → j < length edges.now → (edge_at edges.now j).0 < n }
+    requires to_nodes { (j : ℕ) → j < length edges.now → (edge_at edges.now j).1 < n }
+    requires linked { length links.now.first.items ≡ n }
+    requires links { AreLinks edges.now links.now.first.items links.now.next.items }
+    ensures { IfOk result (λ reached. IsSearch n root edges.now reached.places.items reached.seen.items) }
+{
+    let mut reached = begin(alloc, n, root)?;
+    let mut p = 0;
+    'places: while p < reached.places.len() {
+        scan(edges, links, p, &mut reached)?;
+        p += 1;
+    }
+    Ok(reached)
+}
+
+/// The root alone.
+fn begin(alloc: Global, n: usize, root: u32) -> Result<Reached, Memory>
+    requires { root < n }
+    ensures { IfOk result (λ reached. (edges : List (ℕ × ℕ × ℕ)) → IsScan n root edges reached.places.items reached.seen.items 0 0) }
+{
+    let mut seen = vec![in alloc; false; n]?;
+    seen[root as usize] = true;
+    let mut places = Vec::new(alloc);
+    places.push(Place {
+        node: root,
+        parent: 0,
+        edge: 0,
+        r: 0,
+    })?;
+    Ok(Reached { places, seen })
+}
+
+/// Reaches the neighbours of the node at the place `p`, in the order of its resistors.
+fn scan(
+    edges: &[(u32, u32, u64)],
+    links: &Links,
+    p: usize,
+    reached: &mut Reached,
+) -> Result<(), Memory>
+    requires count { length edges.now ≤ 2 ^ 28 }
+    requires from_nodes { (j : ℕ) → j < length edges.now → (edge_at edges.now j).0 < length reached.old.seen.items }
+    requires to_nodes { (j : ℕ) → j < length edges.now → (edge_at edges.now j).1 < length reached.old.seen.items }
+    requires linked { length links.now.first.items ≡ length reached.old.seen.items }
+    requires links { AreLinks edges.now links.now.first.items links.now.next.items }
+    requires place { p < length reached.old.places.items }
+    requires low { p < 2 ^ 28 }
+    requires before { IsScan (length reached.old.seen.items) (root_of reached.old.places.items) edges.now reached.old.places.items reached.old.seen.items p 0 }
+    ensures { IfOk result (λ _. IsScan (length reached.old.seen.items) (root_of reached.old.places.items) edges.now reached.new.places.items reached.new.seen.items (p + 1) 0) }
+{
+    let node = reached.places[p].node;
+    let mut j = links.first[node as usize];
+    'edges: while (j as usize) < edges.len() {
+        let (far, r) = far_end(edges[j as usize], node);
+        let place = Place {
+            node: far,
+            parent: p as u32,
+            edge: j,
+            r,
+        };
+        reach(reached, place)?;
+        j = following(edges[j as usize], node, links.next[j as usize]);
+    }
+    Ok(())
+}
+
+/// The other end of a resistor at `node`, and its resistance (mΩ).
+fn far_end(edge: (u32, u32, u64), node: u32) -> (u32, u64)
+    requires { IsEndOf edge node }
+    ensures far { Joins edge node result.0 }
+    ensures r { result.1 ≡ edge.2 }
+{
+    let (from, to, r) = edge;
+    if from == node { (to, r) } else { (from, r) }
+}
+
+/// What follows a resistor at its end `node`.
+fn following(edge: (u32, u32, u64), node: u32, next: Next) -> u32
+    requires { IsEndOf edge node }
+    ensures { ((edge.0 ≡ node) × (result ≡ next.at_from)) ⊎ ((edge.1 ≡ node) × (result ≡ next.at_to)) }
+{
+    if edge.0 == node {
+        next.at_from
+    } else {
+        next.at_to
+    }
+}
+
+/// Gives the node the next place, unless it was seen.
+fn reach(reached: &mut Reached, place: Place) -> Result<(), Memory>
+    requires { place.node < length reached.old.seen.items }
+    ensures seen { IfOk result (λ _. reached.new.seen.items ≡ slice_set reached.old.seen.items place.node true) }
+    ensures places { IfOk result (λ _. reached.new.places.items ≡ with_place (is_seen reached.old.seen.items place.node) reached.old.places.items place) }
+{
+    let was_seen = mem::replace(&mut reached.seen[place.node as usize], true);
+    if !was_seen {
+        reached.places.push(place)?;
+    }
+    Ok(())
+}
+
+/// The node of the least number that was not seen.
+pub(crate) fn first_unseen(seen: &[bool]) -> Option<u32>
+    requires { length seen.now ≤ 2 ^ 28 }
+    ensures { MatchOption result ((v : ℕ) → v < length seen.now → is_seen seen.now v ≡ true) (λ v. (v < length seen.now) × (is_seen seen.now v ≢ true) × ((u : ℕ) → u < v → is_seen seen.now u ≡ true)) }
+{
+    'nodes: for v in 0..seen.len() {
+        if !seen[v] {
+            return Some(v as u32);
+        }
+    }
+    None
+}
