@@ -1,8 +1,9 @@
 #!/usr/bin/env python3
-"""Writes a plain SPEF text of one net with so many nodes: `plain_net.py NODES SHAPE > net.spef`.
+"""Writes a plain SPEF text of one net with so many nodes: `plain_net.py NODES SHAPE [ports] > net.spef`.
 
 SHAPE is `chain` (one sink at the end), `star` (every node but the driver is a sink) or `tree` (each node has two
-children, every leaf is a sink).
+children, every leaf is a sink). The connections are pins, or with `ports` the ports `d` (the driver) and `s1`, `s2`
+and so on, each with the number of its node.
 """
 import sys
 
@@ -29,11 +30,13 @@ def parent(shape, v):
 
 
 def main():
-    count, shape = int(sys.argv[1]), sys.argv[2]
+    count, shape, ports = int(sys.argv[1]), sys.argv[2], sys.argv[3:] == ["ports"]
     inner = set(parent(shape, v) for v in range(1, count))
-    names = ["drv:Z"] + [f"n:{v}" if v in inner else f"u{v}:A" for v in range(1, count)]
-    out = [HEADER, f"*D_NET n {count}\n*CONN\n*I drv:Z O\n"]
-    out += [f"*I {names[v]} I\n" for v in range(1, count) if v not in inner]
+    driver, sink = ("d", "s{}") if ports else ("drv:Z", "u{}:A")
+    drives, loads = ("*P {} I\n", "*P {} O\n") if ports else ("*I {} O\n", "*I {} I\n")
+    names = [driver] + [f"n:{v}" if v in inner else sink.format(v) for v in range(1, count)]
+    out = [HEADER, f"*D_NET n {count}\n*CONN\n", drives.format(driver)]
+    out += [loads.format(names[v]) for v in range(1, count) if v not in inner]
     out += ["*CAP\n"] + [f"{v} {names[v]} 0.5\n" for v in range(1, count)]
     out += ["*RES\n"] + [f"{v} {names[parent(shape, v)]} {names[v]} 1.5\n" for v in range(1, count)]
     out += ["*END\n"]
