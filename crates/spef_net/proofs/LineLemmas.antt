@@ -1,0 +1,214 @@
+-- One line of a section after another.
+use Rattle.std.proofs.Common.{◌≡◌, ℕ, zero, suc, ◌+◌, ◌-◌, ◌<◌, ◌≤◌, true, false, ◌||◌, List, [], ◌∷◌, ◌++◌, map, length, take, drop, get_or, refl, sym, ap, ◌∙◌, arith, drop-cons, length-drop, add-one, Option, Some, None, ◌⊎◌, inl, inr, Result, Ok, Err, below_more, eqb, take_all}
+use Rattle.std.proofs.lemmas.List.{take_more, length-map, append-nil}
+use Rattle.std.proofs.lemmas.Slice.Eq.{bytes_eq-Decides}
+use Rattle.std.specs.List.{fold, filter_map, cons_option}
+use Rattle.vg_num.specs.declared.fault.NumFault.{NumFault}
+use Rattle.vg_scan.specs.Lines.{Line}
+use Rattle.vg_scan.specs.declared.name.NodeName.{NodeName}
+use Rattle.spef_net.specs.declared.header.Header.{Header}
+use Rattle.spef_net.specs.declared.part.Part.{Part}
+use Rattle.spef_net.specs.declared.part.Part.TheVariants.{Nowhere, Conns, Caps, Ress, Inducs}
+use Rattle.spef_net.specs.declared.fault.NetKind.{NetKind}
+use Rattle.spef_net.specs.declared.fault.NetKind.TheVariants.{Conn, Cap, Res, Number, Foreign, SelfCoupled, Memory}
+use Rattle.spef_net.specs.declared.saying.Saying.TheVariants.{Opens, Nothing, Connects, Star, Ground, Coupling, Resistor}
+use Rattle.spef_net.specs.Names.{same_node, has_node, with_node, distinct}
+use Rattle.spef_net.specs.Sayings.{Said, ground, coupling, resistor, cap_line, res_line, said_words, said, part_after, sayings_from}
+use Rattle.spef_net.specs.Rows.{joined_in, connected_of}
+use Rattle.spef_net.specs.Faults.{fault_of, fault_at, IsClear, IsFirstFault}
+use Rattle.spef_net.specs.Drafts.{Sketch, IsSketch, IsCounted, Takes}
+use Rattle.spef_net.specs.Surveys.{matters, with_joined}
+use Rattle.spef_net.specs.Views.{IsFaultOrMemory, fault_in}
+use Rattle.spef_net.proofs.NodeLists.{has-distinct}
+use Rattle.spef_net.proofs.TakeLemmas.{or_right}
+
+-- a line that opens no part and names no connection
+record IsQuiet (line : Said) : Type 0 where
+  part : (part : Part) → part ≡ part_after part line
+  joined : joined_in line ≡ None
+
+bad : (kind : NetKind) → IsQuiet (Err kind)
+bad kind = record { part = λ part. refl; joined = refl }
+
+ground-quiet : (node : Option NodeName) (value : Result ℕ NumFault) → IsQuiet (ground node value)
+ground-quiet (Some node) value = record { part = λ part. refl; joined = refl }
+ground-quiet None value = bad Cap
+
+coupling-quiet : (nodes : Option (NodeName × NodeName)) (value : Result ℕ NumFault) → IsQuiet (coupling nodes value)
+coupling-quiet (Some nodes) value = record { part = λ part. refl; joined = refl }
+coupling-quiet None value = bad Cap
+
+resistor-quiet : (nodes : Option (NodeName × NodeName)) (value : Result ℕ NumFault) → IsQuiet (resistor nodes value)
+resistor-quiet (Some nodes) value = record { part = λ part. refl; joined = refl }
+resistor-quiet None value = bad Res
+
+cap-quiet : (header : Header) (line : Line) → IsQuiet (cap_line header line)
+unfolding cap_line
+cap-quiet header [] = bad Cap
+cap-quiet header (a ∷ []) = bad Cap
+cap-quiet header (a ∷ b ∷ []) = bad Cap
+cap-quiet header (a ∷ b ∷ c ∷ []) = ground-quiet _ _
+cap-quiet header (a ∷ b ∷ c ∷ d ∷ []) = coupling-quiet _ _
+cap-quiet header (a ∷ b ∷ c ∷ d ∷ e ∷ es) = bad Cap
+
+res-quiet : (header : Header) (line : Line) → IsQuiet (res_line header line)
+unfolding res_line
+res-quiet header [] = bad Res
+res-quiet header (a ∷ []) = bad Res
+res-quiet header (a ∷ b ∷ []) = bad Res
+res-quiet header (a ∷ b ∷ c ∷ []) = bad Res
+res-quiet header (a ∷ b ∷ c ∷ d ∷ []) = resistor-quiet _ _
+res-quiet header (a ∷ b ∷ c ∷ d ∷ e ∷ es) = bad Res
+
+quiet : (header : Header) (part : Part) (line : List ℕ) (ws : Line) → matters part (length ws) ≡ false → IsQuiet (said_words header part line ws)
+unfolding said_words
+quiet header part line [] e = record { part = λ part. refl; joined = refl }
+quiet header part line (a ∷ []) e = absurd (cc)
+quiet header Nowhere line (a ∷ b ∷ ws) e = bad Conn
+quiet header Conns line (a ∷ b ∷ ws) e = absurd (let h = or_right (eqb (length (a ∷ b ∷ ws)) 1) true refl in cc)
+quiet header Caps line (a ∷ b ∷ ws) e = cap-quiet header (a ∷ b ∷ ws)
+quiet header Ress line (a ∷ b ∷ ws) e = res-quiet header (a ∷ b ∷ ws)
+quiet header Inducs line (a ∷ b ∷ ws) e = record { part = λ part. refl; joined = refl }
+
+-- such a line changes nothing in the survey
+pub passed_over : {X : Type 0} (header : Header) (part : Part) (line : List ℕ) (view : X → List ℕ) (ws : List X) (nodes : List NodeName) → matters part (length ws) ≡ false
+    → (part ≡ part_after part (said_words header part line (map view ws))) × (nodes ≡ with_joined nodes (joined_in (said_words header part line (map view ws))))
+passed_over header part line view ws nodes e =
+    let q = quiet header part line (map view ws) (ap (matters part) (length-map ws view) ∙ e) in
+    (q.part part, sym (ap (with_joined nodes) q.joined))
+
+-- the lines that are left
+pub left : (header : Header) (part : Part) (line : List ℕ) (others : List (List ℕ)) → sayings_from header part (line ∷ others) ≡ said header part line ∷ sayings_from header (part_after part (said header part line)) others
+unfolding sayings_from
+left header part line others = refl
+
+pub none_left : (header : Header) (part : Part) → sayings_from header part [] ≡ []
+unfolding sayings_from
+none_left header part = refl
+
+joined_first : (old : List NodeName) (row : Option (NodeName × List ℕ)) (rows : List (NodeName × List ℕ)) → fold with_node (with_joined old row) (map (λ r. r.0) rows) ≡ fold with_node old (map (λ r. r.0) (cons_option row rows))
+joined_first old None rows = refl
+joined_first old (Some row) rows = refl
+
+-- the survey, one line later
+pub survey_more : (header : Header) (part next : Part) (line : List ℕ) (others : List (List ℕ)) (old new : List NodeName)
+    → next ≡ part_after part (said header part line) → new ≡ with_joined old (joined_in (said header part line))
+    → fold with_node new (connected_of (sayings_from header next others)) ≡ fold with_node old (connected_of (sayings_from header part (line ∷ others)))
+survey_more header part next line others old new p n =
+    let s = said header part line in
+    ap (λ q. fold with_node new (connected_of (sayings_from header q others))) p
+    ∙ ap (λ ns. fold with_node ns (connected_of (sayings_from header (part_after part s) others))) n
+    ∙ joined_first old (joined_in s) (filter_map joined_in (sayings_from header (part_after part s) others))
+    ∙ ap (λ ss. fold with_node old (connected_of ss)) (sym (left header part line others))
+
+-- a line whose form or names are bad
+bad_fault : (connected : List NodeName) (net : List ℕ) (before : List Said) (line : Said) (kind : NetKind) → fault_in line ≡ Some kind → fault_of connected net before line ≡ Some kind
+unfolding fault_of
+bad_fault connected net before (Ok saying) kind e = absurd (cc)
+bad_fault connected net before (Err k) kind e = e
+
+pub bad_line : (net : List ℕ) (old new : Sketch) (line : Said) (kind : NetKind) → IsFaultOrMemory (fault_in line) kind → Takes (Err kind) net old line new
+bad_line net old new line Memory h = λ connected before counted s. tt
+bad_line net old new line Conn h = λ connected before counted s. bad_fault connected net before line Conn h
+bad_line net old new line Cap h = λ connected before counted s. bad_fault connected net before line Cap h
+bad_line net old new line Res h = λ connected before counted s. bad_fault connected net before line Res h
+bad_line net old new line Foreign h = λ connected before counted s. bad_fault connected net before line Foreign h
+bad_line net old new line SelfCoupled h = λ connected before counted s. bad_fault connected net before line SelfCoupled h
+bad_line net old new line (Number f) h = λ connected before counted s. bad_fault connected net before line (Number f) h
+
+-- a list's next item
+pub record NextItem {X : Type 0} (all : List X) (n : ℕ) (d x : X) (others : List X) : Type 0 where
+  pub within : n < length all
+  pub rest : drop (n + 1) all ≡ others
+  pub here : get_or all n d ≡ x
+  pub front : take (n + 1) all ≡ take n all ++ x ∷ []
+
+pub next_is : {X : Type 0} (all : List X) (n : ℕ) (d x : X) (others : List X) → drop n all ≡ x ∷ others → NextItem all n d x others
+next_is all n d x others e =
+    let l : n < length all = omega (arith, length-drop n all, ap length e) in
+    let k : x ∷ others ≡ get_or all n d ∷ drop (suc n) all = sym e ∙ drop-cons all n d l in
+    let g : get_or all n d ≡ x = cc in
+    record {
+      within = l;
+      rest = ap (λ m. drop m all) (add-one n) ∙ (let r : drop (suc n) all ≡ others = cc in r);
+      here = g;
+      front = take_more all n d l ∙ ap (λ y. take n all ++ y ∷ []) g;
+    }
+
+same_refl : (node : NodeName) → same_node node node ≡ true
+same_refl node =
+    let a : Rattle.std.specs.Str.bytes_eq node.owner node.owner ≡ true = (bytes_eq-Decides node.owner node.owner).1 refl in
+    let b : Rattle.std.specs.Str.bytes_eq node.leaf node.leaf ≡ true = (bytes_eq-Decides node.leaf node.leaf).1 refl in
+    rw (a, b) refl
+
+counted_here : (node : NodeName) (note : List ℕ) (rows : List (NodeName × List ℕ)) → has_node (map (λ r. r.0) ((node, note) ∷ rows)) node ≡ true
+counted_here node note rows = ap (λ b. b || has_node (map (λ r. r.0) rows) node) (same_refl node)
+
+counted_later : (node : NodeName) (row : Option (NodeName × List ℕ)) (rows : List (NodeName × List ℕ)) → has_node (map (λ r. r.0) rows) node ≡ true → has_node (map (λ r. r.0) (cons_option row rows)) node ≡ true
+counted_later node None rows e = e
+counted_later node (Some row) rows e = or_right (same_node node row.0) (has_node (map (λ r. r.0) rows) node) e
+
+has_joined : (all : List Said) (n : ℕ) (line : Said) (others : List Said) (node : NodeName) (note : List ℕ) → drop n all ≡ line ∷ others → joined_in line ≡ Some (node, note) → has_node (connected_of all) node ≡ true
+has_joined [] zero line others node note e j = absurd (cc)
+has_joined [] (suc n) line others node note e j = absurd (cc)
+has_joined (l ∷ ls) zero line others node note e j =
+    let same : l ≡ line = cc in
+    ap (λ o. has_node (map (λ r. r.0) (cons_option o (filter_map joined_in ls))) node) (ap joined_in same ∙ j) ∙ counted_here node note (filter_map joined_in ls)
+has_joined (l ∷ ls) (suc n) line others node note e j = counted_later node (joined_in l) (filter_map joined_in ls) (has_joined ls n line others node note e j)
+
+pub is_counted : (all : List Said) (n : ℕ) (line : Said) (others : List Said) → drop n all ≡ line ∷ others → IsCounted (connected_of all) line
+is_counted all n (Err kind) others e = tt
+is_counted all n (Ok (Opens part)) others e = tt
+is_counted all n (Ok Nothing) others e = tt
+is_counted all n (Ok (Connects kind direction node note)) others e = has_joined all n (Ok (Connects kind direction node note)) others node note e refl
+is_counted all n (Ok (Star node note)) others e = tt
+is_counted all n (Ok (Ground node value)) others e = tt
+is_counted all n (Ok (Coupling a b value)) others e = tt
+is_counted all n (Ok (Resistor a b value)) others e = tt
+
+-- before the first line
+pub no_lines : (connected : List NodeName) (net : List ℕ) (nodes : List NodeName) → nodes ≡ distinct connected
+    → IsSketch connected net [] (record { nodes = nodes; joined = []; starred = []; conns = []; caps = []; ress = []; inductive = false })
+no_lines connected net nodes e = record {
+  nodes = e ∙ ap distinct (sym (append-nil connected));
+  own = λ node. ap (λ ns. has_node ns node || Rattle.spef_net.specs.Names.is_inner net node) e ∙ ap (λ b. b || Rattle.spef_net.specs.Names.is_inner net node) (has-distinct connected node);
+  joined = refl;
+  starred = λ node. refl;
+  conns = refl;
+  caps = refl;
+  ress = refl;
+  inductive = refl;
+}
+
+known : (fault : Option NetKind) (kind : NetKind) → IsFaultOrMemory fault kind → (kind ≡ Memory) ⊎ (fault ≡ Some kind)
+known fault Memory h = inl refl
+known fault Conn h = inr h
+known fault Cap h = inr h
+known fault Res h = inr h
+known fault Foreign h = inr h
+known fault SelfCoupled h = inr h
+known fault (Number f) h = inr h
+
+-- the first faulty line, from what is known of the lines before it
+pub first_fault : (net : List ℕ) (all : List Said) (n first : ℕ) (line : Said) (kind : NetKind) → n < length all → get_or all n (Ok Nothing) ≡ line → IsClear net all n
+    → IsFaultOrMemory (fault_of (connected_of all) net (take n all) line) kind → (kind ≡ Memory) ⊎ IsFirstFault net all first (record { kind = kind; line = first + n })
+first_fault net all n first line kind l e clear f =
+    let m : first + n - first ≡ n = omega arith in
+    elim (known (fault_of (connected_of all) net (take n all) line) kind f) [
+      | inl memory ↦ inl memory
+      | inr fault ↦ inr (record {
+        counted = omega arith;
+        within = omega arith;
+        before = rw m clear;
+        here = rw m (ap (fault_of (connected_of all) net (take n all)) e ∙ fault);
+      })
+    ]
+
+pub clear_more : (net : List ℕ) (all : List Said) (n : ℕ) (line : Said) → get_or all n (Ok Nothing) ≡ line → IsClear net all n → fault_of (connected_of all) net (take n all) line ≡ None → IsClear net all (n + 1)
+clear_more net all n line e clear f = below_more (λ i. fault_at net all i ≡ None) n clear (ap (fault_of (connected_of all) net (take n all)) e ∙ f)
+
+pub all_read : {X : Type 0} (all : List X) (n : ℕ) → drop n all ≡ [] → length all ≤ n
+all_read all n e = omega (arith, length-drop n all, ap length e)
+
+pub take_whole : {X : Type 0} (all : List X) (n : ℕ) → drop n all ≡ [] → take n all ≡ all
+take_whole all n e = take_all n all (all_read all n e)

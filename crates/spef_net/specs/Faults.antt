@@ -1,0 +1,50 @@
+-- The fault of a line, given what the lines before it say and the nodes of all connections, and the first fault.
+use Rattle.std.specs.Prelude.{◌≡◌, ℕ, ◌+◌, ◌-◌, ◌<◌, ◌≤◌, ◌||◌, ◌&&◌, not, List, length, take, slice_index_or, is_some, Option, Some, None, Result, Ok, Err, if◌then◌else◌}
+use Rattle.vg_num.specs.declared.fault.NumFault.{NumFault}
+use Rattle.vg_scan.specs.declared.name.NodeName.{NodeName}
+use Rattle.spef_net.specs.declared.fault.NetKind.{NetKind}
+use Rattle.spef_net.specs.declared.fault.NetKind.TheVariants.{Conn, Number, Foreign, SelfCoupled}
+use Rattle.spef_net.specs.declared.fault.NetFault.{NetFault}
+use Rattle.spef_net.specs.declared.saying.Saying.TheVariants.{Opens, Nothing, Connects, Star, Ground, Coupling, Resistor}
+use Rattle.spef_net.specs.Names.{is_own, is_inner, node_value}
+use Rattle.spef_net.specs.Sayings.{Said}
+use Rattle.spef_net.specs.Rows.{joined_of, starred_of, connected_of}
+
+abbrev pub number_fault : Result ℕ NumFault → Option NetKind
+number_fault (Ok _) = None
+number_fault (Err fault) = Some (Number fault)
+
+-- the fault of what is said, given the rows of connections and of `*N` lines before it
+abbrev pub fault_after : List NodeName → List ℕ → List (NodeName × List ℕ) → List (NodeName × List ℕ) → Said → Option NetKind
+fault_after connected net joined starred (Err kind) = Some kind
+fault_after connected net joined starred (Ok (Opens _)) = None
+fault_after connected net joined starred (Ok Nothing) = None
+fault_after connected net joined starred (Ok (Connects _ _ node _)) = if is_some (node_value joined node) || is_some (node_value starred node) then Some Conn else None
+fault_after connected net joined starred (Ok (Star node _)) = if is_inner net node && not (is_some (node_value joined node)) then None else Some Conn
+fault_after connected net joined starred (Ok (Ground node value)) = if is_own connected net node then number_fault value else Some Foreign
+fault_after connected net joined starred (Ok (Coupling a b value)) =
+    if is_own connected net a && is_own connected net b then Some SelfCoupled
+    else (if is_own connected net a || is_own connected net b then number_fault value else Some Foreign)
+fault_after connected net joined starred (Ok (Resistor a b value)) =
+    if is_own connected net a && is_own connected net b then number_fault value else Some Foreign
+
+-- the fault of a line, given the lines before it
+unfoldable pub fault_of : List NodeName → List ℕ → List Said → Said → Option NetKind
+fault_of connected net before line = fault_after connected net (joined_of before) (starred_of before) line
+
+abbrev pub fault_at : List ℕ → List Said → ℕ → Option NetKind
+fault_at net lines i = fault_of (connected_of lines) net (take i lines) (slice_index_or lines i (Ok Nothing))
+
+-- none of the first n lines has a fault
+abbrev pub IsClear : List ℕ → List Said → ℕ → Type 0
+IsClear net lines n = (i : ℕ) → i < n → fault_at net lines i ≡ None
+
+abbrev pub IsFaultless : List ℕ → List Said → Type 0
+IsFaultless net lines = IsClear net lines (length lines)
+
+-- the first faulty line, and its fault; the first line has this number
+pub record IsFirstFault (net : List ℕ) (lines : List Said) (first : ℕ) (fault : NetFault) : Type 0 where
+  pub counted : first ≤ fault.line
+  pub within : fault.line < first + length lines
+  pub before : IsClear net lines (fault.line - first)
+  pub here : fault_at net lines (fault.line - first) ≡ Some fault.kind

@@ -1,0 +1,10 @@
+pub mod Reads
+pub mod Names
+pub mod Lines
+pub mod Sayings
+pub mod Rows
+pub mod Faults
+pub mod Denoted
+pub mod Views
+pub mod Drafts
+pub mod Surveys

@@ -1,0 +1,60 @@
+-- The names of nodes, and lists of them.
+use Rattle.std.specs.Prelude.{ℕ, ◌+◌, ◌&&◌, ◌||◌, ◌++◌, Bool, List, [], ◌∷◌, take, drop, Option, Some, None, if◌then◌else◌}
+use Rattle.std.specs.List.{list_any, fold}
+use Rattle.std.specs.Map.{lookup}
+use Rattle.std.specs.Str.{bytes_eq}
+use Rattle.vg_num.specs.Number.{are_digits}
+use Rattle.vg_scan.specs.Names.{canonical}
+use Rattle.vg_scan.specs.Nodes.{leaf_at}
+use Rattle.vg_scan.specs.References.{is_reference, index_of}
+use Rattle.vg_scan.specs.declared.name.NodeName.{NodeName}
+use Rattle.spef_net.specs.declared.header.Header.{Header}
+
+-- the same owner, and the same leaf
+abbrev pub same_node : NodeName → NodeName → Bool
+same_node a b = bytes_eq a.owner b.owner && bytes_eq a.leaf b.leaf
+
+abbrev pub has_node : List NodeName → NodeName → Bool
+has_node nodes node = list_any (same_node node) nodes
+
+-- the nodes, with this one last where it is new
+abbrev pub with_node : List NodeName → NodeName → List NodeName
+with_node nodes node = if has_node nodes node then nodes else nodes ++ node ∷ []
+
+-- each node once, where it comes first
+abbrev pub distinct : List NodeName → List NodeName
+distinct nodes = fold with_node [] nodes
+
+abbrev pub node_value : {V : Type 0} → List (NodeName × V) → NodeName → Option V
+node_value rows node = lookup (same_node node) rows
+
+-- a node inside the net of this name: the net owns it, and its leaf is a number
+abbrev pub is_inner : List ℕ → NodeName → Bool
+is_inner net node = bytes_eq node.owner net && are_digits node.leaf
+
+-- a node is the net's where it is one of its connections or inside it
+abbrev pub is_own : List NodeName → List ℕ → NodeName → Bool
+is_own connected net node = has_node connected node || is_inner net node
+
+-- the name that an index stands for
+abbrev pub indexed : List (List ℕ × List ℕ) → Option (List ℕ) → Option (List ℕ)
+indexed names None = None
+indexed names (Some digits) = lookup (bytes_eq digits) names
+
+-- the name that a text or an index stands for
+unfoldable pub owner_in : Header → List ℕ → Option (List ℕ)
+owner_in header text = if is_reference text then indexed header.names (index_of text) else canonical header.chars text
+
+abbrev pub node_of_parts : Option (List ℕ) → Option (List ℕ) → Option NodeName
+node_of_parts (Some owner) (Some leaf) = Some (record { owner = owner; leaf = leaf })
+node_of_parts (Some _) None = None
+node_of_parts None _ = None
+
+abbrev pub node_split : Header → List ℕ → Option ℕ → Option NodeName
+node_split header text None = node_of_parts (owner_in header text) (Some [])
+node_split header text (Some at) = node_of_parts (owner_in header (take at text)) (canonical header.chars (drop (at + 1) text))
+
+-- the node that a text names: the owner before its last unescaped delimiter may be an index, the leaf after it may not.
+-- A port has no delimiter, and its leaf is empty
+unfoldable pub node_in : Header → List ℕ → Option NodeName
+node_in header text = node_split header text (leaf_at header.chars text)

@@ -1,0 +1,146 @@
+-- What a line says by itself, given the part in which it stands.
+use Rattle.std.specs.Prelude.{ℕ, ℤ, ◌==◌, ◌^◌, not, Bool, List, [], ◌∷◌, length, codes, Option, Some, None, Result, Ok, Err, if◌then◌else◌}
+use Rattle.std.specs.List.{slice_split}
+use Rattle.std.specs.Str.{bytes_eq}
+use Rattle.vg_num.specs.Number.{scaled}
+use Rattle.vg_num.specs.declared.fault.NumFault.{NumFault}
+use Rattle.vg_num.specs.declared.fault.NumFault.TheVariants.{Form}
+use Rattle.vg_scan.specs.Lines.{words, Line}
+use Rattle.vg_scan.specs.declared.name.NodeName.{NodeName}
+use Rattle.spef_net.specs.declared.header.Header.{Header}
+use Rattle.spef_net.specs.declared.net.ConnKind.{ConnKind}
+use Rattle.spef_net.specs.declared.net.ConnKind.TheVariants.{Pin, Port}
+use Rattle.spef_net.specs.declared.net.Direction.{Direction}
+use Rattle.spef_net.specs.declared.net.Direction.TheVariants.{In, Out, Both}
+use Rattle.spef_net.specs.declared.part.Part.{Part}
+use Rattle.spef_net.specs.declared.part.Part.TheVariants.{Nowhere, Conns, Caps, Ress, Inducs}
+use Rattle.spef_net.specs.declared.fault.NetKind.{NetKind}
+use Rattle.spef_net.specs.declared.fault.NetKind.TheVariants.{Conn, Cap, Res}
+use Rattle.spef_net.specs.declared.saying.Saying.{Saying}
+use Rattle.spef_net.specs.declared.saying.Saying.TheVariants.{Opens, Nothing, Connects, Star, Ground, Coupling, Resistor}
+use Rattle.spef_net.specs.Names.{node_in}
+use Rattle.spef_net.specs.Lines.{head_of, note_after}
+
+-- what a line says, or the fault of its form and names
+abbrev pub Said : Type 0
+Said = Result Saying NetKind
+
+abbrev pub is_colon : ℕ → Bool
+is_colon b = b == 58
+
+-- the middle one of three numbers, or the fault of the first that has one
+abbrev pub middle : Result ℕ NumFault → Result ℕ NumFault → Result ℕ NumFault → Result ℕ NumFault
+middle (Err fault) _ _ = Err fault
+middle (Ok _) (Err fault) _ = Err fault
+middle (Ok _) (Ok _) (Err fault) = Err fault
+middle (Ok _) (Ok n) (Ok _) = Ok n
+
+abbrev pub value_of_parts : ℤ → List (List ℕ) → Result ℕ NumFault
+value_of_parts places (text ∷ []) = scaled places (10 ^ 15) text
+value_of_parts places (low ∷ typical ∷ high ∷ []) = middle (scaled places (10 ^ 15) low) (scaled places (10 ^ 15) typical) (scaled places (10 ^ 15) high)
+value_of_parts places _ = Err Form
+
+-- a value is one number, or three joined by colons, of which the middle one is taken
+unfoldable pub value_in : ℤ → List ℕ → Result ℕ NumFault
+value_in places text = value_of_parts places (slice_split is_colon text)
+
+abbrev pub direction_in : List ℕ → Option Direction
+direction_in word =
+    if bytes_eq word (codes "I") then Some In
+    else (if bytes_eq word (codes "O") then Some Out
+    else (if bytes_eq word (codes "B") then Some Both else None))
+
+-- a pin's node has a leaf, and a port's has none
+abbrev pub is_at : ConnKind → NodeName → Bool
+is_at Pin node = not (length node.leaf == 0)
+is_at Port node = length node.leaf == 0
+
+abbrev pub connected : ConnKind → List ℕ → Option NodeName → Option Direction → Said
+connected kind note (Some node) (Some direction) = if is_at kind node then Ok (Connects kind direction node note) else Err Conn
+connected kind note (Some _) None = Err Conn
+connected kind note None _ = Err Conn
+
+-- `*I node direction` or `*P node direction`, with any text after it
+abbrev pub connection : Header → ConnKind → List ℕ → Line → Said
+connection header kind line (node ∷ direction ∷ _) = connected kind (note_after 3 line) (node_in header node) (direction_in direction)
+connection header kind line _ = Err Conn
+
+abbrev pub starred : List ℕ → Option NodeName → Said
+starred note (Some node) = Ok (Star node note)
+starred note None = Err Conn
+
+-- `*N node`, with any text after it
+abbrev pub star : Header → List ℕ → Line → Said
+star header line (node ∷ _) = starred (note_after 2 line) (node_in header node)
+star header line [] = Err Conn
+
+unfoldable pub conn_line : Header → List ℕ → Line → Said
+conn_line header line (tag ∷ rest) =
+    if bytes_eq tag (codes "*I") then connection header Pin line rest
+    else (if bytes_eq tag (codes "*P") then connection header Port line rest
+    else (if bytes_eq tag (codes "*N") then star header line rest else Err Conn))
+conn_line header line [] = Err Conn
+
+abbrev pub ground : Option NodeName → Result ℕ NumFault → Said
+ground (Some node) value = Ok (Ground node value)
+ground None value = Err Cap
+
+-- two nodes, if both texts name one
+abbrev pub both : Option NodeName → Option NodeName → Option (NodeName × NodeName)
+both (Some a) (Some b) = Some (a, b)
+both (Some _) None = None
+both None _ = None
+
+abbrev pub coupling : Option (NodeName × NodeName) → Result ℕ NumFault → Said
+coupling (Some nodes) value = Ok (Coupling nodes.0 nodes.1 value)
+coupling None value = Err Cap
+
+abbrev pub resistor : Option (NodeName × NodeName) → Result ℕ NumFault → Said
+resistor (Some nodes) value = Ok (Resistor nodes.0 nodes.1 value)
+resistor None value = Err Res
+
+-- `id node value` or `id node node value`
+unfoldable pub cap_line : Header → Line → Said
+cap_line header (_ ∷ node ∷ value ∷ []) = ground (node_in header node) (value_in header.cap_places value)
+cap_line header (_ ∷ a ∷ b ∷ value ∷ []) = coupling (both (node_in header a) (node_in header b)) (value_in header.cap_places value)
+cap_line header _ = Err Cap
+
+-- `id node node value`
+unfoldable pub res_line : Header → Line → Said
+res_line header (_ ∷ a ∷ b ∷ value ∷ []) = resistor (both (node_in header a) (node_in header b)) (value_in header.res_places value)
+res_line header _ = Err Res
+
+-- a line that is no head, in this part
+abbrev pub said_in : Part → Header → List ℕ → Line → Said
+said_in Nowhere header line line_words = Err Conn
+said_in Conns header line line_words = conn_line header line line_words
+said_in Caps header line line_words = cap_line header line_words
+said_in Ress header line line_words = res_line header line_words
+said_in Inducs header line line_words = Ok Nothing
+
+abbrev pub said_or_opens : Option Part → Said → Said
+said_or_opens (Some part) said = Ok (Opens part)
+said_or_opens None said = said
+
+-- a line, with its words
+unfoldable pub said_words : Header → Part → List ℕ → Line → Said
+said_words header part line [] = Ok Nothing
+said_words header part line (word ∷ rest) = said_or_opens (head_of (word ∷ rest)) (said_in part header line (word ∷ rest))
+
+abbrev pub said : Header → Part → List ℕ → Said
+said header part line = said_words header part line (words line)
+
+-- the part that is open after a line
+abbrev pub part_after : Part → Said → Part
+part_after part (Ok (Opens opened)) = opened
+part_after part _ = part
+
+-- what lines say one after another, where this part is open before them
+unfoldable pub sayings_from : Header → Part → List (List ℕ) → List Said
+sayings_from header part [] = []
+sayings_from header part (line ∷ lines) =
+    said header part line ∷ sayings_from header (part_after part (said header part line)) lines
+
+-- what the lines of a section say
+abbrev pub sayings : Header → List (List ℕ) → List Said
+sayings header lines = sayings_from header Nowhere lines

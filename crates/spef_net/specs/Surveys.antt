@@ -1,0 +1,32 @@
+-- What one line adds to the connections of a section.
+use Rattle.std.specs.Prelude.{◌≡◌, ℕ, ◌==◌, ◌||◌, Bool, true, false, List, Option, Some, None, Result, Ok, Err}
+use Rattle.vg_num.specs.declared.memory.Memory.{Memory as NoRoom}
+use Rattle.vg_scan.specs.declared.name.NodeName.{NodeName}
+use Rattle.spef_net.specs.declared.fault.NetKind.{NetKind}
+use Rattle.spef_net.specs.declared.fault.NetKind.TheVariants.{Memory}
+use Rattle.spef_net.specs.declared.part.Part.{Part}
+use Rattle.spef_net.specs.declared.part.Part.TheVariants.{Conns}
+use Rattle.spef_net.specs.Names.{with_node}
+use Rattle.spef_net.specs.Sayings.{Said, part_after}
+use Rattle.spef_net.specs.Rows.{joined_in}
+
+abbrev pub is_conns : Part → Bool
+is_conns Conns = true
+is_conns _ = false
+
+-- a line of so many words may be a head or name a connection
+abbrev pub matters : Part → ℕ → Bool
+matters part count = (count == 1) || is_conns part
+
+abbrev pub with_joined : List NodeName → Option (NodeName × List ℕ) → List NodeName
+with_joined nodes (Some row) = with_node nodes row.0
+with_joined nodes None = nodes
+
+-- the part that is open after a line, and the nodes with its own
+abbrev pub Surveys : Result Part NoRoom → List NodeName → List NodeName → Part → Said → Type 0
+Surveys (Ok next) old new part line = (next ≡ part_after part line) × (new ≡ with_joined old (joined_in line))
+Surveys (Err _) old new part line = Unit {0}
+
+abbrev pub is_memory : NetKind → Bool
+is_memory Memory = true
+is_memory _ = false

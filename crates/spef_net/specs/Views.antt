@@ -1,0 +1,35 @@
+-- What the code's values stand for, and what may come where memory is wanted.
+use Rattle.std.specs.Prelude.{◌≡◌, ℕ, ◌≤◌, List, length, map, Option, Some, None, Result, Ok, Err}
+use Rattle.vg_scan.specs.Lines.{part}
+use Rattle.vg_scan.specs.declared.lines.Span.{Span}
+use Rattle.spef_net.specs.declared.fault.NetKind.{NetKind}
+use Rattle.spef_net.specs.declared.fault.NetKind.TheVariants.{Conn, Cap, Res, Number, Foreign, SelfCoupled, Memory}
+
+abbrev pub part_at : List ℕ → Span → List ℕ
+part_at bytes span = part bytes span.from span.to
+
+abbrev pub IsIn : List ℕ → Span → Type 0
+IsIn bytes span = (span.from ≤ span.to) × (span.to ≤ length bytes)
+
+-- the words that some spans are
+abbrev pub words_at : List ℕ → List Span → List (List ℕ)
+words_at bytes spans = map (part_at bytes) spans
+
+-- this fault, or want of memory
+abbrev pub IsFaultOrMemory : Option NetKind → NetKind → Type 0
+IsFaultOrMemory fault Memory = Unit {0}
+IsFaultOrMemory fault Conn = fault ≡ Some Conn
+IsFaultOrMemory fault Cap = fault ≡ Some Cap
+IsFaultOrMemory fault Res = fault ≡ Some Res
+IsFaultOrMemory fault Foreign = fault ≡ Some Foreign
+IsFaultOrMemory fault SelfCoupled = fault ≡ Some SelfCoupled
+IsFaultOrMemory fault (Number f) = fault ≡ Some (Number f)
+
+abbrev pub fault_in : {A : Type 0} → Result A NetKind → Option NetKind
+fault_in (Ok _) = None
+fault_in (Err kind) = Some kind
+
+-- an answer that is what is defined, but for want of memory
+abbrev pub Agrees : {A : Type 0} → Result A NetKind → Result A NetKind → Type 0
+Agrees (Ok x) s = s ≡ Ok x
+Agrees (Err kind) s = IsFaultOrMemory (fault_in s) kind

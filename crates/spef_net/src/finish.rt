@@ -1,0 +1,126 @@
+//! A section as a net.
+
+ghost use Rattle.std.specs.Prelude.{◌≡◌, ◌^◌, ◌≤◌, List, length, map, unwrap_or, [], IfOk, IfErr, ◌⊎◌};
+ghost use Rattle.std.specs.Option.{option_or};
+ghost use Rattle.std.specs.Str.Lines.{lines};
+ghost use Rattle.spef_net.specs.Names.{node_value};
+ghost use Rattle.spef_net.specs.Sayings.{sayings};
+ghost use Rattle.spef_net.specs.Faults.{IsFaultless, IsFirstFault};
+ghost use Rattle.spef_net.specs.Denoted.{described, IsNet};
+ghost use Rattle.spef_net.specs.Drafts.{IsMade};
+ghost use Rattle.spef_net.specs.declared.fault.NetKind.TheVariants.{Memory};
+
+use crate::draft::Draft;
+use crate::fault::{NetFault, NetKind};
+use crate::header::Header;
+use crate::net::{ParNet, ParNode};
+use crate::node::copied_node;
+use crate::read::read_lines;
+use crate::survey::find_connections;
+use crate::tables::{NodeNotes, NodeSet};
+use std::alloc::Global;
+use vg_num::{Memory as NoRoom, Row};
+use vg_scan::{Name, NodeName};
+
+/// The note of a node.
+fn note_of(
+    alloc: Global,
+    joined: &NodeNotes,
+    starred: &NodeNotes,
+    node: &NodeName,
+) -> Result<Name, NoRoom>
+    ensures { IfOk result (λ note. note ≡ unwrap_or (option_or (node_value joined.now node.now) (node_value starred.now node.now)) []) }
+{
+    match joined.get(node) {
+        Some(note) => Name::from_bytes(alloc, note.as_bytes()),
+        None => match starred.get(node) {
+            Some(note) => Name::from_bytes(alloc, note.as_bytes()),
+            None => Name::from_bytes(alloc, b""),
+        },
+    }
+}
+
+fn described(
+    alloc: Global,
+    joined: &NodeNotes,
+    starred: &NodeNotes,
+    node: &NodeName,
+) -> Result<ParNode, NoRoom>
+    ensures { IfOk result (λ row. row ≡ described joined.now starred.now node.now) }
+{
+    let note = note_of(alloc, joined, starred, node)?;
+    let name = copied_node(alloc, node)?;
+    let inner = !joined.contains(node);
+    Ok(ParNode { name, inner, note })
+}
+
+/// The nodes with their notes.
+fn describe(
+    alloc: Global,
+    nodes: &NodeSet,
+    joined: &NodeNotes,
+    starred: &NodeNotes,
+) -> Result<Vec<ParNode>, NoRoom>
+    ensures { IfOk result (λ rows. rows.items ≡ map (described joined.now starred.now) nodes.now) }
+{
+    let mut rows = Vec::with_capacity(alloc, nodes.len())?;
+    'node: for node in nodes.as_slice() {
+        rows.push(described(alloc, joined, starred, node)?)?;
+    }
+    Ok(rows)
+}
+
+/// The net of a draft.
+fn finish(alloc: Global, net: &Name, reduced: bool, draft: Draft) -> Result<ParNet, NoRoom>
+    ensures { IfOk result (λ par. IsMade net.now reduced draft par) }
+{
+    let nodes = describe(alloc, &draft.nodes, &draft.joined, &draft.starred)?;
+    let name = Name::from_bytes(alloc, net.as_bytes())?;
+    Ok(ParNet {
+        name,
+        nodes: Row::from_vec(nodes),
+        conns: Row::from_vec(draft.conns),
+        caps: Row::from_vec(draft.caps),
+        ress: Row::from_vec(draft.ress),
+        reduced,
+        inductive: draft.inductive,
+    })
+}
+
+/// The net that a section denotes, or its first fault with the number of its line.
+///
+/// `bytes` are the lines between the section's head and its `*END`, without comments; `first` is the number of the first
+/// of them, `net` the canonical name that the head gives, and `reduced` whether it is the head of a reduced net. Answers
+/// `Conn`, `Cap`, `Res`, `Number`, `Foreign` and `SelfCoupled` as `NetKind` says, and `Memory` where there is no room, with
+/// the line at which it was wanted.
+pub fn read_section(
+    alloc: Global,
+    header: &Header,
+    net: &Name,
+    reduced: bool,
+    bytes: &[u8],
+    first: usize,
+) -> Result<ParNet, NetFault>
+    requires length { length bytes.now ≤ 2 ^ 28 }
+    requires first { first ≤ 2 ^ 62 }
+    ensures faultless { IfOk result (λ _. IsFaultless net.now (sayings header.now (lines bytes.now))) }
+    ensures net { IfOk result (λ par. IsNet net.now reduced (sayings header.now (lines bytes.now)) par) }
+    ensures fault { IfErr result (λ fault. (fault.kind ≡ Memory) ⊎ IsFirstFault net.now (sayings header.now (lines bytes.now)) first fault) }
+{
+    match find_connections(alloc, header, bytes) {
+        Err(_) => Err(NetFault {
+            kind: NetKind::Memory,
+            line: first,
+        }),
+        Ok(nodes) => match read_lines(alloc, header, net, bytes, first, nodes) {
+            Err(fault) => Err(fault),
+            Ok(draft) => match finish(alloc, net, reduced, draft) {
+                Err(_) => Err(NetFault {
+                    kind: NetKind::Memory,
+                    line: first,
+                }),
+                Ok(par) => Ok(par),
+            },
+        },
+    }
+}

@@ -1,0 +1,58 @@
+use vg_num::Row;
+use vg_scan::{Name, NodeName};
+
+/// What a connection is at.
+#[derive(Clone, Copy, Debug, PartialEq, Eq)]
+pub enum ConnKind {
+    /// A pin of an instance: its node has a leaf.
+    Pin,
+    /// A port: its node has no leaf.
+    Port,
+}
+
+/// Which way a signal goes at a connection, as its pin or port sees it.
+#[derive(Clone, Copy, Debug, PartialEq, Eq)]
+pub enum Direction {
+    /// `I`
+    In,
+    /// `O`
+    Out,
+    /// `B`
+    Both,
+}
+
+/// A connection of a net, at the node of this number.
+#[derive(Clone, Copy, Debug, PartialEq, Eq)]
+pub struct ParConn {
+    pub kind: ConnKind,
+    pub node: u32,
+    pub direction: Direction,
+}
+
+/// A node of a net.
+#[derive(Drop)]
+pub struct ParNode {
+    pub name: NodeName,
+    /// Whether it is no connection.
+    pub inner: bool,
+    /// The text after the direction of its connection, or after the node of its first `*N` line, without blanks and
+    /// carriage returns at its ends; empty where there is none.
+    pub note: Name,
+}
+
+/// A net with its parasitics. Nodes are numbered from 0: connections in order, then inner nodes as they come in the text.
+#[derive(Drop)]
+pub struct ParNet {
+    pub name: Name,
+    pub nodes: Row<ParNode>,
+    pub conns: Row<ParConn>,
+    /// A node, and the capacitance there in units of ten to the minus places of the file's unit. A coupling capacitor
+    /// stands whole at the node that is this net's.
+    pub caps: Row<(u32, u64)>,
+    /// Two nodes, and the resistance between them in units of ten to the minus places of the file's unit.
+    pub ress: Row<(u32, u32, u64)>,
+    /// Whether its section is a reduced one.
+    pub reduced: bool,
+    /// Whether its section has a part of inductances, which is not read.
+    pub inductive: bool,
+}

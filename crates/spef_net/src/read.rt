@@ -1,0 +1,120 @@
+//! The lines of a section in order.
+
+ghost use Rattle.std.specs.Prelude.{◌≡◌, ◌^◌, ◌≤◌, length, IfOk, IfErr, ◌⊎◌};
+ghost use Rattle.std.specs.Str.Lines.{lines};
+ghost use Rattle.spef_net.specs.Names.{distinct};
+ghost use Rattle.spef_net.specs.Sayings.{said, said_words, sayings, part_after};
+ghost use Rattle.spef_net.specs.Rows.{connected_of};
+ghost use Rattle.spef_net.specs.Faults.{IsFaultless, IsFirstFault};
+ghost use Rattle.spef_net.specs.Drafts.{IsSketch, Follows};
+ghost use Rattle.spef_net.specs.Views.{words_at};
+ghost use Rattle.spef_net.specs.declared.fault.NetKind.TheVariants.{Memory};
+ghost use Rattle.std.specs.Prelude.{Ok};
+
+use crate::draft::Draft;
+use crate::fault::{NetFault, NetKind};
+use crate::header::Header;
+use crate::line::words_of;
+use crate::part::Part;
+use crate::say::say;
+use crate::saying::Saying;
+use crate::tables::NodeSet;
+use std::alloc::Global;
+use vg_scan::{Name, Span, next_line, text_at};
+
+/// The part that is open after what a line says.
+fn part_after(part: Part, saying: &Saying) -> Part
+    ensures { result ≡ part_after part (Ok saying.now) }
+{
+    match saying {
+        Saying::Opens(opened) => *opened,
+        Saying::Nothing => part,
+        Saying::Connects(_, _, _, _) => part,
+        Saying::Star(_, _) => part,
+        Saying::Ground(_, _) => part,
+        Saying::Coupling(_, _, _) => part,
+        Saying::Resistor(_, _, _) => part,
+    }
+}
+
+/// Takes a line's words, and says which part is open after it.
+fn take_words(
+    alloc: Global,
+    header: &Header,
+    net: &Name,
+    part: Part,
+    line: &[u8],
+    words: &[Span],
+    draft: &mut Draft,
+) -> Result<Part, NetKind>
+    ensures { Follows result net.now part draft.old (said_words header.now part line.now (words_at line.now words.now)) draft.new }
+{
+    match say(alloc, header, part, line, words) {
+        Err(kind) => Err(kind),
+        Ok(saying) => {
+            let next = part_after(part, &saying);
+            match draft.take(alloc, net, saying) {
+                Err(kind) => Err(kind),
+                Ok(()) => Ok(next),
+            }
+        }
+    }
+}
+
+/// The same of a line. The list is to hold its words.
+fn take_line(
+    alloc: Global,
+    header: &Header,
+    net: &Name,
+    part: Part,
+    line: &[u8],
+    found: &mut Vec<Span>,
+    draft: &mut Draft,
+) -> Result<Part, NetKind>
+    ensures { Follows result net.now part draft.old (said header.now part line.now) draft.new }
+{
+    match words_of(line, found) {
+        Err(_) => Err(NetKind::Memory),
+        Ok(()) => take_words(alloc, header, net, part, line, found.as_slice(), draft),
+    }
+}
+
+/// The net that a section's lines denote, from the nodes of its connections; or the first fault.
+pub(crate) fn read_lines(
+    alloc: Global,
+    header: &Header,
+    net: &Name,
+    bytes: &[u8],
+    first: usize,
+    nodes: NodeSet,
+) -> Result<Draft, NetFault>
+    requires length { length bytes.now ≤ 2 ^ 28 }
+    requires first { first ≤ 2 ^ 62 }
+    requires nodes { nodes ≡ distinct (connected_of (sayings header.now (lines bytes.now))) }
+    ensures faultless { IfOk result (λ _. IsFaultless net.now (sayings header.now (lines bytes.now))) }
+    ensures draft { IfOk result (λ draft. IsSketch (connected_of (sayings header.now (lines bytes.now))) net.now (sayings header.now (lines bytes.now)) draft) }
+    ensures fault { IfErr result (λ fault. (fault.kind ≡ Memory) ⊎ IsFirstFault net.now (sayings header.now (lines bytes.now)) first fault) }
+{
+    let mut draft = Draft::new(alloc, nodes);
+    let mut found = Vec::new(alloc);
+    let mut part = Part::Nowhere;
+    let mut count = 0usize;
+    let mut at = 0usize;
+    'line: while let Some((line, next)) = next_line(bytes, at) {
+        let text = text_at(bytes, line);
+        match take_line(alloc, header, net, part, text, &mut found, &mut draft) {
+            Err(kind) => {
+                return Err(NetFault {
+                    kind,
+                    line: first + count,
+                });
+            }
+            Ok(opened) => {
+                part = opened;
+            }
+        }
+        count += 1;
+        at = next;
+    }
+    Ok(draft)
+}
