@@ -6,3 +6,4 @@ pub mod DraftLemmas
 pub mod TakeLemmas
 pub mod LineLemmas
 pub mod FinishLemmas
+pub mod OneNet

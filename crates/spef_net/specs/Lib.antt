@@ -8,3 +8,4 @@ pub mod Denoted
 pub mod Views
 pub mod Drafts
 pub mod Surveys
+pub mod Laws

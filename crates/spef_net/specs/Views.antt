@@ -1,19 +1,7 @@
--- What the code's values stand for, and what may come where memory is wanted.
-use Rattle.std.specs.Prelude.{◌≡◌, ℕ, ◌≤◌, List, length, map, Option, Some, None, Result, Ok, Err}
-use Rattle.vg_scan.specs.Lines.{part}
-use Rattle.vg_scan.specs.declared.lines.Span.{Span}
+-- What may come where memory is wanted.
+use Rattle.std.specs.Prelude.{◌≡◌, Option, Some, None, Result, Ok, Err}
 use Rattle.spef_net.specs.declared.fault.NetKind.{NetKind}
 use Rattle.spef_net.specs.declared.fault.NetKind.TheVariants.{Conn, Cap, Res, Number, Foreign, SelfCoupled, Memory}
-
-abbrev pub part_at : List ℕ → Span → List ℕ
-part_at bytes span = part bytes span.from span.to
-
-abbrev pub IsIn : List ℕ → Span → Type 0
-IsIn bytes span = (span.from ≤ span.to) × (span.to ≤ length bytes)
-
--- the words that some spans are
-abbrev pub words_at : List ℕ → List Span → List (List ℕ)
-words_at bytes spans = map (part_at bytes) spans
 
 -- this fault, or want of memory
 abbrev pub IsFaultOrMemory : Option NetKind → NetKind → Type 0

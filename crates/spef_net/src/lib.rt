@@ -5,6 +5,7 @@ mod draft;
 mod fault;
 mod finish;
 mod header;
+mod laws;
 mod line;
 mod map;
 mod net;
@@ -20,6 +21,7 @@ mod value;
 pub use fault::{NetFault, NetKind};
 pub use finish::read_section;
 pub use header::Header;
+pub use laws::one_net;
 pub use map::NameMap;
 pub use net::{ConnKind, Direction, ParConn, ParNet, ParNode};
 

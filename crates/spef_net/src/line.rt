@@ -5,26 +5,21 @@ ghost use Rattle.std.specs.List.{position, position_or_len, suffix_len};
 ghost use Rattle.std.specs.Str.{bytes_eq};
 ghost use Rattle.vg_scan.specs.Lines.{is_blank, is_ink, words};
 ghost use Rattle.spef_net.specs.Lines.{part_named, head_of, is_space, is_solid, after_ink, after_word, without_end, trimmed, note_after};
-ghost use Rattle.spef_net.specs.Views.{part_at, words_at};
+ghost use Rattle.vg_scan.specs.Spans.{part_at, words_at};
 
 use crate::part::Part;
-use std::alloc::AllocError;
-use vg_scan::{Span, next_word, text_at};
+use vg_num::Memory;
+use vg_scan::{Span, text_at, words_of};
 
-/// Puts the words of a line in place of what the list held.
-pub(crate) fn words_of(line: &[u8], found: &mut Vec<Span>) -> Result<(), AllocError>
+/// Puts the words of a line in place of what the list held. Answers `Memory` where there is no room.
+pub(crate) fn line_words(line: &[u8], found: &mut Vec<Span>) -> Result<(), Memory>
     ensures { OnOk result (words_at line.now found.new.items ≡ words line.now) }
 {
-    found.clear();
-    let mut rest = Span {
+    let whole = Span {
         from: 0,
         to: line.len(),
     };
-    'word: while let Some((word, after)) = next_word(line, rest) {
-        found.push(word)?;
-        rest = after;
-    }
-    Ok(())
+    words_of(line, whole, found)
 }
 
 pub(crate) fn is_word(line: &[u8], span: Span, word: &[u8]) -> bool

@@ -7,14 +7,14 @@ ghost use Rattle.spef_net.specs.Sayings.{said, said_words, sayings, part_after};
 ghost use Rattle.spef_net.specs.Rows.{connected_of};
 ghost use Rattle.spef_net.specs.Faults.{IsFaultless, IsFirstFault};
 ghost use Rattle.spef_net.specs.Drafts.{IsSketch, Follows};
-ghost use Rattle.spef_net.specs.Views.{words_at};
+ghost use Rattle.vg_scan.specs.Spans.{words_at};
 ghost use Rattle.spef_net.specs.declared.fault.NetKind.TheVariants.{Memory};
 ghost use Rattle.std.specs.Prelude.{Ok};
 
 use crate::draft::Draft;
 use crate::fault::{NetFault, NetKind};
 use crate::header::Header;
-use crate::line::words_of;
+use crate::line::line_words;
 use crate::part::Part;
 use crate::say::say;
 use crate::saying::Saying;
@@ -73,7 +73,7 @@ fn take_line(
 ) -> Result<Part, NetKind>
     ensures { Follows result net.now part draft.old (said header.now part line.now) draft.new }
 {
-    match words_of(line, found) {
+    match line_words(line, found) {
         Err(_) => Err(NetKind::Memory),
         Ok(()) => take_words(alloc, header, net, part, line, found.as_slice(), draft),
     }

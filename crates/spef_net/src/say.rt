@@ -3,7 +3,8 @@
 ghost use Rattle.std.specs.Prelude.{◌≡◌, Some};
 ghost use Rattle.spef_net.specs.Names.{node_in};
 ghost use Rattle.spef_net.specs.Sayings.{direction_in, is_at, connected, connection, starred, star, conn_line, both, ground, coupling, resistor, value_in, cap_line, res_line, said_in, said_words};
-ghost use Rattle.spef_net.specs.Views.{part_at, words_at, Agrees};
+ghost use Rattle.vg_scan.specs.Spans.{part_at, words_at};
+ghost use Rattle.spef_net.specs.Views.{Agrees};
 
 use crate::fault::NetKind;
 use crate::header::Header;

@@ -5,12 +5,12 @@ ghost use Rattle.std.specs.Str.Lines.{lines};
 ghost use Rattle.spef_net.specs.Names.{distinct};
 ghost use Rattle.spef_net.specs.Sayings.{said, said_words, sayings};
 ghost use Rattle.spef_net.specs.Rows.{connected_of};
-ghost use Rattle.spef_net.specs.Views.{words_at};
+ghost use Rattle.vg_scan.specs.Spans.{words_at};
 ghost use Rattle.spef_net.specs.Surveys.{Surveys, is_memory, matters};
 
 use crate::fault::NetKind;
 use crate::header::Header;
-use crate::line::words_of;
+use crate::line::line_words;
 use crate::part::Part;
 use crate::say::say;
 use crate::saying::Saying;
@@ -86,7 +86,7 @@ fn survey_line(
 ) -> Result<Part, Memory>
     ensures { Surveys result nodes.old nodes.new part (said header.now part line.now) }
 {
-    words_of(line, found)?;
+    line_words(line, found)?;
     let next = survey_words(alloc, header, part, line, found.as_slice(), nodes)?;
     Ok(next)
 }

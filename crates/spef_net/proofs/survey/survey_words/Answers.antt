@@ -1,5 +1,5 @@
 use Rattle.std.proofs.Common.{sym, ◌∙◌}
-use Rattle.spef_net.specs.Views.{part_at}
+use Rattle.vg_scan.specs.Spans.{part_at}
 use Rattle.spef_net.proofs.LineLemmas.{passed_over}
 use Rattle.spef_net.proofs.survey.survey_words.Goals as goal
 
