@@ -1,9 +1,10 @@
 -- What a line states by itself: a row, or the fault of its words.
-use Rattle.std.specs.Prelude.{ℕ, ◌==◌, ◌^◌, Bool, false, List, [], ◌∷◌, ℤ, pos, Option, Some, None, Result, Ok, Err, if◌then◌else◌, codes, refl}
+use Rattle.std.specs.Prelude.{ℕ, ◌^◌, List, [], ◌∷◌, ℤ, pos, Option, Some, None, Result, Ok, Err, if◌then◌else◌, codes, refl}
 use Rattle.std.specs.Str.{bytes_eq}
 use Rattle.vg_num.specs.Number.{scaled, signed_scaled}
 use Rattle.vg_num.specs.declared.fault.NumFault.{NumFault}
 use Rattle.vg_scan.specs.Nodes.{port_of, inner_of, node_of}
+use Rattle.vg_scan.specs.References.{is_reference}
 use Rattle.vg_scan.specs.declared.chars.Chars.{Chars}
 use Rattle.vg_cons.specs.declared.fault.ConsKind.{ConsKind}
 use Rattle.vg_cons.specs.declared.fault.ConsKind.TheVariants.{Word, Number}
@@ -24,16 +25,11 @@ pub data Statement : Type 0 where
   load : List ℕ × ℕ → Statement
   block : NodeKey → Statement
 
--- a text that begins with an unescaped star refers to an index of names, and there is none
-abbrev pub is_reference : List ℕ → Bool
-is_reference [] = false
-is_reference (b ∷ bs) = b == 42
-
 abbrev pub or_word : {A : Type 0} → Option A → Result A ConsKind
 or_word (Some name) = Ok name
 or_word None = Err Word
 
--- the name that a word is: of a pin (a port or a node), of a port, of a node
+-- the name that a word is: of a pin (a port or a node), of a port, of a node. No index of names is known
 unfoldable pub pin_in : List ℕ → Result NodeKey ConsKind
 pin_in word = if is_reference word then Err Word else or_word (node_of CHARS word)
 

@@ -1,8 +1,6 @@
 -- What the code's values stand for, and what may come where memory is wanted: for the functions between.
-use Rattle.std.specs.Prelude.{◌≡◌, ℕ, ◌≤◌, ◌||◌, Bool, List, length, map, Option, Some, None, Result, Ok, Err, if◌then◌else◌}
+use Rattle.std.specs.Prelude.{◌≡◌, ◌||◌, Bool, Option, Some, None, Result, Ok, Err, if◌then◌else◌}
 use Rattle.vg_num.specs.declared.memory.Memory.{Memory as NoRoom}
-use Rattle.vg_scan.specs.Lines.{part}
-use Rattle.vg_scan.specs.declared.lines.Span.{Span}
 use Rattle.vg_cons.specs.declared.fault.ConsKind.{ConsKind}
 use Rattle.vg_cons.specs.declared.fault.ConsKind.TheVariants.{Version, Word, Number, Twice, Memory}
 use Rattle.vg_cons.specs.declared.row.Row.{Row}
@@ -13,16 +11,6 @@ use Rattle.vg_cons.specs.Statements.{Statement, default, required, arrival, want
 use Rattle.vg_cons.specs.Rows.{Rows}
 use Rattle.vg_cons.specs.Growth.{with_row, with_said}
 use Rattle.vg_cons.specs.Faults.{fault_of_said, fault_after}
-
-abbrev pub part_at : List ℕ → Span → List ℕ
-part_at bytes span = part bytes span.from span.to
-
-abbrev pub IsIn : List ℕ → Span → Type 0
-IsIn bytes span = (span.from ≤ span.to) × (span.to ≤ length bytes)
-
--- the words that some spans are
-abbrev pub words_at : List ℕ → List Span → List (List ℕ)
-words_at bytes spans = map (part_at bytes) spans
 
 abbrev pub seen : Row → Statement
 seen (Default t) = default t

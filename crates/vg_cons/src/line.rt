@@ -1,19 +1,19 @@
 //! One line: its comment, its words, and the row that it states.
 
-ghost use Rattle.std.specs.Prelude.{◌≡◌, ◌≤◌, length, OnOk};
-ghost use Rattle.std.specs.List.{before_first, position, All};
+ghost use Rattle.std.specs.Prelude.{◌≡◌};
+ghost use Rattle.std.specs.List.{before_first, position};
 ghost use Rattle.std.specs.Str.{bytes_eq};
-ghost use Rattle.vg_scan.specs.Lines.{words};
+ghost use Rattle.vg_scan.specs.Spans.{IsIn, part_at, words_at};
 ghost use Rattle.vg_cons.specs.Names.{key_of};
 ghost use Rattle.vg_cons.specs.Lines.{is_hash, is_heading};
 ghost use Rattle.vg_cons.specs.Statements.{said, default_line, timed, want_line, drive_line, load_line, block_line, of_one, required, arrival};
-ghost use Rattle.vg_cons.specs.Views.{Agrees, IsIn, part_at, words_at, seen};
+ghost use Rattle.vg_cons.specs.Views.{Agrees, seen};
 
 use crate::fault::ConsKind;
 use crate::names::{inner_of, pin_of, port_of, read_thousandths, read_time};
 use crate::row::Row;
-use std::alloc::{AllocError, Global};
-use vg_scan::{NodeName, Span, next_word, text_at};
+use std::alloc::Global;
+use vg_scan::{NodeName, Span, text_at};
 
 fn hash_at(line: &[u8]) -> Option<usize>
     ensures { result ≡ position is_hash line.now }
@@ -34,20 +34,6 @@ pub(crate) fn without_comment(bytes: &[u8], line: Span) -> Span
             to: line.from + at,
         },
     }
-}
-
-/// Puts the words of a line in place of what the list held.
-pub(crate) fn words_of(bytes: &[u8], line: Span, found: &mut Vec<Span>) -> Result<(), AllocError>
-    requires { IsIn bytes.now line }
-    ensures { OnOk result (words_at bytes.now found.new.items ≡ words (part_at bytes.now line)) }
-{
-    found.clear();
-    let mut rest = line;
-    'word: while let Some((word, after)) = next_word(bytes, rest) {
-        found.push(word)?;
-        rest = after;
-    }
-    Ok(())
 }
 
 fn is_word(bytes: &[u8], span: Span, word: &[u8]) -> bool

@@ -2,13 +2,13 @@
 
 ghost use Rattle.std.specs.Prelude.{◌≡◌, ℕ, List};
 ghost use Rattle.vg_cons.specs.Names.{key_of};
-ghost use Rattle.vg_cons.specs.Statements.{CHARS, is_reference, pin_in, port_in, inner_in, time_in, thousandths_in};
+ghost use Rattle.vg_cons.specs.Statements.{CHARS, pin_in, port_in, inner_in, time_in, thousandths_in};
 ghost use Rattle.vg_cons.specs.Views.{Agrees};
 
 use crate::fault::ConsKind;
 use std::alloc::Global;
 use vg_num::{read_scaled, read_signed};
-use vg_scan::{Chars, Name, NameFault, NodeName, inner_name, node_name, port_name};
+use vg_scan::{Chars, Name, NameFault, NodeName, inner_name, is_reference, node_name, port_name};
 
 /// The bytes that have a meaning in the names of a constraints text.
 fn name_chars() -> Chars
@@ -20,13 +20,6 @@ fn name_chars() -> Chars
         bus_left: b'[',
         bus_right: b']',
     }
-}
-
-/// Whether a word refers to an index of names.
-fn is_reference(word: &[u8]) -> bool
-    ensures { result ≡ is_reference word.now }
-{
-    !word.is_empty() && word[0] == b'*'
 }
 
 /// The name of a pin.

@@ -3,18 +3,19 @@
 ghost use Rattle.std.specs.Prelude.{◌≡◌, ◌^◌, ◌≤◌, length, IfOk, IfErr, OnOk, ◌⊎◌};
 ghost use Rattle.std.specs.List.{before_first};
 ghost use Rattle.vg_scan.specs.Lines.{words};
+ghost use Rattle.vg_scan.specs.Spans.{IsIn, part_at, words_at};
 ghost use Rattle.vg_cons.specs.declared.fault.ConsKind.TheVariants.{Memory};
 ghost use Rattle.vg_cons.specs.Lines.{is_hash, lines_of};
 ghost use Rattle.vg_cons.specs.Rows.{rows_of};
 ghost use Rattle.vg_cons.specs.Growth.{no_rows};
 ghost use Rattle.vg_cons.specs.Faults.{IsFaultless, IsFaultIn};
-ghost use Rattle.vg_cons.specs.Views.{Takes, IsIn, part_at, words_at};
+ghost use Rattle.vg_cons.specs.Views.{Takes};
 
 use crate::constraints::Constraints;
 use crate::fault::{ConsFault, ConsKind};
-use crate::line::{is_heading, say, without_comment, words_of};
+use crate::line::{is_heading, say, without_comment};
 use std::alloc::Global;
-use vg_scan::{Span, next_line};
+use vg_scan::{Span, next_line, words_of};
 
 /// Takes a line's words, after lines of which one has words or none has, and says whether one has by now.
 fn take_words(

@@ -1,9 +1,10 @@
 use Rattle.std.proofs.Common.{◌≡◌, ◌+◌, List, take, drop, length, max, sym, ◌∙◌, ap, refl, arith, inl, inr, take_all, subst}
 use Rattle.std.specs.List.{list_any}
 use Rattle.std.specs.Str.Lines.{lines}
+use Rattle.vg_scan.specs.Spans.{part_at}
 use Rattle.vg_cons.specs.Lines.{Line, lines_of, has_words}
 use Rattle.vg_cons.specs.Rows.{rows_of}
-use Rattle.vg_cons.specs.Views.{part_at, IsFaultOrMemory}
+use Rattle.vg_cons.specs.Views.{IsFaultOrMemory}
 use Rattle.vg_cons.proofs.LineLemmas.{line_words, next_is, last_is, first_fault, clear_more, started_more, rows_more, fault_of-after, no_rows_yet}
 use Rattle.vg_cons.proofs.read.read_lines.Goals as goal
 

@@ -1,5 +1,5 @@
 use Rattle.std.proofs.Common.{sym, ◌∙◌}
-use Rattle.vg_cons.specs.Views.{part_at, words_at}
+use Rattle.vg_scan.specs.Spans.{part_at, words_at}
 use Rattle.vg_cons.proofs.WordLemmas.{no_words, takes_empty, takes_heading}
 use Rattle.vg_cons.proofs.read.take_words.Goals as goal
 
