@@ -1,8 +1,9 @@
 #!/usr/bin/env python3
-"""Times vginsert on inputs that it makes in a temporary folder, and prints a table: `run.py PROGRAM MODE`.
+"""Times vginsert on inputs that it makes in a temporary folder, and prints a table: `run.py PROGRAM MODE [MB...]`.
 
-MODE is `wire` (plain nets of 65,536 nodes) or `time` (the same nets between ports, with 131,072 and with 1,000,000 rows
-of constraints). Seconds are those of the whole process, peak memory is what GNU time tells, 1 MB is 2^20 bytes.
+MODE is `wire` (plain nets of 65,536 nodes), `time` (the same nets between ports, with 131,072 and with 1,000,000 rows of
+constraints) or `design` (mode `wire` on a small and the large net of extracted designs of 1, 16, 64 and 256 MB, or of
+the sizes given). Seconds are those of the whole process, peak memory is what GNU time tells, 1 MB is 2^20 bytes.
 """
 import os
 import subprocess
@@ -14,10 +15,15 @@ HERE = os.path.dirname(os.path.abspath(__file__))
 SHAPES = {"chain": "a chain", "star": "a star", "tree": "a binary tree"}
 
 
+def run_script(script, words, out):
+    """Runs a script of this folder, which prints to a file or a pipe."""
+    return subprocess.run([sys.executable, os.path.join(HERE, script), *words], stdout=out, check=True).stdout
+
+
 def make(script, words, path):
     """Writes what a script of this folder prints."""
     with open(path, "wb") as out:
-        subprocess.run([sys.executable, os.path.join(HERE, script), *words], stdout=out, check=True)
+        run_script(script, words, out)
 
 
 def measure(words):
@@ -70,16 +76,25 @@ def run_time(program):
             row(name, f"{rows:,}", mb(os.path.getsize("net.cons")), f"{seconds:.2f}", mb(peak))
 
 
-MODES = {"wire": run_wire, "time": run_time}
+def run_design(program, *sizes):
+    head("file", "net", "status", "seconds", "peak memory")
+    for size in sizes or ["1", "16", "64", "256"]:
+        for line in run_script("design.py", [size, "net.spef"], subprocess.PIPE).decode().splitlines():
+            net, name = line.split(" ")
+            status, _, seconds, peak = measure([program, "--mode", "wire", "--spef", "net.spef", "--net", name])
+            row(mb(os.path.getsize("net.spef")), net, str(status), f"{seconds:.2f}", mb(peak))
+
+
+MODES = {"wire": run_wire, "time": run_time, "design": run_design}
 
 
 def main():
-    if len(sys.argv) != 3 or sys.argv[2] not in MODES:
-        sys.exit(f"run.py PROGRAM {'|'.join(MODES)}")
-    program = os.path.abspath(sys.argv[1])
+    if len(sys.argv) < 3 or sys.argv[2] not in MODES or (len(sys.argv) > 3 and sys.argv[2] != "design"):
+        sys.exit("run.py PROGRAM wire|time|design [MB...]")
+    program, mode, sizes = os.path.abspath(sys.argv[1]), sys.argv[2], sys.argv[3:]
     with tempfile.TemporaryDirectory() as work:
         os.chdir(work)
-        MODES[sys.argv[2]](program)
+        MODES[mode](program, *sizes)
 
 
 main()
