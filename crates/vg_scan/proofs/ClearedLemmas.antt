@@ -45,7 +45,7 @@ and_none true true h = absurd (h refl refl)
 and_none true false h = refl
 and_none false b h = refl
 
-eq_of : (a b : ℕ) → eqb a b ≡ true → a ≡ b
+pub eq_of : (a b : ℕ) → eqb a b ≡ true → a ≡ b
 eq_of a b e = grind (arith, nat_tests)
 
 pub plain : (b c : ℕ) (bs : List ℕ) → (b ≡ 92 → ⊥) → (b ≡ 34 → ⊥) → (b ≡ 47 → c ≡ 47 → ⊥) → (b ≡ 47 → c ≡ 42 → ⊥) → cleared_in Outside (b ∷ c ∷ bs) ≡ b ∷ cleared_in Outside (c ∷ bs)
@@ -108,7 +108,7 @@ second_of false b e = grind (arith, nat_tests)
 blanked_fits : (b : ℕ) → (blanked b ≡ b) ⊎ ((b ≡ 10 → ⊥) × (blanked b ≡ 32))
 blanked_fits b = grind (arith, nat_tests)
 
-ne_of_false : (a b : ℕ) → eqb a b ≡ false → a ≡ b → ⊥
+pub ne_of_false : (a b : ℕ) → eqb a b ≡ false → a ≡ b → ⊥
 ne_of_false a b e f = grind (arith, nat_tests)
 
 stay : (b : ℕ) (text clear : List ℕ) → Clears text clear → Clears (b ∷ text) (b ∷ clear)

@@ -94,3 +94,11 @@ blank_in bytes a b from k all l low high =
 
 pub part_take : (bytes : List ℕ) (a b to : ℕ) → to ≤ b - a → take to (part bytes a b) ≡ part bytes a (a + to)
 part_take bytes a b to l = take-take to (b - a) (drop a bytes) l ∙ ap (λ n. take n (drop a bytes)) (let e : to ≡ a + to - a = omega arith in e)
+
+-- what stands before a place of the rest of a text
+pub before_rest : (text : List ℕ) (at n : ℕ) → 0 < n → at + n < length text → (n < length (part text at (length text)) → get_or (part text at (length text)) (n - 1) 0 ≡ 10) → get_or text (at + n - 1) 0 ≡ 10
+before_rest text at n some l h =
+    let len : length (part text at (length text)) ≡ length text - at = simp (length-take, length-drop) (omega arith) in
+    ap (λ m. get_or text m 0) (let f : at + n - 1 ≡ at + (n - 1) = omega arith in f)
+    ∙ sym (get_part text at (length text) (n - 1) (omega arith))
+    ∙ h (omega (arith, len))

@@ -6,4 +6,6 @@ pub mod WordLemmas
 pub mod NodeLemmas
 pub mod PrintedLemmas
 pub mod CutLemmas
+pub mod PartLemmas
+pub mod PlainLemmas
 pub mod BlankLemmas

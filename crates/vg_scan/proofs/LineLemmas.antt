@@ -7,6 +7,7 @@ use Rattle.std.specs.List.{slice_split, position, position_or_len, before_first,
 use Rattle.std.specs.Str.Lines.{lines, lines_of_parts, strip_carriage_return}
 use Rattle.std.proofs.lemmas.List.Splits.{slice_split_first}
 use Rattle.std.proofs.lemmas.List.Sums.{prefix_len-le-length}
+use Rattle.std.proofs.lemmas.List.Quantifiers.{position-Some}
 use Rattle.vg_scan.specs.Lines.{is_newline}
 
 -- where a first place is, in terms of the place or the length
@@ -72,3 +73,10 @@ strip_yes text end l h e = grind (arith, nat_tests, common_steps, length-take-le
 
 pub strip_no : (text : List ℕ) (end : ℕ) → end ≤ length text → (0 < end → get_or text (end - 1) 0 ≡ 13 → ⊥) → strip_carriage_return (take end text) ≡ take end text
 strip_no text end h n = grind (arith, nat_tests, common_steps, length-take-le)
+
+newline_is : (b : ℕ) → is_newline b ≡ true → b ≡ 10
+newline_is b e = grind (arith, nat_tests)
+
+-- a line's end is a newline
+pub newline_found : (text : List ℕ) (end : ℕ) → position is_newline text ≡ Some end → get_or text (end + 1 - 1) 0 ≡ 10
+newline_found text end e = ap (λ m. get_or text m 0) (let f : end + 1 - 1 ≡ end = omega arith in f) ∙ newline_is (get_or text end 0) (position-Some is_newline text end 0 e).1

@@ -1,5 +1,5 @@
 -- Comments, made blank.
-use Rattle.std.specs.Prelude.{◌≡◌, ◌≢◌, ℕ, ◌==◌, ◌<◌, ◌≤◌, ◌⊎◌, ◌&&◌, ◌||◌, List, [], ◌∷◌, ◌++◌, length, drop, if◌then◌else◌}
+use Rattle.std.specs.Prelude.{◌≡◌, ◌≢◌, ℕ, ◌==◌, ◌<◌, ◌≤◌, ◌⊎◌, ◌&&◌, ◌||◌, Bool, List, [], ◌∷◌, ◌++◌, length, drop, if◌then◌else◌}
 use Rattle.vg_scan.specs.declared.comments.Comments.{Comments}
 use Rattle.vg_scan.specs.declared.comments.Comments.TheVariants.{Spef}
 use Rattle.vg_scan.specs.declared.scan.Scan.{Scan}
@@ -27,6 +27,10 @@ cleared_in InBlock (b ∷ c ∷ bs) = if (b == 42) && (c == 47) then 32 ∷ 32 �
 -- a text whose comments are blank
 abbrev pub without_comments : Comments → List ℕ → List ℕ
 without_comments Spef text = cleared_in Outside text
+
+-- a byte that may begin a comment, a string or an escape
+abbrev pub is_mark : ℕ → Bool
+is_mark b = (b == 92) || (b == 34) || (b == 47)
 
 -- a byte stays, or it is no newline and becomes a space
 abbrev pub StaysOrBlanks : ℕ → ℕ → Type 0

@@ -6,5 +6,6 @@ pub mod Distinct
 pub mod Names
 pub mod Readings
 pub mod Printed
+pub mod Parts
 pub mod References
 pub mod Nodes

@@ -1,5 +1,5 @@
 -- The lines of a text, and the words of a line.
-use Rattle.std.specs.Prelude.{ℕ, ◌+◌, ◌-◌, ◌==◌, ◌||◌, not, nat_lt, map, Bool, List, length, take, drop, filter}
+use Rattle.std.specs.Prelude.{◌≡◌, ℕ, ◌+◌, ◌-◌, ◌==◌, ◌||◌, ◌<◌, not, nat_lt, map, Bool, List, length, take, drop, filter, slice_index}
 use Rattle.std.specs.List.{slice_split, count_by}
 use Rattle.std.specs.Str.Lines.{lines}
 
@@ -31,3 +31,7 @@ lines_of text = map words (lines text)
 -- one plus the newlines before a place
 abbrev pub line_number : List ℕ → ℕ → ℕ
 line_number bytes at = count_by is_newline (take at bytes) + 1
+
+-- a line begins at a place inside a text: at its beginning, or after a newline
+abbrev pub BeginsLine : List ℕ → ℕ → Type 0
+BeginsLine text at = 0 < at → at < length text → slice_index text (at - 1) ≡ 10

@@ -1,8 +1,9 @@
 //! Comments, made blank.
 
-ghost use Rattle.std.specs.Prelude.{◌≡◌, ◌<◌, ◌+◌, ◌++◌, ◌∷◌, [], IfOk, OnOk, length};
+ghost use Rattle.std.specs.Prelude.{◌≡◌, ℕ, ◌<◌, ◌≤◌, ◌+◌, ◌++◌, ◌∷◌, [], false, slice_index, IfOk, OnOk, length};
+ghost use Rattle.std.specs.List.{position};
 ghost use Rattle.vg_scan.specs.declared.scan.Scan.TheVariants.{Outside, Quoted, InLine, InBlock};
-ghost use Rattle.vg_scan.specs.Comments.{blanked, Goes, without_comments};
+ghost use Rattle.vg_scan.specs.Comments.{blanked, is_mark, Goes, without_comments};
 ghost use Rattle.vg_scan.specs.declared.comments.Comments.TheVariants.{Spef};
 
 use crate::scan::Scan;
@@ -17,7 +18,42 @@ fn push_two(out: &mut Vec<u8>, first: u8, second: u8) -> Result<(), Memory>
     Ok(())
 }
 
-fn step_outside(bytes: &[u8], at: usize, out: &mut Vec<u8>) -> Result<(Scan, usize), Memory>
+/// Where the first byte stands, from a place on, that may begin a comment, a string or an escape; else the text's end.
+fn mark_at(bytes: &[u8], at: usize) -> usize
+    requires { at ≤ length bytes.now }
+    ensures plain { (k : ℕ) → at ≤ k → k < result → is_mark (slice_index bytes.now k) ≡ false }
+    ensures place { (at ≤ result) × (result ≤ length bytes.now) }
+{
+    match first_mark(&bytes[at..]) {
+        None => bytes.len(),
+        Some(offset) => at + offset,
+    }
+}
+
+fn first_mark(text: &[u8]) -> Option<usize>
+    ensures { result ≡ position is_mark text.now }
+{
+    text.iter()
+        .position(|byte| *byte == b'\\' || *byte == b'"' || *byte == b'/')
+}
+
+/// Takes the bytes up to a place: none of them begins anything.
+fn step_plain(
+    bytes: &[u8],
+    at: usize,
+    to: usize,
+    out: &mut Vec<u8>,
+) -> Result<(Scan, usize), Memory>
+    requires plain { (k : ℕ) → at ≤ k → k < to → is_mark (slice_index bytes.now k) ≡ false }
+    requires place { (at < to) × (to ≤ length bytes.now) }
+    ensures { IfOk result (λ r. Goes bytes.now Outside at out.old.items r.0 r.1 out.new.items) }
+{
+    out.extend_from_slice(&bytes[at..to])?;
+    Ok((Scan::Outside, to))
+}
+
+/// Takes a byte that may begin something, and what it begins.
+fn step_mark(bytes: &[u8], at: usize, out: &mut Vec<u8>) -> Result<(Scan, usize), Memory>
     requires { at + 1 < length bytes.now }
     ensures { IfOk result (λ r. Goes bytes.now Outside at out.old.items r.0 r.1 out.new.items) }
 {
@@ -109,6 +145,19 @@ fn step_last(
     };
     out.push(byte)?;
     Ok((scan, at + 1))
+}
+
+/// Takes the bytes up to the next that may begin something; or that byte, and what it begins.
+fn step_outside(bytes: &[u8], at: usize, out: &mut Vec<u8>) -> Result<(Scan, usize), Memory>
+    requires { at + 1 < length bytes.now }
+    ensures { IfOk result (λ r. Goes bytes.now Outside at out.old.items r.0 r.1 out.new.items) }
+{
+    let to = mark_at(bytes, at);
+    if to > at {
+        step_plain(bytes, at, to, out)
+    } else {
+        step_mark(bytes, at, out)
+    }
 }
 
 fn step(bytes: &[u8], at: usize, scan: Scan, out: &mut Vec<u8>) -> Result<(Scan, usize), Memory>

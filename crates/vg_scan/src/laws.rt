@@ -6,6 +6,7 @@ ghost use Rattle.vg_scan.specs.declared.chars.Chars.{Chars};
 ghost use Rattle.vg_scan.specs.Comments.{without_comments, StaysOrBlanks};
 ghost use Rattle.vg_scan.specs.declared.comments.Comments.{Comments};
 ghost use Rattle.vg_scan.specs.Names.{canonical};
+ghost use Rattle.vg_scan.specs.Parts.{PartsKeepComments};
 ghost use Rattle.vg_scan.specs.Printed.{printed, is_solid, IsPrintable};
 ghost use Rattle.vg_scan.specs.References.{is_reference};
 
@@ -20,4 +21,10 @@ pub fn reads_names_again()
 /// Where comments are made blank every other byte stays, and so does every newline: lines keep their numbers.
 pub fn comments_keep_lines()
     ensures { (kind : Comments) (text : List ℕ) → AllZip StaysOrBlanks text (without_comments kind text) }
+{}
+
+/// A part of a text, from the first word of a line to the end of a word, has the comments that it has in the text: it may
+/// be read alone.
+pub fn parts_keep_comments()
+    ensures { PartsKeepComments }
 {}

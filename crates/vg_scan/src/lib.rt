@@ -20,13 +20,13 @@ mod words;
 pub use chars::Chars;
 pub use comments::{Comments, skip_comments};
 pub use fault::NameFault;
-pub use laws::{comments_keep_lines, reads_names_again};
+pub use laws::{comments_keep_lines, parts_keep_comments, reads_names_again};
 pub use lines::{Span, line_of, next_line, next_word, text_at};
 pub use name::{Name, NetNames, NodeName};
 pub use names::Names;
 pub use nodes::{inner_name, node_name, port_name};
 pub use print::print_spef_name;
-pub use reference::{index_of, is_reference};
+pub use reference::{are_digits, index_of, is_reference};
 pub use spef::{spef_name, split_node};
 pub use words::words_of;
 

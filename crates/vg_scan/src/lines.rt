@@ -3,7 +3,7 @@
 ghost use Rattle.std.specs.Prelude.{◌≡◌, ℕ, true, slice_index, ◌-◌, ◌+◌, ◌<◌, ◌≤◌, ◌∷◌, [], length, take, drop, MatchOption, ⊤, ◌↔◌, IsNone};
 ghost use Rattle.std.specs.List.{position, AllPass};
 ghost use Rattle.std.specs.Str.Lines.{lines};
-ghost use Rattle.vg_scan.specs.Lines.{is_blank, is_ink, is_newline, line_number, lines_of, words, part};
+ghost use Rattle.vg_scan.specs.Lines.{is_blank, is_ink, is_newline, line_number, lines_of, words, part, BeginsLine};
 
 /// A part of a text: the bytes from one place to another, the last one not taken in.
 #[derive(Clone, Copy, Debug, PartialEq, Eq, Drop)]
@@ -41,6 +41,7 @@ fn line_lengths(text: &[u8]) -> (usize, usize)
     // The same of the text's parts from its start on.
     ensures cut { (m : ℕ) → result.1 ≤ m → lines (take m text.now) ≡ take result.0 text.now ∷ lines (take (m - result.1) (drop result.1 text.now)) }
     ensures last { (m : ℕ) → 0 < m → m ≤ result.0 → lines (take m text.now) ≡ take m text.now ∷ [] }
+    ensures newline { result.1 < length text.now → slice_index text.now (result.1 - 1) ≡ 10 }
     ensures place { (result.0 ≤ result.1) × (0 < result.1) × (result.1 ≤ length text.now) }
 {
     match newline_at(text) {
@@ -66,6 +67,7 @@ pub fn next_line(bytes: &[u8], at: usize) -> Option<(Span, usize)>
     // The same where the text ends earlier: in a later line, or in this one.
     ensures cut { MatchOption result ⊤ (λ found. (m : ℕ) → found.1 ≤ m → lines_of (part bytes.now at m) ≡ words (part bytes.now found.0.from found.0.to) ∷ lines_of (part bytes.now found.1 m)) }
     ensures last { MatchOption result ⊤ (λ found. (m : ℕ) → at < m → m ≤ found.0.to → lines_of (part bytes.now at m) ≡ words (part bytes.now at m) ∷ []) }
+    ensures begins { MatchOption result ⊤ (λ found. BeginsLine bytes.now found.1) }
     ensures place { MatchOption result (at ≡ length bytes.now) (λ found. (found.0.from ≡ at) × (at ≤ found.0.to) × (found.0.to ≤ found.1) × (at < found.1) × (found.1 ≤ length bytes.now)) }
 {
     if at == bytes.len() {

@@ -39,11 +39,30 @@ impl Name {
         Name { bytes }
     }
 
+    /// The same name, in memory of its own. Answers `Memory` where there is no room.
+    pub fn copy(&self, alloc: Global) -> Result<Name, Memory>
+        ensures { IfOk result (λ copy. copy ≡ self.now) }
+    {
+        let copy = Name::from_bytes(alloc, self.as_bytes())?;
+        Ok(copy)
+    }
+
     /// The bytes of the name.
     pub fn as_bytes(&self) -> &[u8]
         ensures { result.now ≡ self.now }
     {
         self.bytes.as_slice()
+    }
+}
+
+impl NodeName {
+    /// The same name, in memory of its own. Answers `Memory` where there is no room.
+    pub fn copy(&self, alloc: Global) -> Result<NodeName, Memory>
+        ensures { IfOk result (λ copy. copy ≡ self.now) }
+    {
+        let owner = self.owner.copy(alloc)?;
+        let leaf = self.leaf.copy(alloc)?;
+        Ok(NodeName { owner, leaf })
     }
 }
 

@@ -11,7 +11,8 @@ fn all_digits(text: &[u8]) -> bool
     text.iter().all(|byte| b'0' <= *byte && *byte <= b'9')
 }
 
-fn are_digits(text: &[u8]) -> bool
+/// Whether a text is one digit or more, and nothing else.
+pub fn are_digits(text: &[u8]) -> bool
     ensures { result ≡ are_digits text.now }
 {
     !text.is_empty() && all_digits(text)

@@ -2,7 +2,7 @@ use Rattle.std.proofs.Common.{◌+◌, ◌-◌, ◌≤◌, [], ◌∷◌, length
 use Rattle.std.proofs.lemmas.List.{drop_all}
 use Rattle.std.specs.Str.Lines.{lines}
 use Rattle.vg_scan.specs.Lines.{is_newline}
-use Rattle.vg_scan.proofs.LineLemmas.{last_line, ended_line, strip_yes, strip_no, first_at, first_none}
+use Rattle.vg_scan.proofs.LineLemmas.{last_line, ended_line, strip_yes, strip_no, first_at, first_none, newline_found}
 use Rattle.vg_scan.proofs.CutLemmas.{cut_ended, cut_last, within_line}
 use Rattle.vg_scan.proofs.lines.line_lengths.Goals as goal
 use Rattle.vg_scan.proofs.lines.line_lengths.Goals.{else-end-gt0-via-then-end-gt0+else-text-end-eq13, else-end-gt0-via-else-end-gt0}
@@ -74,3 +74,9 @@ returns-else-end-gt0-clause-last c = λ m some l.
     let text = c.args.text.now in
     let e = sym c.newline_at.ensures ∙ c.in-Some.is in
     within_line text m some c.requires (omega (arith, first_at is_newline text c.in-Some.end e))
+
+pub returns-then-text-end-eq13-clause-newline : goal.returns-then-text-end-eq13-clause-newline
+returns-then-text-end-eq13-clause-newline c = λ _. newline_found c.args.text.now c.in-Some.end (sym c.newline_at.ensures ∙ c.in-Some.is)
+
+pub returns-else-end-gt0-clause-newline : goal.returns-else-end-gt0-clause-newline
+returns-else-end-gt0-clause-newline c = λ _. newline_found c.args.text.now c.in-Some.end (sym c.newline_at.ensures ∙ c.in-Some.is)

@@ -2,8 +2,8 @@ use Rattle.std.proofs.Common.{◌≡◌, ◌+◌, [], ◌∷◌, ◌++◌, drop,
 use Rattle.vg_scan.specs.declared.scan.Scan.TheVariants.{Outside, Quoted, InLine, InBlock}
 use Rattle.vg_scan.specs.Comments.{cleared_in}
 use Rattle.vg_scan.proofs.ClearedLemmas.{one, two, joined, escape, quote, line_mark, block_mark, plain}
-use Rattle.vg_scan.proofs.comments.step_outside.Goals as goal
-use Rattle.vg_scan.proofs.comments.step_outside.Goals.{else-b-eq47-via-then-b-eq47+else-c-eq47, else-b-eq47-via-else-b-eq47, else-b-eq47-2-via-then-b-eq47-2+else-c-eq42, else-b-eq47-2-via-else-b-eq47-2}
+use Rattle.vg_scan.proofs.comments.step_mark.Goals as goal
+use Rattle.vg_scan.proofs.comments.step_mark.Goals.{else-b-eq47-via-then-b-eq47+else-c-eq47, else-b-eq47-via-else-b-eq47, else-b-eq47-2-via-then-b-eq47-2+else-c-eq42, else-b-eq47-2-via-else-b-eq47-2}
 
 pub returns-then-b-eq92 : goal.returns-then-b-eq92
 returns-then-b-eq92 c =

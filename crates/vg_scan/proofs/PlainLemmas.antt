@@ -1,0 +1,48 @@
+-- Bytes that begin no comment, string or escape.
+use Rattle.std.proofs.Common.{◌≡◌, ℕ, zero, suc, ◌+◌, ◌-◌, ◌<◌, ◌≤◌, true, false, not, List, [], ◌∷◌, ◌++◌, length, take, drop, get_or, arith, refl, sym, ap, ◌∙◌, length-take, length-drop, drop-drop}
+use Rattle.std.proofs.lemmas.Grind.{common_steps}
+use Rattle.std.proofs.lemmas.Bool.Decides.{nat_tests}
+use Rattle.std.proofs.lemmas.List.Sums.{fails_before_first, prefix_len-le-length}
+use Rattle.std.specs.List.{position_or_len}
+use Rattle.vg_scan.specs.Lines.{part}
+use Rattle.vg_scan.specs.Comments.{cleared_in, is_mark}
+use Rattle.vg_scan.specs.declared.scan.Scan.TheVariants.{Outside}
+use Rattle.vg_scan.proofs.ClearedLemmas.{plain, joined}
+use Rattle.vg_scan.proofs.CutLemmas.{get_part}
+
+-- no mark stands before the first
+pub plain_before : (bytes : List ℕ) (at m : ℕ) → m ≤ position_or_len is_mark (part bytes at (length bytes)) → (k : ℕ) → at ≤ k → k < at + m → is_mark (get_or bytes k 0) ≡ false
+plain_before bytes at m l k low high =
+    let rest = part bytes at (length bytes) in
+    let len : length rest ≡ length bytes - at = simp (length-take, length-drop) (omega arith) in
+    let most = prefix_len-le-length (λ b. not (is_mark b)) rest in
+    ap (λ j. is_mark (get_or bytes j 0)) (let x : k ≡ at + (k - at) = omega arith in x)
+    ∙ ap is_mark (sym (get_part bytes at (length bytes) (k - at) (omega (arith, len, most))))
+    ∙ fails_before_first is_mark rest (k - at) 0 (omega arith)
+
+no_mark : (b m : ℕ) → is_mark b ≡ false → is_mark m ≡ true → b ≡ m → ⊥
+no_mark b m e f g = grind (arith, nat_tests)
+
+-- they stay as they are
+pub stays : (n : ℕ) (text : List ℕ) → n ≤ length text → ((k : ℕ) → k < n → is_mark (get_or text k 0) ≡ false) → cleared_in Outside text ≡ take n text ++ cleared_in Outside (drop n text)
+unfolding cleared_in
+stays zero text l h = refl
+stays (suc n) [] l h = absurd (omega arith)
+stays (suc zero) (b ∷ []) l h = refl
+stays (suc (suc n)) (b ∷ []) l h = absurd (omega arith)
+stays (suc n) (b ∷ c ∷ bs) l h =
+    let first : is_mark b ≡ false = h 0 (omega arith) in
+    plain b c bs (no_mark b 92 first refl) (no_mark b 34 first refl) (λ e _. no_mark b 47 first refl e) (λ e _. no_mark b 47 first refl e)
+    ∙ ap (λ xs. b ∷ xs) (stays n (c ∷ bs) (omega arith) (λ k low. h (suc k) (omega arith)))
+
+-- so a part without marks is copied
+pub copied : (bytes old new : List ℕ) (at to : ℕ) → ((k : ℕ) → at ≤ k → k < to → is_mark (get_or bytes k 0) ≡ false) → at < to → to ≤ length bytes → new ≡ old ++ part bytes at to
+    → new ++ cleared_in Outside (drop to bytes) ≡ old ++ cleared_in Outside (drop at bytes)
+copied bytes old new at to h low high e =
+    let n = to - at in
+    let rest : drop n (drop at bytes) ≡ drop to bytes = drop-drop n at bytes ∙ ap (λ k. drop k bytes) (let x : at + n ≡ to = omega arith in x) in
+    joined old new (part bytes at to) (cleared_in Outside (drop to bytes)) (cleared_in Outside (drop at bytes)) e
+    (stays n (drop at bytes) (omega (arith, length-drop at bytes)) (λ k l. ap is_mark (get_dropped bytes at k) ∙ h (at + k) (omega arith) (omega arith)) ∙ ap (λ xs. part bytes at to ++ cleared_in Outside xs) rest)
+  where
+    get_dropped : (bytes : List ℕ) (at k : ℕ) → get_or (drop at bytes) k 0 ≡ get_or bytes (at + k) 0
+    get_dropped bytes at k = grind (arith, common_steps)
