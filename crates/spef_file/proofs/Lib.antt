@@ -5,3 +5,4 @@ pub mod StepLemmas
 pub mod LineWords
 pub mod FileLemmas
 pub mod SpanLemmas
+pub mod TextLemmas

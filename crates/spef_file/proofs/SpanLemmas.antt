@@ -1,13 +1,18 @@
 -- Where the nets of a file stand.
-use Rattle.std.proofs.Common.{◌≡◌, ℕ, ◌+◌, ◌-◌, ◌<◌, ◌≤◌, true, List, [], ◌∷◌, ◌++◌, take, drop, length, get_or, refl, sym, ap, subst, ◌∙◌, arith, length-drop, length-take, drop-drop}
+use Rattle.std.proofs.Common.{◌≡◌, ℕ, Bool, false, ◌||◌, ◌⊎◌, inl, inr, ◌+◌, ◌-◌, ◌<◌, ◌≤◌, ◌^◌, true, List, [], ◌∷◌, ◌++◌, take, drop, length, get_or, refl, sym, ap, subst, ◌∙◌, arith, length-drop, length-take, drop-drop}
 use Rattle.std.proofs.lemmas.List.{drop-take}
 use Rattle.std.proofs.lemmas.List.Elements.{All-append}
-use Rattle.vg_scan.specs.Lines.{Line, lines_of, part, is_ink, is_blank}
+use Rattle.vg_scan.specs.Lines.{Line, lines_of, part, is_blank, BeginsLine}
+use Rattle.vg_scan.specs.Parts.{IsFirstSolid}
+use Rattle.vg_scan.specs.Printed.{is_solid}
+use Rattle.std.specs.Prelude.{codes, if◌then◌else◌}
+use Rattle.std.specs.Str.{bytes_eq}
+use Rattle.std.proofs.lemmas.Slice.Eq.{bytes_eq-Decides}
 use Rattle.vg_scan.proofs.BlankLemmas.{lines_skip}
 use Rattle.vg_scan.proofs.CutLemmas.{get_part}
-use Rattle.spef_file.specs.declared.opening.Opening.TheVariants.{Net}
+use Rattle.spef_file.specs.declared.opening.Opening.TheVariants.{Map, Passed, Net, Foreign, Nothing}
 use Rattle.spef_file.specs.declared.section.Section.{Section}
-use Rattle.spef_file.specs.Openings.{opening_of}
+use Rattle.spef_file.specs.Openings.{opening_of, is_passed, is_net, is_foreign}
 use Rattle.spef_file.specs.Words.{first_word, has_words}
 use Rattle.spef_file.specs.NetSpans.{net_lines, up_to_end, IsSpan, AreSpans, StaysRight}
 use Rattle.spef_file.proofs.EndLemmas.{drop_more}
@@ -36,6 +41,41 @@ unfolding opening_of
 net_words [] e = absurd (cc)
 net_words (word ∷ words) e = refl
 
+-- what opens a net passed the test of a head
+net_of : (a b c d : Bool) → (if a then Map else (if b then Passed else (if c then Net else (if d then Foreign else Nothing)))) ≡ Net → c ≡ true
+net_of true b c d e = absurd (cc)
+net_of false true c d e = absurd (cc)
+net_of false false true d e = refl
+net_of false false false true e = absurd (cc)
+net_of false false false false e = absurd (cc)
+
+one_of : (a b : Bool) → (a || b) ≡ true → (a ≡ true) ⊎ (b ≡ true)
+one_of true b e = inl refl
+one_of false b e = inr e
+
+-- the first word of a net's head begins with a solid byte
+pub net_solid : (word : List ℕ) → opening_of word ≡ Net → is_solid (get_or word 0 0) ≡ true
+unfolding opening_of
+net_solid word e =
+    elim (one_of (bytes_eq word (codes "*D_NET")) (bytes_eq word (codes "*R_NET")) (net_of (bytes_eq word (codes "*NAME_MAP")) (is_passed word) (is_net word) (is_foreign word) e)) [
+      | inl d ↦ ap (λ w. is_solid (get_or w 0 0)) ((bytes_eq-Decides word (codes "*D_NET")).0 d)
+      | inr r ↦ ap (λ w. is_solid (get_or w 0 0)) ((bytes_eq-Decides word (codes "*R_NET")).0 r)
+    ]
+
+-- the first byte of a line's first word
+pub first_byte : (bytes : List ℕ) (line : Line) (from to : ℕ) (rest : List (List ℕ)) → from < to → line ≡ part bytes from to ∷ rest → get_or bytes from 0 ≡ get_or (first_word line) 0 0
+first_byte bytes line from to rest l e =
+    ap (λ n. get_or bytes n 0) (let z : from ≡ from + 0 = omega arith in z) ∙ sym (get_part bytes from to 0 (omega arith)) ∙ ap (λ ws. get_or (first_word ws) 0 0) (sym e)
+
+-- the last byte of `*END`
+pub end_solid : (bytes : List ℕ) (from to : ℕ) → to ≤ length bytes → part bytes from to ≡ codes "*END" → is_solid (get_or bytes (to - 1) 0) ≡ true
+end_solid bytes from to l e =
+    let len : length (part bytes from to) ≡ to - from = simp (length-take, length-drop) (omega arith) in
+    let four : to - from ≡ 4 = sym len ∙ ap length e in
+    ap (λ n. is_solid (get_or bytes n 0)) (let z : to - 1 ≡ from + 3 = omega (arith, four) in z)
+    ∙ ap is_solid (sym (get_part bytes from to 3 (omega (arith, four))))
+    ∙ ap (λ w. is_solid (get_or w 3 0)) e
+
 drop_drop_more : (n m : ℕ) (all : List Line) (line : Line) (rest : List Line) → line ∷ rest ≡ drop n all → drop (n + (m + 2)) all ≡ drop (m + 1) rest
 drop_drop_more n m all line rest e =
     ap (λ k. drop k all) (let x : n + (m + 2) ≡ n + 1 + (m + 1) = omega arith in x) ∙ sym (drop-drop (m + 1) (n + 1) all) ∙ ap (drop (m + 1)) (sym (drop_more n all line rest e))
@@ -44,13 +84,35 @@ drop_drop_more n m all line rest e =
 pub keeps_net : (clear : List ℕ) (next to n count new_count : ℕ) (old new : List Section) (line : Line) (section : Section)
     → new ≡ old ++ section ∷ [] → new_count ≡ count + (n + 2) → section.line ≡ count + 1
     → lines_of (part clear section.from section.to) ≡ line ∷ up_to_end (lines_of (drop next clear))
-    → is_ink (get_or clear section.from 0) ≡ true → (section.from < section.to) × (section.to ≤ length clear)
+    → IsFirstSolid clear section.from → is_solid (get_or clear (section.to - 1) 0) ≡ true → (section.from < section.to) × (section.to ≤ length clear)
+    → section.line ≤ 2 ^ 28 → BeginsLine clear next → (section.from ≤ next) × (next < section.to) → length (lines_of (part clear section.from next)) ≡ 1 → lines_of (part clear next section.to) ≡ up_to_end (lines_of (drop next clear))
     → lines_of (drop to clear) ≡ drop (n + 1) (lines_of (drop next clear)) → StaysRight clear next to count new_count old new line
-keeps_net clear next to n count new_count old new line section rows counts number net ink order rest = λ lines at spans.
+keeps_net clear next to n count new_count old new line section rows counts number net first last order few begins within head inner rest = λ lines at spans.
     let later = lines_of (drop next clear) in
     let here : drop (section.line - 1) lines ≡ line ∷ later = ap (λ k. drop k lines) (let x : section.line - 1 ≡ count = omega (arith, number) in x) ∙ at in
-    let one : IsSpan clear lines section = record { net = net ∙ ap net_lines (sym here); ink = ink; order = order } in (
+    let one : IsSpan clear lines section = record {
+      net = net ∙ ap net_lines (sym here);
+      first = first;
+      last = last;
+      order = order;
+      few = few;
+      next = next;
+      begins = begins;
+      within = within;
+      head = head;
+      later = drop_more count lines line later (sym at) ∙ ap (λ k. drop k lines) (sym number);
+      inner = inner;
+    } in (
       subst (AreSpans clear lines) (sym rows) (All-append (IsSpan clear lines) old (section ∷ []) spans
           (λ k d l. let z : 0 ≡ k = omega arith in subst (λ j. IsSpan clear lines (get_or (section ∷ []) j d)) z one)),
       ap (λ k. drop k lines) counts ∙ drop_drop_more count n lines line later (sym at) ∙ sym rest,
     )
+
+pub no_lines : lines_of [] ≡ []
+unfolding lines_of
+no_lines = refl
+
+-- a line alone
+pub line_alone : (clear : List ℕ) (from next : ℕ) (line : Line) → lines_of (part clear from next) ≡ line ∷ lines_of (part clear next next) → length (lines_of (part clear from next)) ≡ 1
+line_alone clear from next line e =
+    ap length (e ∙ ap (λ n. line ∷ lines_of (take n (drop next clear))) (let z : next - next ≡ 0 = omega arith in z) ∙ ap (λ ls. line ∷ ls) no_lines)

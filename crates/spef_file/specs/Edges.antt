@@ -1,6 +1,7 @@
 -- What a line is to a net.
-use Rattle.std.specs.Prelude.{◌≡◌, ℕ, ◌≤◌, ◌<◌, true, false, List, [], ◌∷◌, codes}
+use Rattle.std.specs.Prelude.{◌≡◌, ℕ, ◌-◌, ◌≤◌, ◌<◌, slice_index, true, false, List, [], ◌∷◌, codes}
 use Rattle.vg_scan.specs.Lines.{Line, words, part}
+use Rattle.vg_scan.specs.Printed.{is_solid}
 use Rattle.vg_scan.specs.Spans.{part_at}
 use Rattle.vg_scan.specs.declared.lines.Span.{Span}
 use Rattle.spef_file.specs.declared.edge.Edge.{Edge}
@@ -14,7 +15,7 @@ IsEdgeOf line Inner = (is_end line ≡ false) × (is_head line ≡ false)
 
 -- where the first word of an end line ends
 abbrev pub IsPlace : List ℕ → Span → Edge → Type 0
-IsPlace bytes line (End to) = (words (part bytes line.from to) ≡ codes "*END" ∷ []) × (line.from < to) × (to ≤ line.to)
+IsPlace bytes line (End to) = (words (part bytes line.from to) ≡ codes "*END" ∷ []) × (is_solid (slice_index bytes (to - 1)) ≡ true) × (line.from < to) × (to ≤ line.to)
 IsPlace bytes line Head = Unit {0}
 IsPlace bytes line Inner = Unit {0}
 

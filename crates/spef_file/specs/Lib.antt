@@ -10,3 +10,4 @@ pub mod Edges
 pub mod Views
 pub mod Shown
 pub mod NetSpans
+pub mod Indexes

@@ -1,7 +1,9 @@
 -- Where the nets of a file stand.
-use Rattle.std.specs.Prelude.{◌≡◌, ℕ, ◌-◌, ◌<◌, ◌≤◌, true, List, [], ◌∷◌, ◌++◌, take, drop, length, slice_index, unwrap_or, codes, Result, Ok, Err}
+use Rattle.std.specs.Prelude.{◌≡◌, ℕ, ◌-◌, ◌<◌, ◌≤◌, ◌^◌, true, List, [], ◌∷◌, ◌++◌, take, drop, length, slice_index, unwrap_or, codes, Result, Ok, Err}
 use Rattle.std.specs.List.{All}
-use Rattle.vg_scan.specs.Lines.{Line, lines_of, words, part, is_ink}
+use Rattle.vg_scan.specs.Lines.{Line, lines_of, words, part, BeginsLine}
+use Rattle.vg_scan.specs.Parts.{IsFirstSolid}
+use Rattle.vg_scan.specs.Printed.{is_solid}
 use Rattle.vg_scan.specs.Spans.{part_at}
 use Rattle.vg_scan.specs.declared.lines.Span.{Span}
 use Rattle.spef_file.specs.declared.fault.SpefKind.{SpefKind}
@@ -22,11 +24,21 @@ abbrev pub net_lines : List Line → List Line
 net_lines [] = []
 net_lines (head ∷ later) = head ∷ up_to_end later
 
--- a section's part of a text without comments is the net whose head is the line of its number
+-- a section's part of a text without comments is the net whose head is the line of its number: it begins with the first word
+-- of a line, and ends with a word
 pub record IsSpan (clear : List ℕ) (lines : List Line) (section : Section) : Type 0 where
   pub net : lines_of (part clear section.from section.to) ≡ net_lines (drop (section.line - 1) lines)
-  pub ink : is_ink (slice_index clear section.from) ≡ true
+  pub first : IsFirstSolid clear section.from
+  pub last : is_solid (slice_index clear (section.to - 1)) ≡ true
   pub order : (section.from < section.to) × (section.to ≤ length clear)
+  pub few : section.line ≤ 2 ^ 28
+  -- where the line after its head begins, and the lines from there on
+  pub next : ℕ
+  pub begins : BeginsLine clear next
+  pub within : (section.from ≤ next) × (next < section.to)
+  pub head : length (lines_of (part clear section.from next)) ≡ 1
+  pub later : lines_of (drop next clear) ≡ drop section.line lines
+  pub inner : lines_of (part clear next section.to) ≡ up_to_end (lines_of (drop next clear))
 
 abbrev pub AreSpans : List ℕ → List Line → List Section → Type 0
 AreSpans clear lines sections = All (IsSpan clear lines) sections
@@ -47,5 +59,6 @@ GoesOn clear at next line = (m : ℕ) → next ≤ m → lines_of (part clear at
 -- a line of a text, and where the next one begins
 pub record IsLine (clear : List ℕ) (span : Span) (next : ℕ) (line : Line) : Type 0 where
   pub here : line ≡ words (part_at clear span)
+  pub begins : BeginsLine clear span.from × BeginsLine clear next
   pub order : (span.from ≤ span.to) × (span.to ≤ next) × (next ≤ length clear)
   pub on : GoesOn clear span.from next line

@@ -1,7 +1,8 @@
 //! The end of a net.
 
-ghost use Rattle.std.specs.Prelude.{◌≡◌, ◌≤◌, ◌<◌, ◌+◌, drop, length, option_map, IfSome};
-ghost use Rattle.vg_scan.specs.Lines.{lines_of, part};
+ghost use Rattle.std.specs.Prelude.{◌≡◌, ◌≤◌, ◌<◌, ◌+◌, ◌-◌, drop, length, option_map, slice_index, true, IfSome};
+ghost use Rattle.vg_scan.specs.Lines.{lines_of, part, BeginsLine};
+ghost use Rattle.vg_scan.specs.Printed.{is_solid};
 ghost use Rattle.vg_scan.specs.Spans.{IsIn};
 ghost use Rattle.spef_file.specs.States.{end_at};
 ghost use Rattle.spef_file.specs.NetSpans.{up_to_end};
@@ -57,6 +58,8 @@ pub(crate) fn find_end(bytes: &[u8], from: usize) -> Option<NetEnd>
     ensures lines { option_map (λ end. end.lines) result ≡ end_at (lines_of (drop from bytes.now)) }
     ensures rest { IfSome result (λ end. lines_of (drop end.next bytes.now) ≡ drop (end.lines + 1) (lines_of (drop from bytes.now))) }
     ensures span { IfSome result (λ end. lines_of (part bytes.now from end.to) ≡ up_to_end (lines_of (drop from bytes.now))) }
+    ensures solid { IfSome result (λ end. is_solid (slice_index bytes.now (end.to - 1)) ≡ true) }
+    ensures begins { IfSome result (λ end. BeginsLine bytes.now end.next) }
     ensures place { IfSome result (λ end. (from < end.to) × (from + end.lines < end.next) × (end.to ≤ end.next) × (end.next ≤ length bytes.now)) }
 {
     let mut at = from;

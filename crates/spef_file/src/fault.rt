@@ -5,7 +5,7 @@ use thiserror::Error;
 pub enum SpefKind {
     /// A header line is missing, in another order, without a further word, or breaks its delimiter's rule.
     #[error("the header is not whole")]
-    Header = 1,
+    Header,
     /// A header line gives no unit that is taken.
     #[error("not a unit")]
     Unit,

@@ -2,7 +2,7 @@
 
 ghost use Rattle.std.specs.Prelude.{◌≡◌, ◌<◌, ◌≤◌, IfOk, IfSome};
 ghost use Rattle.vg_scan.specs.Spans.{words_at};
-ghost use Rattle.spef_file.specs.Words.{first_word, has_words, is_quoted, starts_quoted};
+ghost use Rattle.spef_file.specs.Words.{first_word};
 ghost use Rattle.spef_file.specs.Headers.{is_header_word, header_line, divider_line, delimiter_line, bus_line, with_chars, with_c_places, with_r_places, value_line, is_idle, IsSmall};
 
 use crate::fault::SpefKind;

@@ -17,6 +17,7 @@ mod read;
 mod reader;
 mod section;
 mod spef_index;
+mod text;
 mod units;
 
 pub use fault::{SpefFault, SpefKind};
@@ -25,6 +26,7 @@ pub use look::{mapped, net_at};
 pub use read::index;
 pub use section::Section;
 pub use spef_index::SpefIndex;
+pub use text::net_text;
 
 #[cfg(test)]
 mod tests;

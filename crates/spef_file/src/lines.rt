@@ -1,7 +1,7 @@
 //! One line of a file after another.
 
-ghost use Rattle.std.specs.Prelude.{◌≡◌, ◌<◌, ◌≤◌, ◌^◌, ◌+◌, ◌∷◌, length, drop, OnOk, IfOk, ℕ, true, slice_index};
-ghost use Rattle.vg_scan.specs.Lines.{lines_of, words, part, is_ink};
+ghost use Rattle.std.specs.Prelude.{◌≡◌, ◌<◌, ◌≤◌, ◌^◌, ◌+◌, length, OnOk, IfOk, ℕ, true, slice_index};
+ghost use Rattle.vg_scan.specs.Lines.{lines_of, words, part, is_blank, BeginsLine};
 ghost use Rattle.spef_file.specs.NetSpans.{IsLine, KeepsSpans};
 ghost use Rattle.vg_scan.specs.Spans.{IsIn, words_at, part_at};
 ghost use Rattle.spef_file.specs.Words.{first_word, second_word, has_words};
@@ -174,7 +174,9 @@ fn second_word<'a>(bytes: &'a [u8], words: &[Span]) -> &'a [u8]
 fn start_of(bytes: &[u8], line: Span) -> usize
     requires { IsIn bytes.now line }
     ensures starts { (m : ℕ) → result < m → m ≤ length bytes.now → lines_of (part bytes.now result m) ≡ lines_of (part bytes.now line.from m) }
-    ensures ink { has_words (words (part_at bytes.now line)) ≡ true → is_ink (slice_index bytes.now result) ≡ true }
+    ensures blank { (k : ℕ) → line.from ≤ k → k < result → is_blank (slice_index bytes.now k) ≡ true }
+    ensures some { has_words (words (part_at bytes.now line)) ≡ true → result < line.to }
+    ensures word { has_words (words (part_at bytes.now line)) ≡ true → slice_index bytes.now result ≡ slice_index (first_word (words (part_at bytes.now line))) 0 }
     ensures place { (line.from ≤ result) × (result ≤ line.to) }
 {
     match next_word(bytes, line) {
@@ -203,6 +205,7 @@ fn take_named_net(
     ensures goes { GoesTo bytes.now next result (seen reader.old) (seen reader.new) (words_at bytes.now words.now) }
     ensures whole { OnOk result (IsWhole reader.new) }
     ensures spans { KeepsSpans bytes.now next result reader.old reader.new (words_at bytes.now words.now) }
+    ensures begins { IfOk result (BeginsLine bytes.now) }
     ensures place { IfOk result (λ to. (next ≤ to) × (to ≤ length bytes.now) × (reader.new.count + next ≤ reader.old.count + 1 + to)) }
 {
     let Some(end) = find_end(bytes, next) else {
@@ -247,6 +250,7 @@ fn take_net(
     ensures goes { GoesTo bytes.now next result (seen reader.old) (seen reader.new) (words_at bytes.now words.now) }
     ensures whole { OnOk result (IsWhole reader.new) }
     ensures spans { KeepsSpans bytes.now next result reader.old reader.new (words_at bytes.now words.now) }
+    ensures begins { IfOk result (BeginsLine bytes.now) }
     ensures place { IfOk result (λ to. (next ≤ to) × (to ≤ length bytes.now) × (reader.new.count + next ≤ reader.old.count + 1 + to)) }
 {
     let word = second_word(bytes, words);
@@ -273,6 +277,7 @@ fn take_body_line(
     ensures goes { GoesTo bytes.now next result (seen reader.old) (seen reader.new) (words_at bytes.now words.now) }
     ensures whole { OnOk result (IsWhole reader.new) }
     ensures spans { KeepsSpans bytes.now next result reader.old reader.new (words_at bytes.now words.now) }
+    ensures begins { IfOk result (BeginsLine bytes.now) }
     ensures place { IfOk result (λ to. (next ≤ to) × (to ≤ length bytes.now) × (reader.new.count + next ≤ reader.old.count + 1 + to)) }
 {
     match opening_of(first_word(bytes, words)) {
@@ -311,6 +316,7 @@ fn take_words(
     ensures goes { GoesTo bytes.now next result (seen reader.old) (seen reader.new) (words_at bytes.now words.now) }
     ensures whole { OnOk result (IsWhole reader.new) }
     ensures spans { KeepsSpans bytes.now next result reader.old reader.new (words_at bytes.now words.now) }
+    ensures begins { IfOk result (BeginsLine bytes.now) }
     ensures place { IfOk result (λ to. (next ≤ to) × (to ≤ length bytes.now) × (reader.new.count + next ≤ reader.old.count + 1 + to)) }
 {
     if reader.headed >= 14 {
@@ -338,6 +344,7 @@ pub(crate) fn take_line(
     ensures goes { GoesTo bytes.now next result (seen reader.old) (seen reader.new) (words (part_at bytes.now line)) }
     ensures whole { OnOk result (IsWhole reader.new) }
     ensures spans { KeepsSpans bytes.now next result reader.old reader.new (words (part_at bytes.now line)) }
+    ensures begins { IfOk result (BeginsLine bytes.now) }
     ensures place { IfOk result (λ to. (next ≤ to) × (to ≤ length bytes.now) × (reader.new.count + next ≤ reader.old.count + 1 + to)) }
 {
     match words_of(bytes, line, found) {

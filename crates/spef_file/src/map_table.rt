@@ -1,6 +1,6 @@
 //! The rows of a name map.
 
-ghost use Rattle.std.specs.Prelude.{◌≡◌, ◌++◌, ◌∷◌, [], map, not, true, option_map, IfOk};
+ghost use Rattle.std.specs.Prelude.{◌≡◌, ◌++◌, ◌∷◌, [], not, true, option_map, IfOk};
 ghost use Rattle.spef_file.specs.States.{is_mapped, mapped};
 ghost use Rattle.spef_file.specs.Tables.{IsIndexed, AreIndices};
 

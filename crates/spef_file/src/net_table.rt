@@ -1,6 +1,6 @@
 //! The nets of a SPEF file.
 
-ghost use Rattle.std.specs.Prelude.{◌≡◌, ◌<◌, ◌^◌, ◌++◌, ◌∷◌, [], map, not, true, length, IfOk};
+ghost use Rattle.std.specs.Prelude.{◌≡◌, ◌<◌, ◌^◌, ◌++◌, ◌∷◌, [], not, true, length, IfOk};
 ghost use Rattle.spef_file.specs.Tables.{AreNamed, is_section};
 
 use crate::section::Section;

@@ -1,15 +1,14 @@
 //! The lines of a file, one after another, and the index that they give.
 
-ghost use Rattle.std.specs.Prelude.{◌≡◌, ◌<◌, ◌≤◌, ◌^◌, length, drop, IfOk, IfErr, ◌⊎◌, Ok, Err, []};
+ghost use Rattle.std.specs.Prelude.{◌≡◌, ◌<◌, ◌≤◌, ◌^◌, length, IfOk, IfErr, ◌⊎◌, Ok, Err, []};
 ghost use Rattle.vg_scan.specs.Lines.{lines_of};
 ghost use Rattle.spef_file.specs.declared.fault.SpefKind.TheVariants.{Memory};
 ghost use Rattle.spef_file.specs.States.{START};
-ghost use Rattle.spef_file.specs.Readings.{read, file_lines, file_of, said};
+ghost use Rattle.spef_file.specs.Readings.{read, file_of, said};
 ghost use Rattle.spef_file.specs.NetSpans.{AreSpans};
-ghost use Rattle.vg_scan.specs.Comments.{without_comments};
-ghost use Rattle.vg_scan.specs.declared.comments.Comments.TheVariants.{Spef};
 ghost use Rattle.spef_file.specs.Views.{seen, IsWhole};
 ghost use Rattle.spef_file.specs.Shown.{shown};
+ghost use Rattle.spef_file.specs.Indexes.{IsIndexOf};
 
 use crate::fault::{SpefFault, SpefKind};
 use crate::header::Header;
@@ -111,8 +110,7 @@ fn finish(reader: Reader) -> SpefIndex
 /// Answers `Memory` where there is no room, with the line at which it was wanted.
 pub fn index(alloc: Global, bytes: &[u8]) -> Result<SpefIndex, SpefFault>
     requires { length bytes.now ≤ 2 ^ 28 }
-    ensures said { IfOk result (λ index. file_of bytes.now ≡ Ok (shown index)) }
-    ensures spans { IfOk result (λ index. AreSpans (without_comments Spef bytes.now) (file_lines bytes.now) index.sections) }
+    ensures index { IfOk result (IsIndexOf bytes.now) }
     ensures fault { IfErr result (λ fault. (fault.kind ≡ Memory) ⊎ (file_of bytes.now ≡ Err fault)) }
 {
     let Ok(clear) = skip_comments(alloc, bytes, Comments::Spef) else {

@@ -1,4 +1,7 @@
 //! Files and their faults, taken from the format.
+ghost use Rattle.std.specs.Prelude.{IfOk};
+ghost use Rattle.spef_file.specs.Indexes.{IsIndexOf};
+
 use super::*;
 use std::alloc::Global;
 use std::process::Abort;
@@ -22,7 +25,9 @@ const HEADER: &str = "*SPEF \"IEEE 1481\"
 *L_UNIT 1 HENRY
 ";
 
-fn read(rt: &impl Abort, alloc: Global, text: &str) -> Result<SpefIndex, SpefFault> {
+fn read(rt: &impl Abort, alloc: Global, text: &str) -> Result<SpefIndex, SpefFault>
+    ensures { IfOk result (IsIndexOf text.now) }
+{
     assert!(rt; text.len() <= 2000);
     index(alloc, text.as_bytes())
 }
@@ -91,6 +96,25 @@ fn a_file(rt: HostRuntime) -> Result<(), Fail> {
     assert_eq!(rt;
         net_at(&index, &Name::from_bytes(rt.alloc(), b"n<2>")?),
         None
+    );
+    Ok(())
+}
+
+#[test]
+fn the_text_of_a_net(rt: HostRuntime) -> Result<(), Fail> {
+    let text = format!(in rt.alloc();
+        "{HEADER}/* *D_NET b 1
+*END */ *D_NET a 1 // \"*END
+*CONN /* x
+*/ *END // more
+"
+    )?;
+    let index = read(&rt, rt.alloc(), text.as_str())?;
+    assert!(rt; index.sections.len() == 1);
+    let net = net_text(rt.alloc(), text.as_bytes(), &index.sections.as_slice()[0])?;
+    assert_eq!(rt;
+        net.as_slice(),
+        b"*D_NET a 1         \n*CONN     \n   *END".as_slice()
     );
     Ok(())
 }

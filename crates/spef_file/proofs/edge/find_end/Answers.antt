@@ -33,8 +33,8 @@ returns-in-End-clause-span c =
     let line = words (part_at text c.in-Some.line) in
     let ls = lines_of (drop c.args.from text) in
     let e : end_at ls ≡ Some c.line.lines = c.line.invariant.ends ∙ ap (later_by c.line.lines) (ap end_at c.in-Some.ensures.words ∙ ends_here line (lines_of (drop c.in-Some.next text)) c.in-End.ensures.0) ∙ (let z : c.line.lines + 0 ≡ c.line.lines = omega arith in ap Some z) in
-    let low : c.line.at < c.in-End.to = omega (arith, c.in-End.ensures.1.1, c.in-Some.ensures.place) in
+    let low : c.line.at < c.in-End.to = omega (arith, c.in-End.ensures.1.2, c.in-Some.ensures.place) in
     let alone = ap (λ from. words (part text from c.in-End.to)) (sym c.in-Some.ensures.place.0) ∙ c.in-End.ensures.1.0 in
     c.line.invariant.parts c.in-End.to (omega arith)
-    ∙ ap (λ xs. take c.line.lines ls ++ xs) (c.in-Some.ensures.last c.in-End.to low c.in-End.ensures.1.2 ∙ ap (λ x. x ∷ []) alone)
+    ∙ ap (λ xs. take c.line.lines ls ++ xs) (c.in-Some.ensures.last c.in-End.to low c.in-End.ensures.1.3 ∙ ap (λ x. x ∷ []) alone)
     ∙ ap (λ o. take (unwrap_or o 0) ls ++ (codes "*END" ∷ []) ∷ []) (sym e)

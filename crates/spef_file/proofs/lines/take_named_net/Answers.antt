@@ -1,9 +1,11 @@
-use Rattle.std.proofs.Common.{◌<◌, ◌≤◌, ◌∷◌, length, arith, ◌≡◌, ◌+◌, drop, sym, ◌∙◌, refl, ap, subst, Option, Ok, not}
+use Rattle.std.proofs.Common.{get_or, true, ◌<◌, ◌≤◌, ◌∷◌, length, arith, ◌≡◌, ◌+◌, drop, sym, ◌∙◌, refl, ap, subst, Option, Ok, not}
 use Rattle.std.specs.Prelude.{codes}
 use Rattle.std.specs.Str.{bytes_eq}
 use Rattle.vg_scan.specs.Lines.{Line, lines_of, part}
 use Rattle.spef_file.specs.NetSpans.{up_to_end}
-use Rattle.spef_file.proofs.SpanLemmas.{net_words, keeps_net}
+use Rattle.spef_file.proofs.SpanLemmas.{net_words, net_solid, keeps_net, line_alone}
+use Rattle.vg_scan.specs.Parts.{IsFirstSolid}
+use Rattle.vg_scan.specs.Printed.{is_solid}
 use Rattle.vg_scan.specs.Spans.{words_at}
 use Rattle.vg_scan.specs.declared.name.Name.{Name}
 use Rattle.spef_file.specs.declared.section.Section.{Section}
@@ -58,5 +60,10 @@ returns-in-Ok-true-clause-spans c =
     let order : (section.from < section.to) × (section.to ≤ length text) = (omega (arith, c.start_of.ensures.place, c.requires.line.order, c.in-Some.ensures.place), omega (arith, c.in-Some.ensures.place)) in
     let net : lines_of (part text section.from section.to) ≡ line ∷ up_to_end (lines_of (drop next text)) =
     c.start_of.ensures.starts section.to order.0 order.1 ∙ c.requires.line.on section.to (omega (arith, c.in-Some.ensures.place)) ∙ ap (λ xs. line ∷ xs) c.in-Some.ensures.span in
-    let ink = c.start_of.ensures.ink (ap has_words (sym c.requires.line.here) ∙ net_words line c.requires.opens) in
-    keeps_net text next end.next end.lines c.args.reader.now.count (c.args.reader.now.count + (end.lines + 2)) c.args.reader.now.nets.rows.items c.add_net.new.table.rows.items line section (c.in-Ok-true.ensures.last c.in-Ok-true.field-0-test) refl refl net ink order c.in-Some.ensures.rest
+    let byte = c.start_of.ensures.word (ap has_words (sym c.requires.line.here) ∙ net_words line c.requires.opens) in
+    let solid : is_solid (get_or text section.from 0) ≡ true = ap is_solid byte ∙ ap (λ ws. is_solid (get_or (first_word ws) 0 0)) (sym c.requires.line.here) ∙ net_solid (first_word line) c.requires.opens in
+    let first : IsFirstSolid text section.from = record { line = c.args.line.from; begins = c.requires.line.begins.0; order = c.start_of.ensures.place.0; blank = c.start_of.ensures.blank; solid = solid } in
+    let low : section.from < next = omega (arith, c.start_of.ensures.some (ap has_words (sym c.requires.line.here) ∙ net_words line c.requires.opens), c.requires.line.order) in
+    let head = line_alone text section.from next line (c.start_of.ensures.starts next low c.requires.line.order.2 ∙ c.requires.line.on next (omega arith)) in
+    keeps_net text next end.next end.lines c.args.reader.now.count (c.args.reader.now.count + (end.lines + 2)) c.args.reader.now.nets.rows.items c.add_net.new.table.rows.items line section (c.in-Ok-true.ensures.last c.in-Ok-true.field-0-test) refl refl net first c.in-Some.ensures.solid order (omega (arith, c.requires.few)) c.requires.line.begins.1
+    (omega arith, omega (arith, c.in-Some.ensures.place)) head c.in-Some.ensures.span c.in-Some.ensures.rest

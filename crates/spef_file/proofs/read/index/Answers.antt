@@ -20,14 +20,11 @@ returns-then-reader-lt14-clause-fault c =
     inr (file_missing c.args.bytes.now c.as_slice.result.now (seen c.in-Ok-read_lines.reader) (c.as_slice.ensures.value ∙ c.in-Ok.ensures.text) c.in-Ok-read_lines.ensures.said c.if-reader-lt14.true
     ∙ ap (λ number. Err (record { kind = Header; line = number })) (sym c.max.ensures))
 
-pub returns-clause-said : goal.returns-clause-said
-returns-clause-said c =
-    file_said c.args.bytes.now c.as_slice.result.now (seen c.in-Ok-read_lines.reader) (c.as_slice.ensures.value ∙ c.in-Ok.ensures.text) c.in-Ok-read_lines.ensures.said c.if-reader-lt14.false
-    ∙ ap Ok (sym c.finish.ensures.shown)
-
-pub returns-clause-spans : goal.returns-clause-spans
-returns-clause-spans c =
+pub returns-clause-index : goal.returns-clause-index
+returns-clause-index c =
     let clear = c.as_slice.result.now in
     let is : clear ≡ without_comments Spef c.args.bytes.now = c.as_slice.ensures.value ∙ c.in-Ok.ensures.text in
-    subst (λ text. AreSpans text (lines_of text) c.finish.result.sections) is
-    (subst (AreSpans clear (lines_of clear)) (sym c.finish.ensures.sections) c.in-Ok-read_lines.ensures.spans)
+    record {
+      said = file_said c.args.bytes.now clear (seen c.in-Ok-read_lines.reader) is c.in-Ok-read_lines.ensures.said c.if-reader-lt14.false ∙ ap Ok (sym c.finish.ensures.shown);
+      spans = subst (λ text. AreSpans text (lines_of text) c.finish.result.sections) is (subst (AreSpans clear (lines_of clear)) (sym c.finish.ensures.sections) c.in-Ok-read_lines.ensures.spans);
+    }

@@ -1,4 +1,5 @@
-use Rattle.std.proofs.Common.{◌∙◌, ap}
+use Rattle.std.proofs.Common.{◌∙◌, ap, refl, sym, subst, arith}
+use Rattle.vg_scan.specs.Lines.{lines_of, part, BeginsLine}
 use Rattle.spef_file.specs.Readings.{read}
 use Rattle.spef_file.specs.Views.{seen}
 use Rattle.spef_file.proofs.FileLemmas.{read-nil}
@@ -6,3 +7,14 @@ use Rattle.spef_file.proofs.read.read_lines.Goals as goal
 
 pub returns-clause-said : goal.returns-clause-said
 returns-clause-said c = c.line.invariant.reads ∙ ap (read (seen c.line.reader)) c.in_default.ensures.words ∙ read-nil (seen c.line.reader)
+
+pub take_line-requires-clause-line : goal.take_line-requires-clause-line
+take_line-requires-clause-line c =
+    let bytes = c.args.bytes.now in
+    let place = c.in-Some.ensures.place in
+    record {
+      here = refl;
+      begins = (subst (λ n. BeginsLine bytes n) (sym place.0) c.line.invariant.begins, c.in-Some.ensures.begins);
+      order = (omega (arith, place), omega (arith, place), omega (arith, place));
+      on = λ m l. ap (λ n. lines_of (part bytes n m)) place.0 ∙ c.in-Some.ensures.cut m l;
+    }

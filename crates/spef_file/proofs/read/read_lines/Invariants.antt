@@ -1,5 +1,5 @@
 use Rattle.std.proofs.Common.{◌≡◌, ◌≤◌, ◌-◌, drop, length}
-use Rattle.vg_scan.specs.Lines.{lines_of}
+use Rattle.vg_scan.specs.Lines.{lines_of, BeginsLine}
 use Rattle.spef_file.specs.States.{START}
 use Rattle.spef_file.specs.Readings.{read}
 use Rattle.spef_file.specs.Views.{seen, IsWhole}
@@ -12,6 +12,7 @@ invariant-line l = record {
   rest : lines_of (drop l.at l.bytes) ≡ drop l.reader.count (lines_of l.bytes);
   spans : AreSpans l.bytes (lines_of l.bytes) l.reader.nets.rows.items;
   whole : IsWhole l.reader;
+  begins : BeginsLine l.bytes l.at;
   within : l.at ≤ length l.bytes;
   counted : l.reader.count ≤ l.at;
 }
