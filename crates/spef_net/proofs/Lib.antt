@@ -7,3 +7,6 @@ pub mod TakeLemmas
 pub mod LineLemmas
 pub mod FinishLemmas
 pub mod OneNet
+pub mod SizeLemmas
+pub mod InnerLemmas
+pub mod PartLemmas

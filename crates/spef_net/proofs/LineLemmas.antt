@@ -6,7 +6,7 @@ use Rattle.std.specs.List.{fold, filter_map, cons_option}
 use Rattle.vg_num.specs.declared.fault.NumFault.{NumFault}
 use Rattle.vg_scan.specs.Lines.{Line}
 use Rattle.vg_scan.specs.declared.name.NodeName.{NodeName}
-use Rattle.spef_net.specs.declared.header.Header.{Header}
+use Rattle.spef_file.specs.Readings.{File}
 use Rattle.spef_net.specs.declared.part.Part.{Part}
 use Rattle.spef_net.specs.declared.part.Part.TheVariants.{Nowhere, Conns, Caps, Ress, Inducs}
 use Rattle.spef_net.specs.declared.fault.NetKind.{NetKind}
@@ -42,64 +42,64 @@ resistor-quiet : (nodes : Option (NodeName × NodeName)) (value : Result ℕ Num
 resistor-quiet (Some nodes) value = record { part = λ part. refl; joined = refl }
 resistor-quiet None value = bad Res
 
-cap-quiet : (header : Header) (line : Line) → IsQuiet (cap_line header line)
+cap-quiet : (file : File) (line : Line) → IsQuiet (cap_line file line)
 unfolding cap_line
-cap-quiet header [] = bad Cap
-cap-quiet header (a ∷ []) = bad Cap
-cap-quiet header (a ∷ b ∷ []) = bad Cap
-cap-quiet header (a ∷ b ∷ c ∷ []) = ground-quiet _ _
-cap-quiet header (a ∷ b ∷ c ∷ d ∷ []) = coupling-quiet _ _
-cap-quiet header (a ∷ b ∷ c ∷ d ∷ e ∷ es) = bad Cap
+cap-quiet file [] = bad Cap
+cap-quiet file (a ∷ []) = bad Cap
+cap-quiet file (a ∷ b ∷ []) = bad Cap
+cap-quiet file (a ∷ b ∷ c ∷ []) = ground-quiet _ _
+cap-quiet file (a ∷ b ∷ c ∷ d ∷ []) = coupling-quiet _ _
+cap-quiet file (a ∷ b ∷ c ∷ d ∷ e ∷ es) = bad Cap
 
-res-quiet : (header : Header) (line : Line) → IsQuiet (res_line header line)
+res-quiet : (file : File) (line : Line) → IsQuiet (res_line file line)
 unfolding res_line
-res-quiet header [] = bad Res
-res-quiet header (a ∷ []) = bad Res
-res-quiet header (a ∷ b ∷ []) = bad Res
-res-quiet header (a ∷ b ∷ c ∷ []) = bad Res
-res-quiet header (a ∷ b ∷ c ∷ d ∷ []) = resistor-quiet _ _
-res-quiet header (a ∷ b ∷ c ∷ d ∷ e ∷ es) = bad Res
+res-quiet file [] = bad Res
+res-quiet file (a ∷ []) = bad Res
+res-quiet file (a ∷ b ∷ []) = bad Res
+res-quiet file (a ∷ b ∷ c ∷ []) = bad Res
+res-quiet file (a ∷ b ∷ c ∷ d ∷ []) = resistor-quiet _ _
+res-quiet file (a ∷ b ∷ c ∷ d ∷ e ∷ es) = bad Res
 
-quiet : (header : Header) (part : Part) (line : List ℕ) (ws : Line) → matters part (length ws) ≡ false → IsQuiet (said_words header part line ws)
+quiet : (file : File) (part : Part) (line : List ℕ) (ws : Line) → matters part (length ws) ≡ false → IsQuiet (said_words file part line ws)
 unfolding said_words
-quiet header part line [] e = record { part = λ part. refl; joined = refl }
-quiet header part line (a ∷ []) e = absurd (cc)
-quiet header Nowhere line (a ∷ b ∷ ws) e = bad Conn
-quiet header Conns line (a ∷ b ∷ ws) e = absurd (let h = or_right (eqb (length (a ∷ b ∷ ws)) 1) true refl in cc)
-quiet header Caps line (a ∷ b ∷ ws) e = cap-quiet header (a ∷ b ∷ ws)
-quiet header Ress line (a ∷ b ∷ ws) e = res-quiet header (a ∷ b ∷ ws)
-quiet header Inducs line (a ∷ b ∷ ws) e = record { part = λ part. refl; joined = refl }
+quiet file part line [] e = record { part = λ part. refl; joined = refl }
+quiet file part line (a ∷ []) e = absurd (cc)
+quiet file Nowhere line (a ∷ b ∷ ws) e = bad Conn
+quiet file Conns line (a ∷ b ∷ ws) e = absurd (let h = or_right (eqb (length (a ∷ b ∷ ws)) 1) true refl in cc)
+quiet file Caps line (a ∷ b ∷ ws) e = cap-quiet file (a ∷ b ∷ ws)
+quiet file Ress line (a ∷ b ∷ ws) e = res-quiet file (a ∷ b ∷ ws)
+quiet file Inducs line (a ∷ b ∷ ws) e = record { part = λ part. refl; joined = refl }
 
 -- such a line changes nothing in the survey
-pub passed_over : {X : Type 0} (header : Header) (part : Part) (line : List ℕ) (view : X → List ℕ) (ws : List X) (nodes : List NodeName) → matters part (length ws) ≡ false
-    → (part ≡ part_after part (said_words header part line (map view ws))) × (nodes ≡ with_joined nodes (joined_in (said_words header part line (map view ws))))
-passed_over header part line view ws nodes e =
-    let q = quiet header part line (map view ws) (ap (matters part) (length-map ws view) ∙ e) in
+pub passed_over : {X : Type 0} (file : File) (part : Part) (line : List ℕ) (view : X → List ℕ) (ws : List X) (nodes : List NodeName) → matters part (length ws) ≡ false
+    → (part ≡ part_after part (said_words file part line (map view ws))) × (nodes ≡ with_joined nodes (joined_in (said_words file part line (map view ws))))
+passed_over file part line view ws nodes e =
+    let q = quiet file part line (map view ws) (ap (matters part) (length-map ws view) ∙ e) in
     (q.part part, sym (ap (with_joined nodes) q.joined))
 
 -- the lines that are left
-pub left : (header : Header) (part : Part) (line : List ℕ) (others : List (List ℕ)) → sayings_from header part (line ∷ others) ≡ said header part line ∷ sayings_from header (part_after part (said header part line)) others
+pub left : (file : File) (part : Part) (line : List ℕ) (others : List (List ℕ)) → sayings_from file part (line ∷ others) ≡ said file part line ∷ sayings_from file (part_after part (said file part line)) others
 unfolding sayings_from
-left header part line others = refl
+left file part line others = refl
 
-pub none_left : (header : Header) (part : Part) → sayings_from header part [] ≡ []
+pub none_left : (file : File) (part : Part) → sayings_from file part [] ≡ []
 unfolding sayings_from
-none_left header part = refl
+none_left file part = refl
 
 joined_first : (old : List NodeName) (row : Option (NodeName × List ℕ)) (rows : List (NodeName × List ℕ)) → fold with_node (with_joined old row) (map (λ r. r.0) rows) ≡ fold with_node old (map (λ r. r.0) (cons_option row rows))
 joined_first old None rows = refl
 joined_first old (Some row) rows = refl
 
 -- the survey, one line later
-pub survey_more : (header : Header) (part next : Part) (line : List ℕ) (others : List (List ℕ)) (old new : List NodeName)
-    → next ≡ part_after part (said header part line) → new ≡ with_joined old (joined_in (said header part line))
-    → fold with_node new (connected_of (sayings_from header next others)) ≡ fold with_node old (connected_of (sayings_from header part (line ∷ others)))
-survey_more header part next line others old new p n =
-    let s = said header part line in
-    ap (λ q. fold with_node new (connected_of (sayings_from header q others))) p
-    ∙ ap (λ ns. fold with_node ns (connected_of (sayings_from header (part_after part s) others))) n
-    ∙ joined_first old (joined_in s) (filter_map joined_in (sayings_from header (part_after part s) others))
-    ∙ ap (λ ss. fold with_node old (connected_of ss)) (sym (left header part line others))
+pub survey_more : (file : File) (part next : Part) (line : List ℕ) (others : List (List ℕ)) (old new : List NodeName)
+    → next ≡ part_after part (said file part line) → new ≡ with_joined old (joined_in (said file part line))
+    → fold with_node new (connected_of (sayings_from file next others)) ≡ fold with_node old (connected_of (sayings_from file part (line ∷ others)))
+survey_more file part next line others old new p n =
+    let s = said file part line in
+    ap (λ q. fold with_node new (connected_of (sayings_from file q others))) p
+    ∙ ap (λ ns. fold with_node ns (connected_of (sayings_from file (part_after part s) others))) n
+    ∙ joined_first old (joined_in s) (filter_map joined_in (sayings_from file (part_after part s) others))
+    ∙ ap (λ ss. fold with_node old (connected_of ss)) (sym (left file part line others))
 
 -- a line whose form or names are bad
 bad_fault : (connected : List NodeName) (net : List ℕ) (before : List Said) (line : Said) (kind : NetKind) → fault_in line ≡ Some kind → fault_of connected net before line ≡ Some kind

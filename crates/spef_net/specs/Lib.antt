@@ -5,6 +5,7 @@ pub mod Sayings
 pub mod Rows
 pub mod Faults
 pub mod Denoted
+pub mod Sections
 pub mod Views
 pub mod Drafts
 pub mod Surveys

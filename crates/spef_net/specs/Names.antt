@@ -8,7 +8,7 @@ use Rattle.vg_scan.specs.Names.{canonical}
 use Rattle.vg_scan.specs.Nodes.{leaf_at}
 use Rattle.vg_scan.specs.References.{is_reference, index_of}
 use Rattle.vg_scan.specs.declared.name.NodeName.{NodeName}
-use Rattle.spef_net.specs.declared.header.Header.{Header}
+use Rattle.spef_file.specs.Readings.{File}
 
 -- the same owner, and the same leaf
 abbrev pub same_node : NodeName → NodeName → Bool
@@ -42,19 +42,19 @@ indexed names None = None
 indexed names (Some digits) = lookup (bytes_eq digits) names
 
 -- the name that a text or an index stands for
-unfoldable pub owner_in : Header → List ℕ → Option (List ℕ)
-owner_in header text = if is_reference text then indexed header.names (index_of text) else canonical header.chars text
+unfoldable pub owner_in : File → List ℕ → Option (List ℕ)
+owner_in file text = if is_reference text then indexed file.names (index_of text) else canonical file.chars text
 
 abbrev pub node_of_parts : Option (List ℕ) → Option (List ℕ) → Option NodeName
 node_of_parts (Some owner) (Some leaf) = Some (record { owner = owner; leaf = leaf })
 node_of_parts (Some _) None = None
 node_of_parts None _ = None
 
-abbrev pub node_split : Header → List ℕ → Option ℕ → Option NodeName
-node_split header text None = node_of_parts (owner_in header text) (Some [])
-node_split header text (Some at) = node_of_parts (owner_in header (take at text)) (canonical header.chars (drop (at + 1) text))
+abbrev pub node_split : File → List ℕ → Option ℕ → Option NodeName
+node_split file text None = node_of_parts (owner_in file text) (Some [])
+node_split file text (Some at) = node_of_parts (owner_in file (take at text)) (canonical file.chars (drop (at + 1) text))
 
 -- the node that a text names: the owner before its last unescaped delimiter may be an index, the leaf after it may not.
 -- A port has no delimiter, and its leaf is empty
-unfoldable pub node_in : Header → List ℕ → Option NodeName
-node_in header text = node_split header text (leaf_at header.chars text)
+unfoldable pub node_in : File → List ℕ → Option NodeName
+node_in file text = node_split file text (leaf_at file.chars text)

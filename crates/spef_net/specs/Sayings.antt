@@ -7,7 +7,7 @@ use Rattle.vg_num.specs.declared.fault.NumFault.{NumFault}
 use Rattle.vg_num.specs.declared.fault.NumFault.TheVariants.{Form}
 use Rattle.vg_scan.specs.Lines.{words, Line}
 use Rattle.vg_scan.specs.declared.name.NodeName.{NodeName}
-use Rattle.spef_net.specs.declared.header.Header.{Header}
+use Rattle.spef_file.specs.Readings.{File}
 use Rattle.spef_net.specs.declared.net.ConnKind.{ConnKind}
 use Rattle.spef_net.specs.declared.net.ConnKind.TheVariants.{Pin, Port}
 use Rattle.spef_net.specs.declared.net.Direction.{Direction}
@@ -61,25 +61,25 @@ connected kind note (Some _) None = Err Conn
 connected kind note None _ = Err Conn
 
 -- `*I node direction` or `*P node direction`, with any text after it
-abbrev pub connection : Header → ConnKind → List ℕ → Line → Said
-connection header kind line (node ∷ direction ∷ _) = connected kind (note_after 3 line) (node_in header node) (direction_in direction)
-connection header kind line _ = Err Conn
+abbrev pub connection : File → ConnKind → List ℕ → Line → Said
+connection file kind line (node ∷ direction ∷ _) = connected kind (note_after 3 line) (node_in file node) (direction_in direction)
+connection file kind line _ = Err Conn
 
 abbrev pub starred : List ℕ → Option NodeName → Said
 starred note (Some node) = Ok (Star node note)
 starred note None = Err Conn
 
 -- `*N node`, with any text after it
-abbrev pub star : Header → List ℕ → Line → Said
-star header line (node ∷ _) = starred (note_after 2 line) (node_in header node)
-star header line [] = Err Conn
+abbrev pub star : File → List ℕ → Line → Said
+star file line (node ∷ _) = starred (note_after 2 line) (node_in file node)
+star file line [] = Err Conn
 
-unfoldable pub conn_line : Header → List ℕ → Line → Said
-conn_line header line (tag ∷ rest) =
-    if bytes_eq tag (codes "*I") then connection header Pin line rest
-    else (if bytes_eq tag (codes "*P") then connection header Port line rest
-    else (if bytes_eq tag (codes "*N") then star header line rest else Err Conn))
-conn_line header line [] = Err Conn
+unfoldable pub conn_line : File → List ℕ → Line → Said
+conn_line file line (tag ∷ rest) =
+    if bytes_eq tag (codes "*I") then connection file Pin line rest
+    else (if bytes_eq tag (codes "*P") then connection file Port line rest
+    else (if bytes_eq tag (codes "*N") then star file line rest else Err Conn))
+conn_line file line [] = Err Conn
 
 abbrev pub ground : Option NodeName → Result ℕ NumFault → Said
 ground (Some node) value = Ok (Ground node value)
@@ -100,35 +100,35 @@ resistor (Some nodes) value = Ok (Resistor nodes.0 nodes.1 value)
 resistor None value = Err Res
 
 -- `id node value` or `id node node value`
-unfoldable pub cap_line : Header → Line → Said
-cap_line header (_ ∷ node ∷ value ∷ []) = ground (node_in header node) (value_in header.cap_places value)
-cap_line header (_ ∷ a ∷ b ∷ value ∷ []) = coupling (both (node_in header a) (node_in header b)) (value_in header.cap_places value)
-cap_line header _ = Err Cap
+unfoldable pub cap_line : File → Line → Said
+cap_line file (_ ∷ node ∷ value ∷ []) = ground (node_in file node) (value_in file.c_places value)
+cap_line file (_ ∷ a ∷ b ∷ value ∷ []) = coupling (both (node_in file a) (node_in file b)) (value_in file.c_places value)
+cap_line file _ = Err Cap
 
 -- `id node node value`
-unfoldable pub res_line : Header → Line → Said
-res_line header (_ ∷ a ∷ b ∷ value ∷ []) = resistor (both (node_in header a) (node_in header b)) (value_in header.res_places value)
-res_line header _ = Err Res
+unfoldable pub res_line : File → Line → Said
+res_line file (_ ∷ a ∷ b ∷ value ∷ []) = resistor (both (node_in file a) (node_in file b)) (value_in file.r_places value)
+res_line file _ = Err Res
 
 -- a line that is no head, in this part
-abbrev pub said_in : Part → Header → List ℕ → Line → Said
-said_in Nowhere header line line_words = Err Conn
-said_in Conns header line line_words = conn_line header line line_words
-said_in Caps header line line_words = cap_line header line_words
-said_in Ress header line line_words = res_line header line_words
-said_in Inducs header line line_words = Ok Nothing
+abbrev pub said_in : Part → File → List ℕ → Line → Said
+said_in Nowhere file line line_words = Err Conn
+said_in Conns file line line_words = conn_line file line line_words
+said_in Caps file line line_words = cap_line file line_words
+said_in Ress file line line_words = res_line file line_words
+said_in Inducs file line line_words = Ok Nothing
 
 abbrev pub said_or_opens : Option Part → Said → Said
 said_or_opens (Some part) said = Ok (Opens part)
 said_or_opens None said = said
 
 -- a line, with its words
-unfoldable pub said_words : Header → Part → List ℕ → Line → Said
-said_words header part line [] = Ok Nothing
-said_words header part line (word ∷ rest) = said_or_opens (head_of (word ∷ rest)) (said_in part header line (word ∷ rest))
+unfoldable pub said_words : File → Part → List ℕ → Line → Said
+said_words file part line [] = Ok Nothing
+said_words file part line (word ∷ rest) = said_or_opens (head_of (word ∷ rest)) (said_in part file line (word ∷ rest))
 
-abbrev pub said : Header → Part → List ℕ → Said
-said header part line = said_words header part line (words line)
+abbrev pub said : File → Part → List ℕ → Said
+said file part line = said_words file part line (words line)
 
 -- the part that is open after a line
 abbrev pub part_after : Part → Said → Part
@@ -136,11 +136,11 @@ part_after part (Ok (Opens opened)) = opened
 part_after part _ = part
 
 -- what lines say one after another, where this part is open before them
-unfoldable pub sayings_from : Header → Part → List (List ℕ) → List Said
-sayings_from header part [] = []
-sayings_from header part (line ∷ lines) =
-    said header part line ∷ sayings_from header (part_after part (said header part line)) lines
+unfoldable pub sayings_from : File → Part → List (List ℕ) → List Said
+sayings_from file part [] = []
+sayings_from file part (line ∷ lines) =
+    said file part line ∷ sayings_from file (part_after part (said file part line)) lines
 
 -- what the lines of a section say
-abbrev pub sayings : Header → List (List ℕ) → List Said
-sayings header lines = sayings_from header Nowhere lines
+abbrev pub sayings : File → List (List ℕ) → List Said
+sayings file lines = sayings_from file Nowhere lines

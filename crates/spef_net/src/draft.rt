@@ -8,7 +8,7 @@ ghost use Rattle.spef_net.specs.declared.saying.Saying.TheVariants.{Opens, Nothi
 
 use crate::fault::NetKind;
 use crate::net::{ConnKind, Direction, ParConn};
-use crate::node::{copied_node, is_inner};
+use crate::node::is_inner;
 use crate::part::Part;
 use crate::saying::Saying;
 use crate::tables::{NodeNotes, NodeSet};
@@ -75,7 +75,7 @@ impl Draft {
         requires { node_value self.old.joined node ≡ None }
         ensures { OnOk result (ConnAdded self.old kind direction node note self.new) }
     {
-        let copy = copied_node(alloc, &node)?;
+        let copy = node.copy(alloc)?;
         self.joined.add(copy, note)?;
         let node = self.nodes.intern(node)?;
         self.conns.push(ParConn {
@@ -90,7 +90,7 @@ impl Draft {
         requires { node_value self.old.starred node ≡ None }
         ensures { OnOk result (StarAdded self.old node note self.new) }
     {
-        let copy = copied_node(alloc, &node)?;
+        let copy = node.copy(alloc)?;
         self.starred.add(copy, note)?;
         self.nodes.intern(node)?;
         Ok(())

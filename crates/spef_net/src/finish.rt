@@ -1,23 +1,24 @@
 //! A section as a net.
 
-ghost use Rattle.std.specs.Prelude.{◌≡◌, ◌^◌, ◌≤◌, List, length, map, unwrap_or, [], IfOk, IfErr, ◌⊎◌};
+ghost use Rattle.std.specs.Prelude.{◌≡◌, ◌^◌, ◌≤◌, length, map, unwrap_or, [], IfOk, IfErr, ◌⊎◌};
 ghost use Rattle.std.specs.Option.{option_or};
 ghost use Rattle.std.specs.Str.Lines.{lines};
+ghost use Rattle.spef_file.specs.Shown.{shown};
 ghost use Rattle.spef_net.specs.Names.{node_value};
 ghost use Rattle.spef_net.specs.Sayings.{sayings};
 ghost use Rattle.spef_net.specs.Faults.{IsFaultless, IsFirstFault};
 ghost use Rattle.spef_net.specs.Denoted.{described, IsNet};
+ghost use Rattle.spef_net.specs.Sections.{IsSized};
 ghost use Rattle.spef_net.specs.Drafts.{IsMade};
 ghost use Rattle.spef_net.specs.declared.fault.NetKind.TheVariants.{Memory};
 
 use crate::draft::Draft;
 use crate::fault::{NetFault, NetKind};
-use crate::header::Header;
 use crate::net::{ParNet, ParNode};
-use crate::node::copied_node;
 use crate::read::read_lines;
 use crate::survey::find_connections;
 use crate::tables::{NodeNotes, NodeSet};
+use spef_file::SpefIndex;
 use std::alloc::Global;
 use vg_num::{Memory as NoRoom, Row};
 use vg_scan::{Name, NodeName};
@@ -32,9 +33,9 @@ fn note_of(
     ensures { IfOk result (λ note. note ≡ unwrap_or (option_or (node_value joined.now node.now) (node_value starred.now node.now)) []) }
 {
     match joined.get(node) {
-        Some(note) => Name::from_bytes(alloc, note.as_bytes()),
+        Some(note) => note.copy(alloc),
         None => match starred.get(node) {
-            Some(note) => Name::from_bytes(alloc, note.as_bytes()),
+            Some(note) => note.copy(alloc),
             None => Name::from_bytes(alloc, b""),
         },
     }
@@ -49,7 +50,7 @@ fn described(
     ensures { IfOk result (λ row. row ≡ described joined.now starred.now node.now) }
 {
     let note = note_of(alloc, joined, starred, node)?;
-    let name = copied_node(alloc, node)?;
+    let name = node.copy(alloc)?;
     let inner = !joined.contains(node);
     Ok(ParNode { name, inner, note })
 }
@@ -75,7 +76,7 @@ fn finish(alloc: Global, net: &Name, reduced: bool, draft: Draft) -> Result<ParN
     ensures { IfOk result (λ par. IsMade net.now reduced draft par) }
 {
     let nodes = describe(alloc, &draft.nodes, &draft.joined, &draft.starred)?;
-    let name = Name::from_bytes(alloc, net.as_bytes())?;
+    let name = net.copy(alloc)?;
     Ok(ParNet {
         name,
         nodes: Row::from_vec(nodes),
@@ -93,9 +94,9 @@ fn finish(alloc: Global, net: &Name, reduced: bool, draft: Draft) -> Result<ParN
 /// of them, `net` the canonical name that the head gives, and `reduced` whether it is the head of a reduced net. Answers
 /// `Conn`, `Cap`, `Res`, `Number`, `Foreign` and `SelfCoupled` as `NetKind` says, and `Memory` where there is no room, with
 /// the line at which it was wanted.
-pub fn read_section(
+pub(crate) fn read_section(
     alloc: Global,
-    header: &Header,
+    index: &SpefIndex,
     net: &Name,
     reduced: bool,
     bytes: &[u8],
@@ -103,16 +104,18 @@ pub fn read_section(
 ) -> Result<ParNet, NetFault>
     requires length { length bytes.now ≤ 2 ^ 28 }
     requires first { first ≤ 2 ^ 62 }
-    ensures faultless { IfOk result (λ _. IsFaultless net.now (sayings header.now (lines bytes.now))) }
-    ensures net { IfOk result (λ par. IsNet net.now reduced (sayings header.now (lines bytes.now)) par) }
-    ensures fault { IfErr result (λ fault. (fault.kind ≡ Memory) ⊎ IsFirstFault net.now (sayings header.now (lines bytes.now)) first fault) }
+    requires count { length (lines bytes.now) ≤ 2 ^ 28 }
+    ensures faultless { IfOk result (λ _. IsFaultless net.now (sayings (shown index.now) (lines bytes.now))) }
+    ensures net { IfOk result (λ par. IsNet net.now reduced (sayings (shown index.now) (lines bytes.now)) par) }
+    ensures sized { IfOk result IsSized }
+    ensures fault { IfErr result (λ fault. (fault.kind ≡ Memory) ⊎ IsFirstFault net.now (sayings (shown index.now) (lines bytes.now)) first fault) }
 {
-    match find_connections(alloc, header, bytes) {
+    match find_connections(alloc, index, bytes) {
         Err(_) => Err(NetFault {
             kind: NetKind::Memory,
             line: first,
         }),
-        Ok(nodes) => match read_lines(alloc, header, net, bytes, first, nodes) {
+        Ok(nodes) => match read_lines(alloc, index, net, bytes, first, nodes) {
             Err(fault) => Err(fault),
             Ok(draft) => match finish(alloc, net, reduced, draft) {
                 Err(_) => Err(NetFault {

@@ -4,26 +4,23 @@
 mod draft;
 mod fault;
 mod finish;
-mod header;
 mod laws;
 mod line;
-mod map;
 mod net;
 mod node;
 mod part;
 mod read;
 mod say;
 mod saying;
+mod section;
 mod survey;
 mod tables;
 mod value;
 
 pub use fault::{NetFault, NetKind};
-pub use finish::read_section;
-pub use header::Header;
 pub use laws::one_net;
-pub use map::NameMap;
 pub use net::{ConnKind, Direction, ParConn, ParNet, ParNode};
+pub use section::read_net;
 
 #[cfg(test)]
 mod tests;

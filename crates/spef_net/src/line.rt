@@ -1,10 +1,10 @@
 //! The words of a line, heads, and notes.
 
 ghost use Rattle.std.specs.Prelude.{◌≡◌, ◌≤◌, length, drop, OnOk};
-ghost use Rattle.std.specs.List.{position, position_or_len, suffix_len};
+ghost use Rattle.std.specs.List.{position, position_or_len};
 ghost use Rattle.std.specs.Str.{bytes_eq};
 ghost use Rattle.vg_scan.specs.Lines.{is_blank, is_ink, words};
-ghost use Rattle.spef_net.specs.Lines.{part_named, head_of, is_space, is_solid, after_ink, after_word, without_end, trimmed, note_after};
+ghost use Rattle.spef_net.specs.Lines.{part_named, head_of, is_solid, after_word, without_end, trimmed, note_after};
 ghost use Rattle.vg_scan.specs.Spans.{part_at, words_at};
 
 use crate::part::Part;

@@ -2,6 +2,7 @@
 
 ghost use Rattle.std.specs.Prelude.{◌≡◌, ◌^◌, ◌≤◌, length, IfOk, IfErr, ◌⊎◌};
 ghost use Rattle.std.specs.Str.Lines.{lines};
+ghost use Rattle.spef_file.specs.Shown.{shown};
 ghost use Rattle.spef_net.specs.Names.{distinct};
 ghost use Rattle.spef_net.specs.Sayings.{said, said_words, sayings, part_after};
 ghost use Rattle.spef_net.specs.Rows.{connected_of};
@@ -13,12 +14,12 @@ ghost use Rattle.std.specs.Prelude.{Ok};
 
 use crate::draft::Draft;
 use crate::fault::{NetFault, NetKind};
-use crate::header::Header;
 use crate::line::line_words;
 use crate::part::Part;
 use crate::say::say;
 use crate::saying::Saying;
 use crate::tables::NodeSet;
+use spef_file::SpefIndex;
 use std::alloc::Global;
 use vg_scan::{Name, Span, next_line, text_at};
 
@@ -40,16 +41,16 @@ fn part_after(part: Part, saying: &Saying) -> Part
 /// Takes a line's words, and says which part is open after it.
 fn take_words(
     alloc: Global,
-    header: &Header,
+    index: &SpefIndex,
     net: &Name,
     part: Part,
     line: &[u8],
     words: &[Span],
     draft: &mut Draft,
 ) -> Result<Part, NetKind>
-    ensures { Follows result net.now part draft.old (said_words header.now part line.now (words_at line.now words.now)) draft.new }
+    ensures { Follows result net.now part draft.old (said_words (shown index.now) part line.now (words_at line.now words.now)) draft.new }
 {
-    match say(alloc, header, part, line, words) {
+    match say(alloc, index, part, line, words) {
         Err(kind) => Err(kind),
         Ok(saying) => {
             let next = part_after(part, &saying);
@@ -64,25 +65,25 @@ fn take_words(
 /// The same of a line. The list is to hold its words.
 fn take_line(
     alloc: Global,
-    header: &Header,
+    index: &SpefIndex,
     net: &Name,
     part: Part,
     line: &[u8],
     found: &mut Vec<Span>,
     draft: &mut Draft,
 ) -> Result<Part, NetKind>
-    ensures { Follows result net.now part draft.old (said header.now part line.now) draft.new }
+    ensures { Follows result net.now part draft.old (said (shown index.now) part line.now) draft.new }
 {
     match line_words(line, found) {
         Err(_) => Err(NetKind::Memory),
-        Ok(()) => take_words(alloc, header, net, part, line, found.as_slice(), draft),
+        Ok(()) => take_words(alloc, index, net, part, line, found.as_slice(), draft),
     }
 }
 
 /// The net that a section's lines denote, from the nodes of its connections; or the first fault.
 pub(crate) fn read_lines(
     alloc: Global,
-    header: &Header,
+    index: &SpefIndex,
     net: &Name,
     bytes: &[u8],
     first: usize,
@@ -90,10 +91,10 @@ pub(crate) fn read_lines(
 ) -> Result<Draft, NetFault>
     requires length { length bytes.now ≤ 2 ^ 28 }
     requires first { first ≤ 2 ^ 62 }
-    requires nodes { nodes ≡ distinct (connected_of (sayings header.now (lines bytes.now))) }
-    ensures faultless { IfOk result (λ _. IsFaultless net.now (sayings header.now (lines bytes.now))) }
-    ensures draft { IfOk result (λ draft. IsSketch (connected_of (sayings header.now (lines bytes.now))) net.now (sayings header.now (lines bytes.now)) draft) }
-    ensures fault { IfErr result (λ fault. (fault.kind ≡ Memory) ⊎ IsFirstFault net.now (sayings header.now (lines bytes.now)) first fault) }
+    requires nodes { nodes ≡ distinct (connected_of (sayings (shown index.now) (lines bytes.now))) }
+    ensures faultless { IfOk result (λ _. IsFaultless net.now (sayings (shown index.now) (lines bytes.now))) }
+    ensures draft { IfOk result (λ draft. IsSketch (connected_of (sayings (shown index.now) (lines bytes.now))) net.now (sayings (shown index.now) (lines bytes.now)) draft) }
+    ensures fault { IfErr result (λ fault. (fault.kind ≡ Memory) ⊎ IsFirstFault net.now (sayings (shown index.now) (lines bytes.now)) first fault) }
 {
     let mut draft = Draft::new(alloc, nodes);
     let mut found = Vec::new(alloc);
@@ -102,7 +103,7 @@ pub(crate) fn read_lines(
     let mut at = 0usize;
     'line: while let Some((line, next)) = next_line(bytes, at) {
         let text = text_at(bytes, line);
-        match take_line(alloc, header, net, part, text, &mut found, &mut draft) {
+        match take_line(alloc, index, net, part, text, &mut found, &mut draft) {
             Err(kind) => {
                 return Err(NetFault {
                     kind,

@@ -1,19 +1,20 @@
 //! What a line says by itself.
 
 ghost use Rattle.std.specs.Prelude.{◌≡◌, Some};
+ghost use Rattle.spef_file.specs.Shown.{shown};
 ghost use Rattle.spef_net.specs.Names.{node_in};
 ghost use Rattle.spef_net.specs.Sayings.{direction_in, is_at, connected, connection, starred, star, conn_line, both, ground, coupling, resistor, value_in, cap_line, res_line, said_in, said_words};
 ghost use Rattle.vg_scan.specs.Spans.{part_at, words_at};
 ghost use Rattle.spef_net.specs.Views.{Agrees};
 
 use crate::fault::NetKind;
-use crate::header::Header;
 use crate::line::{connection_note, head_of, is_word, star_note};
 use crate::net::{ConnKind, Direction};
 use crate::node::{is_bare, read_node, read_nodes};
 use crate::part::Part;
 use crate::saying::Saying;
 use crate::value::read_value;
+use spef_file::SpefIndex;
 use std::alloc::Global;
 use vg_scan::{Name, NameFault, NodeName, Span, text_at};
 
@@ -61,17 +62,17 @@ fn connected(
 /// A connection, from the words after the first.
 fn say_connection(
     alloc: Global,
-    header: &Header,
+    index: &SpefIndex,
     kind: ConnKind,
     line: &[u8],
     words: &[Span],
 ) -> Result<Saying, NetKind>
-    ensures { Agrees result (connection header.now kind line.now (words_at line.now words.now)) }
+    ensures { Agrees result (connection (shown index.now) kind line.now (words_at line.now words.now)) }
 {
     let [node, direction, ..] = words else {
         return Err(NetKind::Conn);
     };
-    match read_node(alloc, header, text_at(line, *node)) {
+    match read_node(alloc, index, text_at(line, *node)) {
         Err(NameFault::Bad) => Err(NetKind::Conn),
         Err(NameFault::Memory) => Err(NetKind::Memory),
         Ok(node) => match direction_in(line, *direction) {
@@ -91,13 +92,18 @@ fn starred(alloc: Global, note: &[u8], node: NodeName) -> Result<Saying, NetKind
 }
 
 /// A node inside the net, from the words after the first.
-fn say_star(alloc: Global, header: &Header, line: &[u8], words: &[Span]) -> Result<Saying, NetKind>
-    ensures { Agrees result (star header.now line.now (words_at line.now words.now)) }
+fn say_star(
+    alloc: Global,
+    index: &SpefIndex,
+    line: &[u8],
+    words: &[Span],
+) -> Result<Saying, NetKind>
+    ensures { Agrees result (star (shown index.now) line.now (words_at line.now words.now)) }
 {
     let [node, ..] = words else {
         return Err(NetKind::Conn);
     };
-    match read_node(alloc, header, text_at(line, *node)) {
+    match read_node(alloc, index, text_at(line, *node)) {
         Err(NameFault::Bad) => Err(NetKind::Conn),
         Err(NameFault::Memory) => Err(NetKind::Memory),
         Ok(node) => starred(alloc, star_note(line), node),
@@ -106,33 +112,43 @@ fn say_star(alloc: Global, header: &Header, line: &[u8], words: &[Span]) -> Resu
 
 /// A line of connections.
 #[tactic(auto, unfolding(crate::specs::Sayings::conn_line))]
-fn say_conn(alloc: Global, header: &Header, line: &[u8], words: &[Span]) -> Result<Saying, NetKind>
-    ensures { Agrees result (conn_line header.now line.now (words_at line.now words.now)) }
+fn say_conn(
+    alloc: Global,
+    index: &SpefIndex,
+    line: &[u8],
+    words: &[Span],
+) -> Result<Saying, NetKind>
+    ensures { Agrees result (conn_line (shown index.now) line.now (words_at line.now words.now)) }
 {
     if words.is_empty() {
         return Err(NetKind::Conn);
     }
     let rest = &words[1..];
     if is_word(line, words[0], b"*I") {
-        return say_connection(alloc, header, ConnKind::Pin, line, rest);
+        return say_connection(alloc, index, ConnKind::Pin, line, rest);
     }
     if is_word(line, words[0], b"*P") {
-        return say_connection(alloc, header, ConnKind::Port, line, rest);
+        return say_connection(alloc, index, ConnKind::Port, line, rest);
     }
     if is_word(line, words[0], b"*N") {
-        return say_star(alloc, header, line, rest);
+        return say_star(alloc, index, line, rest);
     }
     Err(NetKind::Conn)
 }
 
-fn say_ground(alloc: Global, header: &Header, node: &[u8], value: &[u8]) -> Result<Saying, NetKind>
-    ensures { Agrees result (ground (node_in header.now node.now) (value_in header.now.cap_places value.now)) }
+fn say_ground(
+    alloc: Global,
+    index: &SpefIndex,
+    node: &[u8],
+    value: &[u8],
+) -> Result<Saying, NetKind>
+    ensures { Agrees result (ground (node_in (shown index.now) node.now) (value_in index.now.header.c_places value.now)) }
 {
-    match read_node(alloc, header, node) {
+    match read_node(alloc, index, node) {
         Err(NameFault::Bad) => Err(NetKind::Cap),
         Err(NameFault::Memory) => Err(NetKind::Memory),
         Ok(node) => {
-            let value = read_value(value, header.cap_places);
+            let value = read_value(value, index.header.c_places);
             Ok(Saying::Ground(node, value))
         }
     }
@@ -140,18 +156,18 @@ fn say_ground(alloc: Global, header: &Header, node: &[u8], value: &[u8]) -> Resu
 
 fn say_coupling(
     alloc: Global,
-    header: &Header,
+    index: &SpefIndex,
     first: &[u8],
     second: &[u8],
     value: &[u8],
 ) -> Result<Saying, NetKind>
-    ensures { Agrees result (coupling (both (node_in header.now first.now) (node_in header.now second.now)) (value_in header.now.cap_places value.now)) }
+    ensures { Agrees result (coupling (both (node_in (shown index.now) first.now) (node_in (shown index.now) second.now)) (value_in index.now.header.c_places value.now)) }
 {
-    match read_nodes(alloc, header, first, second) {
+    match read_nodes(alloc, index, first, second) {
         Err(NameFault::Bad) => Err(NetKind::Cap),
         Err(NameFault::Memory) => Err(NetKind::Memory),
         Ok((a, b)) => {
-            let value = read_value(value, header.cap_places);
+            let value = read_value(value, index.header.c_places);
             Ok(Saying::Coupling(a, b, value))
         }
     }
@@ -159,18 +175,18 @@ fn say_coupling(
 
 fn say_resistor(
     alloc: Global,
-    header: &Header,
+    index: &SpefIndex,
     first: &[u8],
     second: &[u8],
     value: &[u8],
 ) -> Result<Saying, NetKind>
-    ensures { Agrees result (resistor (both (node_in header.now first.now) (node_in header.now second.now)) (value_in header.now.res_places value.now)) }
+    ensures { Agrees result (resistor (both (node_in (shown index.now) first.now) (node_in (shown index.now) second.now)) (value_in index.now.header.r_places value.now)) }
 {
-    match read_nodes(alloc, header, first, second) {
+    match read_nodes(alloc, index, first, second) {
         Err(NameFault::Bad) => Err(NetKind::Res),
         Err(NameFault::Memory) => Err(NetKind::Memory),
         Ok((a, b)) => {
-            let value = read_value(value, header.res_places);
+            let value = read_value(value, index.header.r_places);
             Ok(Saying::Resistor(a, b, value))
         }
     }
@@ -178,13 +194,13 @@ fn say_resistor(
 
 /// A line of capacitors.
 #[tactic(auto, unfolding(crate::specs::Sayings::cap_line))]
-fn say_cap(alloc: Global, header: &Header, line: &[u8], words: &[Span]) -> Result<Saying, NetKind>
-    ensures { Agrees result (cap_line header.now (words_at line.now words.now)) }
+fn say_cap(alloc: Global, index: &SpefIndex, line: &[u8], words: &[Span]) -> Result<Saying, NetKind>
+    ensures { Agrees result (cap_line (shown index.now) (words_at line.now words.now)) }
 {
     if words.len() == 3 {
         return say_ground(
             alloc,
-            header,
+            index,
             text_at(line, words[1]),
             text_at(line, words[2]),
         );
@@ -194,7 +210,7 @@ fn say_cap(alloc: Global, header: &Header, line: &[u8], words: &[Span]) -> Resul
     };
     say_coupling(
         alloc,
-        header,
+        index,
         text_at(line, *a),
         text_at(line, *b),
         text_at(line, *value),
@@ -203,15 +219,15 @@ fn say_cap(alloc: Global, header: &Header, line: &[u8], words: &[Span]) -> Resul
 
 /// A line of resistors.
 #[tactic(auto, unfolding(crate::specs::Sayings::res_line))]
-fn say_res(alloc: Global, header: &Header, line: &[u8], words: &[Span]) -> Result<Saying, NetKind>
-    ensures { Agrees result (res_line header.now (words_at line.now words.now)) }
+fn say_res(alloc: Global, index: &SpefIndex, line: &[u8], words: &[Span]) -> Result<Saying, NetKind>
+    ensures { Agrees result (res_line (shown index.now) (words_at line.now words.now)) }
 {
     let [_, a, b, value] = words else {
         return Err(NetKind::Res);
     };
     say_resistor(
         alloc,
-        header,
+        index,
         text_at(line, *a),
         text_at(line, *b),
         text_at(line, *value),
@@ -221,18 +237,18 @@ fn say_res(alloc: Global, header: &Header, line: &[u8], words: &[Span]) -> Resul
 /// A line with words that is no head, in this part.
 fn say_in(
     alloc: Global,
-    header: &Header,
+    index: &SpefIndex,
     part: Part,
     line: &[u8],
     words: &[Span],
 ) -> Result<Saying, NetKind>
-    ensures { Agrees result (said_in part header.now line.now (words_at line.now words.now)) }
+    ensures { Agrees result (said_in part (shown index.now) line.now (words_at line.now words.now)) }
 {
     match part {
         Part::Nowhere => Err(NetKind::Conn),
-        Part::Conns => say_conn(alloc, header, line, words),
-        Part::Caps => say_cap(alloc, header, line, words),
-        Part::Ress => say_res(alloc, header, line, words),
+        Part::Conns => say_conn(alloc, index, line, words),
+        Part::Caps => say_cap(alloc, index, line, words),
+        Part::Ress => say_res(alloc, index, line, words),
         Part::Inducs => Ok(Saying::Nothing),
     }
 }
@@ -243,18 +259,18 @@ fn say_in(
 #[tactic(auto, unfolding(crate::specs::Sayings::said_words))]
 pub(crate) fn say(
     alloc: Global,
-    header: &Header,
+    index: &SpefIndex,
     part: Part,
     line: &[u8],
     words: &[Span],
 ) -> Result<Saying, NetKind>
-    ensures { Agrees result (said_words header.now part line.now (words_at line.now words.now)) }
+    ensures { Agrees result (said_words (shown index.now) part line.now (words_at line.now words.now)) }
 {
     if words.is_empty() {
         return Ok(Saying::Nothing);
     }
     match head_of(line, words) {
         Some(opened) => Ok(Saying::Opens(opened)),
-        None => say_in(alloc, header, part, line, words),
+        None => say_in(alloc, index, part, line, words),
     }
 }

@@ -2,6 +2,7 @@
 
 ghost use Rattle.std.specs.Prelude.{◌≡◌, IfOk, Ok, length};
 ghost use Rattle.std.specs.Str.Lines.{lines};
+ghost use Rattle.spef_file.specs.Shown.{shown};
 ghost use Rattle.spef_net.specs.Names.{distinct};
 ghost use Rattle.spef_net.specs.Sayings.{said, said_words, sayings};
 ghost use Rattle.spef_net.specs.Rows.{connected_of};
@@ -9,12 +10,12 @@ ghost use Rattle.vg_scan.specs.Spans.{words_at};
 ghost use Rattle.spef_net.specs.Surveys.{Surveys, is_memory, matters};
 
 use crate::fault::NetKind;
-use crate::header::Header;
 use crate::line::line_words;
 use crate::part::Part;
 use crate::say::say;
 use crate::saying::Saying;
 use crate::tables::NodeSet;
+use spef_file::SpefIndex;
 use std::alloc::Global;
 use vg_num::Memory;
 use vg_scan::{Span, next_line, text_at};
@@ -53,18 +54,18 @@ fn note_saying(part: Part, saying: Saying, nodes: &mut NodeSet) -> Result<Part, 
 /// The part that is open after a line, and its node where it is a connection, which the nodes are to hold.
 fn survey_words(
     alloc: Global,
-    header: &Header,
+    index: &SpefIndex,
     part: Part,
     line: &[u8],
     words: &[Span],
     nodes: &mut NodeSet,
 ) -> Result<Part, Memory>
-    ensures { Surveys result nodes.old nodes.new part (said_words header.now part line.now (words_at line.now words.now)) }
+    ensures { Surveys result nodes.old nodes.new part (said_words (shown index.now) part line.now (words_at line.now words.now)) }
 {
     if !matters(part, words) {
         return Ok(part);
     }
-    match say(alloc, header, part, line, words) {
+    match say(alloc, index, part, line, words) {
         Ok(saying) => note_saying(part, saying, nodes),
         Err(kind) => {
             if is_memory(kind) {
@@ -78,26 +79,26 @@ fn survey_words(
 /// The same of a line. The list is to hold its words.
 fn survey_line(
     alloc: Global,
-    header: &Header,
+    index: &SpefIndex,
     part: Part,
     line: &[u8],
     found: &mut Vec<Span>,
     nodes: &mut NodeSet,
 ) -> Result<Part, Memory>
-    ensures { Surveys result nodes.old nodes.new part (said header.now part line.now) }
+    ensures { Surveys result nodes.old nodes.new part (said (shown index.now) part line.now) }
 {
     line_words(line, found)?;
-    let next = survey_words(alloc, header, part, line, found.as_slice(), nodes)?;
+    let next = survey_words(alloc, index, part, line, found.as_slice(), nodes)?;
     Ok(next)
 }
 
 /// The nodes of a section's connections, each once. Answers `Memory` where there is no room.
 pub(crate) fn find_connections(
     alloc: Global,
-    header: &Header,
+    index: &SpefIndex,
     bytes: &[u8],
 ) -> Result<NodeSet, Memory>
-    ensures { IfOk result (λ nodes. nodes ≡ distinct (connected_of (sayings header.now (lines bytes.now)))) }
+    ensures { IfOk result (λ nodes. nodes ≡ distinct (connected_of (sayings (shown index.now) (lines bytes.now)))) }
 {
     let mut nodes = NodeSet::new(alloc);
     let mut found = Vec::new(alloc);
@@ -106,7 +107,7 @@ pub(crate) fn find_connections(
     'line: while let Some((line, next)) = next_line(bytes, at) {
         part = survey_line(
             alloc,
-            header,
+            index,
             part,
             text_at(bytes, line),
             &mut found,

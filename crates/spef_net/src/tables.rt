@@ -1,6 +1,6 @@
 //! The nodes of a net and their notes: a look-up takes no walk.
 
-ghost use Rattle.std.specs.Prelude.{◌≡◌, ◌==◌, ℕ, List, [], ◌∷◌, ◌++◌, length, is_some, Option, Some, None, IfOk, OnOk, option_map};
+ghost use Rattle.std.specs.Prelude.{◌≡◌, ℕ, List, [], ◌∷◌, ◌++◌, length, is_some, Option, Some, None, IfOk, OnOk, option_map};
 ghost use Rattle.std.specs.List.{slice_get};
 ghost use Rattle.vg_scan.specs.declared.name.NodeName.{NodeName};
 ghost use Rattle.spef_net.specs.Names.{has_node, with_node, node_value};

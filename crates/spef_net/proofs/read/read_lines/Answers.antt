@@ -1,5 +1,6 @@
 use Rattle.std.proofs.Common.{◌≡◌, ◌∷◌, List, [], take, drop, sym, ◌∙◌, ap, refl, arith, subst, Ok}
 use Rattle.std.specs.Str.Lines.{lines}
+use Rattle.spef_file.specs.Shown.{shown}
 use Rattle.spef_net.specs.declared.saying.Saying.TheVariants.{Nothing}
 use Rattle.spef_net.specs.Sayings.{Said, said, part_after, sayings, sayings_from}
 use Rattle.spef_net.specs.Rows.{connected_of}
@@ -13,54 +14,54 @@ line-init c = record {
   counted = omega arith;
   rest = refl;
   clear = λ i h. absurd (omega arith);
-  sketch = subst (λ (d : Sketch). IsSketch (connected_of (sayings c.args.header.now (lines c.args.bytes.now))) c.args.net.now [] d) (sym c.new-draft.ensures)
-      (no_lines (connected_of (sayings c.args.header.now (lines c.args.bytes.now))) c.args.net.now c.args.nodes c.requires.nodes);
+  sketch = subst (λ (d : Sketch). IsSketch (connected_of (sayings (shown c.args.index.now) (lines c.args.bytes.now))) c.args.net.now [] d) (sym c.new-draft.ensures)
+      (no_lines (connected_of (sayings (shown c.args.index.now) (lines c.args.bytes.now))) c.args.net.now c.args.nodes c.requires.nodes);
 }
 
 pub returns-in-Err-clause-fault : goal.returns-in-Err-clause-fault
 returns-in-Err-clause-fault c =
-    let header = c.args.header.now in
-    let all = sayings header (lines c.args.bytes.now) in
+    let index = shown c.args.index.now in
+    let all = sayings index (lines c.args.bytes.now) in
     let n = c.line.count in
-    let line = said header c.line.part c.text_at-text.result.now in
-    let others = sayings_from header (part_after c.line.part line) (lines (drop c.in-Some.next c.args.bytes.now)) in
+    let line = said index c.line.part c.text_at-text.result.now in
+    let others = sayings_from index (part_after c.line.part line) (lines (drop c.in-Some.next c.args.bytes.now)) in
     let e : drop n all ≡ line ∷ others =
-    sym c.line.invariant.rest ∙ ap (sayings_from header c.line.part) (c.in-Some.ensures.line ∙ ap (λ l. l ∷ lines (drop c.in-Some.next c.args.bytes.now)) (sym c.text_at-text.ensures))
-    ∙ left header c.line.part c.text_at-text.result.now (lines (drop c.in-Some.next c.args.bytes.now)) in
+    sym c.line.invariant.rest ∙ ap (sayings_from index c.line.part) (c.in-Some.ensures.line ∙ ap (λ l. l ∷ lines (drop c.in-Some.next c.args.bytes.now)) (sym c.text_at-text.ensures))
+    ∙ left index c.line.part c.text_at-text.result.now (lines (drop c.in-Some.next c.args.bytes.now)) in
     let x = next_is all n (Ok Nothing) line others e in
     first_fault c.args.net.now all n c.args.first line c.in-Err.kind x.within x.here c.line.invariant.clear
     (c.in-Err.ensures (connected_of all) (take n all) (is_counted all n line others e) c.line.invariant.sketch)
 
 pub line-preserved : goal.line-preserved
 line-preserved c =
-    let header = c.args.header.now in
-    let all = sayings header (lines c.args.bytes.now) in
+    let index = shown c.args.index.now in
+    let all = sayings index (lines c.args.bytes.now) in
     let n = c.line.count in
-    let line = said header c.line.part c.text_at-text.result.now in
-    let others = sayings_from header (part_after c.line.part line) (lines (drop c.in-Some.next c.args.bytes.now)) in
+    let line = said index c.line.part c.text_at-text.result.now in
+    let others = sayings_from index (part_after c.line.part line) (lines (drop c.in-Some.next c.args.bytes.now)) in
     let e : drop n all ≡ line ∷ others =
-    sym c.line.invariant.rest ∙ ap (sayings_from header c.line.part) (c.in-Some.ensures.line ∙ ap (λ l. l ∷ lines (drop c.in-Some.next c.args.bytes.now)) (sym c.text_at-text.ensures))
-    ∙ left header c.line.part c.text_at-text.result.now (lines (drop c.in-Some.next c.args.bytes.now)) in
+    sym c.line.invariant.rest ∙ ap (sayings_from index c.line.part) (c.in-Some.ensures.line ∙ ap (λ l. l ∷ lines (drop c.in-Some.next c.args.bytes.now)) (sym c.text_at-text.ensures))
+    ∙ left index c.line.part c.text_at-text.result.now (lines (drop c.in-Some.next c.args.bytes.now)) in
     let x = next_is all n (Ok Nothing) line others e in
     let t = c.in-Ok.ensures.1 (connected_of all) (take n all) (is_counted all n line others e) c.line.invariant.sketch in
     record {
       within = omega (arith, c.in-Some.ensures.place);
       counted = omega (arith, c.in-Some.ensures.place);
-      rest = ap (λ p. sayings_from header p (lines (drop c.in-Some.next c.args.bytes.now))) c.in-Ok.ensures.0 ∙ sym x.rest;
+      rest = ap (λ p. sayings_from index p (lines (drop c.in-Some.next c.args.bytes.now))) c.in-Ok.ensures.0 ∙ sym x.rest;
       clear = clear_more c.args.net.now all n line x.here c.line.invariant.clear t.0;
       sketch = subst (λ (ls : List Said). IsSketch (connected_of all) c.args.net.now ls c.take_line.new.draft) (sym x.front) t.1;
     }
 
 pub returns-clause-faultless : goal.returns-clause-faultless
 returns-clause-faultless c =
-    let header = c.args.header.now in
-    let all = sayings header (lines c.args.bytes.now) in
-    let e : drop c.line.count all ≡ [] = sym c.line.invariant.rest ∙ ap (sayings_from header c.line.part) c.in_default.ensures.line ∙ none_left header c.line.part in
+    let index = shown c.args.index.now in
+    let all = sayings index (lines c.args.bytes.now) in
+    let e : drop c.line.count all ≡ [] = sym c.line.invariant.rest ∙ ap (sayings_from index c.line.part) c.in_default.ensures.line ∙ none_left index c.line.part in
     λ i h. c.line.invariant.clear i (omega (arith, all_read all c.line.count e))
 
 pub returns-clause-draft : goal.returns-clause-draft
 returns-clause-draft c =
-    let header = c.args.header.now in
-    let all = sayings header (lines c.args.bytes.now) in
-    let e : drop c.line.count all ≡ [] = sym c.line.invariant.rest ∙ ap (sayings_from header c.line.part) c.in_default.ensures.line ∙ none_left header c.line.part in
+    let index = shown c.args.index.now in
+    let all = sayings index (lines c.args.bytes.now) in
+    let e : drop c.line.count all ≡ [] = sym c.line.invariant.rest ∙ ap (sayings_from index c.line.part) c.in_default.ensures.line ∙ none_left index c.line.part in
     subst (λ (ls : List Said). IsSketch (connected_of all) c.args.net.now ls c.line.draft) (take_whole all c.line.count e) c.line.invariant.sketch

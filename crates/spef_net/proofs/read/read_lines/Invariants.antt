@@ -1,5 +1,6 @@
 use Rattle.std.proofs.Common.{◌≡◌, ◌≤◌, ◌-◌, drop, take, length}
 use Rattle.std.specs.Str.Lines.{lines}
+use Rattle.spef_file.specs.Shown.{shown}
 use Rattle.spef_net.specs.Sayings.{sayings, sayings_from}
 use Rattle.spef_net.specs.Rows.{connected_of}
 use Rattle.spef_net.specs.Faults.{IsClear}
@@ -10,9 +11,9 @@ abbrev pub invariant-line : goal.invariant-line
 invariant-line l = record {
   within : l.at ≤ length l.bytes;
   counted : l.count ≤ l.at;
-  rest : sayings_from l.header l.part (lines (drop l.at l.bytes)) ≡ drop l.count (sayings l.header (lines l.bytes));
-  clear : IsClear l.net (sayings l.header (lines l.bytes)) l.count;
-  sketch : IsSketch (connected_of (sayings l.header (lines l.bytes))) l.net (take l.count (sayings l.header (lines l.bytes))) l.draft;
+  rest : sayings_from (shown l.index) l.part (lines (drop l.at l.bytes)) ≡ drop l.count (sayings (shown l.index) (lines l.bytes));
+  clear : IsClear l.net (sayings (shown l.index) (lines l.bytes)) l.count;
+  sketch : IsSketch (connected_of (sayings (shown l.index) (lines l.bytes))) l.net (take l.count (sayings (shown l.index) (lines l.bytes))) l.draft;
 }
 
 abbrev pub decreases-line : goal.decreases-line

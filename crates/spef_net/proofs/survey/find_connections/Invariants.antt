@@ -1,6 +1,7 @@
 use Rattle.std.proofs.Common.{◌≡◌, ◌≤◌, ◌-◌, drop, length, []}
 use Rattle.std.specs.List.{fold}
 use Rattle.std.specs.Str.Lines.{lines}
+use Rattle.spef_file.specs.Shown.{shown}
 use Rattle.spef_net.specs.Names.{with_node}
 use Rattle.spef_net.specs.Sayings.{sayings, sayings_from}
 use Rattle.spef_net.specs.Rows.{connected_of}
@@ -9,7 +10,7 @@ use Rattle.spef_net.proofs.survey.find_connections.Given as goal
 abbrev pub invariant-line : goal.invariant-line
 invariant-line l = record {
   within : l.at ≤ length l.bytes;
-  rest : fold with_node l.nodes (connected_of (sayings_from l.header l.part (lines (drop l.at l.bytes)))) ≡ fold with_node [] (connected_of (sayings l.header (lines l.bytes)));
+  rest : fold with_node l.nodes (connected_of (sayings_from (shown l.index) l.part (lines (drop l.at l.bytes)))) ≡ fold with_node [] (connected_of (sayings (shown l.index) (lines l.bytes)));
 }
 
 abbrev pub decreases-line : goal.decreases-line

@@ -1,0 +1,35 @@
+-- The nets of a file: what the lines after a head say, and the net that they denote.
+use Rattle.std.specs.Prelude.{ℕ, ◌+◌, ◌<◌, ◌≤◌, ◌^◌, List, [], length, if◌then◌else◌}
+use Rattle.std.specs.List.{All}
+use Rattle.spef_file.specs.States.{NetHead}
+use Rattle.spef_file.specs.Readings.{File}
+use Rattle.spef_file.specs.Indexes.{lines_after}
+use Rattle.spef_net.specs.declared.fault.NetFault.{NetFault}
+use Rattle.spef_net.specs.declared.net.ParNet.{ParNet}
+use Rattle.spef_net.specs.Sayings.{Said, sayings}
+use Rattle.spef_net.specs.Faults.{IsFaultless, IsFirstFault}
+use Rattle.spef_net.specs.Denoted.{IsNet}
+
+-- what the lines of a net say whose head is this; those of a reduced net are not read
+abbrev pub sayings_in : List ℕ → File → NetHead → List Said
+sayings_in text file head = if head.reduced then [] else sayings file (lines_after text head.line)
+
+-- the net of a head
+pub record IsNetOf (text : List ℕ) (file : File) (head : NetHead) (net : ParNet) : Type 0 where
+  pub faultless : IsFaultless head.name (sayings_in text file head)
+  pub denoted : IsNet head.name head.reduced (sayings_in text file head) net
+
+-- or its first fault, with the number of its line in the file
+abbrev pub IsFaultOf : List ℕ → File → NetHead → NetFault → Type 0
+IsFaultOf text file head fault = IsFirstFault head.name (sayings_in text file head) (head.line + 1) fault
+
+-- what a text of at most 2^28 bytes may have: each number is that of a node, and each value is at most 10^15
+pub record IsSized (net : ParNet) : Type 0 where
+  pub node_count : length net.nodes ≤ 2 ^ 30
+  pub cap_count : length net.caps ≤ 2 ^ 28
+  pub res_count : length net.ress ≤ 2 ^ 28
+  pub conn_nodes : All (λ conn. conn.node < length net.nodes) net.conns
+  pub cap_nodes : All (λ cap. cap.0 < length net.nodes) net.caps
+  pub cap_values : All (λ cap. cap.1 ≤ 10 ^ 15) net.caps
+  pub res_nodes : All (λ res. (res.0 < length net.nodes) × (res.1 < length net.nodes)) net.ress
+  pub res_values : All (λ res. res.2 ≤ 10 ^ 15) net.ress
