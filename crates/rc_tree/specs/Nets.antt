@@ -6,10 +6,10 @@ use Rattle.rc_tree.specs.Chains.{edge_at}
 abbrev pub cap_at : List (ℕ × ℕ) → ℕ → ℕ × ℕ
 cap_at caps k = slice_index_or caps k (0, 0)
 
--- n nodes, numbered from 0; each list has at most 2^28 elements, each capacitor at most 10^15 aF
+-- n nodes, numbered from 0, at most 2^30; each list has at most 2^28 elements, each capacitor at most 10^15 aF
 pub record IsNet (n root : ℕ) (caps : List (ℕ × ℕ)) (edges : List (ℕ × ℕ × ℕ)) : Type 0 where
   pub some : 1 ≤ n
-  pub most : n ≤ 2 ^ 28
+  pub most : n ≤ 2 ^ 30
   pub root_node : root < n
   pub cap_count : length caps ≤ 2 ^ 28
   pub cap_nodes : (k : ℕ) → k < length caps → (cap_at caps k).0 < n

@@ -38,7 +38,7 @@ pub(crate) fn search(
     edges: &[(u32, u32, u64)],
     links: &Links,
 ) -> Result<Reached, Memory>
-    requires some { n ≤ 2 ^ 28 }
+    requires some { n ≤ 2 ^ 30 }
     requires root_node { root < n }
     requires count { length edges.now ≤ 2 ^ 28 }
     requires from_nodes { (j : ℕ) → j < length edges.now → (edge_at edges.now j).0 < n }
@@ -86,7 +86,7 @@ fn scan(
     requires linked { length links.now.first.items ≡ length reached.old.seen.items }
     requires links { AreLinks edges.now links.now.first.items links.now.next.items }
     requires place { p < length reached.old.places.items }
-    requires low { p < 2 ^ 28 }
+    requires low { p < 2 ^ 30 }
     requires before { IsScan (length reached.old.seen.items) (root_of reached.old.places.items) edges.now reached.old.places.items reached.old.seen.items p 0 }
     ensures { IfOk result (λ _. IsScan (length reached.old.seen.items) (root_of reached.old.places.items) edges.now reached.new.places.items reached.new.seen.items (p + 1) 0) }
 {
@@ -143,7 +143,7 @@ fn reach(reached: &mut Reached, place: Place) -> Result<(), Memory>
 
 /// The node of the least number that was not seen.
 pub(crate) fn first_unseen(seen: &[bool]) -> Option<u32>
-    requires { length seen.now ≤ 2 ^ 28 }
+    requires { length seen.now ≤ 2 ^ 30 }
     ensures { MatchOption result ((v : ℕ) → v < length seen.now → is_seen seen.now v ≡ true) (λ v. (v < length seen.now) × (is_seen seen.now v ≢ true) × ((u : ℕ) → u < v → is_seen seen.now u ≡ true)) }
 {
     'nodes: for v in 0..seen.len() {
