@@ -1,0 +1,5 @@
+pub mod PassLemmas
+pub mod EndLemmas
+pub mod NamedLemmas
+pub mod WireLemmas
+pub mod AnswerLemmas

@@ -1,0 +1,5 @@
+pub mod Refusals
+pub mod Nets
+pub mod Wires
+pub mod Steps
+pub mod Laws

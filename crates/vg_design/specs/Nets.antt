@@ -1,0 +1,67 @@
+-- The net of a name in a file, and its refusal.
+use Rattle.std.specs.Prelude.{◌≡◌, ℕ, ◌<◌, List, Option, Some, None, Ok}
+use Rattle.std.specs.List.{find}
+use Rattle.std.specs.Str.{bytes_eq}
+use Rattle.spef_file.specs.Readings.{File, file_of}
+use Rattle.spef_file.specs.States.{NetHead}
+use Rattle.spef_net.specs.Sections.{IsNetOf, IsFaultOf}
+use Rattle.spef_net.specs.declared.fault.NetFault.{NetFault}
+use Rattle.spef_net.specs.declared.net.ParNet.{ParNet}
+use Rattle.vg_design.specs.Refusals.{number_of, IsFirstRefusal}
+use Rattle.vg_design.specs.declared.refusal.Refused.{Refused}
+use Rattle.vg_design.specs.declared.refusal.Refused.TheVariants.{Net, Memory}
+use Rattle.vg_design.specs.declared.refusal.Refusal.{Refusal}
+use Rattle.vg_design.specs.declared.refusal.Refusal.TheVariants.{UnknownNet, Section as Faulty, Reduced, Inductive, Bidirectional, NoDriver, ManyDrivers, Floating, Loop, NoSink, TooLarge}
+
+-- the head of the net of this name, if the file has one
+abbrev pub head_named : File → List ℕ → Option NetHead
+head_named file name = find (λ head. bytes_eq name head.name) file.nets
+
+-- the file has no net of this name
+pub record IsMissing (text name : List ℕ) : Type 0 where
+  pub file : File
+  pub said : file_of text ≡ Ok file
+  pub none : head_named file name ≡ None
+
+-- it has one with this head
+pub record IsHeadOf (text name : List ℕ) (file : File) (head : NetHead) : Type 0 where
+  pub said : file_of text ≡ Ok file
+  pub named : head_named file name ≡ Some head
+
+-- the net of this name
+pub record IsNetNamed (text name : List ℕ) (net : ParNet) : Type 0 where
+  pub file : File
+  pub head : NetHead
+  pub head_of : IsHeadOf text name file head
+  pub read : IsNetOf text file head net
+
+-- its lines have this first fault
+pub record IsFaultNamed (text name : List ℕ) (fault : NetFault) : Type 0 where
+  pub file : File
+  pub head : NetHead
+  pub head_of : IsHeadOf text name file head
+  pub first : IsFaultOf text file head fault
+
+pub record IsNetRefused (text name : List ℕ) (refusal : Refusal) : Type 0 where
+  pub net : ParNet
+  pub named : IsNetNamed text name net
+  pub refused : IsFirstRefusal net refusal
+
+-- why the net of this name is refused
+abbrev pub IsRefusalOf : List ℕ → List ℕ → Refusal → Type 0
+IsRefusalOf text name UnknownNet = IsMissing text name
+IsRefusalOf text name (Faulty fault) = IsFaultNamed text name fault
+IsRefusalOf text name Reduced = IsNetRefused text name Reduced
+IsRefusalOf text name Inductive = IsNetRefused text name Inductive
+IsRefusalOf text name Bidirectional = IsNetRefused text name Bidirectional
+IsRefusalOf text name NoDriver = IsNetRefused text name NoDriver
+IsRefusalOf text name ManyDrivers = IsNetRefused text name ManyDrivers
+IsRefusalOf text name (Floating node) = IsNetRefused text name (Floating node)
+IsRefusalOf text name Loop = IsNetRefused text name Loop
+IsRefusalOf text name NoSink = IsNetRefused text name NoSink
+IsRefusalOf text name TooLarge = IsNetRefused text name TooLarge
+
+-- a refusal of a smaller number, or want of memory
+abbrev pub IsRefusedBelow : ℕ → List ℕ → List ℕ → Refused → Type 0
+IsRefusedBelow n text name (Net refusal) = IsRefusalOf text name refusal × (number_of refusal < n)
+IsRefusedBelow n text name Memory = Unit {0}
