@@ -1,9 +1,8 @@
 -- What a status tells of a run.
-use Rattle.std.proofs.Common.{◌≡◌, ◌≢◌, ◌⊎◌, inl, inr, ℕ, ◌^◌, ◌<◌, ◌-◌, List, length, codes, refl, sym, ap, ◌∙◌, subst, arith, Option, Some, None, IfSome, Err}
+use Rattle.std.proofs.Common.{◌≡◌, ◌≢◌, ◌⊎◌, inl, inr, ℕ, ◌^◌, ◌<◌, ◌-◌, List, length, refl, sym, ap, ◌∙◌, subst, arith, Option, Some, None, IfSome, Ok, Err}
 use Rattle.std.proofs.lemmas.Bool.{false≢true}
 use Rattle.vg_store.specs.Causes.{Rose}
 use Rattle.vg_store.specs.Writing.{Gains, GainsPrefix}
-use Rattle.vg_scan.specs.Lines.{lines_of}
 use Rattle.vg_cons.specs.Faults.{IsFaultless, IsFaultIn}
 use Rattle.vg_cons.specs.Lines.{Line as ConsLine}
 use Rattle.vg_cons.specs.declared.fault.ConsFault.{ConsFault}
@@ -13,17 +12,24 @@ use Rattle.vg_words.specs.declared.ask.Mode.TheVariants.{Wire, Time}
 use Rattle.vg_words.specs.declared.ask.WordFault.{WordFault}
 use Rattle.vg_words.specs.declared.ask.WordFault.TheVariants.{Unread, Missing, Excluded, BadValue, Equal, Memory as NoRoom}
 use Rattle.vg_words.proofs.JudgeLemmas.{refused_none, one}
-use Rattle.vginsert_top.specs.Net.{IsWithinNetLimits}
-use Rattle.vginsert_top.specs.Outcome.{IsDelays, IsRefusal}
-use Rattle.vginsert_top.specs.Plain.{PlainNet}
-use Rattle.vginsert_top.specs.Timing.{IsTimed, IsTimedNet, IsTimeRefusal, IsUntimedNet}
-use Rattle.vginsert_top.specs.Run.{Texts, AreRead, AreTold, AreShort, IsShort, IsNotPlain, IsReportFor, IsRefusalFor, IsFaultyFor, IsStatusFor, IsUnreadable, IsUnread, PrintsReport, PrintsRefusal, Says, input_name, text_of}
+use Rattle.elmore.specs.declared.tree.Node.{Node}
+use Rattle.spef_file.specs.Readings.{File, file_of}
+use Rattle.spef_file.specs.declared.fault.SpefFault.{SpefFault}
+use Rattle.spef_net.specs.declared.net.ParNet.{ParNet}
+use Rattle.vg_design.specs.Refusals.{number_of, IsNetTree}
+use Rattle.vg_design.specs.Nets.{IsRefusalOf}
+use Rattle.vg_design.specs.declared.refusal.Refusal.{Refusal}
+use Rattle.vg_design.specs.declared.refusal.Refusal.TheVariants.{UnknownNet, Section, Reduced, Inductive, Bidirectional, NoDriver, ManyDrivers, Floating, Loop, NoSink, TooLarge}
+use Rattle.vg_design.proofs.AnswerLemmas.{nets_are, trees_are, passed_is}
+use Rattle.vg_cons.specs.Rows.{Rows}
+use Rattle.vginsert_top.specs.Outcome.{IsDelays, IsRefusal, IsSpefFault}
+use Rattle.vginsert_top.specs.Timing.{IsTimed, IsTimedNet, IsTimeRefusal, IsUntimed, IsUntimedNet}
+use Rattle.vginsert_top.specs.Run.{Texts, AreRead, AreTold, AreShort, IsShort, IsSpef, IsReportFor, IsRefusalFor, IsFaultyFor, IsStatusFor, IsUnreadable, IsUnread, PrintsReport, PrintsRefusal, Says, input_name, text_of}
 use Rattle.vginsert_top.specs.Ending.{Ends, Tells, status_of, fault_status}
 use Rattle.vginsert_top.specs.declared.input.Input.{Input}
 use Rattle.vginsert_top.specs.declared.input.Input.TheVariants.{Spef, Cons}
 use Rattle.vginsert_top.specs.declared.program.Ending.{Ending}
-use Rattle.vginsert_top.specs.declared.program.Ending.TheVariants.{Done, Refused, NotPlain, Faulty, TooLong, ReadFault, WriteFault, Memory}
-use Rattle.vginsert_top.proofs.NetLemmas.{one_net}
+use Rattle.vginsert_top.specs.declared.program.Ending.TheVariants.{Done, Refused, Faulty, TooLong, ReadFault, WriteFault, Memory}
 
 abbrev Bytes : Type 0
 Bytes = List ℕ
@@ -58,37 +64,72 @@ apart_faults : (lines : List ConsLine) (fault : ConsFault) → IsFaultless lines
 apart_faults lines fault good (inl first) = let none : None ≡ Some fault.kind = sym (good.clear (fault.line - 1) (omega (arith, first.counted, first.within))) ∙ first.here in cc
 apart_faults lines fault good (inr missing) = false≢true (sym missing.empty ∙ good.heading)
 
+no_both : (file : File) (fault : SpefFault) (text : Bytes) → file_of text ≡ Ok file → file_of text ≡ Err fault → ⊥
+no_both file fault text said found = let both : Ok file ≡ Err fault = sym said ∙ found in absurd (cc)
+
+-- a net is refused of a file that is in its form
+has_file : (text name : Bytes) (refusal : Refusal) → IsRefusalOf text name refusal → IsSpef text
+has_file text name UnknownNet r = (r.file, r.said)
+has_file text name (Section fault) r = (r.file, r.head_of.said)
+has_file text name Reduced r = (r.named.file, r.named.head_of.said)
+has_file text name Inductive r = (r.named.file, r.named.head_of.said)
+has_file text name Bidirectional r = (r.named.file, r.named.head_of.said)
+has_file text name NoDriver r = (r.named.file, r.named.head_of.said)
+has_file text name ManyDrivers r = (r.named.file, r.named.head_of.said)
+has_file text name (Floating node) r = (r.named.file, r.named.head_of.said)
+has_file text name Loop r = (r.named.file, r.named.head_of.said)
+has_file text name NoSink r = (r.named.file, r.named.head_of.said)
+has_file text name TooLarge r = (r.named.file, r.named.head_of.said)
+
+few_refusals : (refusal : Refusal) → number_of refusal < 17
+few_refusals UnknownNet = omega arith
+few_refusals (Section fault) = omega arith
+few_refusals Reduced = omega arith
+few_refusals Inductive = omega arith
+few_refusals Bidirectional = omega arith
+few_refusals NoDriver = omega arith
+few_refusals ManyDrivers = omega arith
+few_refusals (Floating node) = omega arith
+few_refusals Loop = omega arith
+few_refusals NoSink = omega arith
+few_refusals TooLarge = omega arith
+
 -- an answer is a report, a refusal, or that an input is faulty
-timed_apart : (rows : _) (net : PlainNet) (t u : Bytes) → IsTimedNet rows net t → IsUntimedNet rows net u → ⊥
-timed_apart rows net t u timed (inl pin) = false≢true (sym timed.ports ∙ pin.pins)
-timed_apart rows net t u timed (inr (inl free)) = let none : None ≡ Some free.sink = sym timed.constrained ∙ free.first in cc
-timed_apart rows net t u timed (inr (inr large)) = large.past timed.limits
+timed_apart : (rows : Rows) (net : ParNet) (tree : List Node) (order : List ℕ) (name t u : Bytes) → IsTimedNet rows net tree order name t → IsUntimedNet rows net tree order name u → ⊥
+timed_apart rows net tree order name t u timed (inl pin) = false≢true (sym timed.ports ∙ pin.pins)
+timed_apart rows net tree order name t u timed (inr (inl free)) = let none : None ≡ Some free.sink = sym timed.constrained ∙ free.first in absurd (cc)
+timed_apart rows net tree order name t u timed (inr (inr large)) = large.past timed.limits
+
+timed_not_untimed : (spef cons name t u : Bytes) → IsTimed spef cons name t → IsUntimed spef cons name u → ⊥
+timed_not_untimed spef cons name t u d un =
+    let same_net = nets_are spef name d.net un.net d.named.named un.named.named in
+    let (same_tree, same_order) = trees_are un.net d.tree un.tree d.order un.order (subst (λ (m : ParNet). IsNetTree m d.tree d.order) same_net d.named.a_tree) un.named.a_tree in
+    let same_rows = d.constraints.rows_are ∙ sym un.constraints.rows_are in
+    timed_apart un.rows un.net un.tree un.order name t u
+    (subst (λ (rows : Rows). IsTimedNet rows un.net un.tree un.order name t) same_rows
+    (subst (λ (o : List ℕ). IsTimedNet d.rows un.net un.tree o name t) same_order
+    (subst (λ (ns : List Node). IsTimedNet d.rows un.net ns d.order name t) same_tree
+    (subst (λ (m : ParNet). IsTimedNet d.rows m d.tree d.order name t) same_net d.timed)))) un.untimed
 
 module _ (net : Bytes) (texts : Texts) where
   report_not_refusal : (mode : Mode) (t u : Bytes) → IsReportFor mode texts net t → IsRefusalFor mode texts net u → ⊥
-  report_not_refusal Wire t u d (inl other) = other.other (ap (λ (m : PlainNet). m.name) (one_net (lines_of texts.spef) other.net d.net other.plain d.plain) ∙ d.named)
-  report_not_refusal Wire t u d (inr large) = large.past (subst (λ (m : PlainNet). IsWithinNetLimits m) (one_net (lines_of texts.spef) d.net large.net d.plain large.plain) d.limits)
-  report_not_refusal Time t u d (inl other) =
-      other.other (ap (λ (m : PlainNet). m.name) (one_net (lines_of texts.spef) other.net d.net other.files.plain d.files.plain) ∙ d.named)
-  report_not_refusal Time t u d (inr un) =
-      let same_net = one_net (lines_of texts.spef) d.net un.net d.files.plain un.files.plain in
-      let same_rows = d.files.rows_are ∙ sym un.files.rows_are in
-      timed_apart un.rows un.net t u (subst (λ rows. IsTimedNet rows un.net t) same_rows (subst (λ (m : PlainNet). IsTimedNet d.rows m t) same_net d.timed)) un.untimed
+  report_not_refusal Wire t u d r = passed_is texts.spef net d.wire_of.net 17 r.refusal d.wire_of.named d.wire_of.accepted (omega arith) r.refused (few_refusals r.refusal)
+  report_not_refusal Time t u d (inl r) = passed_is texts.spef net d.net 15 r.refusal d.named.named d.named.accepted (omega arith) r.refused r.low
+  report_not_refusal Time t u d (inr un) = timed_not_untimed texts.spef texts.cons net t u d un
 
   report_not_faulty : (mode : Mode) (t : Bytes) (input : Input) (kind : Bytes) → IsReportFor mode texts net t → IsFaultyFor mode texts input kind → ⊥
-  report_not_faulty Wire t Spef kind d (none, _) = none d.net d.plain
-  report_not_faulty Time t Spef kind d (none, _) = none d.net d.files.plain
+  report_not_faulty Wire t Spef kind d f = no_both d.wire_of.named.file f.fault texts.spef d.wire_of.named.head_of.said f.found
+  report_not_faulty Time t Spef kind d f = no_both d.named.named.file f.fault texts.spef d.named.named.head_of.said f.found
   report_not_faulty Wire t Cons kind d f = f
-  report_not_faulty Time t Cons kind d (_, _, (fault, is, _)) = apart_faults _ fault d.files.faultless is
+  report_not_faulty Time t Cons kind d (_, f) = apart_faults _ f.fault d.constraints.faultless f.found
 
   refusal_not_faulty : (mode : Mode) (t : Bytes) (input : Input) (kind : Bytes) → IsRefusalFor mode texts net t → IsFaultyFor mode texts input kind → ⊥
-  refusal_not_faulty Wire t Spef kind (inl u) (none, _) = none u.net u.plain
-  refusal_not_faulty Wire t Spef kind (inr u) (none, _) = none u.net u.plain
-  refusal_not_faulty Time t Spef kind (inl u) (none, _) = none u.net u.files.plain
-  refusal_not_faulty Time t Spef kind (inr u) (none, _) = none u.net u.files.plain
+  refusal_not_faulty Wire t Spef kind r f = (let file = has_file texts.spef net r.refusal r.refused in no_both file.0 f.fault texts.spef file.1 f.found)
+  refusal_not_faulty Time t Spef kind (inl r) f = (let file = has_file texts.spef net r.refusal r.refused in no_both file.0 f.fault texts.spef file.1 f.found)
+  refusal_not_faulty Time t Spef kind (inr u) f = no_both u.named.named.file f.fault texts.spef u.named.named.head_of.said f.found
   refusal_not_faulty Wire t Cons kind r f = f
-  refusal_not_faulty Time t Cons kind (inl u) (_, _, (fault, is, _)) = apart_faults _ fault u.files.faultless is
-  refusal_not_faulty Time t Cons kind (inr u) (_, _, (fault, is, _)) = apart_faults _ fault u.files.faultless is
+  refusal_not_faulty Time t Cons kind (inl r) (_, f) = apart_faults _ f.fault r.constraints.faultless f.found
+  refusal_not_faulty Time t Cons kind (inr u) (_, f) = apart_faults _ f.fault u.constraints.faultless f.found
 
 report_status : (request : Request) (texts : Texts) → AreShort request texts → (t : Bytes) → IsReportFor request.mode texts request.net t → IsStatusFor request texts 0
 report_status request texts short t is = record {
@@ -158,9 +199,10 @@ spef_as : (mode : Mode) (a b : Texts) → Agree mode a b → a.spef ≡ b.spef
 spef_as Wire a b e = e
 spef_as Time a b e = ap (λ x. x.spef) e
 
-faulty_as : (mode : Mode) (a b : Texts) (kind : Bytes) → Agree mode a b → IsFaultyFor mode a Cons kind → IsFaultyFor mode b Cons kind
-faulty_as Wire a b kind e is = absurd is
-faulty_as Time a b kind e is = subst (λ x. IsFaultyFor Time x Cons kind) e is
+faulty_as : (mode : Mode) (a b : Texts) (input : Input) (kind : Bytes) → Agree mode a b → IsFaultyFor mode a input kind → IsFaultyFor mode b input kind
+faulty_as Wire a b Spef kind e is = subst (λ (s : Bytes). IsSpefFault s kind) e is
+faulty_as Wire a b Cons kind e is = absurd is
+faulty_as Time a b input kind e is = subst (λ x. IsFaultyFor Time x input kind) e is
 
 shorts : (holds : Bytes → Option Bytes) (mode : Mode) (spef net : Bytes) (cons : Option Bytes) (a b : Texts)
     → AreRead holds (record { mode = mode; spef = spef; cons = cons; net = net }) a → Agree mode a b → HasCons mode cons → AreShort (record { mode = mode; spef = spef; cons = cons; net = net }) b
@@ -186,12 +228,9 @@ module _ (holds : Bytes → Option Bytes) (request : Request) (old new : Option 
   exact_is Refused (a, read, (t, is, _)) has b told five six seven =
       let e = agree holds request.mode request.spef request.net request.cons a b read told has in
       refusal_status request b (shorts holds request.mode request.spef request.net request.cons a b read e has) t (refusal_as request.mode a b request.net t e is)
-  exact_is (NotPlain name) (_, (a, read, none), _) has b told five six seven =
+  exact_is (Faulty input name text) (_, (a, read, faulty), _) has b told five six seven =
       let e = agree holds request.mode request.spef request.net request.cons a b read told has in
-      faulty_status request b Spef (codes "NotYet") (subst (λ (s : Bytes). IsNotPlain s) (spef_as request.mode a b e) none, refl)
-  exact_is (Faulty name text) (_, (a, read, faulty), _) has b told five six seven =
-      let e = agree holds request.mode request.spef request.net request.cons a b read told has in
-      faulty_status request b Cons text.items (faulty_as request.mode a b text.items e faulty)
+      faulty_status request b input text.items (faulty_as request.mode a b input text.items e faulty)
   exact_is (TooLong name) ((input, named, long), _) has b told five six seven =
       long_status request b (λ short. not_short holds request b input (input_name request input) refl long (told input) (short input) name.now named)
   exact_is (ReadFault name) ends has b told five six seven = absurd (five refl)
@@ -201,8 +240,7 @@ module _ (holds : Bytes → Option Bytes) (request : Request) (old new : Option 
   pub done_is : (ending : Ending) → status_of ending ≡ 0 → Ends holds request old new read_before read_now blame before now ending → PrintsReport holds (Gains old new) request
   done_is Done e ends = ends
   done_is Refused e ends = absurd (omega arith)
-  done_is (NotPlain name) e ends = absurd (omega arith)
-  done_is (Faulty name text) e ends = absurd (omega arith)
+  done_is (Faulty input name text) e ends = absurd (omega arith)
   done_is (TooLong name) e ends = absurd (omega arith)
   done_is (ReadFault name) e ends = absurd (omega arith)
   done_is WriteFault e ends = absurd (omega arith)
@@ -211,8 +249,7 @@ module _ (holds : Bytes → Option Bytes) (request : Request) (old new : Option 
   pub refused_is : (ending : Ending) → status_of ending ≡ 2 → Ends holds request old new read_before read_now blame before now ending → PrintsRefusal holds (Gains old new) request
   refused_is Refused e ends = ends
   refused_is Done e ends = absurd (omega arith)
-  refused_is (NotPlain name) e ends = absurd (omega arith)
-  refused_is (Faulty name text) e ends = absurd (omega arith)
+  refused_is (Faulty input name text) e ends = absurd (omega arith)
   refused_is (TooLong name) e ends = absurd (omega arith)
   refused_is (ReadFault name) e ends = absurd (omega arith)
   refused_is WriteFault e ends = absurd (omega arith)
@@ -223,8 +260,7 @@ module _ (holds : Bytes → Option Bytes) (request : Request) (old new : Option 
   write_fault_is WriteFault e ends = ends
   write_fault_is Done e ends = absurd (omega arith)
   write_fault_is Refused e ends = absurd (omega arith)
-  write_fault_is (NotPlain name) e ends = absurd (omega arith)
-  write_fault_is (Faulty name text) e ends = absurd (omega arith)
+  write_fault_is (Faulty input name text) e ends = absurd (omega arith)
   write_fault_is (TooLong name) e ends = absurd (omega arith)
   write_fault_is (ReadFault name) e ends = absurd (omega arith)
   write_fault_is Memory e ends = absurd (omega arith)
@@ -232,8 +268,7 @@ module _ (holds : Bytes → Option Bytes) (request : Request) (old new : Option 
   pub not_three : (ending : Ending) → status_of ending ≡ 3 → ⊥
   not_three Done e = omega arith
   not_three Refused e = omega arith
-  not_three (NotPlain name) e = omega arith
-  not_three (Faulty name text) e = omega arith
+  not_three (Faulty input name text) e = omega arith
   not_three (TooLong name) e = omega arith
   not_three (ReadFault name) e = omega arith
   not_three WriteFault e = omega arith
@@ -242,8 +277,7 @@ module _ (holds : Bytes → Option Bytes) (request : Request) (old new : Option 
   module _ (err_old err_new : Option Bytes) (err_before err_now : ℕ) where
     pub unreadable_is : (ending : Ending) → status_of ending ≡ 4 → Ends holds request old new read_before read_now blame before now ending → Tells err_old err_new err_before err_now ending
         → IsUnreadable holds (Says err_old err_new err_before err_now) request
-    unreadable_is (NotPlain name) e (named, (a, read, none), _) tells = (Spef, name.now, ap (λ (x : Bytes). Some x) named, inr (a, read, (codes "NotYet", (none, refl), tells)))
-    unreadable_is (Faulty name text) e (named, (a, read, faulty), _) tells = (Cons, name.now, named, inr (a, read, (text.items, faulty, tells)))
+    unreadable_is (Faulty input name text) e (named, (a, read, faulty), _) tells = (input, name.now, named, inr (a, read, (text.items, faulty, tells)))
     unreadable_is (TooLong name) e ((input, named, long), _) tells = (input, name.now, named, inl (long, tells))
     unreadable_is Done e ends tells = absurd (omega arith)
     unreadable_is Refused e ends tells = absurd (omega arith)
@@ -256,8 +290,7 @@ module _ (holds : Bytes → Option Bytes) (request : Request) (old new : Option 
     read_fault_is (ReadFault name) e (rose, (input, named, blamed), _) tells = (rose, (input, name.now, named, blamed, tells))
     read_fault_is Done e ends tells = absurd (omega arith)
     read_fault_is Refused e ends tells = absurd (omega arith)
-    read_fault_is (NotPlain name) e ends tells = absurd (omega arith)
-    read_fault_is (Faulty name text) e ends tells = absurd (omega arith)
+    read_fault_is (Faulty input name text) e ends tells = absurd (omega arith)
     read_fault_is (TooLong name) e ends tells = absurd (omega arith)
     read_fault_is WriteFault e ends tells = absurd (omega arith)
     read_fault_is Memory e ends tells = absurd (omega arith)

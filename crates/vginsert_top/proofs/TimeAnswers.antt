@@ -1,69 +1,66 @@
 -- What is answered about a net that is to be timed, step by step.
-use Rattle.std.proofs.Common.{◌≡◌, ◌≢◌, ℕ, ◌+◌, ◌<◌, ◌≤◌, List, map, length, codes, inl, inr, refl, sym, ap, ◌∙◌, subst, arith, Option, Some, None, Result, Ok, Err, IfOk, IfSome}
-use Rattle.std.proofs.lemmas.Bool.{cases_lt}
-use Rattle.std.proofs.lemmas.List.{length-map, get_or_past}
+use Rattle.std.proofs.Common.{◌≡◌, ℕ, ◌<◌, Bool, true, false, cond, List, [], ◌∷◌, length, inl, inr, refl, sym, subst, arith, Some, Result, Ok, Err}
+use Rattle.std.specs.List.{All, find, list_any}
 use Rattle.std.specs.Result.{IsErrAnd}
-use Rattle.vg_cons.specs.Rows.{Rows as Constraints}
-use Rattle.vg_num.specs.declared.memory.Memory.{Memory as NoRoom}
-use Rattle.elmore.specs.Problems.{sink_of}
-use Rattle.elmore.specs.declared.parts.Sink.{Sink}
-use Rattle.vginsert_top.specs.Answer.{IsRefused}
-use Rattle.vginsert_top.specs.Net.{refusal}
-use Rattle.vginsert_top.specs.Plain.{PlainNet, HasLinesOf, connection_line}
-use Rattle.vginsert_top.specs.declared.plain.line.Side.TheVariants.{Sink as SinkSide}
-use Rattle.vginsert_top.specs.Run.{IsNotPlain}
-use Rattle.vginsert_top.specs.TimeAnswer.{JudgesTime, AnswersTime, from_rows}
-use Rattle.vginsert_top.specs.Timing.{AreOf, IsTiming, IsUntimedNet}
-use Rattle.vginsert_top.specs.declared.plain.answer.Answer.{Answer}
-use Rattle.vginsert_top.specs.declared.plain.answer.Answer.TheVariants.{Report, Refused}
-use Rattle.vginsert_top.specs.declared.plain.read.RowsFault.{RowsFault}
-use Rattle.vginsert_top.specs.declared.plain.read.RowsFault.TheVariants.{NotPlain as RowsNotPlain, Memory as RowsMemory}
-use Rattle.vginsert_top.specs.declared.time.answer.TimeFault.{TimeFault}
-use Rattle.vginsert_top.proofs.TimeLemmas.{sinks_size}
+use Rattle.std.proofs.lemmas.List.Elements.{All-tail}
+use Rattle.elmore.specs.declared.tree.Node.{Node}
+use Rattle.spef_net.specs.Sections.{IsSized}
+use Rattle.spef_net.specs.declared.net.ParConn.{ParConn}
+use Rattle.spef_net.specs.declared.net.ParNet.{ParNet}
+use Rattle.vg_cons.specs.Rows.{Rows}
+use Rattle.vg_design.specs.Nets.{IsRefusalOf}
+use Rattle.vg_design.specs.Refusals.{is_sink, number_of, PassesUpTo}
+use Rattle.vg_design.specs.Wires.{IsTreeNamed}
+use Rattle.vg_design.specs.declared.refusal.Refusal.{Refusal}
+use Rattle.vg_design.specs.declared.refusal.Refusal.TheVariants.{NoSink}
+use Rattle.vginsert_top.specs.Answer.{IsRefusedWith}
+use Rattle.vginsert_top.specs.Reports.{refusal_line}
+use Rattle.vginsert_top.specs.Run.{IsSpef}
+use Rattle.vginsert_top.specs.TimeAnswer.{AnswersTime, ReadsCons}
+use Rattle.vginsert_top.specs.TimeSteps.{IsReady, JudgesTime, JudgesNamed}
+use Rattle.vginsert_top.specs.Timing.{is_free, first_free}
+use Rattle.vginsert_top.specs.declared.answer.Answer.{Answer}
+use Rattle.vginsert_top.specs.declared.answer.Answer.TheVariants.{Report, Refused}
+use Rattle.vginsert_top.specs.declared.answer.AskFault.{AskFault}
+use Rattle.vginsert_top.specs.declared.answer.AskFault.TheVariants.{Spef, Cons, Memory}
 
-some_size : (xs : List (List ℕ)) → length (map Some xs) ≡ length xs
-some_size xs = length-map xs Some
+-- a net with a tree has a sink
+sink_there : (net : ParNet) → PassesUpTo 15 net → (b : Bool) → list_any is_sink net.conns ≡ b → list_any is_sink net.conns ≡ true
+sink_there net passes true e = e
+sink_there net passes false e = absurd (passes NoSink (omega arith) e)
 
--- a net has a sink
-pub sinks_there : (net : PlainNet) (text : List (List (List ℕ))) → HasLinesOf net text → 0 < length net.sinks
-sinks_there net text h =
-    let same : length (map (connection_line SinkSide) h.sinks) ≡ length (map Some net.sinks) = ap length h.sinks_say in
-    omega (arith, same, h.some_sink, length-map h.sinks (connection_line SinkSide), some_size net.sinks)
+pub ready_is : (spef name : List ℕ) (net : ParNet) (tree : List Node) (order : List ℕ) → IsTreeNamed spef name net tree order → IsSized net → IsReady net tree order
+ready_is spef name net tree order is sized = record { a_tree = is.a_tree; sized = sized; some_sink = sink_there net is.accepted (list_any is_sink net.conns) refl }
 
--- a refusal that is right for the net
-pub refused_judged : (cons : Constraints) (net : PlainNet) (wanted : List ℕ) → IsUntimedNet cons net wanted → (answer : Result Answer NoRoom) → IfOk answer (IsRefused wanted) → IfOk answer (JudgesTime cons net)
-refused_judged cons net wanted is (Ok (Report text)) refused = absurd refused
-refused_judged cons net wanted is (Ok (Refused text)) refused = subst (λ (t : List ℕ). IsUntimedNet cons net t) (sym refused) is
-refused_judged cons net wanted is (Err e) refused = tt
+-- what is found is an element
+found_first : {X : Type 0} (P : X → Type 0) (p : X → Bool) (x y : X) (xs : List X) (b : Bool) → p y ≡ b → P y → (find p xs ≡ Some x → P x) → cond b (Some y) (find p xs) ≡ Some x → P x
+found_first P p x y xs true e own more f = subst P (let same : y ≡ x = cc in same) own
+found_first P p x y xs false e own more f = more f
 
--- the first wrong sink is a node
-sink_within : (sinks : List (Option Sink)) (v : ℕ) (sink : Sink) → sink_of sinks v ≡ Some sink → v < length sinks
-sink_within sinks v sink e =
-    elim (cases_lt v (length sinks)) [
-      | inl low ↦ low
-      | inr high ↦ absurd (let past : sink_of sinks v ≡ None = get_or_past sinks v None high in let other : None ≡ Some sink = sym past ∙ e in cc)
-    ]
+found_within : {X : Type 0} (P : X → Type 0) (p : X → Bool) (x : X) (xs : List X) → All P xs → find p xs ≡ Some x → P x
+found_within P p x [] all f = absurd (cc)
+found_within P p x (y ∷ xs) all f = found_first P p x y xs (p y) refl (all 0 y (omega arith)) (found_within P p x xs (All-tail P y xs all)) f
 
-pub wrong_within : (cons : Constraints) (net : PlainNet) (x : _) (wrong : Option ℕ) → IsTiming cons net x wrong → IfSome wrong (λ v. v ≤ length net.ress)
-wrong_within cons net x None t = tt
-wrong_within cons net x (Some v) (problem, timed, bare) =
-    let (sink, at, unlike) = bare.polarity.wrong in
-    let size : length problem.sinks ≡ length net.ress + 1 = ap length timed.sinks ∙ sinks_size cons net in
-    omega (arith, sink_within problem.sinks v sink at, size)
+pub free_within : (rows : Rows) (net : ParNet) (sink : ParConn) → IsSized net → first_free rows net ≡ Some sink → sink.node < length net.nodes
+free_within rows net sink sized f = found_within (λ (conn : ParConn). conn.node < length net.nodes) (is_free rows net) sink net.conns sized.conn_nodes f
 
-module _ (spef cons name : List ℕ) where
+module _ (spef name : List ℕ) where
+  -- the net is timed, or refused under constraints
+  pub own_net : (rows : Rows) (net : ParNet) (tree : List Node) (order : List ℕ) (answer : Answer) → IsTreeNamed spef name net tree order → JudgesTime rows net tree order name answer → JudgesNamed rows spef name (Ok answer)
+  own_net rows net tree order (Report text) named judges = λ cons are. record { net = net; tree = tree; order = order; named = named; rows = rows; constraints = are; timed = judges }
+  own_net rows net tree order (Refused text) named judges = λ cons are. inr (record { net = net; tree = tree; order = order; named = named; rows = rows; constraints = are; untimed = judges })
+
+  -- it is refused by its parasitics alone
+  pub refused_net : (rows : Rows) (refusal : Refusal) (answer : Answer) → IsRefusalOf spef name refusal → number_of refusal < 15 → IsRefusedWith (refusal_line name refusal) answer → JudgesNamed rows spef name (Ok answer)
+  refused_net rows refusal (Report text) is low says = absurd says
+  refused_net rows refusal (Refused text) is low says = λ cons are. inl (record { refusal = refusal; refused = is; low = low; rows = rows; constraints = are; text_is = says })
+
   -- faults that are handed on
-  pub handed_rows : (answered : Result Answer TimeFault) (fault : RowsFault) → IsErrAnd answered (λ f. f ≡ from_rows fault) → (fault ≡ RowsNotPlain → IsNotPlain spef) → AnswersTime answered spef cons name
-  handed_rows (Ok answer) fault is not_plain = absurd is
-  handed_rows (Err f) RowsNotPlain is not_plain = subst (λ x. AnswersTime (Err x) spef cons name) (sym is) (not_plain refl)
-  handed_rows (Err f) RowsMemory is not_plain = subst (λ x. AnswersTime (Err x) spef cons name) (sym is) tt
+  pub handed_cons : (cons : List ℕ) (fault : AskFault) → IsSpef spef → ReadsCons (Err fault) cons → AnswersTime (Err fault) spef cons name
+  handed_cons cons (Spef text) said reads = absurd reads
+  handed_cons cons (Cons text) said reads = (said, reads)
+  handed_cons cons Memory said reads = tt
 
-  -- another net's text
-  pub other_net : (net : PlainNet) (rows : Constraints) (answer : Answer) → AreOf spef cons net rows → net.name ≢ name → IsRefused (refusal name 1 (codes "UnknownNet")) answer → AnswersTime (Ok answer) spef cons name
-  other_net net rows (Report text) files other refused = absurd refused
-  other_net net rows (Refused text) files other refused = inl (record { net = net; rows = rows; files = files; other = other; text_is = refused })
-
-  -- the net's own text
-  pub own_net : (net : PlainNet) (rows : Constraints) (answer : Answer) → AreOf spef cons net rows → net.name ≡ name → JudgesTime rows net answer → AnswersTime (Ok answer) spef cons name
-  own_net net rows (Report text) files named judges = record { net = net; rows = rows; files = files; named = named; timed = judges }
-  own_net net rows (Refused text) files named judges = inr (record { net = net; rows = rows; files = files; named = named; untimed = judges })
+  pub same_fault : (cons : List ℕ) (answered : Result Answer AskFault) (fault : AskFault) → IsErrAnd answered (λ f. f ≡ fault) → AnswersTime (Err fault) spef cons name → AnswersTime answered spef cons name
+  same_fault cons (Ok answer) fault is answers = absurd is
+  same_fault cons (Err f) fault is answers = subst (λ (x : AskFault). AnswersTime (Err x) spef cons name) (sym is) answers

@@ -1,35 +1,29 @@
 -- What is said of a net that is asked for.
-use Rattle.std.specs.Prelude.{◌≡◌, ℕ, List, map, Result, Ok, Err}
-use Rattle.vg_scan.specs.Lines.{lines_of}
-use Rattle.vginsert_top.specs.Net.{IsPlain}
-use Rattle.vginsert_top.specs.Plain.{PlainNet}
-use Rattle.vginsert_top.specs.declared.plain.answer.Answer.{Answer}
-use Rattle.vginsert_top.specs.declared.plain.answer.Answer.TheVariants.{Report, Refused}
-use Rattle.vginsert_top.specs.declared.plain.read.RowsFault.{RowsFault}
-use Rattle.vginsert_top.specs.declared.plain.read.RowsFault.TheVariants.{NotPlain, Memory}
-use Rattle.vginsert_top.specs.declared.plain.order.Placed.{Placed}
-use Rattle.vginsert_top.specs.Tree.{connections_of, parents_of, capacitance_of, nodes_of}
-use Rattle.vginsert_top.specs.Outcome.{IsDelays, IsRefusal}
+use Rattle.std.specs.Prelude.{◌≡◌, ℕ, List, Result, Ok, Err}
+use Rattle.spef_file.specs.Indexes.{IsIndexOf}
+use Rattle.spef_file.specs.declared.spef_index.SpefIndex.{SpefIndex}
+use Rattle.vginsert_top.specs.Outcome.{IsDelays, IsRefusal, IsSpefFault}
+use Rattle.vginsert_top.specs.declared.answer.Answer.{Answer}
+use Rattle.vginsert_top.specs.declared.answer.Answer.TheVariants.{Report, Refused}
+use Rattle.vginsert_top.specs.declared.answer.AskFault.{AskFault}
+use Rattle.vginsert_top.specs.declared.answer.AskFault.TheVariants.{Spef, Cons, Memory}
 
--- what judging a text may answer: the report of its net, why the net is refused, that no net has the text, or want of memory
-abbrev pub Answers : Result Answer RowsFault → List ℕ → List ℕ → Type 0
+-- what judging a text may answer: the report of its net, why the net is refused, the text's fault, or want of memory
+abbrev pub Answers : Result Answer AskFault → List ℕ → List ℕ → Type 0
 Answers (Ok (Report text)) file name = IsDelays file name text.items
 Answers (Ok (Refused text)) file name = IsRefusal file name text.items
-Answers (Err NotPlain) file name = (net : PlainNet) → IsPlain net (lines_of file) → ⊥
+Answers (Err (Spef text)) file name = IsSpefFault file text.items
+Answers (Err (Cons text)) file name = ⊥
 Answers (Err Memory) file name = Unit {0}
 
 -- the answer refuses with this text
-abbrev pub IsRefused : List ℕ → Answer → Type 0
-IsRefused wanted (Refused text) = text.items ≡ wanted
-IsRefused wanted (Report text) = ⊥
+abbrev pub IsRefusedWith : List ℕ → Answer → Type 0
+IsRefusedWith wanted (Refused text) = text.items ≡ wanted
+IsRefusedWith wanted (Report text) = ⊥
 
--- the answer is right for this net of this file
-abbrev pub Judges : List ℕ → List ℕ → Answer → Type 0
-Judges file name (Report text) = IsDelays file name text.items
-Judges file name (Refused text) = IsRefusal file name text.items
-
--- the names and places that the code keeps are those of the net
-pub record IsPlacedIn (placed : Placed) (net : PlainNet) : Type 0 where
-  pub connections : placed.connections ≡ connections_of net
-  pub parents : placed.parents.items ≡ parents_of net.driver net.ress
-  pub sums : placed.sums.items ≡ map (capacitance_of net.caps) (nodes_of net.driver net.ress)
+-- what indexing a text may answer
+abbrev pub Indexes : Result SpefIndex AskFault → List ℕ → Type 0
+Indexes (Ok index) file = IsIndexOf file index
+Indexes (Err (Spef text)) file = IsSpefFault file text.items
+Indexes (Err (Cons text)) file = ⊥
+Indexes (Err Memory) file = Unit {0}

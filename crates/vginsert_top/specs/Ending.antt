@@ -9,14 +9,13 @@ use Rattle.vg_words.specs.declared.ask.WordFault.{WordFault}
 use Rattle.vg_words.specs.declared.ask.WordFault.TheVariants.{Unread, Missing, Excluded, BadValue, Equal, Memory as NoRoom}
 use Rattle.vg_words.specs.declared.ask.Mode.{Mode}
 use Rattle.vg_words.specs.declared.ask.Mode.TheVariants.{Wire as WireMode, Time as TimeMode}
-use Rattle.vginsert_top.specs.Run.{Texts, AreRead, WasRead, IsShort, IsNotPlain, IsFaultyFor, IsTooLong, PrintsReport, PrintsRefusal, Says, input_name, file_line, read_failed_line}
+use Rattle.vginsert_top.specs.Run.{Texts, AreRead, WasRead, IsShort, IsFaultyFor, IsTooLong, PrintsReport, PrintsRefusal, Says, input_name, file_line, read_failed_line}
 use Rattle.vginsert_top.specs.declared.input.Input.{Input}
-use Rattle.vginsert_top.specs.declared.input.Input.TheVariants.{Cons}
 use Rattle.vginsert_top.specs.declared.program.Job.{Job}
 use Rattle.vginsert_top.specs.declared.program.Task.{Task}
 use Rattle.vginsert_top.specs.declared.program.Task.TheVariants.{Wire, Time}
 use Rattle.vginsert_top.specs.declared.program.Ending.{Ending}
-use Rattle.vginsert_top.specs.declared.program.Ending.TheVariants.{Done, Refused, NotPlain, Faulty, TooLong, ReadFault, WriteFault, Memory}
+use Rattle.vginsert_top.specs.declared.program.Ending.TheVariants.{Done, Refused, Faulty, TooLong, ReadFault, WriteFault, Memory}
 
 abbrev pub mode_in : Task → Mode
 mode_in Wire = WireMode
@@ -42,18 +41,15 @@ IsReadingOf told name before now blame (Err (TooLong file)) = (file.now ≡ name
 IsReadingOf told name before now blame (Err Memory) = Unit {0}
 IsReadingOf told name before now blame (Err Done) = ⊥
 IsReadingOf told name before now blame (Err Refused) = ⊥
-IsReadingOf told name before now blame (Err (NotPlain file)) = ⊥
-IsReadingOf told name before now blame (Err (Faulty file text)) = ⊥
+IsReadingOf told name before now blame (Err (Faulty input file text)) = ⊥
 IsReadingOf told name before now blame (Err WriteFault) = ⊥
 
 -- what an ending says of the files, of standard output and of the counts of faults
 abbrev pub Ends : (List ℕ → Option (List ℕ)) → Request → Option (List ℕ) → Option (List ℕ) → ℕ → ℕ → Option (List ℕ) → ℕ → ℕ → Ending → Type 0
 Ends holds request old new read_before read_now blame before now Done = PrintsReport holds (Gains old new) request
 Ends holds request old new read_before read_now blame before now Refused = PrintsRefusal holds (Gains old new) request
-Ends holds request old new read_before read_now blame before now (NotPlain name) =
-    (request.spef ≡ name.now) × ((texts : Texts) × AreRead holds request texts × IsNotPlain texts.spef) × (new ≡ old)
-Ends holds request old new read_before read_now blame before now (Faulty name text) =
-    (request.cons ≡ Some name.now) × ((texts : Texts) × AreRead holds request texts × IsFaultyFor request.mode texts Cons text.items) × (new ≡ old)
+Ends holds request old new read_before read_now blame before now (Faulty input name text) =
+    (input_name request input ≡ Some name.now) × ((texts : Texts) × AreRead holds request texts × IsFaultyFor request.mode texts input text.items) × (new ≡ old)
 Ends holds request old new read_before read_now blame before now (TooLong name) =
     ((input : Input) × (input_name request input ≡ Some name.now) × IsTooLong holds request input) × (new ≡ old)
 Ends holds request old new read_before read_now blame before now (ReadFault name) =
@@ -66,8 +62,7 @@ Ends holds request old new read_before read_now blame before now Memory = new �
 abbrev pub status_of : Ending → ℕ
 status_of Done = 0
 status_of Refused = 2
-status_of (NotPlain name) = 4
-status_of (Faulty name text) = 4
+status_of (Faulty input name text) = 4
 status_of (TooLong name) = 4
 status_of (ReadFault name) = 5
 status_of WriteFault = 6
@@ -86,8 +81,7 @@ fault_status NoRoom = 7
 abbrev pub Tells : Option (List ℕ) → Option (List ℕ) → ℕ → ℕ → Ending → Type 0
 Tells old new before now Done = new ≡ old
 Tells old new before now Refused = new ≡ old
-Tells old new before now (NotPlain name) = Says old new before now (file_line name.now (codes "NotYet"))
-Tells old new before now (Faulty name text) = Says old new before now (file_line name.now text.items)
+Tells old new before now (Faulty input name text) = Says old new before now (file_line name.now text.items)
 Tells old new before now (TooLong name) = Says old new before now (file_line name.now (codes "TooLong"))
 Tells old new before now (ReadFault name) = Says old new before now (read_failed_line name.now)
 Tells old new before now WriteFault = Says old new before now (codes "vginsert: write failed: standard output\n")

@@ -1,7 +1,13 @@
--- The faults of constraints, as text.
+-- The faults of files, as text.
 use Rattle.std.specs.Prelude.{ℕ, List, ◌++◌, codes, decimal}
 use Rattle.vg_num.specs.declared.fault.NumFault.{NumFault}
 use Rattle.vg_num.specs.declared.fault.NumFault.TheVariants.{Form, Negative, TooLarge}
+use Rattle.spef_file.specs.declared.fault.SpefFault.{SpefFault}
+use Rattle.spef_file.specs.declared.fault.SpefKind.{SpefKind}
+use Rattle.spef_file.specs.declared.fault.SpefKind.TheVariants.{Header, Unit as UnitKind, MapTwice, MapUnknown, NoEnd, Stray, NetTwice, Unsupported, Memory as SpefMemory}
+use Rattle.spef_net.specs.declared.fault.NetFault.{NetFault}
+use Rattle.spef_net.specs.declared.fault.NetKind.{NetKind}
+use Rattle.spef_net.specs.declared.fault.NetKind.TheVariants.{Conn, Cap, Res, Number as NetNumber, Foreign, SelfCoupled, Memory as NetMemory}
 use Rattle.vg_cons.specs.declared.fault.ConsFault.{ConsFault}
 use Rattle.vg_cons.specs.declared.fault.ConsKind.{ConsKind}
 use Rattle.vg_cons.specs.declared.fault.ConsKind.TheVariants.{Version, Word, Number, Twice, Memory}
@@ -21,3 +27,30 @@ cons_kind Memory = codes "Memory"
 -- `KIND line L`
 abbrev pub cons_fault : ConsFault → List ℕ
 cons_fault fault = cons_kind fault.kind ++ (codes " line " ++ decimal fault.line)
+
+abbrev pub spef_kind : SpefKind → List ℕ
+spef_kind Header = codes "Header"
+spef_kind UnitKind = codes "Unit"
+spef_kind MapTwice = codes "MapTwice"
+spef_kind MapUnknown = codes "MapUnknown"
+spef_kind NoEnd = codes "NoEnd"
+spef_kind Stray = codes "Stray"
+spef_kind NetTwice = codes "NetTwice"
+spef_kind Unsupported = codes "Unsupported"
+spef_kind SpefMemory = codes "Memory"
+
+abbrev pub spef_fault : SpefFault → List ℕ
+spef_fault fault = spef_kind fault.kind ++ (codes " line " ++ decimal fault.line)
+
+-- the faults of a net's lines
+abbrev pub net_kind : NetKind → List ℕ
+net_kind Conn = codes "Conn"
+net_kind Cap = codes "Cap"
+net_kind Res = codes "Res"
+net_kind (NetNumber fault) = codes "Number " ++ number_kind fault
+net_kind Foreign = codes "Foreign"
+net_kind SelfCoupled = codes "SelfCoupled"
+net_kind NetMemory = codes "Memory"
+
+abbrev pub net_fault : NetFault → List ℕ
+net_fault fault = net_kind fault.kind ++ (codes " line " ++ decimal fault.line)

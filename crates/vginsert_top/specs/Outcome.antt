@@ -1,31 +1,28 @@
 -- What a file says of the net that is asked for.
-use Rattle.std.specs.Prelude.{◌≡◌, ◌≢◌, ◌⊎◌, ℕ, List, codes}
-use Rattle.vg_scan.specs.Lines.{lines_of}
-use Rattle.vginsert_top.specs.Net.{IsPlain, IsWithinNetLimits, wire_report, refusal}
-use Rattle.vginsert_top.specs.Plain.{PlainNet}
+use Rattle.std.specs.Prelude.{◌≡◌, ℕ, List, Err}
+use Rattle.spef_file.specs.Readings.{file_of}
+use Rattle.spef_file.specs.declared.fault.SpefFault.{SpefFault}
+use Rattle.vg_design.specs.Nets.{IsRefusalOf}
+use Rattle.vg_design.specs.Wires.{IsWireOf}
+use Rattle.vg_design.specs.declared.refusal.Refusal.{Refusal}
+use Rattle.vg_design.specs.declared.wire.WireNet.{WireNet}
+use Rattle.vginsert_top.specs.Faults.{spef_fault}
+use Rattle.vginsert_top.specs.Reports.{wire_report, refusal_line}
 
--- the file is the plain text of this net, which is within the limits, and the text is its report
+-- the net of this name has wire delays, and the text is their report
 pub record IsDelays (file name text : List ℕ) : Type 0 where
-  pub net : PlainNet
-  pub plain : IsPlain net (lines_of file)
-  pub named : net.name ≡ name
-  pub limits : IsWithinNetLimits net
-  pub text_is : text ≡ wire_report net
+  pub wire : WireNet
+  pub wire_of : IsWireOf file name wire
+  pub text_is : text ≡ wire_report name wire
 
--- the file is the plain text of another net, and the text says so
-pub record IsUnknown (file name text : List ℕ) : Type 0 where
-  pub net : PlainNet
-  pub plain : IsPlain net (lines_of file)
-  pub other : net.name ≢ name
-  pub text_is : text ≡ refusal name 1 (codes "UnknownNet")
+-- it is refused, and the text says why
+pub record IsRefusal (file name text : List ℕ) : Type 0 where
+  pub refusal : Refusal
+  pub refused : IsRefusalOf file name refusal
+  pub text_is : text ≡ refusal_line name refusal
 
--- the file is the plain text of this net, which passes a limit, and the text says so
-pub record IsTooLarge (file name text : List ℕ) : Type 0 where
-  pub net : PlainNet
-  pub plain : IsPlain net (lines_of file)
-  pub named : net.name ≡ name
-  pub past : IsWithinNetLimits net → ⊥
-  pub text_is : text ≡ refusal name 16 (codes "TooLarge")
-
-abbrev pub IsRefusal : List ℕ → List ℕ → List ℕ → Type 0
-IsRefusal file name text = IsUnknown file name text ⊎ IsTooLarge file name text
+-- the text tells the fault of the file
+pub record IsSpefFault (file text : List ℕ) : Type 0 where
+  pub fault : SpefFault
+  pub found : file_of file ≡ Err fault
+  pub text_is : text ≡ spef_fault fault

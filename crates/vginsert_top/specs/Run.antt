@@ -1,9 +1,9 @@
 -- What a run of the program promises.
-use Rattle.std.specs.Prelude.{◌≡◌, ◌⊎◌, ℕ, ◌^◌, ◌<◌, ◌≤◌, List, [], ◌∷◌, ◌++◌, ◌==◌, Bool, length, codes, Option, Some, IfSome}
+use Rattle.std.specs.Prelude.{◌≡◌, ◌⊎◌, ℕ, ◌^◌, ◌<◌, ◌≤◌, List, [], ◌∷◌, ◌++◌, ◌==◌, Bool, length, codes, Option, Some, IfSome, Ok}
 use Rattle.std.specs.List.{list_any}
 use Rattle.vg_store.specs.Causes.{Rose}
 use Rattle.vg_store.specs.Writing.{Gains, GainsPrefix}
-use Rattle.vg_scan.specs.Lines.{lines_of}
+use Rattle.spef_file.specs.Readings.{File, file_of}
 use Rattle.vg_cons.specs.Lines.{lines_of as cons_lines}
 use Rattle.vg_cons.specs.Faults.{IsFaultIn}
 use Rattle.vg_cons.specs.declared.fault.ConsFault.{ConsFault}
@@ -14,9 +14,7 @@ use Rattle.vg_words.specs.declared.ask.Mode.TheVariants.{Wire, Time}
 use Rattle.vg_words.specs.declared.ask.WordFault.{WordFault}
 use Rattle.vg_words.specs.declared.ask.WordFault.TheVariants.{Unread, Missing, Excluded, BadValue, Equal, Memory as NoRoom}
 use Rattle.vginsert_top.specs.Faults.{cons_fault}
-use Rattle.vginsert_top.specs.Net.{IsPlain}
-use Rattle.vginsert_top.specs.Outcome.{IsDelays, IsRefusal}
-use Rattle.vginsert_top.specs.Plain.{PlainNet}
+use Rattle.vginsert_top.specs.Outcome.{IsDelays, IsRefusal, IsSpefFault}
 use Rattle.vginsert_top.specs.Timing.{IsTimed, IsTimeRefusal}
 use Rattle.vginsert_top.specs.declared.input.Input.{Input}
 use Rattle.vginsert_top.specs.declared.input.Input.TheVariants.{Spef, Cons}
@@ -51,10 +49,6 @@ WasRead told bytes = IfSome told (λ file. bytes ≡ file)
 abbrev pub AreRead : (List ℕ → Option (List ℕ)) → Request → Texts → Type 0
 AreRead holds request texts = (input : Input) → IfSome (input_name request input) (λ name. WasRead (holds name) (text_of texts input) × IsShort (text_of texts input))
 
--- no net has this text
-abbrev pub IsNotPlain : List ℕ → Type 0
-IsNotPlain file = (net : PlainNet) → IsPlain net (lines_of file) → ⊥
-
 -- the text is the report that is asked for
 abbrev pub IsReportFor : Mode → Texts → List ℕ → List ℕ → Type 0
 IsReportFor Wire texts net text = IsDelays texts.spef net text
@@ -65,11 +59,21 @@ abbrev pub IsRefusalFor : Mode → Texts → List ℕ → List ℕ → Type 0
 IsRefusalFor Wire texts net text = IsRefusal texts.spef net text
 IsRefusalFor Time texts net text = IsTimeRefusal texts.spef texts.cons net text
 
+-- the constraints have a fault, and the text tells it
+pub record IsConsFault (cons text : List ℕ) : Type 0 where
+  pub fault : ConsFault
+  pub found : IsFaultIn (cons_lines cons) fault
+  pub text_is : text ≡ cons_fault fault
+
+-- the file is in its form
+abbrev pub IsSpef : List ℕ → Type 0
+IsSpef file = (said : File) × (file_of file ≡ Ok said)
+
 -- the first input that is not in its form, and what is wrong with it
 abbrev pub IsFaultyFor : Mode → Texts → Input → List ℕ → Type 0
-IsFaultyFor mode texts Spef kind = IsNotPlain texts.spef × (kind ≡ codes "NotYet")
+IsFaultyFor mode texts Spef kind = IsSpefFault texts.spef kind
 IsFaultyFor Wire texts Cons kind = ⊥
-IsFaultyFor Time texts Cons kind = (net : PlainNet) × IsPlain net (lines_of texts.spef) × ((fault : ConsFault) × IsFaultIn (cons_lines texts.cons) fault × (kind ≡ cons_fault fault))
+IsFaultyFor Time texts Cons kind = IsSpef texts.spef × IsConsFault texts.cons kind
 
 -- an output gained all of these bytes, or some first ones and a fault
 abbrev pub Says : Option (List ℕ) → Option (List ℕ) → ℕ → ℕ → List ℕ → Type 0

@@ -1,16 +1,15 @@
 //! The top call of `vginsert`: from the words of the command line to the bytes that are written.
 #![tactic(auto)]
 
+mod answer;
+mod faults;
 mod input;
-mod laws;
-mod places;
-mod plain;
 mod program;
 mod report;
 mod time;
+mod wire;
 
 pub use input::Input;
-pub use laws::one_net;
 pub use program::run;
 
 #[cfg(test)]

@@ -7,8 +7,10 @@ ghost use Rattle.vg_words.specs.declared.ask.Mode.{Mode};
 ghost use Rattle.vginsert_top.specs.Run.{ForRequest, Texts, PrintsReport, PrintsRefusal, IsUnreadable, IsUnread, AreRefused, AreTold, Says, refused_line, IsStatusFor, ErrorLine, is_status, prints_nothing};
 ghost use Rattle.vginsert_top.specs.Ending.{request_of, mode_in, cons_in, IsPrinted, IsReadingOf, Ends, Tells, IsStatusOf, status_of, fault_status};
 
-use crate::plain::{Answer, RowsFault, answer_for};
-use crate::time::{TimeFault, time_for};
+use crate::answer::{Answer, AskFault};
+use crate::input::Input;
+use crate::time::time_for;
+use crate::wire::wire_for;
 use std::alloc::Global;
 use vg_store::{Failed, Files, Out, ReadAll, put_all, read_all};
 use vg_words::{Ask, WordFault, read_words};
@@ -37,10 +39,8 @@ pub enum Ending<'a> {
     Done,
     /// A refusal was printed.
     Refused,
-    /// The SPEF file is no plain text.
-    NotPlain(&'a str),
-    /// The constraints have a fault: its kind and its line, as text.
-    Faulty(&'a str, Vec<u8>),
+    /// An input has a fault: its kind and its line, as text.
+    Faulty(Input, &'a str, Vec<u8>),
     /// An input has more than 2^28 bytes.
     TooLong(&'a str),
     /// Reading an input failed.
@@ -58,7 +58,7 @@ impl Ending<'_> {
         match self {
             Ending::Done => 0,
             Ending::Refused => 2,
-            Ending::NotPlain(_) | Ending::Faulty(_, _) | Ending::TooLong(_) => 4,
+            Ending::Faulty(_, _, _) | Ending::TooLong(_) => 4,
             Ending::ReadFault(_) => 5,
             Ending::WriteFault => 6,
             Ending::Memory => 7,
@@ -109,11 +109,12 @@ fn wire<'a, F: Files, O: Out>(
         Ok(bytes) => bytes,
         Err(ending) => return ending,
     };
-    match answer_for(alloc, &bytes, net.as_bytes()) {
+    match wire_for(alloc, &bytes, net.as_bytes()) {
         Ok(Answer::Report(text)) => print(out, &text, Ending::Done),
         Ok(Answer::Refused(text)) => print(out, &text, Ending::Refused),
-        Err(RowsFault::NotPlain) => Ending::NotPlain(spef),
-        Err(RowsFault::Memory) => Ending::Memory,
+        Err(AskFault::Spef(text)) => Ending::Faulty(Input::Spef, spef, text),
+        Err(AskFault::Cons(_)) => unreachable!(),
+        Err(AskFault::Memory) => Ending::Memory,
     }
 }
 
@@ -140,9 +141,9 @@ fn time<'a, F: Files, O: Out>(
     match time_for(alloc, &bytes, &rows, net.as_bytes()) {
         Ok(Answer::Report(text)) => print(out, &text, Ending::Done),
         Ok(Answer::Refused(text)) => print(out, &text, Ending::Refused),
-        Err(TimeFault::NotPlain) => Ending::NotPlain(spef),
-        Err(TimeFault::Cons(text)) => Ending::Faulty(cons, text),
-        Err(TimeFault::Memory) => Ending::Memory,
+        Err(AskFault::Spef(text)) => Ending::Faulty(Input::Spef, spef, text),
+        Err(AskFault::Cons(text)) => Ending::Faulty(Input::Cons, cons, text),
+        Err(AskFault::Memory) => Ending::Memory,
     }
 }
 
@@ -213,8 +214,7 @@ fn tell<E: Out>(err: &mut E, ending: &Ending<'_>)
     let front = b"vginsert: ".as_slice();
     match ending {
         Ending::Done | Ending::Refused => {}
-        Ending::NotPlain(file) => say(err, front, file.as_bytes(), b": ", b"NotYet", b"\n"),
-        Ending::Faulty(file, text) => say(err, front, file.as_bytes(), b": ", text, b"\n"),
+        Ending::Faulty(_, file, text) => say(err, front, file.as_bytes(), b": ", text, b"\n"),
         Ending::TooLong(file) => say(err, front, file.as_bytes(), b": ", b"TooLong", b"\n"),
         Ending::ReadFault(file) => say(
             err,

@@ -1,18 +1,28 @@
 //! The lines of reports.
-ghost use Rattle.std.specs.Prelude.{◌≡◌, ◌++◌, OnOk, IfOk, codes, decimal};
+ghost use Rattle.std.specs.Prelude.{◌≡◌, ◌++◌, OnOk, codes};
 ghost use Rattle.std.specs.Fmt.{signed_decimal};
-ghost use Rattle.vginsert_top.specs.Net.{total_line, refusal};
-ghost use Rattle.vginsert_top.specs.Faults.{cons_kind, cons_fault};
+ghost use Rattle.vginsert_top.specs.Reports.{printed_node, refused_line};
 
-use std::alloc::Global;
-use vg_cons::{ConsFault, ConsKind};
-use vg_num::{Memory, NumFault, print_signed};
+use vg_num::{Memory, print_signed};
+use vg_scan::NodeName;
 
 /// Appends bytes.
-fn push(bytes: &[u8], to: &mut Vec<u8>) -> Result<(), Memory>
+pub fn push(bytes: &[u8], to: &mut Vec<u8>) -> Result<(), Memory>
     ensures { OnOk result (to.new.items ≡ to.old.items ++ bytes.now) }
 {
     to.extend_from_slice(bytes)?;
+    Ok(())
+}
+
+/// Appends a node: its owner, and after a colon its leaf, where it has one.
+pub fn print_node(node: &NodeName, to: &mut Vec<u8>) -> Result<(), Memory>
+    ensures { OnOk result (to.new.items ≡ to.old.items ++ printed_node node.now) }
+{
+    push(node.owner.as_bytes(), to)?;
+    if !node.leaf.as_bytes().is_empty() {
+        push(b":", to)?;
+        push(node.leaf.as_bytes(), to)?;
+    }
     Ok(())
 }
 
@@ -29,11 +39,11 @@ pub fn print_total(name: &[u8], total: i128, to: &mut Vec<u8>) -> Result<(), Mem
 }
 
 /// Appends `sink NODE D`, with D in zeptoseconds.
-pub fn print_sink(node: &[u8], delay: i128, to: &mut Vec<u8>) -> Result<(), Memory>
-    ensures { OnOk result (to.new.items ≡ to.old.items ++ (codes "sink " ++ node.now ++ codes " " ++ signed_decimal delay ++ codes "\n")) }
+pub fn print_sink(node: &NodeName, delay: i128, to: &mut Vec<u8>) -> Result<(), Memory>
+    ensures { OnOk result (to.new.items ≡ to.old.items ++ (codes "sink " ++ printed_node node.now ++ codes " " ++ signed_decimal delay ++ codes "\n")) }
 {
     push(b"sink ", to)?;
-    push(node, to)?;
+    print_node(node, to)?;
     push(b" ", to)?;
     print_signed(delay, to)?;
     push(b"\n", to)?;
@@ -41,8 +51,8 @@ pub fn print_sink(node: &[u8], delay: i128, to: &mut Vec<u8>) -> Result<(), Memo
 }
 
 /// Appends `net NAME refused NUMBER KIND`.
-pub fn print_refusal(name: &[u8], number: u8, kind: &[u8], to: &mut Vec<u8>) -> Result<(), Memory>
-    ensures { OnOk result (to.new.items ≡ to.old.items ++ refusal name.now number kind.now) }
+pub fn print_refused(name: &[u8], number: u8, kind: &[u8], to: &mut Vec<u8>) -> Result<(), Memory>
+    ensures { OnOk result (to.new.items ≡ to.old.items ++ refused_line name.now number kind.now) }
 {
     push(b"net ", to)?;
     push(name, to)?;
@@ -89,29 +99,4 @@ pub fn print_slack(
     print_value(name, slack, to)?;
     print_polarity(polarity, node, to)?;
     Ok(())
-}
-
-/// The name of a fault of constraints.
-fn kind_name(kind: ConsKind) -> &'static [u8]
-    ensures { result.now ≡ cons_kind kind }
-{
-    match kind {
-        ConsKind::Version => b"Version",
-        ConsKind::Word => b"Word",
-        ConsKind::Number(NumFault::Form) => b"Number Form",
-        ConsKind::Number(NumFault::Negative) => b"Number Negative",
-        ConsKind::Number(NumFault::TooLarge) => b"Number TooLarge",
-        ConsKind::Twice => b"Twice",
-        ConsKind::Memory => b"Memory",
-    }
-}
-
-/// A fault of constraints as text: `KIND line L`.
-pub fn cons_fault(alloc: Global, fault: ConsFault) -> Result<Vec<u8>, Memory>
-    ensures { IfOk result (λ text. text.items ≡ cons_fault fault) }
-{
-    let mut text = Vec::from_slice(alloc, kind_name(fault.kind))?;
-    push(b" line ", &mut text)?;
-    print_signed(fault.line as i128, &mut text)?;
-    Ok(text)
 }

@@ -17,8 +17,6 @@ const WORDS: &str = "--mode wire --spef a.spef --net n1";
 
 const DELAYS: &str = "net n1 total 200000\nsink u2:A 300000000000\n";
 
-const NOT_YET: &str = "vginsert: a.spef: NotYet\n";
-
 /// The numbers of the calls that fail, of the files, of standard output and of standard error.
 type Failing<'a> = (&'a [u64], &'a [u64], &'a [u64]);
 
@@ -154,56 +152,20 @@ fn answers_each_row(rt: HostRuntime) -> Result<(), Fail> {
             2,
             "net n1 refused 16 TooLarge\n",
         ),
-        // not plain: resistors out of order, a node named twice, a sink and a capacitor outside the tree, a foreign node
+        // resistors in any order and direction
         (
             WORDS,
-            "*D_NET n1 0\n*CONN\n*I u1:Z O\n*I u2:A I\n*CAP\n1 u2:A 1\n*RES\n2 n1:1 u2:A 1000\n1 u1:Z n1:1 1000\n*END\n",
-            4,
-            NOT_YET,
+            "*D_NET n1 200\n*CONN\n*I u1:Z O\n*I u2:A I\n*CAP\n1 n1:1 100\n2 u2:A 100\n*RES\n2 u2:A n1:1 1000\n1 n1:1 u1:Z 1000\n*END\n",
+            0,
+            DELAYS,
         ),
         (
             WORDS,
-            "*D_NET n1 0\n*CONN\n*I u1:Z O\n*I u2:A I\n*CAP\n1 u2:A 1\n*RES\n1 u1:Z u2:A 1000\n1 u1:Z u2:A 1000\n*END\n",
-            4,
-            NOT_YET,
+            "*D_NET n1 0\n*RES\n1 u1:Z n1:1 1\n2 u1:Z n1:2 1\n3 n1:2 n1:3 1\n4 n1:1 u2:A 1\n*CAP\n1 u2:A 1\n*CONN\n*I u1:Z O\n*I u2:A I\n*END\n",
+            0,
+            "net n1 total 1000\nsink u2:A 2000000\n",
         ),
-        (
-            WORDS,
-            "*D_NET n1 0\n*CONN\n*I u1:Z O\n*I u2:A I\n*I u2:A I\n*CAP\n1 u2:A 1\n*RES\n1 u1:Z u2:A 1000\n*END\n",
-            4,
-            NOT_YET,
-        ),
-        (
-            WORDS,
-            "*D_NET n1 0\n*CONN\n*I u1:Z O\n*I u2:A I\n*I u3:A I\n*CAP\n1 u2:A 1\n*RES\n1 u1:Z u2:A 1000\n*END\n",
-            4,
-            NOT_YET,
-        ),
-        (
-            WORDS,
-            "*D_NET n1 0\n*CONN\n*I u1:Z O\n*I u2:A I\n*CAP\n1 u3:A 1\n*RES\n1 u1:Z u2:A 1000\n*END\n",
-            4,
-            NOT_YET,
-        ),
-        (
-            WORDS,
-            "*D_NET n1 0\n*CONN\n*I u1:Z O\n*I u2:A I\n*CAP\n1 u2:A 1\n*RES\n1 u1:Z n2:1 1000\n2 n2:1 u2:A 1\n*END\n",
-            4,
-            NOT_YET,
-        ),
-        (
-            WORDS,
-            "*D_NET n1 0\n*CONN\n*I u1:Z O\n*I u2:A I\n*CAP\n1 u2:A 1\n*RES\n1 u1:Z n1:1 1\n2 u1:Z n1:2 1\n3 n1:2 n1:3 1\n4 n1:1 u2:A 1\n*END\n",
-            4,
-            NOT_YET,
-        ),
-        (
-            WORDS,
-            "*D_NET n1 200\n*CONN\n*I u1:Z O\n*I u2:A I\n*CAP\n1 u2:A -1\n*RES\n1 u1:Z u2:A 1\n*END\n",
-            4,
-            NOT_YET,
-        ),
-        (WORDS, "", 4, NOT_YET),
+        (WORDS, "", 2, "net n1 refused 1 UnknownNet\n"),
     ];
     for row in rows {
         expect_row(&rt, rt.alloc(), row, "", 1)?;
@@ -212,15 +174,154 @@ fn answers_each_row(rt: HostRuntime) -> Result<(), Fail> {
     Ok(())
 }
 
+/// The lines of the net `n1` after its head, and why it is refused.
 #[test]
-fn refuses_other_units(rt: HostRuntime) -> Result<(), Fail> {
+fn refuses_nets(rt: HostRuntime) -> Result<(), Fail> {
+    let rows = [
+        // two resistors side by side, and a node that nothing joins
+        (
+            "*CONN\n*I u1:Z O\n*I u2:A I\n*CAP\n1 u2:A 1\n*RES\n1 u1:Z n1:1 1000\n2 n1:1 u2:A 1000\n3 u1:Z n1:1 500\n",
+            "13 Loop",
+        ),
+        (
+            "*CONN\n*I u1:Z O\n*I u2:A I\n*CAP\n1 n1:9 5\n*RES\n1 u1:Z u2:A 1000\n",
+            "12 Floating n1:9",
+        ),
+        (
+            "*CONN\n*I u1:Z O\n*P z O\n*CAP\n1 u1:Z 5\n",
+            "12 Floating z",
+        ),
+        (
+            "*CONN\n*I u1:Z O\n*I u2:A I\n*RES\n1 u1:Z u2:A 1\n*INDUC\n1 n1:1 n1:2 7\n",
+            "4 Inductive",
+        ),
+        ("*CONN\n*I u1:Z O\n*I u2:A B\n", "5 Bidirectional"),
+        ("*CONN\n*I u1:Z I\n*I u2:A I\n", "6 NoDriver"),
+        ("*CONN\n*I u1:Z O\n*P a I\n", "7 ManyDrivers"),
+        ("*CONN\n*I u1:Z O\n", "14 NoSink"),
+        // faults of lines: they come before every other reason
+        ("*CONN\n*I u1:Z B\n*I u1:Z O\n", "2 Section Conn line 18"),
+        (
+            "*CONN\n*I u1:Z O\n*I u2:A I\n*CAP\n1 u3:A 1\n",
+            "2 Section Foreign line 20",
+        ),
+        (
+            "*CONN\n*I u1:Z O\n*I u2:A I\n*CAP\n1 u2:A -1\n",
+            "2 Section Number Negative line 20",
+        ),
+        (
+            "*CONN\n*I u1:Z O\n*I u2:A I\n*CAP\n1 u2:A u1:Z 1\n",
+            "2 Section SelfCoupled line 20",
+        ),
+        ("*CAP\n1 n1:1\n", "2 Section Cap line 17"),
+        ("*RES\n1 n1:1 n1:2\n", "2 Section Res line 17"),
+    ];
+    for (lines, reason) in rows {
+        let section = format!(in rt.alloc(); "*D_NET n1 0\n{lines}*END\n")?;
+        let line = format!(in rt.alloc(); "net n1 refused {reason}\n")?;
+        let row = (WORDS, section.as_str(), 2, line.as_str());
+        expect_row(&rt, rt.alloc(), row, "", 64)?;
+    }
+    let row = (
+        WORDS,
+        "*R_NET n1 0\n?\n*END\n",
+        2,
+        "net n1 refused 3 Reduced\n",
+    );
+    expect_row(&rt, rt.alloc(), row, "", 64)?;
+    Ok(())
+}
+
+/// A whole file, and what the run for its net says: on standard output where the status is 0.
+fn expect_file(
+    rt: &impl Abort,
+    alloc: Global,
+    words: &str,
+    text: &str,
+    wanted: u8,
+    line: &str,
+) -> Result<(), Fail> {
+    let (status, out, err) = run_on(alloc, words, text, "", 100, (&[], &[], &[]))?;
+    let (printed, told) = if wanted == 0 { (line, "") } else { ("", line) };
+    assert_eq!(rt; status, wanted, "{text}");
+    assert_eq!(rt; out.as_bytes(), printed.as_bytes(), "{text}");
+    assert_eq!(rt; err.as_bytes(), told.as_bytes(), "{text}");
+    Ok(())
+}
+
+#[test]
+fn reads_other_headers(rt: HostRuntime) -> Result<(), Fail> {
     let text = format!(in rt.alloc(); "{HEADER}{NET}")?;
-    let (front, back) = text.as_str().split_once("1 FF").ok_or("no unit")?;
-    let other = format!(in rt.alloc(); "{front}1 PF{back}")?;
-    let (status, out, err) = run_on(rt.alloc(), WORDS, other.as_str(), "", 64, (&[], &[], &[]))?;
-    assert_eq!(rt; status, 4);
-    assert_eq!(rt; out.as_bytes(), "".as_bytes());
-    assert_eq!(rt; err.as_bytes(), NOT_YET.as_bytes());
+    let picofarads = text.replace(rt.alloc(), "1 FF", "1 PF")?;
+    let line = "net n1 total 200000000\nsink u2:A 300000000000000\n";
+    expect_file(&rt, rt.alloc(), WORDS, picofarads.as_str(), 0, line)?;
+    let broken = text.replace(
+        rt.alloc(),
+        "\"none\"\n*VENDOR",
+        "\"a\n\"*VENDOR b\"\n*VENDOR",
+    )?;
+    expect_file(&rt, rt.alloc(), WORDS, broken.as_str(), 0, DELAYS)?;
+    let ends = text.replace(rt.alloc(), "\n", "\r\n")?;
+    expect_file(&rt, rt.alloc(), WORDS, ends.as_str(), 0, DELAYS)?;
+    let cut = text.replace(rt.alloc(), "*END\n", "")?;
+    let line = "vginsert: a.spef: NoEnd line 15\n";
+    expect_file(&rt, rt.alloc(), WORDS, cut.as_str(), 4, line)?;
+    let unit = text.replace(rt.alloc(), "1 OHM", "2 OHM")?;
+    let line = "vginsert: a.spef: Unit line 13\n";
+    expect_file(&rt, rt.alloc(), WORDS, unit.as_str(), 4, line)?;
+    let line = "vginsert: a.spef: Header line 1\n";
+    expect_file(&rt, rt.alloc(), WORDS, "", 4, line)?;
+    let line = "vginsert: a.spef: Header line 2\n";
+    expect_file(&rt, rt.alloc(), WORDS, "// a comment\n/* alone */", 4, line)?;
+    Ok(())
+}
+
+/// A net as an extractor writes it: a name map, an escaped name, coupling, triples and comments.
+const EXTRACTED: &str =
+    "*NAME_MAP\n*1 n\\[3\\]\n*2 u1\n*3 u2\n*4 other\n*PORTS\nin1 I *C 0.0 2.0\n*D_NET *1 0.25 *V 100\n*CONN\n*I *2:Z O *C 1.0 2.0 *L 0 *D DRV\n*I *3:A I *C 9.0 2.0 *L 0.002 *D BUF\n*N *1:1 *C 5.0 2.0\n*CAP\n1 *1:1 0.08:0.1:0.12\n2 *3:A 0.1 // far end\n3 *1:1 *4:7 0.05\n*RES\n1 *2:Z *1:1 0.9:1:1.1\n2 *1:1 *3:A 1\n*END\n";
+
+#[test]
+fn reads_an_extractors_file(rt: HostRuntime) -> Result<(), Fail> {
+    let text = format!(in rt.alloc(); "{HEADER}{EXTRACTED}")?;
+    let text = text.replace(rt.alloc(), "1 FF", "1 PF")?;
+    let text = text.replace(rt.alloc(), "1 OHM", "1 KOHM")?;
+    let words = "--mode wire --spef a.spef --net n[3]";
+    let line = "net n[3] total 250000\nsink u2:A 350000000000\n";
+    expect_file(&rt, rt.alloc(), words, text.as_str(), 0, line)?;
+    let twice = text.replace(rt.alloc(), "*4 other", "*3 other")?;
+    let line = "vginsert: a.spef: MapTwice line 19\n";
+    expect_file(&rt, rt.alloc(), words, twice.as_str(), 4, line)
+}
+
+/// A file whose net is a chain of so many resistors from its driver.
+fn chain(alloc: Global, resistors: usize) -> Result<Vec<u8>, Fail> {
+    let mut text = Vec::from_slice(alloc, HEADER.as_bytes())?;
+    text.extend_from_slice(b"*D_NET n 0\n*CONN\n*P n I\n*P z O\n*RES\n1 n n:1 1\n")?;
+    'resistor: for i in 2..resistors {
+        let line = format!(in alloc; "1 n:{} n:{} 1\n", i - 1, i)?;
+        text.extend_from_slice(line.as_bytes())?;
+    }
+    let line = format!(in alloc; "1 n:{} z 1\n*END\n", resistors.saturating_sub(1))?;
+    text.extend_from_slice(line.as_bytes())?;
+    Ok(text)
+}
+
+/// The greatest number of nodes of a net, and one more.
+#[test]
+fn counts_nodes(rt: HostRuntime) -> Result<(), Fail> {
+    let words = words_of(rt.alloc(), "--mode wire --spef a.spef --net n")?;
+    for (resistors, wanted, line) in [
+        (65_535, 0, "net n total 0\nsink z 0\n"),
+        (65_536, 2, "net n refused 16 TooLarge\n"),
+    ] {
+        let mut files = MemFiles::new(rt.alloc(), 1 << 24, &[])?;
+        files.add("a.spef", &chain(rt.alloc(), resistors)?)?;
+        let mut out = MemOut::new(rt.alloc(), 1 << 24, &[])?;
+        let mut err = MemOut::new(rt.alloc(), 1 << 24, &[])?;
+        let status = run(rt.alloc(), &words, &mut files, &mut out, &mut err);
+        assert_eq!(rt; status, wanted);
+        assert_eq!(rt; out.as_bytes(), line.as_bytes());
+    }
     Ok(())
 }
 
@@ -343,7 +444,22 @@ fn times_each_row(rt: HostRuntime) -> Result<(), Fail> {
             2,
             "net q refused 1 UnknownNet\n",
         ),
-        (TIME, "*END\n", "", 4, NOT_YET),
+        (TIME, "*END\n", "", 4, "vginsert: a.spef: Stray line 15\n"),
+        // what refuses the net alone comes before what the constraints lack
+        (
+            TIME,
+            "*D_NET p 0\n*CONN\n*P a I\n*P z O\n*I u:A I\n*END\n",
+            "vgcons 1",
+            2,
+            "net p refused 12 Floating z\n",
+        ),
+        (
+            TIME,
+            "*D_NET p 0\n*CONN\n*P a I\n*P z O\n*CAP\n1 z 1e9\n*RES\n1 a z 1\n*END\n",
+            "vgcons 1",
+            2,
+            "net p refused 15 Unconstrained z\n",
+        ),
         (TIME, PORTS, "", 4, "vginsert: c.txt: Version line 1\n"),
         (
             "--mode time --spef a.spef --cons d.txt --net p",

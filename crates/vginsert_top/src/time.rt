@@ -1,7 +1,7 @@
-//! The slack of a plain net whose ends are ports.
+//! The slack of a net whose ends are ports.
 mod answer;
 mod ends;
 mod ports;
 mod slack;
 
-pub use answer::{TimeFault, time_for};
+pub use answer::time_for;

@@ -1,77 +1,76 @@
-//! What constraints say of a port.
-ghost use Rattle.std.specs.Prelude.{◌≡◌, true, IfOk, option_map, map};
-ghost use Rattle.std.specs.List.{find};
-ghost use Rattle.vg_cons.specs.Names.{key_of};
-ghost use Rattle.vg_cons.specs.Rows.{load_of};
-ghost use Rattle.vginsert_top.specs.Rows.{part_at};
-ghost use Rattle.vginsert_top.specs.Timing.{port_key, is_free, sink_given, driver_at};
+//! The connections of a net, and what constraints say of its ports.
+ghost use Rattle.std.specs.Prelude.{◌≡◌, ◌<◌, length};
+ghost use Rattle.std.specs.List.{All};
+ghost use Rattle.vginsert_top.specs.Timing.{is_pin_kind, has_pin as has_pin_in, name_of as name_in, is_free as is_free_in, first_free as first_free_in, sink_given as sink_given_in, driver_at as driver_by};
 
 use elmore::{Driver, Sink};
-use std::alloc::Global;
-use vg_cons::{Constraints, arrival, port_drive, port_load, required, wants_inverted};
-use vg_num::Memory;
-use vg_scan::{Name, NodeName, Span, text_at};
+use spef_net::{ConnKind, ParConn, ParNet};
+use vg_cons::{Constraints, arrival, port_drive, required, wants_inverted};
+use vg_design::is_sink;
+use vg_scan::NodeName;
 
-/// A port as constraints name it.
-fn port_name(alloc: Global, port: &[u8]) -> Result<NodeName, Memory>
-    ensures { IfOk result (λ pin. key_of pin ≡ port_key port.now) }
+/// Whether a connection is a pin.
+fn is_pin(kind: ConnKind) -> bool
+    ensures { result ≡ is_pin_kind kind }
 {
-    let owner = Name::from_bytes(alloc, port)?;
-    let leaf = Name::from_bytes(alloc, b"")?;
-    Ok(NodeName { owner, leaf })
+    match kind {
+        ConnKind::Pin => true,
+        ConnKind::Port => false,
+    }
 }
 
-/// Whether a port has no required time.
-fn is_free(alloc: Global, cons: &Constraints, port: &[u8]) -> Result<bool, Memory>
-    ensures { IfOk result (λ free. free ≡ is_free cons.now port.now) }
+/// Whether some connection of a net is a pin.
+pub fn has_pin(net: &ParNet) -> bool
+    ensures { result ≡ has_pin_in net.now }
 {
-    let pin = port_name(alloc, port)?;
-    Ok(required(cons, &pin).is_none())
+    net.conns.as_slice().iter().any(|conn| is_pin(conn.kind))
 }
 
-/// The first of some ports without a required time.
-pub fn first_free(
-    alloc: Global,
-    bytes: &[u8],
-    cons: &Constraints,
-    ports: &[Span],
-) -> Result<Option<Span>, Memory>
-    ensures { IfOk result (λ found. option_map (part_at bytes.now) found ≡ find (is_free cons.now) (map (part_at bytes.now) ports.now)) }
+/// The name of a node of a net.
+pub fn name_of(net: &ParNet, v: u32) -> &NodeName
+    requires { v < length net.now.nodes }
+    ensures { result.now ≡ name_in net.now v }
 {
-    'port: for port in ports {
-        if is_free(alloc, cons, text_at(bytes, *port))? {
-            return Ok(Some(*port));
+    &net.nodes.as_slice()[v as usize].name
+}
+
+/// Whether a connection is a sink without a required time.
+fn is_free(cons: &Constraints, net: &ParNet, conn: ParConn) -> bool
+    requires { conn.node < length net.now.nodes }
+    ensures { result ≡ is_free_in cons.now net.now conn }
+{
+    is_sink(&conn) && required(cons, name_of(net, conn.node)).is_none()
+}
+
+/// The first sink, in the order of the connections, without a required time.
+pub fn first_free(cons: &Constraints, net: &ParNet) -> Option<ParConn>
+    requires { All (λ conn. conn.node < length net.now.nodes) net.now.conns }
+    ensures { result ≡ first_free_in cons.now net.now }
+{
+    'connection: for conn in net.conns.as_slice() {
+        if is_free(cons, net, *conn) {
+            return Some(*conn);
         }
     }
-    Ok(None)
+    None
 }
 
 /// What constraints say of a port as a sink.
-pub fn sink_given(alloc: Global, cons: &Constraints, port: &[u8]) -> Result<Option<Sink>, Memory>
-    ensures { IfOk result (λ sink. sink ≡ sink_given cons.now port.now) }
+pub fn sink_given(cons: &Constraints, name: &NodeName) -> Option<Sink>
+    ensures { result ≡ sink_given_in cons.now name.now }
 {
-    let pin = port_name(alloc, port)?;
-    let inverted = wants_inverted(cons, &pin);
-    match required(cons, &pin) {
-        None => Ok(None),
-        Some(required) => Ok(Some(Sink { required, inverted })),
+    let inverted = wants_inverted(cons, name);
+    match required(cons, name) {
+        None => None,
+        Some(required) => Some(Sink { required, inverted }),
     }
 }
 
-/// The load of a port (aF).
-pub fn load_given(alloc: Global, cons: &Constraints, port: &[u8]) -> Result<u64, Memory>
-    ensures { IfOk result (λ load. load ≡ load_of cons.now port.now) }
-{
-    let name = Name::from_bytes(alloc, port)?;
-    Ok(port_load(cons, &name))
-}
-
 /// What constraints say of a port as a driver.
-pub fn driver_at(alloc: Global, cons: &Constraints, port: &[u8]) -> Result<Driver, Memory>
-    ensures { IfOk result (λ driver. driver ≡ driver_at cons.now port.now) }
+pub fn driver_at(cons: &Constraints, name: &NodeName) -> Driver
+    ensures { result ≡ driver_by cons.now name.now }
 {
-    let pin = port_name(alloc, port)?;
-    let (r, k) = port_drive(cons, &pin.owner);
-    let arrival = arrival(cons, &pin);
-    Ok(Driver { k, r, arrival })
+    let (r, k) = port_drive(cons, &name.owner);
+    let arrival = arrival(cons, name);
+    Driver { k, r, arrival }
 }

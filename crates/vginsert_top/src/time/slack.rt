@@ -1,47 +1,59 @@
 //! The slack of a net without cells.
-ghost use Rattle.std.specs.Prelude.{◌≡◌, ℕ, ◌<◌, ◌≤◌, ◌^◌, [], length, slice_index, IfOk, MatchOption, None};
-ghost use Rattle.vginsert_top.specs.Rows.{part_at, net_in};
-ghost use Rattle.vginsert_top.specs.Timing.{first_free, IsWithinTimeLimits, IsProblemOf, IsTiming, IsBareTiming, driver_of, sinks_of, timed_tree};
-ghost use Rattle.vginsert_top.specs.Tree.{IsInTreeOrder};
-ghost use Rattle.vginsert_top.specs.Answer.{IsPlacedIn};
-ghost use Rattle.elmore.specs.Problems.{IsProblemWithin};
+ghost use Rattle.std.specs.Prelude.{◌≡◌, ◌≤◌, ◌^◌, length, IfOk, None};
+ghost use Rattle.vginsert_top.specs.TimeSteps.{IsReady, MakesProblem, Times};
+ghost use Rattle.vg_design.specs.Wires.{AreMarks};
+ghost use Rattle.vginsert_top.specs.Timing.{first_free, IsBareTiming, timed_tree};
 
-use crate::plain::{Placed, Rows, build_tree};
-use crate::time::ends::{loaded_sums, sinks_of};
-use crate::time::ports::driver_at;
-use elmore::{Placement, Problem, Scratch, first_wrong, slack};
+use crate::time::ends::{loaded_nodes, sinks_of};
+use crate::time::ports::{driver_at, name_of};
+use elmore::{Placement, Problem, Scratch, Tree, first_wrong, slack};
 use std::alloc::Global;
 use vg_cons::Constraints;
+use vg_design::{NetTree, sink_marks};
 use vg_num::{Memory, Row};
-use vg_scan::text_at;
 
-/// The slack (zs) of a net without cells, and its first sink of the wrong polarity.
+/// The slack (zs) of a net without cells, and its first sink of the wrong polarity as a node of the tree.
 #[derive(Clone, Copy)]
 pub struct Timing {
     pub slack: i128,
     pub wrong: Option<u32>,
 }
 
-/// The problem of a net of few nodes, where it is within the limits.
-fn problem_of(
+/// The tree of a net with the loads of its sinks.
+fn loaded_tree(
     alloc: Global,
-    bytes: &[u8],
-    rows: &Rows,
-    placed: &Placed,
     cons: &Constraints,
-) -> Result<Option<Problem>, Memory>
-    requires few { length rows.now.ress.items < 65536 }
-    requires some_sink { 0 < length rows.now.sinks.items }
-    requires order { IsInTreeOrder (net_in bytes.now rows.now) }
-    requires placed { IsPlacedIn placed.now (net_in bytes.now rows.now) }
-    requires small { (i : ℕ) → slice_index placed.now.sums.items i < 2 ^ 127 }
-    requires constrained { first_free cons.now (net_in bytes.now rows.now) ≡ None }
-    ensures { IfOk result (λ made. MatchOption made (IsProblemWithin (timed_tree cons.now (net_in bytes.now rows.now)) (driver_of cons.now (net_in bytes.now rows.now)) (sinks_of cons.now (net_in bytes.now rows.now)) [] [] → ⊥) (λ problem. IsProblemOf cons.now (net_in bytes.now rows.now) problem × IsProblemWithin (timed_tree cons.now (net_in bytes.now rows.now)) (driver_of cons.now (net_in bytes.now rows.now)) (sinks_of cons.now (net_in bytes.now rows.now)) [] [])) }
+    found: &NetTree,
+    marks: &[bool],
+) -> Result<Tree, Memory>
+    requires ready { IsReady found.now.net found.now.tree.nodes found.now.order }
+    requires marks { AreMarks found.now.net marks.now }
+    ensures { IfOk result (λ tree. tree.nodes ≡ timed_tree cons.now found.now.net found.now.tree.nodes found.now.order) }
 {
-    let sums = loaded_sums(alloc, bytes, rows, placed, cons)?;
-    let sinks = sinks_of(alloc, bytes, rows, placed, cons)?;
-    let driver = driver_at(alloc, cons, text_at(bytes, rows.driver))?;
-    let tree = build_tree(alloc, bytes, rows, &placed.parents, &sums)?;
+    let nodes = loaded_nodes(
+        alloc,
+        cons,
+        &found.net,
+        marks,
+        found.tree.nodes.as_slice(),
+        found.order.as_slice(),
+    )?;
+    Ok(Tree {
+        nodes: Row::from_vec(nodes),
+    })
+}
+
+/// The problem of a net, where it is within the limits.
+fn problem_of(alloc: Global, cons: &Constraints, found: &NetTree) -> Result<Option<Problem>, Memory>
+    requires ready { IsReady found.now.net found.now.tree.nodes found.now.order }
+    requires constrained { first_free cons.now found.now.net ≡ None }
+    ensures { IfOk result (MakesProblem cons.now found.now.net found.now.tree.nodes found.now.order) }
+{
+    let order = found.order.as_slice();
+    let marks = sink_marks(alloc, &found.net)?;
+    let tree = loaded_tree(alloc, cons, found, &marks)?;
+    let sinks = sinks_of(alloc, cons, &found.net, &marks, order)?;
+    let driver = driver_at(cons, name_of(&found.net, order[0]));
     let free = vec![in alloc; false; sinks.len()]?;
     let reps = Row::from_vec(Vec::new(alloc));
     let made = Problem::new(alloc, tree, driver, Row::from_vec(sinks), &free, reps)?;
@@ -60,24 +72,18 @@ fn timing_of(alloc: Global, problem: &Problem) -> Result<Timing, Memory>
     Ok(Timing { slack, wrong })
 }
 
-/// The timing of a net of few nodes without cells. `None`: it passes a limit.
+/// The timing of a net of few capacitors without cells. `None`: it passes a limit.
 pub fn time_net(
     alloc: Global,
-    bytes: &[u8],
-    rows: &Rows,
-    placed: &Placed,
     cons: &Constraints,
+    found: &NetTree,
 ) -> Result<Option<Timing>, Memory>
-    requires few { length rows.now.ress.items < 65536 }
-    requires caps { length rows.now.caps.items ≤ 2 ^ 20 }
-    requires some_sink { 0 < length rows.now.sinks.items }
-    requires order { IsInTreeOrder (net_in bytes.now rows.now) }
-    requires placed { IsPlacedIn placed.now (net_in bytes.now rows.now) }
-    requires small { (i : ℕ) → slice_index placed.now.sums.items i < 2 ^ 127 }
-    requires constrained { first_free cons.now (net_in bytes.now rows.now) ≡ None }
-    ensures { IfOk result (λ found. MatchOption found (IsWithinTimeLimits cons.now (net_in bytes.now rows.now) → ⊥) (λ timing. IsWithinTimeLimits cons.now (net_in bytes.now rows.now) × IsTiming cons.now (net_in bytes.now rows.now) timing.slack timing.wrong)) }
+    requires ready { IsReady found.now.net found.now.tree.nodes found.now.order }
+    requires caps { length found.now.net.caps ≤ 2 ^ 20 }
+    requires constrained { first_free cons.now found.now.net ≡ None }
+    ensures { IfOk result (Times cons.now found.now.net found.now.tree.nodes found.now.order) }
 {
-    match problem_of(alloc, bytes, rows, placed, cons)? {
+    match problem_of(alloc, cons, found)? {
         None => Ok(None),
         Some(problem) => Ok(Some(timing_of(alloc, &problem)?)),
     }

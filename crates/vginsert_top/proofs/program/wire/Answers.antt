@@ -23,13 +23,13 @@ returns-in-Ok-Refused-clause-ends g c =
     (wire_read (g.F.Files.holds c.args.files.now) c.args.spef.now c.args.net.now c.in-Ok.bytes.items c.in-Ok.ensures.reads.0 c.in-Ok.ensures.reads.1)
     c.print-in-Ok-Refused.result of_bytes (rw c.deref-in-Ok-Refused.ensures.value at c.print-in-Ok-Refused.ensures)
 
-pub returns-in-Err-NotPlain-clause-ends : goal.returns-in-Err-NotPlain-clause-ends
-returns-in-Err-NotPlain-clause-ends g c = (
+pub returns-in-Err-Spef-clause-ends : goal.returns-in-Err-Spef-clause-ends
+returns-in-Err-Spef-clause-ends g c = (
   refl,
   (
     record { spef = c.in-Ok.bytes.items; cons = [] },
     wire_read (g.F.Files.holds c.args.files.now) c.args.spef.now c.args.net.now c.in-Ok.bytes.items c.in-Ok.ensures.reads.0 c.in-Ok.ensures.reads.1,
-    rw c.deref.ensures.value at (rw c.in-Err-NotPlain.field-0-is at c.in-Err-NotPlain.ensures),
+    rw c.deref.ensures.value at (rw c.in-Err-Spef.field-0-is at c.in-Err-Spef.ensures),
   ),
   refl,
 )

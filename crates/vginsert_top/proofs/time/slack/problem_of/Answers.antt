@@ -1,39 +1,45 @@
-use Rattle.std.proofs.Common.{◌≡◌, length, is_some, rules, sym, ap, ◌∙◌, arith}
-use Rattle.std.proofs.lemmas.List.{length-map}
+use Rattle.std.proofs.Common.{◌≡◌, ℕ, List, length, slice_index, is_some, rules, sym, ap, ◌∙◌}
 use Rattle.std.specs.List.{list_any}
 use Rattle.elmore.specs.Problems.{places}
-use Rattle.vginsert_top.specs.Rows.{net_in, part_at}
-use Rattle.vginsert_top.specs.Timing.{loaded, timed_tree, driver_of, driver_at}
-use Rattle.vginsert_top.proofs.TimeLemmas.{made_is, tree_size, sinks_size, some_sink}
+use Rattle.vginsert_top.specs.Timing.{name_of, driver_at, driver_of, sinks_of}
+use Rattle.vginsert_top.proofs.TimeLemmas.{made_is, loaded_size, sinks_size, order_size, tree_size, some_sink}
 use Rattle.vginsert_top.proofs.time.slack.problem_of.Goals as goal
 
 pub new-requires-2-clause-sinks_each : goal.new-requires-2-clause-sinks_each
 new-requires-2-clause-sinks_each c =
-    let net = net_in c.args.bytes.now c.args.rows.now in
     let cons = c.args.cons.now in
-    let tree : c.in_ok-tree.tree.nodes ≡ timed_tree cons net = c.in_ok-tree.ensures (loaded cons net) (c.deref-2.ensures.value ∙ c.in_ok-sums.ensures) in
-    ap length (c.from_vec.ensures ∙ c.in_ok-sinks.ensures) ∙ sinks_size cons net ∙ sym (ap length tree ∙ tree_size net.driver net.ress (loaded cons net))
+    let found = c.args.found.now in
+    let sinks : c.in_ok-sinks.sinks.items ≡ sinks_of cons found.net found.order = c.in_ok-sinks.ensures ∙ ap (sinks_of cons found.net) c.as_slice-order.ensures in
+    ap length (c.from_vec.ensures ∙ sinks)
+    ∙ sinks_size cons found.net found.order
+    ∙ order_size found.net found.tree.nodes found.order c.requires.ready
+    ∙ sym (ap length c.in_ok-tree.ensures ∙ loaded_size cons found.net found.tree.nodes found.order ∙ tree_size found.net found.tree.nodes found.order c.requires.ready)
 
 pub new-requires-2-clause-free_each : goal.new-requires-2-clause-free_each
 new-requires-2-clause-free_each c =
-    let net = net_in c.args.bytes.now c.args.rows.now in
     let cons = c.args.cons.now in
-    let tree : c.in_ok-tree.tree.nodes ≡ timed_tree cons net = c.in_ok-tree.ensures (loaded cons net) (c.deref-2.ensures.value ∙ c.in_ok-sums.ensures) in
+    let found = c.args.found.now in
+    let sinks : c.in_ok-sinks.sinks.items ≡ sinks_of cons found.net found.order = c.in_ok-sinks.ensures ∙ ap (sinks_of cons found.net) c.as_slice-order.ensures in
     let free : length c.deref-3.result.now ≡ length c.in_ok-sinks.sinks.items = search rules in
-    free ∙ ap length c.in_ok-sinks.ensures ∙ sinks_size cons net ∙ sym (ap length tree ∙ tree_size net.driver net.ress (loaded cons net))
+    free
+    ∙ ap length sinks
+    ∙ sinks_size cons found.net found.order
+    ∙ order_size found.net found.tree.nodes found.order c.requires.ready
+    ∙ sym (ap length c.in_ok-tree.ensures ∙ loaded_size cons found.net found.tree.nodes found.order ∙ tree_size found.net found.tree.nodes found.order c.requires.ready)
 
 pub new-requires-2-clause-some_sink : goal.new-requires-2-clause-some_sink
 new-requires-2-clause-some_sink c =
-    let net = net_in c.args.bytes.now c.args.rows.now in
-    let size = length-map c.args.rows.now.sinks.items (part_at c.args.bytes.now) in
-    ap (list_any is_some) (c.from_vec.ensures ∙ c.in_ok-sinks.ensures) ∙ some_sink c.args.cons.now net (omega (arith, size, c.requires.some_sink)) c.requires.order c.requires.constrained
+    let cons = c.args.cons.now in
+    let found = c.args.found.now in
+    ap (list_any is_some) (c.from_vec.ensures ∙ c.in_ok-sinks.ensures ∙ ap (sinks_of cons found.net) c.as_slice-order.ensures)
+    ∙ some_sink cons found.net found.tree.nodes found.order c.requires.ready c.requires.constrained
 
 pub returns : goal.returns
 returns c =
-    let net = net_in c.args.bytes.now c.args.rows.now in
     let cons = c.args.cons.now in
-    let tree : c.in_ok-tree.tree.nodes ≡ timed_tree cons net = c.in_ok-tree.ensures (loaded cons net) (c.deref-2.ensures.value ∙ c.in_ok-sums.ensures) in
-    let driver : c.in_ok-driver.driver ≡ driver_of cons net = c.in_ok-driver.ensures ∙ ap (driver_at cons) c.text_at.ensures in
-    made_is cons net c.in_ok-made.made c.in_ok-tree.tree.nodes c.in_ok-driver.driver c.from_vec.result (places c.in_ok-tree.tree.nodes c.from_vec.result c.deref-3.result.now) c.from_vec-reps.result
-    tree driver (c.from_vec.ensures ∙ c.in_ok-sinks.ensures) (c.from_vec-reps.ensures ∙ c.new.ensures.items)
+    let found = c.args.found.now in
+    let driver : c.driver_at-driver.result ≡ driver_of cons found.net found.order =
+    c.driver_at-driver.ensures ∙ ap (driver_at cons) (c.name_of.ensures ∙ ap (λ (order : List ℕ). name_of found.net (slice_index order 0)) c.as_slice-order.ensures) in
+    made_is cons found.net found.tree.nodes found.order c.in_ok-made.made c.in_ok-tree.tree.nodes c.driver_at-driver.result c.from_vec.result (places c.in_ok-tree.tree.nodes c.from_vec.result c.deref-3.result.now) c.from_vec-reps.result
+    c.in_ok-tree.ensures driver (c.from_vec.ensures ∙ c.in_ok-sinks.ensures ∙ ap (sinks_of cons found.net) c.as_slice-order.ensures) (c.from_vec-reps.ensures ∙ c.new.ensures.items)
     c.in_ok-made.ensures.within c.in_ok-made.ensures.nodes c.in_ok-made.ensures.driver c.in_ok-made.ensures.sinks c.in_ok-made.ensures.reps

@@ -1,0 +1,96 @@
+//! The faults of files, as text.
+
+ghost use Rattle.std.specs.Prelude.{◌≡◌, ◌++◌, OnOk, IfOk, codes, decimal};
+ghost use Rattle.vginsert_top.specs.Faults.{cons_kind, cons_fault, spef_kind, spef_fault, net_kind, net_fault};
+
+use crate::report::push;
+use spef_file::{SpefFault, SpefKind};
+use spef_net::{NetFault, NetKind};
+use std::alloc::Global;
+use vg_cons::{ConsFault, ConsKind};
+use vg_num::{Memory, NumFault, print_signed};
+
+/// The name of a fault of constraints.
+fn cons_kind(kind: ConsKind) -> &'static [u8]
+    ensures { result.now ≡ cons_kind kind }
+{
+    match kind {
+        ConsKind::Version => b"Version",
+        ConsKind::Word => b"Word",
+        ConsKind::Number(NumFault::Form) => b"Number Form",
+        ConsKind::Number(NumFault::Negative) => b"Number Negative",
+        ConsKind::Number(NumFault::TooLarge) => b"Number TooLarge",
+        ConsKind::Twice => b"Twice",
+        ConsKind::Memory => b"Memory",
+    }
+}
+
+/// The name of a fault of a SPEF file.
+fn spef_kind(kind: SpefKind) -> &'static [u8]
+    ensures { result.now ≡ spef_kind kind }
+{
+    match kind {
+        SpefKind::Header => b"Header",
+        SpefKind::Unit => b"Unit",
+        SpefKind::MapTwice => b"MapTwice",
+        SpefKind::MapUnknown => b"MapUnknown",
+        SpefKind::NoEnd => b"NoEnd",
+        SpefKind::Stray => b"Stray",
+        SpefKind::NetTwice => b"NetTwice",
+        SpefKind::Unsupported => b"Unsupported",
+        SpefKind::Memory => b"Memory",
+    }
+}
+
+/// The name of a fault of a net's lines.
+fn net_kind(kind: NetKind) -> &'static [u8]
+    ensures { result.now ≡ net_kind kind }
+{
+    match kind {
+        NetKind::Conn => b"Conn",
+        NetKind::Cap => b"Cap",
+        NetKind::Res => b"Res",
+        NetKind::Number(NumFault::Form) => b"Number Form",
+        NetKind::Number(NumFault::Negative) => b"Number Negative",
+        NetKind::Number(NumFault::TooLarge) => b"Number TooLarge",
+        NetKind::Foreign => b"Foreign",
+        NetKind::SelfCoupled => b"SelfCoupled",
+        NetKind::Memory => b"Memory",
+    }
+}
+
+/// Appends `KIND line L`.
+fn print_fault(kind: &[u8], line: usize, to: &mut Vec<u8>) -> Result<(), Memory>
+    ensures { OnOk result (to.new.items ≡ to.old.items ++ (kind.now ++ (codes " line " ++ decimal line))) }
+{
+    push(kind, to)?;
+    push(b" line ", to)?;
+    print_signed(line as i128, to)?;
+    Ok(())
+}
+
+/// A fault of constraints as text: `KIND line L`.
+pub fn cons_fault(alloc: Global, fault: ConsFault) -> Result<Vec<u8>, Memory>
+    ensures { IfOk result (λ text. text.items ≡ cons_fault fault) }
+{
+    let mut text = Vec::new(alloc);
+    print_fault(cons_kind(fault.kind), fault.line, &mut text)?;
+    Ok(text)
+}
+
+/// A fault of a SPEF file as text: `KIND line L`.
+pub fn spef_fault(alloc: Global, fault: SpefFault) -> Result<Vec<u8>, Memory>
+    ensures { IfOk result (λ text. text.items ≡ spef_fault fault) }
+{
+    let mut text = Vec::new(alloc);
+    print_fault(spef_kind(fault.kind), fault.line, &mut text)?;
+    Ok(text)
+}
+
+/// Appends a fault of a net's lines: `KIND line L`.
+pub fn print_net_fault(fault: NetFault, to: &mut Vec<u8>) -> Result<(), Memory>
+    ensures { OnOk result (to.new.items ≡ to.old.items ++ net_fault fault) }
+{
+    print_fault(net_kind(fault.kind), fault.line, to)?;
+    Ok(())
+}

@@ -1,0 +1,85 @@
+//! The wire delays of a net, as text.
+
+ghost use Rattle.std.specs.Prelude.{◌≡◌, ◌<◌, ◌≤◌, ◌^◌, ◌++◌, length, OnOk, IfOk};
+ghost use Rattle.std.specs.List.{flat_map};
+ghost use Rattle.vginsert_top.specs.Answer.{Answers, IsRefusedWith};
+ghost use Rattle.vginsert_top.specs.Reports.{sink_line, wire_report, refusal_kind, refusal_line};
+
+use crate::answer::{Answer, AskFault, index_of, refused};
+use crate::faults::print_net_fault;
+use crate::report::{print_node, print_sink, print_total, push};
+use std::alloc::Global;
+use vg_design::{Refusal, Refused, WireNet, wire_net};
+use vg_num::Memory;
+use vg_scan::{Name, NodeName};
+
+/// Appends a line for each sink.
+fn print_sinks(sinks: &[(NodeName, i128)], to: &mut Vec<u8>) -> Result<(), Memory>
+    ensures { OnOk result (to.new.items ≡ to.old.items ++ flat_map sink_line sinks.now) }
+{
+    'sink: for (node, delay) in sinks {
+        print_sink(node, *delay, to)?;
+    }
+    Ok(())
+}
+
+/// The report of a net: its total capacitance (aF), and the wire delay (zs) of each sink.
+fn report_wire(alloc: Global, name: &[u8], wire: &WireNet) -> Result<Vec<u8>, Memory>
+    requires { wire.now.total < 2 ^ 127 }
+    ensures { IfOk result (λ text. text.items ≡ wire_report name.now wire.now) }
+{
+    let mut text = Vec::new(alloc);
+    print_total(name, wire.total as i128, &mut text)?;
+    print_sinks(wire.sinks.as_slice(), &mut text)?;
+    Ok(text)
+}
+
+/// Appends the kind of a refusal, and what it tells.
+fn print_kind(refusal: &Refusal, to: &mut Vec<u8>) -> Result<(), Memory>
+    ensures { OnOk result (to.new.items ≡ to.old.items ++ refusal_kind refusal.now) }
+{
+    match refusal {
+        Refusal::UnknownNet => push(b"UnknownNet", to)?,
+        Refusal::Section(fault) => {
+            push(b"Section ", to)?;
+            print_net_fault(*fault, to)?;
+        }
+        Refusal::Reduced => push(b"Reduced", to)?,
+        Refusal::Inductive => push(b"Inductive", to)?,
+        Refusal::Bidirectional => push(b"Bidirectional", to)?,
+        Refusal::NoDriver => push(b"NoDriver", to)?,
+        Refusal::ManyDrivers => push(b"ManyDrivers", to)?,
+        Refusal::Floating(node) => {
+            push(b"Floating ", to)?;
+            print_node(node, to)?;
+        }
+        Refusal::Loop => push(b"Loop", to)?,
+        Refusal::NoSink => push(b"NoSink", to)?,
+        Refusal::TooLarge => push(b"TooLarge", to)?,
+    }
+    Ok(())
+}
+
+/// The answer that refuses a net.
+pub fn refuse(alloc: Global, name: &[u8], refusal: &Refusal) -> Result<Answer, Memory>
+    ensures { IfOk result (IsRefusedWith (refusal_line name.now refusal.now)) }
+{
+    let mut kind = Vec::new(alloc);
+    print_kind(refusal, &mut kind)?;
+    let answer = refused(alloc, name, refusal.number(), &kind)?;
+    Ok(answer)
+}
+
+/// What is said of the wire delays of the net of this name.
+pub fn wire_for(alloc: Global, file: &[u8], name: &[u8]) -> Result<Answer, AskFault>
+    requires { length file.now ≤ 2 ^ 28 }
+    ensures { Answers result file.now name.now }
+{
+    let index = index_of(alloc, file)?;
+    let net = Name::from_bytes(alloc, name)?;
+    match wire_net(alloc, file, &index, &net) {
+        Ok(wire) => Ok(Answer::Report(report_wire(alloc, name, &wire)?)),
+        Err(Refused::Net(refusal)) => Ok(refuse(alloc, name, &refusal)?),
+        Err(Refused::Memory) => Err(AskFault::Memory),
+    }
+}
