@@ -1,9 +1,10 @@
 #!/usr/bin/env python3
 """Times vginsert on inputs that it makes in a temporary folder, and prints a table: `run.py PROGRAM MODE [MB...]`.
 
-MODE is `wire` (plain nets of 65,536 nodes), `time` (the same nets between ports, with 131,072 and with 1,000,000 rows of
-constraints) or `design` (mode `wire` on a small and the large net of extracted designs of 1, 16, 64 and 256 MB, or of
-the sizes given). Seconds are those of the whole process, peak memory is what GNU time tells, 1 MB is 2^20 bytes.
+MODE is `wire` (nets of 65,536 nodes, each alone in its file), `time` (the same nets between ports, with 131,072 and with
+1,000,000 rows of constraints) or `design` (mode `wire` on a small and the large net of extracted designs of 1, 16, 64
+and 256 MB, or of the sizes given). Seconds are those of the whole process, peak memory is what GNU time tells, 1 MB is
+2^20 bytes.
 """
 import os
 import subprocess
@@ -60,7 +61,7 @@ def mb(count):
 def run_wire(program):
     head("net", "file", "sinks", "seconds", "peak memory")
     for shape, name in SHAPES.items():
-        make("plain_net.py", ["65536", shape], "net.spef")
+        make("one_net.py", ["65536", shape], "net.spef")
         printed, seconds, peak = measure_good([program, "--mode", "wire", "--spef", "net.spef", "--net", "n"])
         row(name, mb(os.path.getsize("net.spef")), f"{printed.count(b'sink '):,}", f"{seconds:.2f}", mb(peak))
 
@@ -70,7 +71,7 @@ def run_time(program):
     for rows in [131072, 1000000]:
         make("constraints.py", [str(rows)], "net.cons")
         for shape, name in SHAPES.items():
-            make("plain_net.py", ["65536", shape, "ports"], "net.spef")
+            make("one_net.py", ["65536", shape, "ports"], "net.spef")
             words = [program, "--mode", "time", "--spef", "net.spef", "--cons", "net.cons", "--net", "n"]
             _, seconds, peak = measure_good(words)
             row(name, f"{rows:,}", mb(os.path.getsize("net.cons")), f"{seconds:.2f}", mb(peak))

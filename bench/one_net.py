@@ -1,5 +1,5 @@
 #!/usr/bin/env python3
-"""Writes a plain SPEF text of one net with so many nodes: `plain_net.py NODES SHAPE [ports] > net.spef`.
+"""Writes a SPEF file of one net with so many nodes: `one_net.py NODES SHAPE [ports] > net.spef`.
 
 SHAPE is `chain` (one sink at the end), `star` (every node but the driver is a sink) or `tree` (each node has two
 children, every leaf is a sink). The connections are pins, or with `ports` the ports `d` (the driver) and `s1`, `s2`
