@@ -6,3 +6,4 @@ pub mod LineWords
 pub mod FileLemmas
 pub mod SpanLemmas
 pub mod TextLemmas
+pub mod OtherLemmas

@@ -1,10 +1,10 @@
 //! The end of a net.
 
-ghost use Rattle.std.specs.Prelude.{◌≡◌, ◌≤◌, ◌<◌, ◌+◌, ◌-◌, drop, length, option_map, slice_index, true, IfSome};
-ghost use Rattle.vg_scan.specs.Lines.{lines_of, part, BeginsLine};
+ghost use Rattle.std.specs.Prelude.{◌≡◌, ◌≤◌, ◌<◌, ◌+◌, ◌-◌, drop, length, option_map, slice_index, true, false, IfSome, IsTrue};
+ghost use Rattle.vg_scan.specs.Lines.{lines_of, part, words, BeginsLine};
 ghost use Rattle.vg_scan.specs.Printed.{is_solid};
-ghost use Rattle.vg_scan.specs.Spans.{IsIn};
-ghost use Rattle.spef_file.specs.States.{end_at};
+ghost use Rattle.vg_scan.specs.Spans.{IsIn, part_at};
+ghost use Rattle.spef_file.specs.States.{end_at, is_end, is_head};
 ghost use Rattle.spef_file.specs.NetSpans.{up_to_end};
 ghost use Rattle.spef_file.specs.Edges.{IsEdge};
 
@@ -33,10 +33,34 @@ pub(crate) struct NetEnd {
     pub next: usize,
 }
 
+/// Whether a line begins with a byte that is neither a blank nor a star: then it is neither an end nor a head.
+fn begins_otherwise(bytes: &[u8], line: Span) -> bool
+    requires { IsIn bytes.now line }
+    ensures { IsTrue result → (is_end (words (part_at bytes.now line)) ≡ false) × (is_head (words (part_at bytes.now line)) ≡ false) }
+{
+    if line.from == line.to {
+        return false;
+    }
+    let byte = bytes[line.from];
+    if byte == b'*' {
+        return false;
+    }
+    if byte == b' ' {
+        return false;
+    }
+    if byte == b'\t' {
+        return false;
+    }
+    true
+}
+
 fn edge_of(bytes: &[u8], line: Span) -> Edge
     requires { IsIn bytes.now line }
     ensures { IsEdge bytes.now line result }
 {
+    if begins_otherwise(bytes, line) {
+        return Edge::Inner;
+    }
     match next_word(bytes, line) {
         None => Edge::Inner,
         Some((span, _)) => {

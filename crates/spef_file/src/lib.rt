@@ -23,7 +23,7 @@ mod units;
 pub use fault::{SpefFault, SpefKind};
 pub use header::Header;
 pub use look::{mapped, net_at};
-pub use read::index;
+pub use read::{index, index_clear};
 pub use section::Section;
 pub use spef_index::SpefIndex;
 pub use text::net_text;

@@ -1,6 +1,7 @@
 //! The lines of a file, one after another, and the index that they give.
 
 ghost use Rattle.std.specs.Prelude.{◌≡◌, ◌<◌, ◌≤◌, ◌^◌, length, IfOk, IfErr, ◌⊎◌, Ok, Err, []};
+ghost use Rattle.vg_scan.specs.Comments.{without_comments};
 ghost use Rattle.vg_scan.specs.Lines.{lines_of};
 ghost use Rattle.spef_file.specs.declared.fault.SpefKind.TheVariants.{Memory};
 ghost use Rattle.spef_file.specs.States.{START};
@@ -120,6 +121,27 @@ pub fn index(alloc: Global, bytes: &[u8]) -> Result<SpefIndex, SpefFault>
         });
     };
     match read_lines(alloc, clear.as_slice()) {
+        Err(fault) => Err(fault),
+        Ok(reader) => {
+            if reader.headed < 14 {
+                return Err(SpefFault {
+                    kind: SpefKind::Header,
+                    line: reader.count.max(1),
+                });
+            }
+            Ok(finish(reader))
+        }
+    }
+}
+
+/// The same of a text that has no comments, as `clear_comments` leaves it. It copies no text.
+pub fn index_clear(alloc: Global, bytes: &[u8]) -> Result<SpefIndex, SpefFault>
+    requires length { length bytes.now ≤ 2 ^ 28 }
+    requires clear { without_comments Comments.Spef bytes.now ≡ bytes.now }
+    ensures index { IfOk result (IsIndexOf bytes.now) }
+    ensures fault { IfErr result (λ fault. (fault.kind ≡ Memory) ⊎ (file_of bytes.now ≡ Err fault)) }
+{
+    match read_lines(alloc, bytes) {
         Err(fault) => Err(fault),
         Ok(reader) => {
             if reader.headed < 14 {

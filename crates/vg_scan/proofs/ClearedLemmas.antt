@@ -14,10 +14,10 @@ one bytes at h = drop-cons bytes at 0 h ∙ ap (λ m. get_or bytes at 0 ∷ drop
 pub two : (bytes : List ℕ) (at : ℕ) → at + 1 < length bytes → drop at bytes ≡ get_or bytes at 0 ∷ get_or bytes (at + 1) 0 ∷ drop (at + 2) bytes
 two bytes at h = one bytes at (omega arith) ∙ ap (λ xs. get_or bytes at 0 ∷ xs) (one bytes (at + 1) (omega arith) ∙ ap (λ m. get_or bytes (at + 1) 0 ∷ drop m bytes) (let e : at + 1 + 1 ≡ at + 2 = omega arith in e))
 
-eq_test : (a b : ℕ) → a ≡ b → eqb a b ≡ true
+pub eq_test : (a b : ℕ) → a ≡ b → eqb a b ≡ true
 eq_test a b e = grind (arith, nat_tests)
 
-ne_test : (a b : ℕ) → (a ≡ b → ⊥) → eqb a b ≡ false
+pub ne_test : (a b : ℕ) → (a ≡ b → ⊥) → eqb a b ≡ false
 ne_test a b e = grind (arith, nat_tests)
 
 -- what stands first, Outside
@@ -40,7 +40,7 @@ pub block_mark : (b c : ℕ) (bs : List ℕ) → b ≡ 47 → c ≡ 42 → clear
 unfolding cleared_in
 block_mark b c bs e f = rw (ne_test b 92 (λ x. omega arith)) (rw (ne_test b 34 (λ x. omega arith)) (rw (eq_test b 47 e) (rw (ne_test c 47 (λ x. omega arith)) (rw (eq_test c 42 f) refl))))
 
-and_none : (a b : Bool) → (a ≡ true → b ≡ true → ⊥) → (a && b) ≡ false
+pub and_none : (a b : Bool) → (a ≡ true → b ≡ true → ⊥) → (a && b) ≡ false
 and_none true true h = absurd (h refl refl)
 and_none true false h = refl
 and_none false b h = refl
@@ -97,11 +97,11 @@ pick false bs x y f g = g refl
 no_newline : (b k : ℕ) → (k ≡ 10 → ⊥) → eqb b k ≡ true → b ≡ 10 → ⊥
 no_newline b k h e f = h (sym (eq_of b k e) ∙ f)
 
-first_of : (a b : Bool) → (a && b) ≡ true → a ≡ true
+pub first_of : (a b : Bool) → (a && b) ≡ true → a ≡ true
 first_of true b e = refl
 first_of false b e = e
 
-second_of : (a b : Bool) → (a && b) ≡ true → b ≡ true
+pub second_of : (a b : Bool) → (a && b) ≡ true → b ≡ true
 second_of true b e = e
 second_of false b e = grind (arith, nat_tests)
 

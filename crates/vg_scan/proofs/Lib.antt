@@ -6,6 +6,10 @@ pub mod WordLemmas
 pub mod NodeLemmas
 pub mod PrintedLemmas
 pub mod CutLemmas
+pub mod FirstLemmas
+pub mod InLineLemmas
+pub mod TurnLemmas
+pub mod AgainLemmas
 pub mod PartLemmas
 pub mod PlainLemmas
 pub mod BlankLemmas

@@ -31,7 +31,7 @@ first_none p xs e =
     omega (arith, h, prefix_len-le-length (λ x. not (p x)) xs)
 
 -- no part means no list
-parts_cons : (p : ℕ → Bool) (xs : List ℕ) → (x : List ℕ) × (more : List (List ℕ)) × (slice_split p xs ≡ x ∷ more)
+pub parts_cons : (p : ℕ → Bool) (xs : List ℕ) → (x : List ℕ) × (more : List (List ℕ)) × (slice_split p xs ≡ x ∷ more)
 parts_cons p [] = ([], [], refl)
 parts_cons p (b ∷ bs) =
     let (x, more, e) = parts_cons p bs in

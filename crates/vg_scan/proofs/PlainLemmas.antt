@@ -1,5 +1,5 @@
 -- Bytes that begin no comment, string or escape.
-use Rattle.std.proofs.Common.{◌≡◌, ℕ, zero, suc, ◌+◌, ◌-◌, ◌<◌, ◌≤◌, true, false, not, List, [], ◌∷◌, ◌++◌, length, take, drop, get_or, arith, refl, sym, ap, ◌∙◌, length-take, length-drop, drop-drop}
+use Rattle.std.proofs.Common.{Bool, ◌≡◌, ℕ, zero, suc, ◌+◌, ◌-◌, ◌<◌, ◌≤◌, true, false, not, List, [], ◌∷◌, ◌++◌, length, take, drop, get_or, arith, refl, sym, ap, ◌∙◌, length-take, length-drop, drop-drop}
 use Rattle.std.proofs.lemmas.Grind.{common_steps}
 use Rattle.std.proofs.lemmas.Bool.Decides.{nat_tests}
 use Rattle.std.proofs.lemmas.List.Sums.{fails_before_first, prefix_len-le-length}
@@ -10,15 +10,19 @@ use Rattle.vg_scan.specs.declared.scan.Scan.TheVariants.{Outside}
 use Rattle.vg_scan.proofs.ClearedLemmas.{plain, joined}
 use Rattle.vg_scan.proofs.CutLemmas.{get_part}
 
--- no mark stands before the first
-pub plain_before : (bytes : List ℕ) (at m : ℕ) → m ≤ position_or_len is_mark (part bytes at (length bytes)) → (k : ℕ) → at ≤ k → k < at + m → is_mark (get_or bytes k 0) ≡ false
-plain_before bytes at m l k low high =
+-- none passes before the first that does
+pub none_before : (test : ℕ → Bool) (bytes : List ℕ) (at m : ℕ) → m ≤ position_or_len test (part bytes at (length bytes)) → (k : ℕ) → at ≤ k → k < at + m → test (get_or bytes k 0) ≡ false
+none_before test bytes at m l k low high =
     let rest = part bytes at (length bytes) in
     let len : length rest ≡ length bytes - at = simp (length-take, length-drop) (omega arith) in
-    let most = prefix_len-le-length (λ b. not (is_mark b)) rest in
-    ap (λ j. is_mark (get_or bytes j 0)) (let x : k ≡ at + (k - at) = omega arith in x)
-    ∙ ap is_mark (sym (get_part bytes at (length bytes) (k - at) (omega (arith, len, most))))
-    ∙ fails_before_first is_mark rest (k - at) 0 (omega arith)
+    let most = prefix_len-le-length (λ b. not (test b)) rest in
+    ap (λ j. test (get_or bytes j 0)) (let x : k ≡ at + (k - at) = omega arith in x)
+    ∙ ap test (sym (get_part bytes at (length bytes) (k - at) (omega (arith, len, most))))
+    ∙ fails_before_first test rest (k - at) 0 (omega arith)
+
+-- no mark stands before the first
+pub plain_before : (bytes : List ℕ) (at m : ℕ) → m ≤ position_or_len is_mark (part bytes at (length bytes)) → (k : ℕ) → at ≤ k → k < at + m → is_mark (get_or bytes k 0) ≡ false
+plain_before = none_before is_mark
 
 no_mark : (b m : ℕ) → is_mark b ≡ false → is_mark m ≡ true → b ≡ m → ⊥
 no_mark b m e f g = grind (arith, nat_tests)

@@ -1,5 +1,5 @@
 -- Comments, made blank.
-use Rattle.std.specs.Prelude.{◌≡◌, ◌≢◌, ℕ, ◌==◌, ◌<◌, ◌≤◌, ◌⊎◌, ◌&&◌, ◌||◌, Bool, List, [], ◌∷◌, ◌++◌, length, drop, if◌then◌else◌}
+use Rattle.std.specs.Prelude.{◌≡◌, ◌≢◌, ℕ, ◌==◌, ◌<◌, ◌≤◌, ◌⊎◌, ◌&&◌, ◌||◌, Bool, List, [], ◌∷◌, ◌++◌, length, take, drop, if◌then◌else◌}
 use Rattle.vg_scan.specs.declared.comments.Comments.{Comments}
 use Rattle.vg_scan.specs.declared.comments.Comments.TheVariants.{Spef}
 use Rattle.vg_scan.specs.declared.scan.Scan.{Scan}
@@ -39,3 +39,7 @@ StaysOrBlanks b c = (c ≡ b) ⊎ ((b ≢ 10) × (c ≡ 32))
 -- the rest is cleared as before, with what was written
 abbrev pub Goes : List ℕ → Scan → ℕ → List ℕ → Scan → ℕ → List ℕ → Type 0
 Goes bytes scan at out next to written = (written ++ cleared_in next (drop to bytes) ≡ out ++ cleared_in scan (drop at bytes)) × (at < to) × (to ≤ length bytes)
+
+-- the rest is cleared as before, with what stands before it
+abbrev pub Turns : List ℕ → List ℕ → Scan → ℕ → Scan → ℕ → Type 0
+Turns old new scan at next to = (take to new ++ cleared_in next (drop to new) ≡ take at old ++ cleared_in scan (drop at old)) × (at < to) × (to ≤ length old)

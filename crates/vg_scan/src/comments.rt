@@ -1,12 +1,15 @@
 //! Comments, made blank.
 
-ghost use Rattle.std.specs.Prelude.{◌≡◌, ℕ, ◌<◌, ◌≤◌, ◌+◌, ◌++◌, ◌∷◌, [], false, slice_index, IfOk, OnOk, length};
+ghost use Rattle.std.specs.Prelude.{◌≡◌, ℕ, ◌<◌, ◌≤◌, ◌+◌, ◌++◌, ◌∷◌, [], false, slice_index, IfOk, OnOk, length, replicate};
 ghost use Rattle.std.specs.List.{position};
 ghost use Rattle.vg_scan.specs.declared.scan.Scan.TheVariants.{Outside, Quoted, InLine, InBlock};
+ghost use Rattle.vg_scan.specs.Lines.{is_newline};
 ghost use Rattle.vg_scan.specs.Comments.{blanked, is_mark, Goes, without_comments};
 ghost use Rattle.vg_scan.specs.declared.comments.Comments.TheVariants.{Spef};
 
+use crate::lines::newline_at;
 use crate::scan::Scan;
+use memchr::memchr3;
 use std::alloc::Global;
 use vg_num::Memory;
 
@@ -19,7 +22,7 @@ fn push_two(out: &mut Vec<u8>, first: u8, second: u8) -> Result<(), Memory>
 }
 
 /// Where the first byte stands, from a place on, that may begin a comment, a string or an escape; else the text's end.
-fn mark_at(bytes: &[u8], at: usize) -> usize
+pub(crate) fn mark_at(bytes: &[u8], at: usize) -> usize
     requires { at ≤ length bytes.now }
     ensures plain { (k : ℕ) → at ≤ k → k < result → is_mark (slice_index bytes.now k) ≡ false }
     ensures place { (at ≤ result) × (result ≤ length bytes.now) }
@@ -33,8 +36,7 @@ fn mark_at(bytes: &[u8], at: usize) -> usize
 fn first_mark(text: &[u8]) -> Option<usize>
     ensures { result ≡ position is_mark text.now }
 {
-    text.iter()
-        .position(|byte| *byte == b'\\' || *byte == b'"' || *byte == b'/')
+    memchr3(b'\\', b'"', b'/', text)
 }
 
 /// Takes the bytes up to a place: none of them begins anything.
@@ -94,17 +96,77 @@ fn step_quoted(bytes: &[u8], at: usize, out: &mut Vec<u8>) -> Result<(Scan, usiz
     Ok((next, at + 1))
 }
 
+/// Appends up to 64 spaces.
+fn push_some_blanks(out: &mut Vec<u8>, count: usize) -> Result<(), Memory>
+    requires { count ≤ 64 }
+    ensures { OnOk result (out.new.items ≡ out.old.items ++ replicate count 32) }
+{
+    let blanks = [b' '; 64];
+    out.extend_from_slice(&blanks[..count])?;
+    Ok(())
+}
+
+/// Appends so many spaces.
+fn push_blanks(out: &mut Vec<u8>, count: usize) -> Result<(), Memory>
+    ensures { OnOk result (out.new.items ≡ out.old.items ++ replicate count 32) }
+{
+    let mut left = count;
+    'blank: while 64 < left {
+        push_some_blanks(out, 64)?;
+        left -= 64;
+    }
+    push_some_blanks(out, left)?;
+    Ok(())
+}
+
+/// Takes the bytes of a comment up to a place: none of them is a newline.
+fn step_blanks(
+    bytes: &[u8],
+    at: usize,
+    to: usize,
+    out: &mut Vec<u8>,
+) -> Result<(Scan, usize), Memory>
+    requires plain { (k : ℕ) → at ≤ k → k < to → is_newline (slice_index bytes.now k) ≡ false }
+    requires place { (at < to) × (to ≤ length bytes.now) }
+    ensures { IfOk result (λ r. Goes bytes.now InLine at out.old.items r.0 r.1 out.new.items) }
+{
+    push_blanks(out, to - at)?;
+    Ok((Scan::InLine, to))
+}
+
+/// Where the first newline stands, from a place on; else the text's end.
+pub(crate) fn line_end_at(bytes: &[u8], at: usize) -> usize
+    requires { at ≤ length bytes.now }
+    ensures plain { (k : ℕ) → at ≤ k → k < result → is_newline (slice_index bytes.now k) ≡ false }
+    ensures newline { result < length bytes.now → slice_index bytes.now result ≡ 10 }
+    ensures place { (at ≤ result) × (result ≤ length bytes.now) }
+{
+    match newline_at(&bytes[at..]) {
+        None => bytes.len(),
+        Some(offset) => at + offset,
+    }
+}
+
 #[tactic(auto, using(crate::proofs::ClearedLemmas::one), unfolding(crate::specs::Comments::cleared_in))]
+fn step_newline(bytes: &[u8], at: usize, out: &mut Vec<u8>) -> Result<(Scan, usize), Memory>
+    requires newline { slice_index bytes.now at ≡ 10 }
+    requires place { at < length bytes.now }
+    ensures { IfOk result (λ r. Goes bytes.now InLine at out.old.items r.0 r.1 out.new.items) }
+{
+    out.push(b'\n')?;
+    Ok((Scan::Outside, at + 1))
+}
+
 fn step_line(bytes: &[u8], at: usize, out: &mut Vec<u8>) -> Result<(Scan, usize), Memory>
     requires { at < length bytes.now }
     ensures { IfOk result (λ r. Goes bytes.now InLine at out.old.items r.0 r.1 out.new.items) }
 {
-    if bytes[at] == b'\n' {
-        out.push(b'\n')?;
-        return Ok((Scan::Outside, at + 1));
+    let to = line_end_at(bytes, at);
+    if to > at {
+        step_blanks(bytes, at, to, out)
+    } else {
+        step_newline(bytes, at, out)
     }
-    out.push(b' ')?;
-    Ok((Scan::InLine, at + 1))
 }
 
 fn blank(byte: u8) -> u8

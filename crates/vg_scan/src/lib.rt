@@ -4,6 +4,7 @@
 #![tactic(auto)]
 
 mod chars;
+mod clear;
 mod comments;
 mod fault;
 mod laws;
@@ -18,6 +19,7 @@ mod spef;
 mod words;
 
 pub use chars::Chars;
+pub use clear::clear_comments;
 pub use comments::{Comments, skip_comments};
 pub use fault::NameFault;
 pub use laws::{comments_keep_lines, parts_keep_comments, reads_names_again};

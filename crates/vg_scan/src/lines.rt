@@ -5,6 +5,8 @@ ghost use Rattle.std.specs.List.{position, AllPass};
 ghost use Rattle.std.specs.Str.Lines.{lines};
 ghost use Rattle.vg_scan.specs.Lines.{is_blank, is_ink, is_newline, line_number, lines_of, words, part, BeginsLine};
 
+use memchr::memchr;
+
 /// A part of a text: the bytes from one place to another, the last one not taken in.
 #[derive(Clone, Copy, Debug, PartialEq, Eq, Drop)]
 pub struct Span {
@@ -12,10 +14,10 @@ pub struct Span {
     pub to: usize,
 }
 
-fn newline_at(bytes: &[u8]) -> Option<usize>
+pub(crate) fn newline_at(bytes: &[u8]) -> Option<usize>
     ensures { result ≡ position is_newline bytes.now }
 {
-    bytes.iter().position(|byte| *byte == b'\n')
+    memchr(b'\n', bytes)
 }
 
 fn blank_at(bytes: &[u8]) -> Option<usize>

@@ -66,7 +66,9 @@ pub fn spef_name(alloc: Global, text: &[u8], chars: &Chars) -> Result<Name, Name
     if text.is_empty() {
         return Err(NameFault::Bad);
     }
-    let mut bytes = Vec::new(alloc);
+    let Ok(mut bytes) = Vec::with_capacity(alloc, text.len()) else {
+        return Err(NameFault::Memory);
+    };
     let mut escaped = false;
     'byte: for byte in text {
         match read_byte(chars, escaped, *byte) {

@@ -4,3 +4,4 @@ pub mod RunLemmas
 pub mod AnswerLemmas
 pub mod TimeLemmas
 pub mod TimeAnswers
+pub mod ClearLemmas

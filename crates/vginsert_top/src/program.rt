@@ -105,11 +105,11 @@ fn wire<'a, F: Files, O: Out>(
     ensures ends { Ends (F.holds files.old) (record { mode = Mode.Wire; spef = spef.now; cons = None; net = net.now }) (O.written out.old) (O.written out.new) (F.read_faults files.old) (F.read_faults files.new) (F.read_blame files.new) (O.faults out.old) (O.faults out.new) result }
     ensures kept { (file : List ℕ) → F.holds files.new file ≡ F.holds files.old file }
 {
-    let bytes = match read_input(alloc, files, spef) {
+    let mut bytes = match read_input(alloc, files, spef) {
         Ok(bytes) => bytes,
         Err(ending) => return ending,
     };
-    match wire_for(alloc, &bytes, net.as_bytes()) {
+    match wire_for(alloc, bytes.as_mut_slice(), net.as_bytes()) {
         Ok(Answer::Report(text)) => print(out, &text, Ending::Done),
         Ok(Answer::Refused(text)) => print(out, &text, Ending::Refused),
         Err(AskFault::Spef(text)) => Ending::Faulty(Input::Spef, spef, text),

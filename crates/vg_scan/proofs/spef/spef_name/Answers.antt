@@ -2,7 +2,7 @@ use Rattle.std.proofs.Common.{◌≡◌, ◌∷◌, [], ◌++◌, length, true, 
 use Rattle.vg_scan.specs.Names.{canonical, is_escaped, spelled}
 use Rattle.vg_scan.proofs.Spelled.{onto, onto-before, full, whole_text, read_on, quote_found, canonical_end, canonical_open, canonical_whole, canonical-ordinary}
 use Rattle.vg_scan.proofs.spef.spef_name.Goals as goal
-use Rattle.vg_scan.proofs.spef.spef_name.Goals.{in-Escape, in-Stands+in-Ok}
+use Rattle.vg_scan.proofs.spef.spef_name.Goals.{in-Escape, in-Stands+in-Ok-push}
 
 pub byte-preserved : goal.byte-preserved
 byte-preserved c =
@@ -14,8 +14,8 @@ byte-preserved c =
       | in-Escape w ↦
           rw (w.bytes-is, w.escaped-is)
           (read_on chars text bytes bytes at c.byte.escaped true c.byte.invariant c.byte-test.true (λ rest. ap (onto bytes) (w.in-Escape.ensures.spells rest)) w.in-Escape.ensures.read.0 w.in-Escape.ensures.read.1)
-      | in-Stands+in-Ok w ↦
-          rw (w.bytes-is, w.escaped-is, w.in-Ok.ensures.items)
+      | in-Stands+in-Ok-push w ↦
+          rw (w.bytes-is, w.escaped-is, w.in-Ok-push.ensures.items)
           (read_on chars text bytes (bytes ++ w.in-Stands.byte ∷ []) at c.byte.escaped false c.byte.invariant c.byte-test.true
           (λ rest. ap (onto bytes) (w.in-Stands.ensures.spells rest) ∙ onto-before bytes w.in-Stands.byte (spelled chars false rest)) w.in-Stands.ensures.read.0 w.in-Stands.ensures.read.1)
     ]

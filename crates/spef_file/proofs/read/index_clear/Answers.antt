@@ -1,0 +1,29 @@
+use Rattle.vg_scan.specs.Lines.{lines_of}
+use Rattle.vg_scan.specs.Comments.{without_comments}
+use Rattle.vg_scan.specs.declared.comments.Comments.TheVariants.{Spef}
+use Rattle.spef_file.specs.NetSpans.{AreSpans}
+use Rattle.std.proofs.Common.{◌≡◌, subst, ◌∙◌, ap, sym, inl, inr, Ok, Err}
+use Rattle.spef_file.specs.declared.fault.SpefKind.TheVariants.{Header}
+use Rattle.spef_file.specs.Views.{seen}
+use Rattle.spef_file.proofs.FileLemmas.{file_fault, file_missing, file_said}
+use Rattle.spef_file.proofs.read.index_clear.Goals as goal
+
+pub returns-in-Err-clause-fault : goal.returns-in-Err-clause-fault
+returns-in-Err-clause-fault c =
+    elim c.in-Err.ensures.fault [
+      | inl memory ↦ inl memory
+      | inr fault ↦ inr (file_fault c.args.bytes.now c.args.bytes.now c.in-Err.fault (sym c.requires.clear) fault)
+    ]
+
+pub returns-then-reader-lt14-clause-fault : goal.returns-then-reader-lt14-clause-fault
+returns-then-reader-lt14-clause-fault c =
+    inr (file_missing c.args.bytes.now c.args.bytes.now (seen c.in-Ok.reader) (sym c.requires.clear) c.in-Ok.ensures.said c.if-reader-lt14.true
+    ∙ ap (λ number. Err (record { kind = Header; line = number })) (sym c.max.ensures))
+
+pub returns-else-reader-lt14-clause-index : goal.returns-else-reader-lt14-clause-index
+returns-else-reader-lt14-clause-index c =
+    let text = c.args.bytes.now in
+    record {
+      said = file_said text text (seen c.in-Ok.reader) (sym c.requires.clear) c.in-Ok.ensures.said c.if-reader-lt14.false ∙ ap Ok (sym c.finish.ensures.shown);
+      spans = subst (λ clear. AreSpans clear (lines_of clear) c.finish.result.sections) (sym c.requires.clear) (subst (AreSpans text (lines_of text)) (sym c.finish.ensures.sections) c.in-Ok.ensures.spans);
+    }

@@ -1,0 +1,80 @@
+-- What is said of a text without its comments is said of the text.
+use Rattle.std.proofs.Common.{◌≡◌, ℕ, ◌+◌, List, [], take, drop, map, sym, subst, ap, ◌∙◌, Ok, Err, Result}
+use Rattle.std.specs.Prelude.{unwrap_or, if◌then◌else◌}
+use Rattle.std.specs.Str.Lines.{lines}
+use Rattle.vg_scan.specs.Lines.{lines_of, words}
+use Rattle.vg_scan.specs.Comments.{without_comments}
+use Rattle.vg_scan.specs.declared.comments.Comments.TheVariants.{Spef}
+use Rattle.spef_file.specs.States.{START, NetHead, end_at}
+use Rattle.spef_file.specs.Readings.{File, file_of, read, ended_or_fault}
+use Rattle.spef_file.specs.Indexes.{lines_after}
+use Rattle.spef_net.specs.Sections.{sayings_in, IsNetOf, IsFaultOf}
+use Rattle.spef_net.specs.Sayings.{sayings}
+use Rattle.spef_net.specs.Faults.{IsFaultless, IsFirstFault}
+use Rattle.spef_net.specs.Denoted.{IsNet}
+use Rattle.spef_net.specs.declared.net.ParNet.{ParNet}
+use Rattle.spef_net.specs.declared.fault.NetFault.{NetFault}
+use Rattle.vg_design.specs.Nets.{IsMissing, IsHeadOf, IsNetNamed, IsFaultNamed, IsNetRefused, IsRefusalOf}
+use Rattle.vg_design.specs.Wires.{IsWireOf}
+use Rattle.vg_design.specs.declared.refusal.Refusal.{Refusal}
+use Rattle.vg_design.specs.declared.refusal.Refusal.TheVariants.{UnknownNet, Section as Faulty, Reduced, Inductive, Bidirectional, NoDriver, ManyDrivers, Floating, Loop, NoSink, TooLarge}
+use Rattle.vg_design.specs.declared.wire.WireNet.{WireNet}
+use Rattle.vginsert_top.specs.Answer.{Answers}
+use Rattle.vginsert_top.specs.Outcome.{IsDelays, IsRefusal, IsSpefFault}
+use Rattle.vginsert_top.specs.declared.answer.Answer.{Answer}
+use Rattle.vginsert_top.specs.declared.answer.Answer.TheVariants.{Report, Refused}
+use Rattle.vginsert_top.specs.declared.answer.AskFault.{AskFault}
+use Rattle.vginsert_top.specs.declared.answer.AskFault.TheVariants.{Spef as SpefFaulty, Cons, Memory}
+
+module _ (raw clear : List ℕ) (same : without_comments Spef clear ≡ without_comments Spef raw) where
+  file_same : file_of clear ≡ file_of raw
+  unfolding file_of
+  file_same = ap (λ t. ended_or_fault (read START (lines_of t))) same
+
+  after_same : (line : ℕ) → lines_after clear line ≡ lines_after raw line
+  after_same line = ap (λ t. take (unwrap_or (end_at (map words (drop line (lines t)))) 0) (drop line (lines t))) same
+
+  says_same : (file : File) (head : NetHead) → sayings_in clear file head ≡ sayings_in raw file head
+  says_same file head = ap (λ ls. if head.reduced then [] else sayings file ls) (after_same head.line)
+
+  net_same : (file : File) (head : NetHead) (net : ParNet) → IsNetOf clear file head net → IsNetOf raw file head net
+  net_same file head net h = record {
+    faultless = subst (IsFaultless head.name) (says_same file head) h.faultless;
+    denoted = subst (λ said. IsNet head.name head.reduced said net) (says_same file head) h.denoted;
+  }
+
+  fault_same : (file : File) (head : NetHead) (fault : NetFault) → IsFaultOf clear file head fault → IsFaultOf raw file head fault
+  fault_same file head fault h = subst (λ said. IsFirstFault head.name said (head.line + 1) fault) (says_same file head) h
+
+  head_same : (name : List ℕ) (file : File) (head : NetHead) → IsHeadOf clear name file head → IsHeadOf raw name file head
+  head_same name file head h = record { said = sym file_same ∙ h.said; named = h.named }
+
+  pub named_same : (name : List ℕ) (net : ParNet) → IsNetNamed clear name net → IsNetNamed raw name net
+  named_same name net h = record { file = h.file; head = h.head; head_of = head_same name h.file h.head h.head_of; read = net_same h.file h.head net h.read }
+
+  refused_same : (name : List ℕ) (refusal : Refusal) → IsNetRefused clear name refusal → IsNetRefused raw name refusal
+  refused_same name refusal h = record { net = h.net; named = named_same name h.net h.named; refused = h.refused }
+
+  pub refusal_same : (name : List ℕ) (refusal : Refusal) → IsRefusalOf clear name refusal → IsRefusalOf raw name refusal
+  refusal_same name UnknownNet h = record { file = h.file; said = sym file_same ∙ h.said; none = h.none }
+  refusal_same name (Faulty fault) h = record { file = h.file; head = h.head; head_of = head_same name h.file h.head h.head_of; first = fault_same h.file h.head fault h.first }
+  refusal_same name Reduced h = refused_same name Reduced h
+  refusal_same name Inductive h = refused_same name Inductive h
+  refusal_same name Bidirectional h = refused_same name Bidirectional h
+  refusal_same name NoDriver h = refused_same name NoDriver h
+  refusal_same name ManyDrivers h = refused_same name ManyDrivers h
+  refusal_same name (Floating node) h = refused_same name (Floating node) h
+  refusal_same name Loop h = refused_same name Loop h
+  refusal_same name NoSink h = refused_same name NoSink h
+  refusal_same name TooLarge h = refused_same name TooLarge h
+
+  wire_same : (name : List ℕ) (wire : WireNet) → IsWireOf clear name wire → IsWireOf raw name wire
+  wire_same name wire h = record { net = h.net; named = named_same name h.net h.named; accepted = h.accepted; wire_is = h.wire_is }
+
+  -- an answer of the one is an answer of the other
+  pub answers_same : (result : Result Answer AskFault) (name : List ℕ) → Answers result clear name → Answers result raw name
+  answers_same (Ok (Report text)) name h = record { wire = h.wire; wire_of = wire_same name h.wire h.wire_of; text_is = h.text_is }
+  answers_same (Ok (Refused text)) name h = record { refusal = h.refusal; refused = refusal_same name h.refusal h.refused; text_is = h.text_is }
+  answers_same (Err (SpefFaulty text)) name h = record { fault = h.fault; found = sym file_same ∙ h.found; text_is = h.text_is }
+  answers_same (Err (Cons text)) name h = absurd h
+  answers_same (Err Memory) name h = tt
