@@ -1,7 +1,7 @@
 -- The first place whose byte passes a test, as a search for bytes answers it.
-use Rattle.std.proofs.Common.{◌≡◌, ℕ, ◌<◌, ◌≤◌, Bool, true, false, cond, List, length, get_or, arith, refl, ap, sym, ◌∙◌, Option, Some, None, ltb, le_refl}
+use Rattle.std.proofs.Common.{◌≡◌, ℕ, ◌<◌, Bool, true, false, List, length, arith, refl, Option, Some, None, ltb}
 use Rattle.std.proofs.lemmas.Bool.Decides.{nat_tests}
-use Rattle.std.specs.List.{position, position_or_len}
+use Rattle.std.specs.List.{position}
 use Rattle.std.proofs.lemmas.List.Sums.{position_or_len_is}
 use Rattle.memchr.specs.Find.{IsFirstByte}
 

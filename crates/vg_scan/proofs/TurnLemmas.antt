@@ -1,5 +1,5 @@
 -- A text whose comments become blank in place.
-use Rattle.std.proofs.Common.{◌≡◌, ℕ, zero, suc, ◌+◌, ◌-◌, ◌<◌, ◌≤◌, false, List, [], ◌∷◌, ◌++◌, length, take, take_all, drop, get_or, replicate, arith, refl, sym, ap, ◌∙◌, length-drop, drop-drop, append_assoc, add-one, Bool, true, cond}
+use Rattle.std.proofs.Common.{◌≡◌, ℕ, ◌+◌, ◌-◌, ◌<◌, ◌≤◌, false, List, [], ◌∷◌, ◌++◌, length, take, take_all, drop, get_or, replicate, arith, refl, sym, ap, ◌∙◌, length-drop, drop-drop, append_assoc, Bool, true, cond}
 use Rattle.std.proofs.lemmas.List.{take_more, drop_all}
 use Rattle.std.proofs.Math.Seq.{take-add}
 use Rattle.std.proofs.lemmas.Grind.{common_steps}

@@ -112,7 +112,7 @@ pub fn next_word(bytes: &[u8], within: Span) -> Option<(Span, Span)>
     ensures before { MatchOption result ⊤ (λ found. (k : ℕ) → within.from ≤ k → k < found.0.from → is_blank (slice_index bytes.now k) ≡ true) }
     ensures ink { MatchOption result ⊤ (λ found. is_ink (slice_index bytes.now found.0.from) ≡ true) }
     ensures alone { MatchOption result ⊤ (λ found. words (part bytes.now within.from found.0.to) ≡ part bytes.now found.0.from found.0.to ∷ []) }
-    ensures place { MatchOption result ⊤ (λ found. (within.from ≤ found.0.from) × (found.0.from < found.0.to) × (found.0.to ≤ found.1.from) × (found.1.from ≤ found.1.to) × (found.1.to ≡ within.to)) }
+    ensures place { MatchOption result ⊤ (λ found. (within.from ≤ found.0.from) × (found.0.from < found.0.to) × (found.1.from ≡ found.0.to) × (found.1.from ≤ found.1.to) × (found.1.to ≡ within.to)) }
 {
     let start = within.from;
     match word_in(&bytes[start..within.to]) {

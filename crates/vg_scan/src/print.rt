@@ -1,6 +1,6 @@
 //! Names of SPEF, printed.
 
-ghost use Rattle.std.specs.Prelude.{◌≡◌, ◌++◌, OnOk};
+ghost use Rattle.std.specs.Prelude.{◌≡◌, ◌++◌, length, take, OnOk, OnErr};
 ghost use Rattle.vg_scan.specs.Printed.{is_own, printed, printed_byte, IsPrintable};
 
 use crate::chars::Chars;
@@ -15,7 +15,8 @@ fn is_own(byte: u8) -> bool
 }
 
 fn print_byte(byte: u8, chars: &Chars, to: &mut Vec<u8>) -> Result<(), Memory>
-    ensures { OnOk result (to.new.items ≡ to.old.items ++ printed_byte chars.now byte) }
+    ensures printed { OnOk result (to.new.items ≡ to.old.items ++ printed_byte chars.now byte) }
+    ensures unchanged { OnErr result (to.new.items ≡ to.old.items) }
 {
     if is_own(byte) {
         to.push(byte)?;
@@ -29,14 +30,29 @@ fn print_byte(byte: u8, chars: &Chars, to: &mut Vec<u8>) -> Result<(), Memory>
     Ok(())
 }
 
-/// Prints a text whose canonical name is this name (IEEE Std 1481). Answers `Memory` where there is no room, and then a
-/// part of the text may have been printed.
-pub fn print_spef_name(name: &Name, chars: &Chars, to: &mut Vec<u8>) -> Result<(), Memory>
-    requires { IsPrintable name.now }
-    ensures { OnOk result (to.new.items ≡ to.old.items ++ printed chars.now name.now) }
+/// Prints the bytes of a name one after another.
+fn print_bytes(name: &Name, chars: &Chars, to: &mut Vec<u8>) -> Result<(), Memory>
+    ensures printed { OnOk result (to.new.items ≡ to.old.items ++ printed chars.now name.now) }
+    ensures begun { OnErr result (take (length to.old.items) to.new.items ≡ to.old.items) }
 {
     'byte: for byte in name.as_bytes() {
         print_byte(*byte, chars, to)?;
     }
     Ok(())
+}
+
+/// Prints a text whose canonical name is this name (IEEE Std 1481).
+///
+/// Answers `Memory` where there is no room, and then `to` is as before.
+pub fn print_spef_name(name: &Name, chars: &Chars, to: &mut Vec<u8>) -> Result<(), Memory>
+    requires { IsPrintable name.now }
+    ensures printed { OnOk result (to.new.items ≡ to.old.items ++ printed chars.now name.now) }
+    ensures unchanged { OnErr result (to.new.items ≡ to.old.items) }
+{
+    let before = to.len();
+    let done = print_bytes(name, chars, to);
+    if done.is_err() {
+        to.truncate(before);
+    }
+    done
 }

@@ -1,5 +1,4 @@
-use Rattle.std.proofs.Common.{◌≡◌, ◌+◌, drop, get_or, sym, refl, ap, ◌∙◌, arith}
-use Rattle.vg_scan.specs.Comments.{blanked}
+use Rattle.std.proofs.Common.{◌≡◌, ◌+◌, drop, get_or, arith}
 use Rattle.vg_scan.specs.declared.scan.Scan.TheVariants.{Outside, InBlock}
 use Rattle.vg_scan.proofs.ClearedLemmas.{block_ends, block_goes}
 use Rattle.vg_scan.proofs.TurnLemmas.{two_blank, seen_stays, seen_blank, newline_stays, other_blank}
