@@ -13,3 +13,4 @@ pub mod AgainLemmas
 pub mod PartLemmas
 pub mod PlainLemmas
 pub mod BlankLemmas
+pub mod FaultLemmas

@@ -9,3 +9,4 @@ pub mod Printed
 pub mod Parts
 pub mod References
 pub mod Nodes
+pub mod Faults

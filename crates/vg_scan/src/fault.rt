@@ -1,3 +1,4 @@
+use std::fmt::{Debug, Display};
 use thiserror::Error;
 
 /// Why a text gives no name.
@@ -9,4 +10,13 @@ pub enum NameFault {
     /// Memory was wanted and not given.
     #[error("out of memory")]
     Memory,
+}
+
+/// What is wrong with a line of a text, and the line's number; the first is 1.
+#[derive(Clone, Copy, Debug, PartialEq, Eq, Error)]
+#[error_bound(K: Display)]
+#[error("line {line}: {kind}")]
+pub struct LineFault<K> {
+    pub kind: K,
+    pub line: usize,
 }

@@ -21,7 +21,7 @@ mod words;
 pub use chars::Chars;
 pub use clear::clear_comments;
 pub use comments::{Comments, skip_comments};
-pub use fault::NameFault;
+pub use fault::{LineFault, NameFault};
 pub use laws::{comments_keep_lines, parts_keep_comments, reads_names_again};
 pub use lines::{Span, line_of, next_line, next_word, text_at};
 pub use name::{Name, NetNames, NodeName};
