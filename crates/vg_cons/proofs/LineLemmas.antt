@@ -1,5 +1,5 @@
 -- One line of a text after another.
-use Rattle.std.proofs.Common.{◌≡◌, ℕ, suc, ◌+◌, ◌-◌, ◌<◌, ◌≤◌, Bool, true, false, ◌||◌, List, [], ◌∷◌, ◌++◌, map, length, take, drop, get_or, refl, sym, ap, ◌∙◌, arith, drop-cons, length-drop, add-one, Option, Some, None, ◌⊎◌, inl, inr, Result, Ok, Err, below_more}
+use Rattle.std.proofs.Common.{◌≡◌, ℕ, suc, ◌+◌, ◌<◌, ◌≤◌, Bool, true, false, ◌||◌, List, [], ◌∷◌, ◌++◌, map, length, take, drop, get_or, refl, sym, ap, ◌∙◌, arith, drop-cons, length-drop, add-one, Option, Some, None, ◌⊎◌, inl, inr, Result, Ok, Err}
 use Rattle.std.proofs.lemmas.List.{take_more, get_or-map, length-map}
 use Rattle.std.proofs.lemmas.List.{append-nil}
 use Rattle.std.proofs.lemmas.List.Elements.{filter_map-append}
@@ -7,13 +7,15 @@ use Rattle.std.specs.Option.{option_or}
 use Rattle.std.specs.List.{before_first, list_any, cons_option}
 use Rattle.std.specs.Str.Lines.{lines}
 use Rattle.vg_scan.specs.Lines.{words}
+use Rattle.vg_scan.specs.Faults.{IsClear, IsFirstFault}
+use Rattle.vg_scan.proofs.FaultLemmas.{first_fault}
 use Rattle.vg_cons.specs.declared.fault.ConsKind.{ConsKind}
 use Rattle.vg_cons.specs.declared.fault.ConsKind.TheVariants.{Version, Word, Number, Twice, Memory}
 use Rattle.vg_cons.specs.Lines.{Line, lines_of, is_hash, has_words}
 use Rattle.vg_cons.specs.Statements.{Statement, default, required, arrival, want, drive, load, block, said}
 use Rattle.vg_cons.specs.Rows.{Rows, rows_of, first_of, stated, default_in, required_in, arrival_in, want_in, drive_in, load_in, block_in}
 use Rattle.vg_cons.specs.Growth.{no_rows, with_said}
-use Rattle.vg_cons.specs.Faults.{fault_after, fault_of, IsClear, IsFirstFault}
+use Rattle.vg_cons.specs.Faults.{fault_after, fault_of, fault_at}
 use Rattle.vg_cons.specs.Views.{IsFaultOrMemory}
 
 abbrev pub line_words : List ℕ → Line
@@ -53,22 +55,13 @@ unfolding lines_of
 last_is text n e = let k : length (map line_words (lines text)) ≡ length (lines text) = length-map (lines text) line_words in omega (arith, k, length-drop n (lines text), ap length e)
 
 -- the first faulty line, from what is known of the lines before it
-pub first_fault : (ls : List Line) (n : ℕ) (line : Line) (kind : ConsKind) → n < length ls → get_or ls n [] ≡ line → IsClear ls n
-    → IsFaultOrMemory (fault_of (take n ls) line) kind → (kind ≡ Memory) ⊎ IsFirstFault ls (record { kind = kind; line = n + 1 })
-first_fault ls n line kind l e clear f =
-    let m : n + 1 - 1 ≡ n = omega arith in
+pub first_cons_fault : (ls : List Line) (n : ℕ) (line : Line) (kind : ConsKind) → n < length ls → get_or ls n [] ≡ line → IsClear (fault_at ls) n
+    → IsFaultOrMemory (fault_of (take n ls) line) kind → (kind ≡ Memory) ⊎ IsFirstFault (fault_at ls) (length ls) 1 (record { kind = kind; line = n + 1 })
+first_cons_fault ls n line kind l e clear f =
     elim (known (fault_of (take n ls) line) kind f) [
       | inl memory ↦ inl memory
-      | inr fault ↦ inr (record {
-        counted = omega arith;
-        within = omega arith;
-        before = rw m clear;
-        here = rw m (ap (fault_of (take n ls)) e ∙ fault);
-      })
+      | inr fault ↦ inr (first_fault (fault_at ls) (length ls) 1 n (n + 1) kind clear (ap (fault_of (take n ls)) e ∙ fault) l (omega arith))
     ]
-
-pub clear_more : (ls : List Line) (n : ℕ) (line : Line) → get_or ls n [] ≡ line → IsClear ls n → fault_of (take n ls) line ≡ None → IsClear ls (n + 1)
-clear_more ls n line e clear f = below_more (λ i. fault_of (take i ls) (get_or ls i []) ≡ None) n clear (ap (fault_of (take n ls)) e ∙ f)
 
 or_assoc : (a b c : Bool) → (a || (b || c)) ≡ ((a || b) || c)
 or_assoc true b c = refl

@@ -1,9 +1,10 @@
 -- The fault of a line, given the lines before it, and the first fault of a text.
-use Rattle.std.specs.Prelude.{◌≡◌, ℕ, ◌-◌, ◌<◌, ◌≤◌, max, Bool, true, false, List, [], length, take, slice_index_or, Option, Some, None, Result, Ok, Err, if◌then◌else◌, ◌⊎◌}
+use Rattle.std.specs.Prelude.{◌≡◌, ℕ, max, Bool, true, false, List, [], length, take, slice_index_or, Option, Some, None, Result, Ok, Err, if◌then◌else◌, ◌⊎◌}
 use Rattle.std.specs.List.{list_any}
+use Rattle.vg_scan.specs.declared.fault.LineFault.{LineFault}
+use Rattle.vg_scan.specs.Faults.{IsClear, IsFirstFault}
 use Rattle.vg_cons.specs.declared.fault.ConsKind.{ConsKind}
 use Rattle.vg_cons.specs.declared.fault.ConsKind.TheVariants.{Version, Twice}
-use Rattle.vg_cons.specs.declared.fault.ConsFault.{ConsFault}
 use Rattle.vg_cons.specs.Lines.{Line, has_words, is_heading}
 use Rattle.vg_cons.specs.Statements.{Statement, said}
 use Rattle.vg_cons.specs.Rows.{Rows, rows_of, is_again}
@@ -26,28 +27,21 @@ fault_after started rows line = if has_words line then fault_of_words started ro
 unfoldable pub fault_of : List Line → Line → Option ConsKind
 fault_of before line = fault_after (list_any has_words before) (rows_of before) line
 
--- none of the first n lines has a fault
-abbrev pub IsClear : List Line → ℕ → Type 0
-IsClear lines n = (i : ℕ) → i < n → fault_of (take i lines) (slice_index_or lines i []) ≡ None
+-- the fault of the line at a place, given the lines before it
+abbrev pub fault_at : List Line → ℕ → Option ConsKind
+fault_at lines i = fault_of (take i lines) (slice_index_or lines i [])
 
 -- no line has a fault, and there is a heading: a line has words, and the first such line has no fault
 pub record IsFaultless (lines : List Line) : Type 0 where
-  pub clear : IsClear lines (length lines)
+  pub clear : IsClear (fault_at lines) (length lines)
   pub heading : list_any has_words lines ≡ true
 
--- the first faulty line, counted from 1, and its fault
-pub record IsFirstFault (lines : List Line) (fault : ConsFault) : Type 0 where
-  pub counted : 0 < fault.line
-  pub within : fault.line ≤ length lines
-  pub before : IsClear lines (fault.line - 1)
-  pub here : fault_of (take (fault.line - 1) lines) (slice_index_or lines (fault.line - 1) []) ≡ Some fault.kind
-
 -- no line has words: the heading is missing at the last line
-pub record IsMissing (lines : List Line) (fault : ConsFault) : Type 0 where
+pub record IsMissing (lines : List Line) (fault : LineFault ConsKind) : Type 0 where
   pub empty : list_any has_words lines ≡ false
   pub kind : fault.kind ≡ Version
   pub last : fault.line ≡ max (length lines) 1
 
 -- a text's fault
-abbrev pub IsFaultIn : List Line → ConsFault → Type 0
-IsFaultIn lines fault = IsFirstFault lines fault ⊎ IsMissing lines fault
+abbrev pub IsFaultIn : List Line → LineFault ConsKind → Type 0
+IsFaultIn lines fault = IsFirstFault (fault_at lines) (length lines) 1 fault ⊎ IsMissing lines fault

@@ -1,5 +1,6 @@
 use thiserror::Error;
 use vg_num::NumFault;
+use vg_scan::LineFault;
 
 /// What is wrong with a line of a constraints text.
 #[derive(Clone, Copy, Debug, PartialEq, Eq, Error)]
@@ -22,9 +23,4 @@ pub enum ConsKind {
 }
 
 /// A fault of a constraints text, and the number of its line; the first is 1.
-#[derive(Clone, Copy, Debug, PartialEq, Eq, Error)]
-#[error("line {line}: {kind}")]
-pub struct ConsFault {
-    pub kind: ConsKind,
-    pub line: usize,
-}
+pub type ConsFault = LineFault<ConsKind>;

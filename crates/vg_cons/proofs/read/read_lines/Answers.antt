@@ -4,8 +4,10 @@ use Rattle.std.specs.Str.Lines.{lines}
 use Rattle.vg_scan.specs.Spans.{part_at}
 use Rattle.vg_cons.specs.Lines.{Line, lines_of, has_words}
 use Rattle.vg_cons.specs.Rows.{rows_of}
+use Rattle.vg_cons.specs.Faults.{fault_of, fault_at}
 use Rattle.vg_cons.specs.Views.{IsFaultOrMemory}
-use Rattle.vg_cons.proofs.LineLemmas.{line_words, next_is, last_is, first_fault, clear_more, started_more, rows_more, fault_of-after, no_rows_yet}
+use Rattle.vg_scan.proofs.FaultLemmas.{clear_more}
+use Rattle.vg_cons.proofs.LineLemmas.{line_words, next_is, last_is, first_cons_fault, started_more, rows_more, fault_of-after, no_rows_yet}
 use Rattle.vg_cons.proofs.read.read_lines.Goals as goal
 
 pub line-init : goal.line-init
@@ -26,7 +28,7 @@ returns-in-Err-clause-fault c =
     let line : Line = line_words (part_at text c.in-Some.line) in
     let x = next_is text n (part_at text c.in-Some.line) (lines (drop c.in-Some.next text)) (sym c.line.invariant.rest ∙ c.in-Some.ensures.line) in
     let same = fault_of-after (take n (lines_of text)) line c.line.started c.line.cons c.line.invariant.started c.line.invariant.rows in
-    elim (first_fault (lines_of text) n line c.in-Err.kind x.within x.here c.line.invariant.clear (subst (λ o. IsFaultOrMemory o c.in-Err.kind) (sym same) c.in-Err.ensures)) [
+    elim (first_cons_fault (lines_of text) n line c.in-Err.kind x.within x.here c.line.invariant.clear (subst (λ o. IsFaultOrMemory o c.in-Err.kind) (sym same) c.in-Err.ensures)) [
       | inl memory ↦ inl memory
       | inr fault ↦ inr (inl fault)
     ]
@@ -45,7 +47,7 @@ line-preserved c =
       counted = omega (arith, c.in-Some.ensures.place);
       few = omega (arith, x.within);
       started = started_more before line (take (n + 1) (lines_of text)) c.line.started c.in-Ok.now x.front c.line.invariant.started c.in-Ok.ensures.1;
-      clear = clear_more (lines_of text) n line x.here c.line.invariant.clear (same ∙ c.in-Ok.ensures.0);
+      clear = clear_more (fault_at (lines_of text)) n c.line.invariant.clear (ap (fault_of before) x.here ∙ same ∙ c.in-Ok.ensures.0);
       rows = rows_more before line (take (n + 1) (lines_of text)) c.line.cons c.take_line.new.cons x.front c.line.invariant.rows c.in-Ok.ensures.2;
     }
 

@@ -3,7 +3,8 @@ use Rattle.std.specs.List.{list_any}
 use Rattle.std.specs.Str.Lines.{lines}
 use Rattle.vg_cons.specs.Lines.{lines_of, has_words}
 use Rattle.vg_cons.specs.Rows.{rows_of}
-use Rattle.vg_cons.specs.Faults.{IsClear}
+use Rattle.vg_scan.specs.Faults.{IsClear}
+use Rattle.vg_cons.specs.Faults.{fault_at}
 use Rattle.vg_cons.proofs.read.read_lines.Given as goal
 
 abbrev pub invariant-line : goal.invariant-line
@@ -13,7 +14,7 @@ invariant-line l = record {
   counted : l.count ≤ l.at;
   few : l.count ≤ length (lines_of l.bytes);
   started : l.started ≡ list_any has_words (take l.count (lines_of l.bytes));
-  clear : IsClear (lines_of l.bytes) l.count;
+  clear : IsClear (fault_at (lines_of l.bytes)) l.count;
   rows : l.cons ≡ rows_of (take l.count (lines_of l.bytes));
 }
 
