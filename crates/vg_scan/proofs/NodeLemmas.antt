@@ -2,9 +2,10 @@
 use Rattle.std.proofs.Common.{◌≡◌, ℕ, ◌+◌, ◌-◌, List, length, take, drop, ap, ◌∙◌, arith, Option, Some, None, take_all, length-drop}
 use Rattle.std.proofs.lemmas.Grind.{common_steps}
 use Rattle.vg_scan.specs.declared.chars.Chars.{Chars}
+use Rattle.vg_scan.specs.declared.name.NodeName.{NodeName}
 use Rattle.vg_scan.specs.Lines.{part}
 use Rattle.vg_scan.specs.Names.{canonical}
-use Rattle.vg_scan.specs.Nodes.{leaf_at, parted_at, owner_and_leaf, port_without, inner_with, node_with, port_of, inner_of, node_of}
+use Rattle.vg_scan.specs.Nodes.{leaf_at, parted_at, node_of_parts, port_without, inner_with, node_with, port_of, inner_of, node_of}
 
 pub port_of-None : (chars : Chars) (text : List ℕ) → leaf_at chars text ≡ None → port_of chars text ≡ canonical chars text
 unfolding port_of
@@ -30,8 +31,8 @@ pub part-leaf : (text : List ℕ) (at from to : ℕ) → from ≡ at + 1 → to 
 part-leaf text at from to e f = rw (e, f) (take_all (length text - (at + 1)) (drop (at + 1) text) (omega (arith, length-drop (at + 1) text)))
 
 -- the names of the parts, where they are these bytes
-abbrev pub named : Chars → List ℕ → List ℕ → Option (List ℕ × List ℕ)
-named chars owner leaf = owner_and_leaf (canonical chars owner) (canonical chars leaf)
+abbrev pub named : Chars → List ℕ → List ℕ → Option NodeName
+named chars owner leaf = node_of_parts (canonical chars owner) (canonical chars leaf)
 
 pub parted_at-parts : (chars : Chars) (text owner leaf : List ℕ) (at : ℕ) → owner ≡ take at text → leaf ≡ drop (at + 1) text → parted_at chars text at ≡ named chars owner leaf
 parted_at-parts chars text owner leaf at e f = rw (e, f)

@@ -2,7 +2,7 @@
 
 ghost use Rattle.std.specs.Prelude.{◌≡◌, Some, None, Err, IfOk};
 ghost use Rattle.vg_scan.specs.Names.{canonical};
-ghost use Rattle.vg_scan.specs.Nodes.{node_with, owner_and_leaf, port_of, inner_of, node_of};
+ghost use Rattle.vg_scan.specs.Nodes.{node_of_parts, node_with, port_of, inner_of, node_of};
 
 use crate::chars::Chars;
 use crate::fault::NameFault;
@@ -31,8 +31,8 @@ fn parted_name(
     leaf: &[u8],
     chars: &Chars,
 ) -> Result<NodeName, NameFault>
-    ensures name { IfOk result (λ name. owner_and_leaf (canonical chars.now owner.now) (canonical chars.now leaf.now) ≡ Some (name.owner, name.leaf)) }
-    ensures bad { result ≡ Err NameFault.Bad → owner_and_leaf (canonical chars.now owner.now) (canonical chars.now leaf.now) ≡ None }
+    ensures name { IfOk result (λ name. node_of_parts (canonical chars.now owner.now) (canonical chars.now leaf.now) ≡ Some name) }
+    ensures bad { result ≡ Err NameFault.Bad → node_of_parts (canonical chars.now owner.now) (canonical chars.now leaf.now) ≡ None }
 {
     let owner = spef_name(alloc, owner, chars)?;
     let leaf = spef_name(alloc, leaf, chars)?;
@@ -43,7 +43,7 @@ fn parted_name(
 ///
 /// Answers `Bad` where the text is no such name, and `Memory` where there is no room.
 pub fn inner_name(alloc: Global, text: &[u8], chars: &Chars) -> Result<NodeName, NameFault>
-    ensures name { IfOk result (λ name. inner_of chars.now text.now ≡ Some (name.owner, name.leaf)) }
+    ensures name { IfOk result (λ name. inner_of chars.now text.now ≡ Some name) }
     ensures bad { result ≡ Err NameFault.Bad → inner_of chars.now text.now ≡ None }
 {
     match split_node(text, chars.delimiter) {
@@ -54,7 +54,7 @@ pub fn inner_name(alloc: Global, text: &[u8], chars: &Chars) -> Result<NodeName,
 
 /// The name of a port, as an owner with an empty leaf.
 fn bare_name(alloc: Global, text: &[u8], chars: &Chars) -> Result<NodeName, NameFault>
-    ensures name { IfOk result (λ name. node_with chars.now text.now None ≡ Some (name.owner, name.leaf)) }
+    ensures name { IfOk result (λ name. node_with chars.now text.now None ≡ Some name) }
     ensures bad { result ≡ Err NameFault.Bad → node_with chars.now text.now None ≡ None }
 {
     let owner = spef_name(alloc, text, chars)?;
@@ -68,7 +68,7 @@ fn bare_name(alloc: Global, text: &[u8], chars: &Chars) -> Result<NodeName, Name
 ///
 /// Answers `Bad` where the text is no such name, and `Memory` where there is no room.
 pub fn node_name(alloc: Global, text: &[u8], chars: &Chars) -> Result<NodeName, NameFault>
-    ensures name { IfOk result (λ name. node_of chars.now text.now ≡ Some (name.owner, name.leaf)) }
+    ensures name { IfOk result (λ name. node_of chars.now text.now ≡ Some name) }
     ensures bad { result ≡ Err NameFault.Bad → node_of chars.now text.now ≡ None }
 {
     match split_node(text, chars.delimiter) {
