@@ -1,47 +1,8 @@
--- The entries of a table, and the rows that contracts see of them.
-use Rattle.std.proofs.Common.{◌≡◌, Bool, true, false, ◌||◌, not, cond, List, [], ◌∷◌, ◌++◌, map, refl, sym, ap, ◌∙◌, Option, Some, None, is_some}
-use Rattle.std.specs.List.{list_any}
-use Rattle.std.specs.Map.{lookup}
-use Rattle.indexmap.specs.IndexMap.{IndexMap, get, insert_entry}
-use Rattle.indexmap.specs.IndexSet.{insert_key}
-use Rattle.indexmap.proofs.CallerLemmas.{insert_entry-new}
+-- The answer of an insertion.
+use Rattle.std.proofs.Common.{◌≡◌, Bool, true, false, not, refl, Option, Some, None, is_some}
 
--- a row, with what is seen of its key
-abbrev pub row_by : {K L V : Type 0} → (K → L) → K × V → L × V
-row_by f e = (f e.0, e.1)
-
-pub lookup-map : {K L V : Type 0} (f : K → L) (p : L → Bool) (es : List (K × V)) → lookup (λ k. p (f k)) es ≡ lookup p (map (row_by f) es)
-lookup-map f p [] = refl
-lookup-map f p (e ∷ es) = ap (λ o. cond (p (f e.0)) (Some e.1) o) (lookup-map f p es)
-
-pub list_any-map : {X Y : Type 0} (f : X → Y) (p : Y → Bool) (xs : List X) → list_any (λ x. p (f x)) xs ≡ list_any p (map f xs)
-list_any-map f p [] = refl
-list_any-map f p (x ∷ xs) = ap (λ b. p (f x) || b) (list_any-map f p xs)
-
--- an answer is there or not
-pub none_said : {V : Type 0} (o : Option V) (b : Bool) → is_some o ≡ not b → b ≡ not (is_some o)
-none_said o true e = ap not (sym e)
-none_said o false e = ap not (sym e)
-
+-- nothing stood at the key
 pub none_is : {V : Type 0} (o : Option V) (b : Bool) → is_some o ≡ not b → b ≡ true → o ≡ None
 none_is None b e f = refl
 none_is (Some v) true e f = absurd (cc)
 none_is (Some v) false e f = absurd (cc)
-
-pub map-last : {X Y : Type 0} (f : X → Y) (xs : List X) (x : X) → map f (xs ++ x ∷ []) ≡ map f xs ++ f x ∷ []
-map-last f [] x = refl
-map-last f (y ∷ ys) x = ap (λ zs. f y ∷ zs) (map-last f ys x)
-
--- the rows after a new key was inserted
-pub rows-insert : {K L V S : Type 0} (eq : K → K → Bool) (f : K → L) (m : IndexMap K V S) (k : K) (v : V) (new : List (K × V))
-    → get eq m k ≡ None → new ≡ insert_entry eq m.entries k v → map (row_by f) new ≡ map (row_by f) m.entries ++ (f k, v) ∷ []
-rows-insert eq f m k v new none is = ap (map (row_by f)) (is ∙ insert_entry-new eq m k v none) ∙ map-last (row_by f) m.entries (k, v)
-
-not_true : (b : Bool) → not b ≡ true → b ≡ false
-not_true true e = absurd (cc)
-not_true false e = refl
-
--- the keys after a new one was inserted
-pub keys-insert : {K L : Type 0} (eq : K → K → Bool) (f : K → L) (ks : List K) (k : K) (new : List K)
-    → not (list_any (eq k) ks) ≡ true → new ≡ insert_key eq ks k → map f new ≡ map f ks ++ f k ∷ []
-keys-insert eq f ks k new fresh is = ap (map f) (is ∙ ap (λ b. cond b ks (ks ++ k ∷ [])) (not_true (list_any (eq k) ks) fresh)) ∙ map-last f ks k

@@ -4,32 +4,34 @@ use Rattle.std.specs.List.{filter_map}
 use Rattle.std.specs.Option.{option_or}
 use Rattle.vg_cons.specs.declared.fault.ConsKind.{ConsKind}
 use Rattle.vg_cons.specs.Lines.{Line}
-use Rattle.vg_cons.specs.Names.{NodeKey, node_value, port_value, has_node}
+use Rattle.vg_scan.specs.Nodes.{node_value, has_node}
+use Rattle.vg_scan.specs.declared.name.NodeName.{NodeName}
+use Rattle.vg_cons.specs.Names.{port_value}
 use Rattle.vg_cons.specs.Statements.{Statement, default, required, arrival, want, drive, load, block, said}
 
 pub record Rows : Type 0 where
   pub default : Option ℤ
-  pub required : List (NodeKey × ℤ)
-  pub arrival : List (NodeKey × ℤ)
-  pub want : List NodeKey
+  pub required : List (NodeName × ℤ)
+  pub arrival : List (NodeName × ℤ)
+  pub want : List NodeName
   pub drive : List (List ℕ × (ℕ × ℤ))
   pub load : List (List ℕ × ℕ)
-  pub block : List NodeKey
+  pub block : List NodeName
 
 -- the row of each kind that a line may state
 abbrev pub default_in : Result Statement ConsKind → Option ℤ
 default_in (Ok (default t)) = Some t
 default_in _ = None
 
-abbrev pub required_in : Result Statement ConsKind → Option (NodeKey × ℤ)
+abbrev pub required_in : Result Statement ConsKind → Option (NodeName × ℤ)
 required_in (Ok (required row)) = Some row
 required_in _ = None
 
-abbrev pub arrival_in : Result Statement ConsKind → Option (NodeKey × ℤ)
+abbrev pub arrival_in : Result Statement ConsKind → Option (NodeName × ℤ)
 arrival_in (Ok (arrival row)) = Some row
 arrival_in _ = None
 
-abbrev pub want_in : Result Statement ConsKind → Option NodeKey
+abbrev pub want_in : Result Statement ConsKind → Option NodeName
 want_in (Ok (want pin)) = Some pin
 want_in _ = None
 
@@ -41,7 +43,7 @@ abbrev pub load_in : Result Statement ConsKind → Option (List ℕ × ℕ)
 load_in (Ok (load row)) = Some row
 load_in _ = None
 
-abbrev pub block_in : Result Statement ConsKind → Option NodeKey
+abbrev pub block_in : Result Statement ConsKind → Option NodeName
 block_in (Ok (block node)) = Some node
 block_in _ = None
 
@@ -76,13 +78,13 @@ is_again rows (load row) = is_some (port_value rows.load row.0)
 is_again rows (block node) = has_node rows.block node
 
 -- a pin's own required time, else the default
-abbrev pub required_of : Rows → NodeKey → Option ℤ
+abbrev pub required_of : Rows → NodeName → Option ℤ
 required_of rows pin = option_or (node_value rows.required pin) rows.default
 
-abbrev pub arrival_of : Rows → NodeKey → ℤ
+abbrev pub arrival_of : Rows → NodeName → ℤ
 arrival_of rows pin = unwrap_or (node_value rows.arrival pin) (pos 0)
 
-abbrev pub wants_inverted_of : Rows → NodeKey → Bool
+abbrev pub wants_inverted_of : Rows → NodeName → Bool
 wants_inverted_of rows pin = has_node rows.want pin
 
 -- resistance and intrinsic delay
@@ -92,5 +94,5 @@ drive_of rows port = unwrap_or (port_value rows.drive port) (0, pos 0)
 abbrev pub load_of : Rows → List ℕ → ℕ
 load_of rows port = unwrap_or (port_value rows.load port) 0
 
-abbrev pub is_blocked_of : Rows → NodeKey → Bool
+abbrev pub is_blocked_of : Rows → NodeName → Bool
 is_blocked_of rows node = has_node rows.block node

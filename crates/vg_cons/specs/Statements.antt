@@ -9,7 +9,7 @@ use Rattle.vg_scan.specs.declared.chars.Chars.{Chars}
 use Rattle.vg_cons.specs.declared.fault.ConsKind.{ConsKind}
 use Rattle.vg_cons.specs.declared.fault.ConsKind.TheVariants.{Word, Number}
 use Rattle.vg_cons.specs.Lines.{Line}
-use Rattle.vg_cons.specs.Names.{NodeKey}
+use Rattle.vg_scan.specs.declared.name.NodeName.{NodeName}
 
 -- names are written with the divider `/`, the delimiter `:` and the bus delimiters `[` and `]`
 abbrev pub CHARS : Chars
@@ -18,25 +18,25 @@ CHARS = record { divider = 47; delimiter = 58; bus_left = 91; bus_right = 93; di
 -- times are in zeptoseconds, resistances in milliohms, capacitances in attofarads
 pub data Statement : Type 0 where
   default : ℤ → Statement
-  required : NodeKey × ℤ → Statement
-  arrival : NodeKey × ℤ → Statement
-  want : NodeKey → Statement
+  required : NodeName × ℤ → Statement
+  arrival : NodeName × ℤ → Statement
+  want : NodeName → Statement
   drive : List ℕ × (ℕ × ℤ) → Statement
   load : List ℕ × ℕ → Statement
-  block : NodeKey → Statement
+  block : NodeName → Statement
 
 abbrev pub or_word : {A : Type 0} → Option A → Result A ConsKind
 or_word (Some name) = Ok name
 or_word None = Err Word
 
 -- the name that a word is: of a pin (a port or a node), of a port, of a node. No index of names is known
-unfoldable pub pin_in : List ℕ → Result NodeKey ConsKind
+unfoldable pub pin_in : List ℕ → Result NodeName ConsKind
 pin_in word = if is_reference word then Err Word else or_word (node_of CHARS word)
 
 unfoldable pub port_in : List ℕ → Result (List ℕ) ConsKind
 port_in word = if is_reference word then Err Word else or_word (port_of CHARS word)
 
-unfoldable pub inner_in : List ℕ → Result NodeKey ConsKind
+unfoldable pub inner_in : List ℕ → Result NodeName ConsKind
 inner_in word = if is_reference word then Err Word else or_word (inner_of CHARS word)
 
 abbrev pub or_number : {A : Type 0} → Result A NumFault → Result A ConsKind
@@ -67,7 +67,7 @@ default_line (word ∷ time ∷ []) = if bytes_eq word (codes "required") then o
 default_line _ = Err Word
 
 -- `PIN T`
-abbrev pub timed : Line → Result (NodeKey × ℤ) ConsKind
+abbrev pub timed : Line → Result (NodeName × ℤ) ConsKind
 timed (pin ∷ time ∷ []) = of_two (pin_in pin) (time_in time)
 timed _ = Err Word
 

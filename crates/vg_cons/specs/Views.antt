@@ -6,7 +6,6 @@ use Rattle.vg_cons.specs.declared.fault.ConsKind.TheVariants.{Version, Word, Num
 use Rattle.vg_cons.specs.declared.row.Row.{Row}
 use Rattle.vg_cons.specs.declared.row.Row.TheVariants.{Default, Required, Arrival, Want, Drive, Load, Block}
 use Rattle.vg_cons.specs.Lines.{Line, has_words}
-use Rattle.vg_cons.specs.Names.{key_of}
 use Rattle.vg_cons.specs.Statements.{Statement, default, required, arrival, want, drive, load, block, said}
 use Rattle.vg_cons.specs.Rows.{Rows}
 use Rattle.vg_cons.specs.Growth.{with_row, with_said}
@@ -14,12 +13,12 @@ use Rattle.vg_cons.specs.Faults.{fault_of_said, fault_after}
 
 abbrev pub seen : Row → Statement
 seen (Default t) = default t
-seen (Required pin t) = required (key_of pin, t)
-seen (Arrival pin t) = arrival (key_of pin, t)
-seen (Want pin) = want (key_of pin)
+seen (Required pin t) = required (pin, t)
+seen (Arrival pin t) = arrival (pin, t)
+seen (Want pin) = want pin
 seen (Drive port r) = drive (port, r)
 seen (Load port c) = load (port, c)
-seen (Block node) = block (key_of node)
+seen (Block node) = block node
 
 -- this fault, or want of memory
 abbrev pub IsFaultOrMemory : Option ConsKind → ConsKind → Type 0

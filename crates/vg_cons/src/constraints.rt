@@ -3,7 +3,6 @@
 ghost use Rattle.std.specs.Prelude.{◌≡◌};
 ghost use Rattle.vg_cons.specs.Statements.{default};
 ghost use Rattle.vg_cons.specs.Views.{Adds, added_as, seen};
-ghost use Rattle.vg_cons.specs.Names.{key_of};
 ghost use Rattle.vg_cons.specs.Rows.{Rows, required_of, arrival_of, wants_inverted_of, drive_of, load_of, is_blocked_of};
 ghost use Rattle.vg_cons.specs.Growth.{no_rows};
 
@@ -105,21 +104,21 @@ fn added(fresh: Result<bool, Memory>) -> Result<(), ConsKind>
 /// The time by which a signal has to be at a pin, in zeptoseconds: the pin's own, else the default. `None`: neither is
 /// given.
 pub fn required(cons: &Constraints, pin: &NodeName) -> Option<i128>
-    ensures { result ≡ required_of cons.now (key_of pin.now) }
+    ensures { result ≡ required_of cons.now pin.now }
 {
     cons.required.get(pin).or(cons.default)
 }
 
 /// When a signal is at a pin, in zeptoseconds: 0 where nothing is given.
 pub fn arrival(cons: &Constraints, pin: &NodeName) -> i128
-    ensures { result ≡ arrival_of cons.now (key_of pin.now) }
+    ensures { result ≡ arrival_of cons.now pin.now }
 {
     cons.arrival.get(pin).unwrap_or(0)
 }
 
 /// Whether a pin wants the inverted signal.
 pub fn wants_inverted(cons: &Constraints, pin: &NodeName) -> bool
-    ensures { result ≡ wants_inverted_of cons.now (key_of pin.now) }
+    ensures { result ≡ wants_inverted_of cons.now pin.now }
 {
     cons.want.contains(pin)
 }
@@ -140,7 +139,7 @@ pub fn port_load(cons: &Constraints, port: &Name) -> u64
 
 /// Whether nothing may be placed at a node.
 pub fn is_blocked(cons: &Constraints, node: &NodeName) -> bool
-    ensures { result ≡ is_blocked_of cons.now (key_of node.now) }
+    ensures { result ≡ is_blocked_of cons.now node.now }
 {
     cons.block.contains(node)
 }

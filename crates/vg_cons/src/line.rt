@@ -1,10 +1,10 @@
 //! One line: its comment, its words, and the row that it states.
 
-ghost use Rattle.std.specs.Prelude.{◌≡◌};
+ghost use Rattle.std.specs.Prelude.{◌≡◌, ℤ};
 ghost use Rattle.std.specs.List.{before_first, position};
 ghost use Rattle.std.specs.Str.{bytes_eq};
 ghost use Rattle.vg_scan.specs.Spans.{IsIn, part_at, words_at};
-ghost use Rattle.vg_cons.specs.Names.{key_of};
+ghost use Rattle.vg_scan.specs.declared.name.NodeName.{NodeName};
 ghost use Rattle.vg_cons.specs.Lines.{is_hash, is_heading};
 ghost use Rattle.vg_cons.specs.Statements.{said, default_line, timed, want_line, drive_line, load_line, block_line, of_one, required, arrival};
 ghost use Rattle.vg_cons.specs.Views.{Agrees, seen};
@@ -98,7 +98,7 @@ fn say_default(bytes: &[u8], words: &[Span]) -> Result<Row, ConsKind>
 }
 
 fn say_timed(alloc: Global, bytes: &[u8], words: &[Span]) -> Result<(NodeName, i128), ConsKind>
-    ensures { Agrees (λ row. (key_of row.0, row.1)) result (timed (words_at bytes.now words.now)) }
+    ensures { Agrees (λ (row : NodeName × ℤ). row) result (timed (words_at bytes.now words.now)) }
 {
     let [pin, time] = words else {
         return Err(ConsKind::Word);

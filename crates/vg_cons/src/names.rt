@@ -1,7 +1,7 @@
 //! The parts of a row: names and numbers.
 
 ghost use Rattle.std.specs.Prelude.{◌≡◌, ℕ, List};
-ghost use Rattle.vg_cons.specs.Names.{key_of};
+ghost use Rattle.vg_scan.specs.declared.name.NodeName.{NodeName};
 ghost use Rattle.vg_cons.specs.Statements.{CHARS, pin_in, port_in, inner_in, time_in, thousandths_in};
 ghost use Rattle.vg_cons.specs.Views.{Agrees};
 
@@ -25,7 +25,7 @@ fn name_chars() -> Chars
 /// The name of a pin.
 #[tactic(auto, unfolding(crate::specs::Statements::pin_in))]
 pub(crate) fn pin_of(alloc: Global, word: &[u8]) -> Result<NodeName, ConsKind>
-    ensures { Agrees key_of result (pin_in word.now) }
+    ensures { Agrees (λ (name : NodeName). name) result (pin_in word.now) }
 {
     if is_reference(word) {
         return Err(ConsKind::Word);
@@ -55,7 +55,7 @@ pub(crate) fn port_of(alloc: Global, word: &[u8]) -> Result<Name, ConsKind>
 /// The name of a node inside an instance or a net.
 #[tactic(auto, unfolding(crate::specs::Statements::inner_in))]
 pub(crate) fn inner_of(alloc: Global, word: &[u8]) -> Result<NodeName, ConsKind>
-    ensures { Agrees key_of result (inner_in word.now) }
+    ensures { Agrees (λ (name : NodeName). name) result (inner_in word.now) }
 {
     if is_reference(word) {
         return Err(ConsKind::Word);

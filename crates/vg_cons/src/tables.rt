@@ -1,7 +1,9 @@
 //! The tables of the rows: a look-up takes no memory and no walk.
 
-ghost use Rattle.std.specs.Prelude.{◌≡◌, ℕ, ℤ, List, [], ◌∷◌, ◌++◌, map, not, is_some, true, IfOk};
-ghost use Rattle.vg_cons.specs.Names.{NodeKey, key_of, node_value, port_value, has_node};
+ghost use Rattle.std.specs.Prelude.{◌≡◌, ℕ, ℤ, List, [], ◌∷◌, ◌++◌, not, is_some, true, IfOk};
+ghost use Rattle.vg_scan.specs.Nodes.{node_value, has_node};
+ghost use Rattle.vg_scan.specs.declared.name.NodeName.{NodeName};
+ghost use Rattle.vg_cons.specs.Names.{port_value};
 
 use indexmap::{IndexMap, IndexSet};
 use std::alloc::Global;
@@ -16,9 +18,9 @@ pub(crate) struct NodeTimes {
 }
 
 impl Model for NodeTimes {
-    ghost Value = { List (NodeKey × ℤ) };
+    ghost Value = { List (NodeName × ℤ) };
 
-    ghost view = { λ table. map (λ row. (key_of row.0, row.1)) table.times.entries };
+    ghost view = { λ table. table.times.entries };
 }
 
 impl NodeTimes {
@@ -32,8 +34,8 @@ impl NodeTimes {
 
     /// Puts a time last where its node is new, and says whether it was.
     pub fn insert(&mut self, node: NodeName, time: i128) -> Result<bool, Memory>
-        ensures fresh { IfOk result (λ fresh. fresh ≡ not (is_some (node_value self.old (key_of node)))) }
-        ensures last { IfOk result (λ fresh. fresh ≡ true → self.new ≡ self.old ++ (key_of node, time) ∷ []) }
+        ensures fresh { IfOk result (λ fresh. fresh ≡ not (is_some (node_value self.old node))) }
+        ensures last { IfOk result (λ fresh. fresh ≡ true → self.new ≡ self.old ++ (node, time) ∷ []) }
     {
         let before = self.times.insert(node, time)?;
         Ok(before.is_none())
@@ -41,7 +43,7 @@ impl NodeTimes {
 
     /// The time of a node.
     pub fn get(&self, node: &NodeName) -> Option<i128>
-        ensures { result ≡ node_value self.now (key_of node.now) }
+        ensures { result ≡ node_value self.now node.now }
     {
         self.times.get(node).copied()
     }
@@ -54,9 +56,9 @@ pub(crate) struct NodeSet {
 }
 
 impl Model for NodeSet {
-    ghost Value = { List NodeKey };
+    ghost Value = { List NodeName };
 
-    ghost view = { λ set. map key_of set.nodes.keys };
+    ghost view = { λ set. set.nodes.keys };
 }
 
 impl NodeSet {
@@ -70,8 +72,8 @@ impl NodeSet {
 
     /// Puts a node last where it is new, and says whether it was.
     pub fn insert(&mut self, node: NodeName) -> Result<bool, Memory>
-        ensures fresh { IfOk result (λ fresh. fresh ≡ not (has_node self.old (key_of node))) }
-        ensures last { IfOk result (λ fresh. fresh ≡ true → self.new ≡ self.old ++ key_of node ∷ []) }
+        ensures fresh { IfOk result (λ fresh. fresh ≡ not (has_node self.old node)) }
+        ensures last { IfOk result (λ fresh. fresh ≡ true → self.new ≡ self.old ++ node ∷ []) }
     {
         let (_, fresh) = self.nodes.insert_full(node)?;
         Ok(fresh)
@@ -79,7 +81,7 @@ impl NodeSet {
 
     /// Whether the node is one of them.
     pub fn contains(&self, node: &NodeName) -> bool
-        ensures { result ≡ has_node self.now (key_of node.now) }
+        ensures { result ≡ has_node self.now node.now }
     {
         self.nodes.contains(node)
     }
