@@ -6,7 +6,9 @@ use Rattle.vg_scan.specs.declared.scan.Scan.{Scan}
 use Rattle.vg_scan.specs.declared.scan.Scan.TheVariants.{Outside, Quoted, InLine, InBlock}
 use Rattle.vg_scan.specs.declared.comments.Comments.{Comments}
 use Rattle.vg_scan.specs.declared.comments.Comments.TheVariants.{Spef}
-use Rattle.vg_scan.specs.Comments.{cleared_in, without_comments, blanked, is_mark}
+use Rattle.vg_scan.specs.Comments.{without_comments, blanked}
+use Rattle.vg_scan.specs.Clearing.{cleared_in, is_mark}
+use Rattle.vg_scan.proofs.PieceLemmas.{cleared_is}
 use Rattle.vg_scan.proofs.ClearedLemmas.{escape, quote, plain, eq_of, ne_of_false}
 
 no_mark : (b m : ℕ) → is_mark b ≡ false → is_mark m ≡ true → b ≡ m → ⊥
@@ -101,4 +103,5 @@ again InBlock (b ∷ c ∷ bs) =
     pick ((b == 42) && (c == 47)) _ _ (λ _. keeps 32 _ refl (keeps 32 _ refl (again Outside bs))) (λ _. keeps (blanked b) _ (blanked_none b) (again InBlock (c ∷ bs)))
 
 pub without_again : (kind : Comments) (text : List ℕ) → without_comments kind (without_comments kind text) ≡ without_comments kind text
-without_again Spef text = again Outside text
+without_again Spef text =
+    ap (without_comments Spef) (sym (cleared_is text)) ∙ sym (cleared_is (cleared_in Outside text)) ∙ again Outside text ∙ cleared_is text

@@ -3,9 +3,8 @@ use Rattle.std.proofs.Common.{◌≡◌, ℕ, suc, ◌+◌, ◌<◌, List, [], �
 use Rattle.std.proofs.lemmas.Bool.Decides.{nat_tests}
 use Rattle.vg_scan.specs.declared.scan.Scan.{Scan}
 use Rattle.vg_scan.specs.declared.scan.Scan.TheVariants.{Outside, Quoted, InLine, InBlock}
-use Rattle.vg_scan.specs.declared.comments.Comments.{Comments}
-use Rattle.vg_scan.specs.declared.comments.Comments.TheVariants.{Spef}
-use Rattle.vg_scan.specs.Comments.{cleared_in, without_comments, blanked, StaysOrBlanks}
+use Rattle.vg_scan.specs.Comments.{blanked, StaysOrBlanks}
+use Rattle.vg_scan.specs.Clearing.{cleared_in}
 use Rattle.std.specs.List.{AllZip}
 
 pub one : (bytes : List ℕ) (at : ℕ) → at < length bytes → drop at bytes ≡ get_or bytes at 0 ∷ drop (at + 1) bytes
@@ -19,10 +18,6 @@ eq_test a b e = grind (arith, nat_tests)
 
 pub ne_test : (a b : ℕ) → (a ≡ b → ⊥) → eqb a b ≡ false
 ne_test a b e = grind (arith, nat_tests)
-
--- what stands first, Outside
-abbrev pub Next : List ℕ → ℕ → Scan → Scan → List ℕ → ℕ → Type 0
-Next bytes at part next written n = cleared_in part (drop at bytes) ≡ written ++ cleared_in next (drop (at + n) bytes)
 
 pub escape : (b c : ℕ) (bs : List ℕ) → b ≡ 92 → cleared_in Outside (b ∷ c ∷ bs) ≡ b ∷ c ∷ cleared_in Outside bs
 unfolding cleared_in
@@ -87,7 +82,7 @@ length-cleared InLine (b ∷ bs) = either (b == 10) _ _ _ (ap suc (length-cleare
 length-cleared InBlock (b ∷ []) = refl
 length-cleared InBlock (b ∷ c ∷ bs) = either ((b == 42) && (c == 47)) _ _ _ (ap (λ n. suc (suc n)) (length-cleared Outside bs)) (ap suc (length-cleared InBlock (c ∷ bs)))
 
-record Clears (text clear : List ℕ) : Type 0 where
+pub record Clears (text clear : List ℕ) : Type 0 where
   pub holds : AllZip StaysOrBlanks text clear
 
 pick : (t : Bool) (bs x y : List ℕ) → (t ≡ true → Clears bs x) → (t ≡ false → Clears bs y) → Clears bs (cond t x y)
@@ -125,7 +120,7 @@ turn : (b : ℕ) (text clear : List ℕ) → Clears text clear → Clears (b ∷
 turn b text clear h = record { holds = (blanked_fits b, h.holds) }
 
 -- only bytes of comments become another
-only_blanks : (scan : Scan) (text : List ℕ) → Clears text (cleared_in scan text)
+pub only_blanks : (scan : Scan) (text : List ℕ) → Clears text (cleared_in scan text)
 unfolding cleared_in
 only_blanks scan [] = record { holds = tt }
 only_blanks Outside (b ∷ []) = record { holds = (inl refl, tt) }
@@ -141,6 +136,3 @@ only_blanks InBlock (b ∷ []) = record { holds = (blanked_fits b, tt) }
 only_blanks InBlock (b ∷ c ∷ bs) =
     pick ((b == 42) && (c == 47)) _ _ _ (λ e. blank_two b c 42 47 _ _ (λ x. omega arith) (λ x. omega arith) e (only_blanks Outside bs))
     (λ _. turn _ _ _ (only_blanks InBlock (c ∷ bs)))
-
-pub comments_only_blank : (kind : Comments) (text : List ℕ) → AllZip StaysOrBlanks text (without_comments kind text)
-comments_only_blank Spef text = (only_blanks Outside text).holds

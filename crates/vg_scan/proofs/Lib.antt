@@ -9,6 +9,7 @@ pub mod CutLemmas
 pub mod FirstLemmas
 pub mod InLineLemmas
 pub mod TurnLemmas
+pub mod PieceLemmas
 pub mod AgainLemmas
 pub mod PartLemmas
 pub mod PlainLemmas

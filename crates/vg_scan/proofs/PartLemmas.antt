@@ -1,12 +1,14 @@
 -- The comments of a part of a text.
-use Rattle.std.proofs.Common.{◌≡◌, ℕ, zero, suc, ◌+◌, ◌-◌, ◌<◌, ◌≤◌, Bool, true, false, cond, ◌&&◌, ◌||◌, ◌==◌, eqb, List, [], ◌∷◌, length, take, drop, get_or, arith, refl, sym, ap, ◌∙◌}
+use Rattle.std.proofs.Common.{◌≡◌, ℕ, zero, suc, ◌+◌, ◌-◌, ◌<◌, ◌≤◌, Bool, true, false, cond, ◌&&◌, ◌||◌, ◌==◌, eqb, List, [], ◌∷◌, length, take, drop, get_or, arith, refl, sym, ap, subst, ◌∙◌}
 use Rattle.std.proofs.lemmas.Bool.Decides.{nat_tests}
 use Rattle.std.proofs.lemmas.List.{get_or-drop}
 use Rattle.vg_scan.proofs.ClearedLemmas.{length-cleared, eq_of, ne_of_false}
-use Rattle.vg_scan.specs.Lines.{is_blank}
+use Rattle.vg_scan.proofs.PieceLemmas.{cleared_is}
+use Rattle.vg_scan.specs.Lines.{is_blank, part}
 use Rattle.vg_scan.specs.Printed.{is_solid}
 use Rattle.vg_scan.specs.Parts.{IsFirstSolid, PartsKeepComments}
-use Rattle.vg_scan.specs.Comments.{cleared_in, blanked}
+use Rattle.vg_scan.specs.Comments.{blanked}
+use Rattle.vg_scan.specs.Clearing.{cleared_in}
 use Rattle.vg_scan.specs.declared.scan.Scan.{Scan}
 use Rattle.vg_scan.specs.declared.scan.Scan.TheVariants.{Outside, Quoted, InLine, InBlock}
 
@@ -238,8 +240,9 @@ starts text from l h =
       solid = h.solid;
     }
 
-pub parts_keep : PartsKeepComments
-parts_keep text from to h some within solid =
+parts_cleared : (text : List ℕ) (from to : ℕ) → IsFirstSolid (cleared_in Outside text) from → from < to → to ≤ length text → is_solid (get_or (cleared_in Outside text) (to - 1) 0) ≡ true
+    → cleared_in Outside (part text from to) ≡ part (cleared_in Outside text) from to
+parts_cleared text from to h some within solid =
     let clear = cleared_in Outside text in
     let rest = drop from text in
     let n = to - from - 1 in
@@ -249,3 +252,10 @@ parts_keep text from to h some within solid =
     ap (λ xs. get_or xs n 0) (sym d) ∙ get_or-drop from clear n 0 ∙ ap (λ m. get_or clear m 0) (let e : from + n ≡ to - 1 = omega arith in e) in
     let e : take (suc n) (cleared_in Outside rest) ≡ cleared_in Outside (take (suc n) rest) = (ends Outside rest n).holds (λ z. no_space (get_or clear (to - 1) 0) solid (sym g ∙ z)) in
     ap (λ m. cleared_in Outside (take m rest)) (sym s) ∙ sym e ∙ ap (λ xs. take (suc n) xs) (sym d) ∙ ap (λ m. take m (drop from clear)) s
+
+pub parts_keep : PartsKeepComments
+parts_keep text from to h some within solid =
+    let e = cleared_is text in
+    sym (cleared_is (part text from to))
+    ∙ parts_cleared text from to (subst (λ clear. IsFirstSolid clear from) (sym e) h) some within (ap (λ clear. is_solid (get_or clear (to - 1) 0)) e ∙ solid)
+    ∙ ap (λ clear. part clear from to) e

@@ -1,13 +1,12 @@
 -- Bytes that begin no comment, string or escape.
-use Rattle.std.proofs.Common.{Bool, ◌≡◌, ℕ, zero, suc, ◌+◌, ◌-◌, ◌<◌, ◌≤◌, true, false, not, List, [], ◌∷◌, ◌++◌, length, take, drop, get_or, arith, refl, sym, ap, ◌∙◌, length-take, length-drop, drop-drop}
-use Rattle.std.proofs.lemmas.Grind.{common_steps}
+use Rattle.std.proofs.Common.{Bool, ◌≡◌, ℕ, zero, suc, ◌+◌, ◌-◌, ◌<◌, ◌≤◌, true, false, not, List, [], ◌∷◌, ◌++◌, length, take, drop, get_or, arith, refl, sym, ap, ◌∙◌, length-take, length-drop}
 use Rattle.std.proofs.lemmas.Bool.Decides.{nat_tests}
 use Rattle.std.proofs.lemmas.List.Sums.{fails_before_first, prefix_len-le-length}
 use Rattle.std.specs.List.{position_or_len}
 use Rattle.vg_scan.specs.Lines.{part}
-use Rattle.vg_scan.specs.Comments.{cleared_in, is_mark}
+use Rattle.vg_scan.specs.Clearing.{cleared_in, is_mark}
 use Rattle.vg_scan.specs.declared.scan.Scan.TheVariants.{Outside}
-use Rattle.vg_scan.proofs.ClearedLemmas.{plain, joined}
+use Rattle.vg_scan.proofs.ClearedLemmas.{plain}
 use Rattle.vg_scan.proofs.CutLemmas.{get_part}
 
 -- none passes before the first that does
@@ -38,15 +37,3 @@ stays (suc n) (b ∷ c ∷ bs) l h =
     let first : is_mark b ≡ false = h 0 (omega arith) in
     plain b c bs (no_mark b 92 first refl) (no_mark b 34 first refl) (λ e _. no_mark b 47 first refl e) (λ e _. no_mark b 47 first refl e)
     ∙ ap (λ xs. b ∷ xs) (stays n (c ∷ bs) (omega arith) (λ k low. h (suc k) (omega arith)))
-
--- so a part without marks is copied
-pub copied : (bytes old new : List ℕ) (at to : ℕ) → ((k : ℕ) → at ≤ k → k < to → is_mark (get_or bytes k 0) ≡ false) → at < to → to ≤ length bytes → new ≡ old ++ part bytes at to
-    → new ++ cleared_in Outside (drop to bytes) ≡ old ++ cleared_in Outside (drop at bytes)
-copied bytes old new at to h low high e =
-    let n = to - at in
-    let rest : drop n (drop at bytes) ≡ drop to bytes = drop-drop n at bytes ∙ ap (λ k. drop k bytes) (let x : at + n ≡ to = omega arith in x) in
-    joined old new (part bytes at to) (cleared_in Outside (drop to bytes)) (cleared_in Outside (drop at bytes)) e
-    (stays n (drop at bytes) (omega (arith, length-drop at bytes)) (λ k l. ap is_mark (get_dropped bytes at k) ∙ h (at + k) (omega arith) (omega arith)) ∙ ap (λ xs. part bytes at to ++ cleared_in Outside xs) rest)
-  where
-    get_dropped : (bytes : List ℕ) (at k : ℕ) → get_or (drop at bytes) k 0 ≡ get_or bytes (at + k) 0
-    get_dropped bytes at k = grind (arith, common_steps)

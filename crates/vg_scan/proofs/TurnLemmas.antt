@@ -6,7 +6,8 @@ use Rattle.std.proofs.lemmas.Grind.{common_steps}
 use Rattle.vg_scan.specs.Lines.{is_newline}
 use Rattle.vg_scan.specs.declared.scan.Scan.{Scan}
 use Rattle.vg_scan.specs.declared.scan.Scan.TheVariants.{Outside, Quoted, InLine, InBlock}
-use Rattle.vg_scan.specs.Comments.{cleared_in, is_mark, blanked, Turns}
+use Rattle.vg_scan.specs.Comments.{blanked}
+use Rattle.vg_scan.specs.Clearing.{cleared_in, is_mark, Turns}
 use Rattle.vg_scan.proofs.ClearedLemmas.{one, two, joined, eq_test, ne_test}
 use Rattle.vg_scan.proofs.PlainLemmas.{stays}
 use Rattle.vg_scan.proofs.InLineLemmas.{blanks}

@@ -1,45 +1,71 @@
--- Comments, made blank.
-use Rattle.std.specs.Prelude.{◌≡◌, ◌≢◌, ℕ, ◌==◌, ◌<◌, ◌≤◌, ◌⊎◌, ◌&&◌, ◌||◌, Bool, List, [], ◌∷◌, ◌++◌, length, take, drop, if◌then◌else◌}
+-- Comments, made blank. A text is its pieces, one after another: a hidden byte, a string, a comment, or another byte.
+use Rattle.std.specs.Prelude.{◌≡◌, ◌≢◌, ℕ, zero, suc, ◌+◌, ◌==◌, ◌⊎◌, ◌&&◌, ◌||◌, Bool, false, List, [], ◌∷◌, map, length, take, drop, if◌then◌else◌}
+use Rattle.std.specs.List.{position_or_len, flat_map}
 use Rattle.vg_scan.specs.declared.comments.Comments.{Comments}
 use Rattle.vg_scan.specs.declared.comments.Comments.TheVariants.{Spef}
-use Rattle.vg_scan.specs.declared.scan.Scan.{Scan}
-use Rattle.vg_scan.specs.declared.scan.Scan.TheVariants.{Outside, Quoted, InLine, InBlock}
+use Rattle.vg_scan.specs.Lines.{is_newline}
+use Rattle.vg_scan.specs.Names.{is_backslash, is_quote}
 
--- a byte of a comment: a line end stays, every other byte becomes a space
+-- `//` begins a comment that ends before its line's end
+abbrev pub is_line_mark : ℕ → ℕ → Bool
+is_line_mark b c = (b == 47) && (c == 47)
+
+-- `/*` begins a comment that ends with the next `*/`
+abbrev pub is_block_mark : ℕ → ℕ → Bool
+is_block_mark b c = (b == 47) && (c == 42)
+
+-- a string ends with its second quote, or with its line
+abbrev pub ends_string : ℕ → Bool
+ends_string b = is_quote b || is_newline b
+
+-- how many bytes there are through the end of a string, after its first quote
+abbrev pub through_string : List ℕ → ℕ
+through_string text = position_or_len ends_string text + 1
+
+-- how many bytes there are through the first `*/`, else to the text's end
+abbrev pub through_block : List ℕ → ℕ
+through_block [] = 0
+through_block (b ∷ []) = 1
+through_block (b ∷ c ∷ bs) = if (b == 42) && (c == 47) then 2 else through_block (c ∷ bs) + 1
+
+-- how many bytes the first piece of a text has, where the text has so many: a backslash hides the byte after it
+abbrev pub piece_length : List ℕ → ℕ
+piece_length [] = 1
+piece_length (b ∷ []) = 1
+piece_length (b ∷ c ∷ bs) =
+    if is_backslash b then 2
+    else (if is_quote b then 1 + through_string (c ∷ bs)
+    else (if is_line_mark b c then 2 + position_or_len is_newline bs
+    else (if is_block_mark b c then 2 + through_block bs else 1)))
+
+-- the pieces of a text, so many at most
+unfoldable pub some_pieces : ℕ → List ℕ → List (List ℕ)
+some_pieces zero text = []
+some_pieces (suc n) [] = []
+some_pieces (suc n) (b ∷ bs) = take (piece_length (b ∷ bs)) (b ∷ bs) ∷ some_pieces n (drop (piece_length (b ∷ bs)) (b ∷ bs))
+
+-- the pieces of a text
+unfoldable pub pieces : List ℕ → List (List ℕ)
+pieces text = some_pieces (length text) text
+
+-- a piece is a comment by its first two bytes
+abbrev pub is_comment : List ℕ → Bool
+is_comment [] = false
+is_comment (b ∷ []) = false
+is_comment (b ∷ c ∷ bs) = is_line_mark b c || is_block_mark b c
+
+-- a byte of a comment: a newline stays, every other byte becomes a space
 abbrev pub blanked : ℕ → ℕ
 blanked b = if b == 10 then 10 else 32
 
--- What a text becomes whose bytes go on in this. A mark of two bytes is taken at once, so that `/*/` does not close itself.
-unfoldable pub cleared_in : Scan → List ℕ → List ℕ
-cleared_in scan [] = []
-cleared_in Outside (b ∷ []) = b ∷ []
-cleared_in Outside (b ∷ c ∷ bs) =
-    if b == 92 then b ∷ c ∷ cleared_in Outside bs
-    else (if b == 34 then b ∷ cleared_in Quoted (c ∷ bs)
-    else (if (b == 47) && (c == 47) then 32 ∷ 32 ∷ cleared_in InLine bs
-    else (if (b == 47) && (c == 42) then 32 ∷ 32 ∷ cleared_in InBlock bs
-    else b ∷ cleared_in Outside (c ∷ bs))))
-cleared_in Quoted (b ∷ bs) = b ∷ (if (b == 34) || (b == 10) then cleared_in Outside bs else cleared_in Quoted bs)
-cleared_in InLine (b ∷ bs) = if b == 10 then b ∷ cleared_in Outside bs else 32 ∷ cleared_in InLine bs
-cleared_in InBlock (b ∷ []) = blanked b ∷ []
-cleared_in InBlock (b ∷ c ∷ bs) = if (b == 42) && (c == 47) then 32 ∷ 32 ∷ cleared_in Outside bs else blanked b ∷ cleared_in InBlock (c ∷ bs)
+-- a piece, blank where it is a comment
+abbrev pub shown : List ℕ → List ℕ
+shown piece = if is_comment piece then map blanked piece else piece
 
 -- a text whose comments are blank
-abbrev pub without_comments : Comments → List ℕ → List ℕ
-without_comments Spef text = cleared_in Outside text
-
--- a byte that may begin a comment, a string or an escape
-abbrev pub is_mark : ℕ → Bool
-is_mark b = (b == 92) || (b == 34) || (b == 47)
+unfoldable pub without_comments : Comments → List ℕ → List ℕ
+without_comments Spef text = flat_map shown (pieces text)
 
 -- a byte stays, or it is no newline and becomes a space
 abbrev pub StaysOrBlanks : ℕ → ℕ → Type 0
 StaysOrBlanks b c = (c ≡ b) ⊎ ((b ≢ 10) × (c ≡ 32))
-
--- the rest is cleared as before, with what was written
-abbrev pub Goes : List ℕ → Scan → ℕ → List ℕ → Scan → ℕ → List ℕ → Type 0
-Goes bytes scan at out next to written = (written ++ cleared_in next (drop to bytes) ≡ out ++ cleared_in scan (drop at bytes)) × (at < to) × (to ≤ length bytes)
-
--- the rest is cleared as before, with what stands before it
-abbrev pub Turns : List ℕ → List ℕ → Scan → ℕ → Scan → ℕ → Type 0
-Turns old new scan at next to = (take to new ++ cleared_in next (drop to new) ≡ take at old ++ cleared_in scan (drop at old)) × (at < to) × (to ≤ length old)

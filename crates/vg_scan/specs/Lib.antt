@@ -1,9 +1,10 @@
 pub mod Lines
 pub mod Spans
-pub mod Comments
 pub mod Separators
 pub mod Distinct
 pub mod Names
+pub mod Comments
+pub mod Clearing
 pub mod Readings
 pub mod Printed
 pub mod Parts

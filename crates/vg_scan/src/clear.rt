@@ -2,7 +2,8 @@
 
 ghost use Rattle.std.specs.Prelude.{◌≡◌, ◌<◌, ◌≤◌, ◌+◌, ◌-◌, ◌++◌, length, take, drop, slice_index, replicate};
 ghost use Rattle.vg_scan.specs.declared.scan.Scan.TheVariants.{Outside, Quoted, InLine, InBlock};
-ghost use Rattle.vg_scan.specs.Comments.{Turns, without_comments};
+ghost use Rattle.vg_scan.specs.Comments.{without_comments};
+ghost use Rattle.vg_scan.specs.Clearing.{cleared_in, Turns};
 
 use crate::comments::{Comments, line_end_at, mark_at};
 use crate::scan::Scan;
@@ -55,7 +56,7 @@ fn turn_outside(text: &mut [u8], at: usize) -> (Scan, usize)
     }
 }
 
-#[tactic(auto, using(crate::proofs::TurnLemmas::one_stays), unfolding(crate::specs::Comments::cleared_in))]
+#[tactic(auto, using(crate::proofs::TurnLemmas::one_stays), unfolding(crate::specs::Clearing::cleared_in))]
 fn turn_quoted(text: &[u8], at: usize) -> (Scan, usize)
     requires { at < length text.now }
     ensures { Turns text.now text.now Quoted at result.0 result.1 }
@@ -144,7 +145,7 @@ fn turn(text: &mut [u8], at: usize, scan: Scan) -> (Scan, usize)
 }
 
 fn clear_spef_comments(text: &mut [u8])
-    ensures { text.new ≡ without_comments Comments.Spef text.old }
+    ensures { text.new ≡ cleared_in Outside text.old }
 {
     let mut scan = Scan::Outside;
     let mut at = 0;

@@ -1,9 +1,9 @@
 //! Laws of comments and of printed names. Their functions do nothing: each one's contract is the law.
 
 ghost use Rattle.std.specs.Prelude.{◌≡◌, ℕ, List, false};
-ghost use Rattle.std.specs.List.{AllPass, AllZip};
+ghost use Rattle.std.specs.List.{AllPass, AllZip, concat};
 ghost use Rattle.vg_scan.specs.declared.chars.Chars.{Chars};
-ghost use Rattle.vg_scan.specs.Comments.{without_comments, StaysOrBlanks};
+ghost use Rattle.vg_scan.specs.Comments.{pieces, without_comments, StaysOrBlanks};
 ghost use Rattle.vg_scan.specs.declared.comments.Comments.{Comments};
 ghost use Rattle.vg_scan.specs.Names.{canonical};
 ghost use Rattle.vg_scan.specs.Parts.{PartsKeepComments};
@@ -21,6 +21,11 @@ pub fn reads_names_again()
 /// Where comments are made blank every other byte stays, and so does every newline: lines keep their numbers.
 pub fn comments_keep_lines()
     ensures { (kind : Comments) (text : List ℕ) → AllZip StaysOrBlanks text (without_comments kind text) }
+{}
+
+/// A text is its pieces, one after another.
+pub fn texts_are_pieces()
+    ensures { (text : List ℕ) → concat (pieces text) ≡ text }
 {}
 
 /// A part of a text, from the first word of a line to the end of a word, has the comments that it has in the text: it may

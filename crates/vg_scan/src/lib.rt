@@ -22,7 +22,7 @@ pub use chars::Chars;
 pub use clear::clear_comments;
 pub use comments::{Comments, skip_comments};
 pub use fault::{LineFault, NameFault};
-pub use laws::{comments_keep_lines, parts_keep_comments, reads_names_again};
+pub use laws::{comments_keep_lines, parts_keep_comments, reads_names_again, texts_are_pieces};
 pub use lines::{Span, line_of, next_line, next_word, text_at};
 pub use name::{Name, NetNames, NodeName};
 pub use names::Names;

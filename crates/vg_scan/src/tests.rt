@@ -73,13 +73,21 @@ fn lines_and_words(rt: HostRuntime) {
 
 #[test]
 fn comments(rt: HostRuntime) -> Result<(), Fail> {
-    let rows: [(&[u8], &[u8]); 6] = [
+    let rows: [(&[u8], &[u8]); 13] = [
         (b"a // b\nc", b"a     \nc"),
         (b"a /*/ b\n*/ c", b"a      \n   c"),
         (b"a /* b", b"a     "),
         (b"\"// \" // \"", b"\"// \"     "),
         (b"\"/* \n/**/b", b"\"/* \n    b"),
         (b"a\\// /b", b"a\\// /b"),
+        // The last piece of a text, of each kind.
+        (b"a\\", b"a\\"),
+        (b"a \"b", b"a \"b"),
+        (b"a \"b\"", b"a \"b\""),
+        (b"a //", b"a   "),
+        (b"a /*/", b"a    "),
+        (b"a /**/", b"a     "),
+        (b"a /", b"a /"),
     ];
     for (text, clear) in rows {
         let read = skip_comments(rt.alloc(), text, Comments::Spef)?;

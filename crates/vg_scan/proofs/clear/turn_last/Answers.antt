@@ -1,5 +1,5 @@
 use Rattle.std.proofs.Common.{◌+◌, sym, subst}
-use Rattle.vg_scan.specs.Comments.{Turns}
+use Rattle.vg_scan.specs.Clearing.{Turns}
 use Rattle.vg_scan.specs.declared.scan.Scan.TheVariants.{Outside, Quoted}
 use Rattle.vg_scan.proofs.TurnLemmas.{last_outside, last_quoted}
 use Rattle.vg_scan.proofs.clear.turn_last.Goals as goal

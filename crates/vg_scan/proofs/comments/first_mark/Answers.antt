@@ -1,4 +1,4 @@
-use Rattle.vg_scan.specs.Comments.{is_mark}
+use Rattle.vg_scan.specs.Clearing.{is_mark}
 use Rattle.vg_scan.proofs.FirstLemmas.{first_is}
 use Rattle.vg_scan.proofs.comments.first_mark.Goals as goal
 

@@ -1,6 +1,6 @@
 use Rattle.std.proofs.Common.{◌≡◌, ◌-◌, length, length-take, length-drop, arith, sym, ◌∙◌}
 use Rattle.vg_scan.specs.Lines.{part}
-use Rattle.vg_scan.specs.Comments.{is_mark}
+use Rattle.vg_scan.specs.Clearing.{is_mark}
 use Rattle.vg_scan.proofs.LineLemmas.{first_at, first_none}
 use Rattle.vg_scan.proofs.PlainLemmas.{plain_before}
 use Rattle.vg_scan.proofs.comments.mark_at.Goals as goal

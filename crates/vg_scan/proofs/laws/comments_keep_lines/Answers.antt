@@ -1,4 +1,4 @@
-use Rattle.vg_scan.proofs.ClearedLemmas.{comments_only_blank}
+use Rattle.vg_scan.proofs.PieceLemmas.{comments_only_blank}
 use Rattle.vg_scan.proofs.laws.comments_keep_lines.Goals as goal
 
 pub returns : goal.returns
