@@ -151,16 +151,16 @@ pub passed_passes : (s : State) (line : Line) (later : List Line) → s.in_net �
 passed_passes s line later out high o w r = body_passes s (counted s) line later Nothing out high o (rw (w, r) refl) (ap (λ region. counted (after_nothing region s line)) r)
 
 pub row_passes : (s : State) (line : Line) (later : List Line) (row : List ℕ × List ℕ) → s.in_net ≡ false → 14 ≤ s.headed → opening_of (first_word line) ≡ Nothing → has_words line ≡ true → s.region ≡ InMap
-    → map_line s.heading.chars line ≡ Some row → row_fault s.names (Some row) ≡ None → read s (line ∷ later) ≡ read (counted (record s { names = s.names ++ row ∷ [] })) later
+    → map_line s.heading.chars line ≡ Some row → row_fault s.heading.chars s.names line ≡ None → read s (line ∷ later) ≡ read (counted (record s { names = s.names ++ row ∷ [] })) later
 row_passes s line later row out high o w r is clear =
     body_passes s (counted (record s { names = s.names ++ row ∷ [] })) line later Nothing out high o
-    (rw (w, r) (ap (row_fault s.names) is ∙ clear))
+    (rw (w, r) clear)
     (ap (λ region. counted (after_nothing region s line)) r ∙ ap (λ found. counted (with_row s found)) is)
 
 pub row_fails : (s : State) (line : Line) (later : List Line) (kind : SpefKind) → s.in_net ≡ false → 14 ≤ s.headed → opening_of (first_word line) ≡ Nothing → has_words line ≡ true → s.region ≡ InMap
-    → IsFaultOrMemory (row_fault s.names (map_line s.heading.chars line)) kind → Fails kind s line later
+    → IsFaultOrMemory (row_fault s.heading.chars s.names line) kind → Fails kind s line later
 row_fails s line later kind out high o w r h =
-    let e : body_fault Nothing s line later ≡ row_fault s.names (map_line s.heading.chars line) = rw (w, r) refl in
+    let e : body_fault Nothing s line later ≡ row_fault s.heading.chars s.names line = rw (w, r) refl in
     body_may_fail s line later Nothing kind out high o (rw (sym e) at h)
 
 -- a net

@@ -4,6 +4,10 @@ use Rattle.std.proofs.lemmas.Bool.Decides.{nat_tests}
 use Rattle.std.specs.Map.{lookup}
 use Rattle.std.specs.Str.{bytes_eq}
 use Rattle.vg_scan.specs.Distinct.{with_name}
+use Rattle.spef_file.specs.declared.fault.SpefKind.{SpefKind}
+use Rattle.spef_file.specs.declared.fault.SpefKind.TheVariants.{MapTwice, Stray, Memory}
+use Rattle.spef_file.specs.States.{mapped, is_mapped, given_fault}
+use Rattle.spef_file.specs.Views.{IsFaultOrMemory}
 use Rattle.std.specs.List.{list_any, position, prefix_len}
 use Rattle.std.proofs.lemmas.List.{length-map}
 use Rattle.std.proofs.lemmas.Bool.{cases_lt, lt-ltb, le-ltb}
@@ -110,3 +114,21 @@ named_more names name e = rw e refl
 pub map-last : {X Y : Type 0} (f : X → Y) (xs : List X) (x : X) → map f (xs ++ x ∷ []) ≡ map f xs ++ f x ∷ []
 map-last f [] x = refl
 map-last f (y ∷ ys) x = ap (λ zs. f y ∷ zs) (map-last f ys x)
+
+-- the fault of a row whose index and name are these
+
+pub fault_or : (fault : Option SpefKind) (kind : SpefKind) → fault ≡ Some kind → IsFaultOrMemory fault kind
+fault_or fault Memory e = tt
+fault_or fault kind e = e
+
+pub given_new : (rows : Rows) (index : List ℕ) → mapped rows index ≡ None → given_fault rows (Some index) None ≡ Some Stray
+given_new rows index e = rw e refl
+
+pub given_again : (rows : Rows) (index name : List ℕ) (word : Option (List ℕ)) → mapped rows index ≡ Some name → given_fault rows (Some index) word ≡ Some MapTwice
+given_again rows index name word e = rw e refl
+
+pub given_twice : (rows : Rows) (index : List ℕ) (word : Option (List ℕ)) → is_mapped rows index ≡ true → given_fault rows (Some index) word ≡ Some MapTwice
+given_twice rows index word e = rw e refl
+
+pub given_well : (rows : Rows) (index name : List ℕ) (word : Option (List ℕ)) → is_mapped rows index ≡ false → word ≡ Some name → given_fault rows (Some index) word ≡ None
+given_well rows index name word e f = rw (e, f) refl

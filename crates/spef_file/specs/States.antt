@@ -131,9 +131,14 @@ is_mapped names index = is_some (mapped names index)
 abbrev pub is_taken : List NetHead → List ℕ → Bool
 is_taken nets name = list_any (bytes_eq name) (map (λ net. net.name) nets)
 
-abbrev pub row_fault : List (List ℕ × List ℕ) → Option (List ℕ × List ℕ) → Option SpefKind
-row_fault names (Some row) = if is_mapped names row.0 then Some MapTwice else None
-row_fault names None = Some Stray
+-- the fault of a line `*digits NAME`, by its digits and the name that its second word is
+abbrev pub given_fault : List (List ℕ × List ℕ) → Option (List ℕ) → Option (List ℕ) → Option SpefKind
+given_fault names (Some index) name = if is_mapped names index then Some MapTwice else (if is_some name then None else Some Stray)
+given_fault names None name = Some Stray
+
+abbrev pub row_fault : Chars → List (List ℕ × List ℕ) → Line → Option SpefKind
+row_fault chars names (index ∷ name ∷ []) = given_fault names (index_of index) (canonical chars name)
+row_fault chars names _ = Some Stray
 
 abbrev pub name_fault : List NetHead → Option (List ℕ) → Option SpefKind
 name_fault nets (Some name) = if is_taken nets name then Some NetTwice else None
@@ -148,7 +153,7 @@ head_fault s line later =
 
 abbrev pub nothing_fault : Region → State → Line → Option SpefKind
 nothing_fault Outside s line = Some Stray
-nothing_fault InMap s line = row_fault s.names (map_line s.heading.chars line)
+nothing_fault InMap s line = row_fault s.heading.chars s.names line
 nothing_fault InPassed s line = None
 
 abbrev pub body_fault : Opening → State → Line → List Line → Option SpefKind

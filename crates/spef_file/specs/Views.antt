@@ -11,7 +11,7 @@ use Rattle.spef_file.specs.declared.map_table.MapTable.{MapTable}
 use Rattle.spef_file.specs.declared.section.Section.{Section}
 use Rattle.spef_file.specs.declared.reader.Reader.{Reader}
 use Rattle.spef_file.specs.Headers.{IsSmall}
-use Rattle.spef_file.specs.States.{State, NetHead, head_name, row_fault, map_line}
+use Rattle.spef_file.specs.States.{State, NetHead, head_name}
 use Rattle.spef_file.specs.Readings.{read}
 use Rattle.spef_file.specs.Tables.{IsIndexed, AreNamed}
 
@@ -52,9 +52,9 @@ GoesTo bytes next (Ok to) old new line = read old (line ∷ lines_of (drop next 
 GoesTo bytes next (Err kind) old new line = Fails kind old line (lines_of (drop next bytes))
 
 -- a row of a name map is added, or its fault is answered
-abbrev pub AddsRow : Result (Unit {0}) SpefKind → Chars → MapTable → MapTable → Line → Type 0
-AddsRow (Ok _) chars old new line = (row : List ℕ × List ℕ) × (map_line chars line ≡ Some row) × (row_fault old.rows.items (Some row) ≡ None) × (new.rows.items ≡ old.rows.items ++ row ∷ []) × IsIndexed new
-AddsRow (Err kind) chars old new line = IsFaultOrMemory (row_fault old.rows.items (map_line chars line)) kind
+abbrev pub AddsRow : Result (Unit {0}) SpefKind → Option SpefKind → Option (List ℕ × List ℕ) → MapTable → MapTable → Type 0
+AddsRow (Ok _) fault given old new = (row : List ℕ × List ℕ) × (given ≡ Some row) × (fault ≡ None) × (new.rows.items ≡ old.rows.items ++ row ∷ []) × IsIndexed new
+AddsRow (Err kind) fault given old new = IsFaultOrMemory fault kind
 
 -- the name of a head, none where its text is bad, or the fault of a reference
 abbrev pub IsHeadName : Chars → List (List ℕ × List ℕ) → List ℕ → Result (Option Name) SpefKind → Type 0

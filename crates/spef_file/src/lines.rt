@@ -9,7 +9,9 @@ ghost use Rattle.spef_file.specs.Openings.{opening_of};
 ghost use Rattle.spef_file.specs.Tables.{IsIndexed};
 ghost use Rattle.spef_file.specs.Views.{seen, IsWhole, Passes, GoesTo, AddsRow, IsHeadName, CanonicalName};
 ghost use Rattle.spef_file.specs.declared.opening.Opening.TheVariants.{Nothing, Net};
-ghost use Rattle.std.specs.Prelude.{Ok};
+ghost use Rattle.std.specs.Prelude.{Ok, Some, None};
+ghost use Rattle.vg_scan.specs.Names.{canonical};
+ghost use Rattle.spef_file.specs.States.{given_fault, row_fault, row_of, map_line};
 
 use crate::edge::find_end;
 use crate::fault::SpefKind;
@@ -64,6 +66,38 @@ fn canonical_name(alloc: Global, word: &[u8], chars: &Chars) -> Result<Option<Na
     }
 }
 
+/// The fault of a line `*digits NAME` of a name map whose NAME is bad.
+fn unnamed_fault(table: &MapTable, index: &[u8]) -> SpefKind
+    requires { IsIndexed table.now }
+    ensures { given_fault table.now.rows.items (Some index.now) None ≡ Some result }
+{
+    match name_of(&table.indices, table.rows.as_slice(), index) {
+        None => SpefKind::Stray,
+        Some(_) => SpefKind::MapTwice,
+    }
+}
+
+/// Adds the row of a name map whose line is `*digits NAME`, of these digits and this word.
+fn take_given(
+    alloc: Global,
+    table: &mut MapTable,
+    chars: &Chars,
+    index: &[u8],
+    word: &[u8],
+) -> Result<(), SpefKind>
+    requires { IsIndexed table.old }
+    ensures { AddsRow result (given_fault table.old.rows.items (Some index.now) (canonical chars.now word.now)) (row_of (Some index.now) (canonical chars.now word.now)) table.old table.new }
+{
+    match canonical_name(alloc, word, chars)? {
+        None => Err(unnamed_fault(table, index)),
+        Some(name) => match add_row(alloc, table, index, name) {
+            Ok(true) => Ok(()),
+            Ok(false) => Err(SpefKind::MapTwice),
+            Err(_) => Err(SpefKind::Memory),
+        },
+    }
+}
+
 /// Adds the row of a name map that a line states.
 fn take_row(
     alloc: Global,
@@ -73,7 +107,7 @@ fn take_row(
     words: &[Span],
 ) -> Result<(), SpefKind>
     requires { IsIndexed table.old }
-    ensures { AddsRow result chars.now table.old table.new (words_at bytes.now words.now) }
+    ensures { AddsRow result (row_fault chars.now table.old.rows.items (words_at bytes.now words.now)) (map_line chars.now (words_at bytes.now words.now)) table.old table.new }
 {
     let [index, name] = words else {
         return Err(SpefKind::Stray);
@@ -81,14 +115,7 @@ fn take_row(
     let Some(index) = index_of(text_at(bytes, *index)) else {
         return Err(SpefKind::Stray);
     };
-    match canonical_name(alloc, text_at(bytes, *name), chars)? {
-        None => Err(SpefKind::Stray),
-        Some(name) => match add_row(alloc, table, index, name) {
-            Ok(true) => Ok(()),
-            Ok(false) => Err(SpefKind::MapTwice),
-            Err(_) => Err(SpefKind::Memory),
-        },
-    }
+    take_given(alloc, table, chars, index, text_at(bytes, *name))
 }
 
 /// Takes a line that opens nothing.

@@ -159,6 +159,7 @@ fn faulty_lines(rt: HostRuntime) -> Result<(), Fail> {
         ("*1 a", SpefKind::Stray, 16),
         ("*NAME_MAP\n*1 a\n*1 b", SpefKind::MapTwice, 18),
         ("*NAME_MAP\n*1 a\n*1 b c", SpefKind::Stray, 18),
+        ("*NAME_MAP\n*1 a\n*1 b\\", SpefKind::MapTwice, 18),
         ("*NAME_MAP\n*1 a\\", SpefKind::Stray, 17),
         ("*NAME_MAP\n*x a", SpefKind::Stray, 17),
         (
@@ -170,6 +171,10 @@ fn faulty_lines(rt: HostRuntime) -> Result<(), Fail> {
         ("*D_NET a 1\n*CONN\n*D_NET b 1\n*END", SpefKind::NoEnd, 16),
         ("*D_NET\n*CONN\n", SpefKind::NoEnd, 16),
         ("*D_NET\n*CONN\n*END", SpefKind::Stray, 16),
+        ("*D_NET *2 1\n*CONN", SpefKind::MapUnknown, 16),
+        ("*D_NET a\\\n*CONN", SpefKind::NoEnd, 16),
+        ("*D_NET a\\\n*END", SpefKind::Stray, 16),
+        ("*D_NET a 1\n*END\n*D_NET a 1\n", SpefKind::NoEnd, 18),
         ("*D_NET a 1\n*END\n*END", SpefKind::Stray, 18),
         (
             "*NAME_MAP\n*1 a\n*D_NET a 1\n*END\n*R_NET *1 1\n*END",

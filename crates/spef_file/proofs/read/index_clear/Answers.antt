@@ -1,8 +1,6 @@
 use Rattle.vg_scan.specs.Lines.{lines_of}
-use Rattle.vg_scan.specs.Comments.{without_comments}
-use Rattle.vg_scan.specs.declared.comments.Comments.TheVariants.{Spef}
 use Rattle.spef_file.specs.NetSpans.{AreSpans}
-use Rattle.std.proofs.Common.{◌≡◌, subst, ◌∙◌, ap, sym, inl, inr, Ok, Err}
+use Rattle.std.proofs.Common.{subst, ◌∙◌, ap, sym, inl, inr, Ok, Err}
 use Rattle.spef_file.specs.declared.fault.SpefKind.TheVariants.{Header}
 use Rattle.spef_file.specs.Views.{seen}
 use Rattle.spef_file.proofs.FileLemmas.{file_fault, file_missing, file_said}
