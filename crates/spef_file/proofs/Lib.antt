@@ -7,3 +7,4 @@ pub mod FileLemmas
 pub mod SpanLemmas
 pub mod TextLemmas
 pub mod OtherLemmas
+pub mod InnerLemmas

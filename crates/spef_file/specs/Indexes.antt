@@ -1,7 +1,7 @@
 -- The index of a text, and the text of a net.
 use Rattle.std.specs.Prelude.{◌≡◌, ℕ, ◌-◌, List, length, take, drop, map, unwrap_or, Ok}
 use Rattle.std.specs.Str.Lines.{lines}
-use Rattle.vg_scan.specs.Lines.{part, words}
+use Rattle.vg_scan.specs.Lines.{words}
 use Rattle.vg_scan.specs.Comments.{without_comments}
 use Rattle.vg_scan.specs.declared.comments.Comments.TheVariants.{Spef}
 use Rattle.spef_file.specs.declared.section.Section.{Section}
@@ -30,7 +30,3 @@ abbrev pub lines_after : List ℕ → ℕ → List (List ℕ)
 lines_after text line =
     let later = drop line (lines (without_comments Spef text)) in
     take (unwrap_or (end_at (map words later)) 0) later
-
--- its part of the text, from its head to its `*END`, without the text's comments
-abbrev pub net_text : List ℕ → Section → List ℕ
-net_text text section = part (without_comments Spef text) section.from section.to

@@ -1,3 +1,4 @@
+pub mod ClearTexts
 pub mod Openings
 pub mod Words
 pub mod Marks

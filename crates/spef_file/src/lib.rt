@@ -7,6 +7,7 @@ mod header;
 mod header_line;
 mod heading;
 mod indices;
+mod laws;
 mod lines;
 mod look;
 mod map_table;
@@ -17,16 +18,19 @@ mod read;
 mod reader;
 mod section;
 mod spef_index;
+mod spef_text;
 mod text;
 mod units;
 
 pub use fault::{SpefFault, SpefKind};
 pub use header::Header;
+pub use laws::comments_say_nothing;
 pub use look::{mapped, net_at};
-pub use read::{index, index_clear};
+pub use read::index;
 pub use section::Section;
 pub use spef_index::SpefIndex;
-pub use text::net_text;
+pub use spef_text::SpefText;
+pub use text::net_lines;
 
 #[cfg(test)]
 mod tests;

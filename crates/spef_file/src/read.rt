@@ -1,7 +1,6 @@
 //! The lines of a file, one after another, and the index that they give.
 
 ghost use Rattle.std.specs.Prelude.{◌≡◌, ◌<◌, ◌≤◌, ◌^◌, length, IfOk, IfErr, ◌⊎◌, Ok, Err, []};
-ghost use Rattle.vg_scan.specs.Comments.{without_comments};
 ghost use Rattle.vg_scan.specs.Lines.{lines_of};
 ghost use Rattle.spef_file.specs.declared.fault.SpefKind.TheVariants.{Memory};
 ghost use Rattle.spef_file.specs.States.{START};
@@ -21,9 +20,10 @@ use crate::net_table::NetTable;
 use crate::opening::Region;
 use crate::reader::Reader;
 use crate::spef_index::SpefIndex;
+use crate::spef_text::SpefText;
 use std::alloc::Global;
 use vg_num::Row;
-use vg_scan::{Chars, Comments, Names, next_line, skip_comments};
+use vg_scan::{Chars, Names, next_line};
 
 /// What is said before the first line.
 fn start(alloc: Global) -> Reader
@@ -109,39 +109,11 @@ fn finish(reader: Reader) -> SpefIndex
 /// line, or at line 1 of an empty file.
 ///
 /// Answers `Memory` where there is no room, with the line at which it was wanted.
-pub fn index(alloc: Global, bytes: &[u8]) -> Result<SpefIndex, SpefFault>
-    requires { length bytes.now ≤ 2 ^ 28 }
-    ensures index { IfOk result (IsIndexOf bytes.now) }
-    ensures fault { IfErr result (λ fault. (fault.kind ≡ Memory) ⊎ (file_of bytes.now ≡ Err fault)) }
+pub fn index(alloc: Global, text: &SpefText) -> Result<SpefIndex, SpefFault>
+    ensures index { IfOk result (IsIndexOf text.now) }
+    ensures fault { IfErr result (λ fault. (fault.kind ≡ Memory) ⊎ (file_of text.now ≡ Err fault)) }
 {
-    let Ok(clear) = skip_comments(alloc, bytes, Comments::Spef) else {
-        return Err(SpefFault {
-            kind: SpefKind::Memory,
-            line: 1,
-        });
-    };
-    match read_lines(alloc, clear.as_slice()) {
-        Err(fault) => Err(fault),
-        Ok(reader) => {
-            if reader.headed < 14 {
-                return Err(SpefFault {
-                    kind: SpefKind::Header,
-                    line: reader.count.max(1),
-                });
-            }
-            Ok(finish(reader))
-        }
-    }
-}
-
-/// The same of a text that has no comments, as `clear_comments` leaves it. It copies no text.
-pub fn index_clear(alloc: Global, bytes: &[u8]) -> Result<SpefIndex, SpefFault>
-    requires length { length bytes.now ≤ 2 ^ 28 }
-    requires clear { without_comments Comments.Spef bytes.now ≡ bytes.now }
-    ensures index { IfOk result (IsIndexOf bytes.now) }
-    ensures fault { IfErr result (λ fault. (fault.kind ≡ Memory) ⊎ (file_of bytes.now ≡ Err fault)) }
-{
-    match read_lines(alloc, bytes) {
+    match read_lines(alloc, text.as_bytes()) {
         Err(fault) => Err(fault),
         Ok(reader) => {
             if reader.headed < 14 {

@@ -1,9 +1,7 @@
 //! Files and their faults, taken from the format.
-ghost use Rattle.std.specs.Prelude.{IfOk};
-ghost use Rattle.spef_file.specs.Indexes.{IsIndexOf};
 
 use super::*;
-use std::alloc::Global;
+use std::alloc::{AllocError, Global};
 use std::process::Abort;
 use std::test::Fail;
 use vg_scan::{Name, Span, text_at};
@@ -25,17 +23,21 @@ const HEADER: &str = "*SPEF \"IEEE 1481\"
 *L_UNIT 1 HENRY
 ";
 
-fn read(rt: &impl Abort, alloc: Global, text: &str) -> Result<SpefIndex, SpefFault>
-    ensures { IfOk result (IsIndexOf text.now) }
-{
-    assert!(rt; text.len() <= 2000);
-    index(alloc, text.as_bytes())
+fn text_of(rt: &impl Abort, alloc: Global, text: &str) -> Result<SpefText, AllocError> {
+    let bytes = Vec::from_slice(alloc, text.as_bytes())?;
+    assert!(rt; bytes.len() <= 2000);
+    Ok(SpefText::new(bytes))
 }
 
-fn fault(rt: &impl Abort, alloc: Global, text: &str) -> Option<(SpefKind, usize)> {
-    match read(rt, alloc, text) {
-        Ok(_) => None,
-        Err(fault) => Some((fault.kind, fault.line)),
+fn fault(
+    rt: &impl Abort,
+    alloc: Global,
+    text: &str,
+) -> Result<Option<(SpefKind, usize)>, AllocError> {
+    let text = text_of(rt, alloc, text)?;
+    match index(alloc, &text) {
+        Ok(_) => Ok(None),
+        Err(fault) => Ok(Some((fault.kind, fault.line))),
     }
 }
 
@@ -56,7 +58,8 @@ fn a_file(rt: HostRuntime) -> Result<(), Fail> {
 *END more
 "
     )?;
-    let index = read(&rt, rt.alloc(), text.as_str())?;
+    let text = text_of(&rt, rt.alloc(), text.as_str())?;
+    let index = index(rt.alloc(), &text)?;
     let chars = index.header.chars;
     assert_eq!(rt; (chars.divider, chars.delimiter), (b'/', b':'));
     assert_eq!(rt; (chars.bus_left, chars.bus_right), (b'<', b'>'));
@@ -72,7 +75,7 @@ fn a_file(rt: HostRuntime) -> Result<(), Fail> {
             b"n[2]".as_slice(),
             false,
             22,
-            "*D_NET *01 0.5 /* open\n*END of a comment */\n*CONN\n  *END",
+            "*D_NET *01 0.5        \n                    \n*CONN\n  *END",
         ),
         (b"n/3", true, 26, "*R_NET n\\/3 1\n*END"),
     ];
@@ -101,7 +104,7 @@ fn a_file(rt: HostRuntime) -> Result<(), Fail> {
 }
 
 #[test]
-fn the_text_of_a_net(rt: HostRuntime) -> Result<(), Fail> {
+fn the_lines_of_a_net(rt: HostRuntime) -> Result<(), Fail> {
     let text = format!(in rt.alloc();
         "{HEADER}/* *D_NET b 1
 *END */ *D_NET a 1 // \"*END
@@ -109,13 +112,11 @@ fn the_text_of_a_net(rt: HostRuntime) -> Result<(), Fail> {
 */ *END // more
 "
     )?;
-    let index = read(&rt, rt.alloc(), text.as_str())?;
+    let text = text_of(&rt, rt.alloc(), text.as_str())?;
+    let index = index(rt.alloc(), &text)?;
     assert!(rt; index.sections.len() == 1);
-    let net = net_text(rt.alloc(), text.as_bytes(), &index.sections.as_slice()[0])?;
-    assert_eq!(rt;
-        net.as_slice(),
-        b"*D_NET a 1         \n*CONN     \n   *END".as_slice()
-    );
+    let lines = net_lines(&text, &index.sections.as_slice()[0]);
+    assert_eq!(rt; lines, b"*CONN     \n".as_slice());
     Ok(())
 }
 
@@ -140,15 +141,15 @@ fn faulty_headers(rt: HostRuntime) -> Result<(), Fail> {
     for (old, new, kind, line) in rows {
         let text = HEADER.replace(rt.alloc(), old, new)?;
         assert_eq!(rt;
-            fault(&rt, rt.alloc(), text.as_str()),
+            fault(&rt, rt.alloc(), text.as_str())?,
             Some((kind, line)),
             "{new}"
         );
     }
-    assert_eq!(rt; fault(&rt, rt.alloc(), ""), Some((SpefKind::Header, 1)));
+    assert_eq!(rt; fault(&rt, rt.alloc(), "")?, Some((SpefKind::Header, 1)));
     for (old, new) in [("1 PF", "1e3 fF"), ("1 PF", "0.001 PF"), ("< >", "{}")] {
         let text = HEADER.replace(rt.alloc(), old, new)?;
-        assert_eq!(rt; fault(&rt, rt.alloc(), text.as_str()), None, "{new}");
+        assert_eq!(rt; fault(&rt, rt.alloc(), text.as_str())?, None, "{new}");
     }
     Ok(())
 }
@@ -187,12 +188,12 @@ fn faulty_lines(rt: HostRuntime) -> Result<(), Fail> {
     for (body, kind, line) in rows {
         let text = format!(in rt.alloc(); "{HEADER}{body}\n")?;
         assert_eq!(rt;
-            fault(&rt, rt.alloc(), text.as_str()),
+            fault(&rt, rt.alloc(), text.as_str())?,
             Some((kind, line)),
             "{body}"
         );
     }
     let text = format!(in rt.alloc(); "{HEADER}*D_NET a 1\n*DEFINE b\n*NAME_MAP\n*END\n")?;
-    assert_eq!(rt; fault(&rt, rt.alloc(), text.as_str()), None);
+    assert_eq!(rt; fault(&rt, rt.alloc(), text.as_str())?, None);
     Ok(())
 }

@@ -12,19 +12,20 @@ pub returns-in-Err-clause-fault : goal.returns-in-Err-clause-fault
 returns-in-Err-clause-fault c =
     elim c.in-Err.ensures.fault [
       | inl memory ↦ inl memory
-      | inr fault ↦ inr (file_fault c.args.bytes.now c.as_slice.result.now c.in-Err.fault (c.as_slice.ensures.value ∙ c.in-Ok.ensures.text) fault)
+      | inr fault ↦ inr (file_fault c.args.text.now c.as_bytes.result.now c.in-Err.fault (c.as_bytes.ensures.text ∙ sym c.as_bytes.ensures.clear) fault)
     ]
 
 pub returns-then-reader-lt14-clause-fault : goal.returns-then-reader-lt14-clause-fault
 returns-then-reader-lt14-clause-fault c =
-    inr (file_missing c.args.bytes.now c.as_slice.result.now (seen c.in-Ok-read_lines.reader) (c.as_slice.ensures.value ∙ c.in-Ok.ensures.text) c.in-Ok-read_lines.ensures.said c.if-reader-lt14.true
+    inr (file_missing c.args.text.now c.as_bytes.result.now (seen c.in-Ok.reader) (c.as_bytes.ensures.text ∙ sym c.as_bytes.ensures.clear) c.in-Ok.ensures.said c.if-reader-lt14.true
     ∙ ap (λ number. Err (record { kind = Header; line = number })) (sym c.max.ensures))
 
-pub returns-clause-index : goal.returns-clause-index
-returns-clause-index c =
-    let clear = c.as_slice.result.now in
-    let is : clear ≡ without_comments Spef c.args.bytes.now = c.as_slice.ensures.value ∙ c.in-Ok.ensures.text in
+pub returns-else-reader-lt14-clause-index : goal.returns-else-reader-lt14-clause-index
+returns-else-reader-lt14-clause-index c =
+    let text = c.args.text.now in
+    let bytes = c.as_bytes.result.now in
+    let is : bytes ≡ without_comments Spef text = c.as_bytes.ensures.text ∙ sym c.as_bytes.ensures.clear in
     record {
-      said = file_said c.args.bytes.now clear (seen c.in-Ok-read_lines.reader) is c.in-Ok-read_lines.ensures.said c.if-reader-lt14.false ∙ ap Ok (sym c.finish.ensures.shown);
-      spans = subst (λ text. AreSpans text (lines_of text) c.finish.result.sections) is (subst (AreSpans clear (lines_of clear)) (sym c.finish.ensures.sections) c.in-Ok-read_lines.ensures.spans);
+      said = file_said text bytes (seen c.in-Ok.reader) is c.in-Ok.ensures.said c.if-reader-lt14.false ∙ ap Ok (sym c.finish.ensures.shown);
+      spans = subst (λ clear. AreSpans clear (lines_of clear) c.finish.result.sections) is (subst (AreSpans bytes (lines_of bytes)) (sym c.finish.ensures.sections) c.in-Ok.ensures.spans);
     }
