@@ -6,6 +6,8 @@ pub mod WordLemmas
 pub mod NodeLemmas
 pub mod PrintedLemmas
 pub mod CutLemmas
+pub mod TextsLemmas
+pub mod ChainLemmas
 pub mod FirstLemmas
 pub mod InLineLemmas
 pub mod TurnLemmas

@@ -1,5 +1,8 @@
 pub mod Lines
 pub mod Spans
+pub mod Texts
+pub mod Chains
+pub mod Comments
 pub mod Separators
 pub mod Distinct
 pub mod Names

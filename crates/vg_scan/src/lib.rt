@@ -3,6 +3,7 @@
 //! The parts of a text are spans. Only a name, and the one copy of a text without its comments, take memory.
 #![tactic(auto)]
 
+mod chains;
 mod chars;
 mod clear;
 mod comments;
@@ -16,8 +17,10 @@ mod print;
 mod reference;
 mod scan;
 mod spef;
+mod texts;
 mod words;
 
+pub use chains::Chains;
 pub use chars::Chars;
 pub use clear::clear_comments;
 pub use comments::{Comments, skip_comments};
@@ -30,6 +33,7 @@ pub use nodes::{inner_name, node_name, port_name};
 pub use print::print_spef_name;
 pub use reference::{are_digits, index_of, is_reference};
 pub use spef::{spef_name, split_node};
+pub use texts::Texts;
 pub use words::words_of;
 
 #[cfg(test)]
