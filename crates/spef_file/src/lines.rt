@@ -214,7 +214,6 @@ fn start_of(bytes: &[u8], line: Span) -> usize
 
 /// Takes a net from its head on, of whose name this is known.
 fn take_named_net(
-    alloc: Global,
     reader: &mut Reader,
     bytes: &[u8],
     words: &[Span],
@@ -248,7 +247,7 @@ fn take_named_net(
         to: end.to,
         line: reader.count + 1,
     };
-    match add_net(alloc, &mut reader.nets, net) {
+    match add_net(&mut reader.nets, net) {
         Ok(true) => {
             reader.region = Region::Outside;
             reader.count += end.lines + 2;
@@ -283,7 +282,7 @@ fn take_net(
     let word = second_word(bytes, words);
     match head_name(alloc, &reader.map, &reader.heading.chars, word) {
         Err(kind) => Err(kind),
-        Ok(name) => take_named_net(alloc, reader, bytes, words, line, next, name),
+        Ok(name) => take_named_net(reader, bytes, words, line, next, name),
     }
 }
 

@@ -4,9 +4,8 @@ ghost use Rattle.std.specs.Prelude.{◌≡◌, ◌<◌, ◌^◌, ◌++◌, ◌�
 ghost use Rattle.spef_file.specs.Tables.{AreNamed, is_section};
 
 use crate::section::Section;
-use std::alloc::Global;
 use vg_num::Memory;
-use vg_scan::{Name, Names};
+use vg_scan::Names;
 
 /// The nets, and the table of their names.
 #[derive(Drop)]
@@ -16,18 +15,17 @@ pub(crate) struct NetTable {
 }
 
 /// Puts a net last where its name is new, and says whether it was.
-pub(crate) fn add_net(alloc: Global, table: &mut NetTable, net: Section) -> Result<bool, Memory>
+pub(crate) fn add_net(table: &mut NetTable, net: Section) -> Result<bool, Memory>
     requires named { AreNamed table.old.names table.old.rows.items }
     requires few { length table.old.rows.items < 2 ^ 30 }
     ensures fresh { IfOk result (λ fresh. fresh ≡ not (is_section table.old.rows.items net.name)) }
     ensures last { IfOk result (λ fresh. fresh ≡ true → table.new.rows.items ≡ table.old.rows.items ++ net ∷ []) }
     ensures named { IfOk result (λ fresh. fresh ≡ true → AreNamed table.new.names table.new.rows.items) }
 {
-    if table.names.find(&net.name).is_some() {
+    if table.names.find(net.name.as_bytes()).is_some() {
         return Ok(false);
     }
-    let name = Name::from_bytes(alloc, net.name.as_bytes())?;
-    table.names.intern(name)?;
+    table.names.intern(net.name.as_bytes())?;
     table.rows.push(net)?;
     Ok(true)
 }

@@ -5,14 +5,14 @@ use Rattle.std.specs.List.{position}
 use Rattle.std.proofs.lemmas.List.Sums.{position_or_len_is}
 use Rattle.memchr.specs.Find.{IsFirstByte}
 
-not_true : (b : Bool) → (b ≡ true → ⊥) → b ≡ false
+pub not_true : (b : Bool) → (b ≡ true → ⊥) → b ≡ false
 not_true true h = absurd (h refl)
 not_true false h = refl
 
-lt_yes : (a b : ℕ) → a < b → ltb a b ≡ true
+pub lt_yes : (a b : ℕ) → a < b → ltb a b ≡ true
 lt_yes a b l = grind (arith, nat_tests)
 
-lt_no : (a : ℕ) → ltb a a ≡ false
+pub lt_no : (a : ℕ) → ltb a a ≡ false
 lt_no a = grind (arith, nat_tests)
 
 pub first_is : (test : ℕ → Bool) (hay : List ℕ) (r : Option ℕ) → IsFirstByte test hay r → r ≡ position test hay

@@ -8,6 +8,7 @@ pub mod PrintedLemmas
 pub mod CutLemmas
 pub mod TextsLemmas
 pub mod ChainLemmas
+pub mod NameTableLemmas
 pub mod FirstLemmas
 pub mod InLineLemmas
 pub mod TurnLemmas

@@ -1,6 +1,7 @@
 //! Rows in chains, by bucket.
 
-ghost use Rattle.std.specs.Prelude.{◌≡◌, ℕ, ◌<◌, ◌-◌, ◌^◌, ◌++◌, ◌∷◌, [], List, length, slice_index, IfOk, OnOk, OnErr};
+ghost use Rattle.std.specs.Prelude.{◌≡◌, ℕ, ◌<◌, ◌-◌, ◌^◌, ◌++◌, ◌∷◌, [], List, length, slice_index, vec_len, ◌≤◌, IfOk, OnOk, OnErr};
+ghost use Rattle.std.specs.Vec.{vec_capacity};
 ghost use Rattle.vg_scan.specs.Chains.{IsLastBelow, AreChains};
 
 use std::alloc::Global;
@@ -17,6 +18,17 @@ pub struct Chains {
 }
 
 impl Chains {
+    /// No buckets.
+    pub fn empty(alloc: Global) -> Chains
+        ensures rows { AreChains result [] }
+        ensures buckets { length result.lasts.items ≡ 0 }
+    {
+        Chains {
+            lasts: Vec::new(alloc),
+            befores: Vec::new(alloc),
+        }
+    }
+
     /// So many buckets without rows. Answers `Memory` where there is no room.
     pub fn new(alloc: Global, buckets: usize) -> Result<Chains, Memory>
         ensures rows { IfOk result (λ chains. AreChains chains []) }
@@ -52,6 +64,18 @@ impl Chains {
         self.befores[row]
     }
 
+    /// Makes room for one row more. Answers `Memory` where there is none.
+    pub fn reserve(&mut self) -> Result<(), Memory>
+        ensures room { OnOk result (vec_len self.new.befores < vec_capacity self.new.befores) }
+        ensures rows { (rows : List ℕ) → AreChains self.old rows → AreChains self.new rows }
+        ensures buckets { length self.new.lasts.items ≡ length self.old.lasts.items }
+    {
+        let Ok(()) = self.befores.reserve(1) else {
+            return Err(Memory);
+        };
+        Ok(())
+    }
+
     /// Puts a row last, in this bucket. Answers `Memory` where there is no room.
     pub fn push(&mut self, bucket: usize) -> Result<(), Memory>
         requires bucket { bucket < length self.old.lasts.items }
@@ -59,6 +83,7 @@ impl Chains {
         ensures last { (rows : List ℕ) → AreChains self.old rows → OnOk result (AreChains self.new (rows ++ bucket ∷ [])) }
         ensures unchanged { (rows : List ℕ) → AreChains self.old rows → OnErr result (AreChains self.new rows) }
         ensures buckets { length self.new.lasts.items ≡ length self.old.lasts.items }
+        ensures full { OnErr result (vec_capacity self.old.befores ≤ vec_len self.old.befores) }
     {
         let link = self.lasts[bucket];
         let Ok(()) = self.befores.push(link) else {

@@ -115,15 +115,15 @@ fn printed_names(rt: HostRuntime) -> Result<(), Fail> {
 #[test]
 fn numbered_names(rt: HostRuntime) -> Result<(), Fail> {
     let mut names = Names::new(rt.alloc());
-    for (text, id) in [(b"a", 0), (b"b", 1), (b"a", 0), (b"c", 2)] {
-        let name = Name::from_bytes(rt.alloc(), text)?;
+    let rows: [(&[u8], u32); 5] = [(b"a", 0), (b"b", 1), (b"a", 0), (b"", 2), (b"c", 3)];
+    for (text, id) in rows {
         if names.len() < 4 {
-            assert_eq!(rt; names.intern(name)?, id);
+            assert_eq!(rt; names.intern(text)?, id);
         }
     }
-    assert_eq!(rt; names.len(), 3);
-    assert_eq!(rt; names.find(&Name::from_bytes(rt.alloc(), b"c")?), Some(2));
-    assert_eq!(rt; names.find(&Name::from_bytes(rt.alloc(), b"d")?), None);
+    assert_eq!(rt; names.len(), 4);
+    assert_eq!(rt; names.find(b"c"), Some(3));
+    assert_eq!(rt; names.find(b"d"), None);
     Ok(())
 }
 

@@ -1,7 +1,5 @@
-use Rattle.std.proofs.Common.{◌≡◌, sym, ◌∙◌, ap, arith, get_or, ℕ, rules}
-use Rattle.std.proofs.lemmas.Grind.{get_or_default_zero}
+use Rattle.std.proofs.Common.{sym, ◌∙◌, ap, get_or}
 use Rattle.vg_scan.specs.Lines.{part}
-use Rattle.vg_scan.specs.Texts.{start_of}
 use Rattle.vg_scan.proofs.TextsLemmas.{get-texts_of}
 use Rattle.vg_scan.proofs.texts.text_in.Goals as goal
 

@@ -1,4 +1,4 @@
-use Rattle.std.proofs.Common.{◌≡◌, ◌+◌, ◌∷◌, [], ◌++◌, length, get_or, subst, sym, ap, ◌∙◌, arith, ℕ, List, length-append}
+use Rattle.std.proofs.Common.{◌≡◌, ◌+◌, ◌∷◌, [], ◌++◌, length, get_or, subst, sym, ap, ◌∙◌, arith, length-append}
 use Rattle.std.proofs.Math.ListN.{set}
 use Rattle.std.proofs.lemmas.Grind.{get_or_default_zero}
 use Rattle.vg_scan.specs.Chains.{AreLinks}

@@ -1,4 +1,4 @@
-use Rattle.std.proofs.Common.{◌<◌, ◌≡◌, ◌≤◌, sym, ◌∙◌, ap, length, arith, get_or, [], List, ℕ}
+use Rattle.std.proofs.Common.{◌∙◌, ap, length, arith, get_or, [], List, ℕ}
 use Rattle.vg_scan.specs.Texts.{texts_of}
 use Rattle.vg_scan.proofs.TextsLemmas.{length-texts_of}
 use Rattle.vg_scan.proofs.texts.Texts.get.Goals as goal

@@ -1,4 +1,4 @@
-use Rattle.std.proofs.Common.{◌≡◌, ◌==◌, sym, ◌∙◌, ap, length, arith, vec_len}
+use Rattle.std.proofs.Common.{◌≡◌, ◌==◌, ◌∙◌, ap, length, arith, vec_len}
 use Rattle.vg_scan.proofs.TextsLemmas.{length-texts_of}
 use Rattle.vg_scan.proofs.texts.Texts.is_empty.Goals as goal
 

@@ -1,4 +1,4 @@
-use Rattle.std.proofs.Common.{sym, ◌∙◌, ap, length, arith}
+use Rattle.std.proofs.Common.{ap, length, arith}
 use Rattle.vg_scan.proofs.TextsLemmas.{length-texts_of}
 use Rattle.vg_scan.proofs.texts.Texts.len.Goals as goal
 

@@ -1,5 +1,5 @@
 use Rattle.vg_scan.specs.Texts.{texts_of, AreEnds}
-use Rattle.std.proofs.Common.{rules, ap, sym, ◌∙◌, refl, ℕ, List, [], ◌≡◌}
+use Rattle.std.proofs.Common.{rules, ap, ◌∙◌, refl, ℕ, List, [], ◌≡◌}
 use Rattle.vg_scan.proofs.texts.Texts.new.Goals as goal
 
 pub invariant_of-result : goal.invariant_of-result
