@@ -5,7 +5,8 @@ use Rattle.vg_store.specs.Causes.{Rose}
 use Rattle.vg_store.specs.Writing.{Gains, GainsPrefix}
 use Rattle.vg_cons.specs.Faults.{IsFaultless, IsFaultIn}
 use Rattle.vg_cons.specs.Lines.{Line as ConsLine}
-use Rattle.vg_cons.specs.declared.fault.ConsFault.{ConsFault}
+use Rattle.vg_scan.specs.declared.fault.LineFault.{LineFault}
+use Rattle.vg_cons.specs.declared.fault.ConsKind.{ConsKind}
 use Rattle.vg_words.specs.Request.{Request, IsRequest, IsRefused, HasCons, ReadsWords}
 use Rattle.vg_words.specs.declared.ask.Mode.{Mode}
 use Rattle.vg_words.specs.declared.ask.Mode.TheVariants.{Wire, Time}
@@ -60,7 +61,7 @@ fault_two (Equal a b) = inl refl
 fault_two NoRoom = inr refl
 
 -- constraints are faultless or faulty
-apart_faults : (lines : List ConsLine) (fault : ConsFault) → IsFaultless lines → IsFaultIn lines fault → ⊥
+apart_faults : (lines : List ConsLine) (fault : LineFault ConsKind) → IsFaultless lines → IsFaultIn lines fault → ⊥
 apart_faults lines fault good (inl first) = let none : None ≡ Some fault.kind = sym (good.clear (fault.line - 1) (omega (arith, first.counted, first.within))) ∙ first.here in cc
 apart_faults lines fault good (inr missing) = false≢true (sym missing.empty ∙ good.heading)
 

@@ -16,7 +16,6 @@ use Rattle.elmore.specs.declared.rep.Rep.{Rep}
 use Rattle.elmore.specs.declared.problem.Problem.{Problem}
 use Rattle.spef_net.specs.declared.net.ParConn.{ParConn}
 use Rattle.spef_net.specs.declared.net.ParNet.{ParNet}
-use Rattle.vg_cons.specs.Names.{key_of}
 use Rattle.vg_cons.specs.Rows.{Rows, required_of, wants_inverted_of}
 use Rattle.vg_design.specs.Refusals.{is_sink}
 use Rattle.vg_design.specs.Wires.{is_sink_node}
@@ -152,7 +151,7 @@ some_sink rows net tree order ready none =
     let (k, conn, low, is, sink) = Any-from_list_any is_sink net.conns ready.some_sink in
     let node = conn.node in
     let passes : is_free rows net conn ≡ false = subst (λ (c : ParConn). is_free rows net c ≡ false) is (none_passes (is_free rows net) net.conns none k conn low) in
-    let required : not (is_some (required_of rows (key_of (name_of net node)))) ≡ false = ap (λ b. b && not (is_some (required_of rows (key_of (name_of net node))))) (sym sink) ∙ passes in
+    let required : not (is_some (required_of rows (name_of net node))) ≡ false = ap (λ b. b && not (is_some (required_of rows (name_of net node)))) (sym sink) ∙ passes in
     let marked : is_sink_node net node ≡ true =
     list_any_at (λ (c : ParConn). is_sink c && (c.node == node)) net.conns k conn low
     (subst (λ (c : ParConn). (is_sink c && (c.node == node)) ≡ true) (sym is) (ap (λ b. b && (node == node)) sink ∙ eq-eqb node node refl)) in
@@ -162,4 +161,4 @@ some_sink rows net tree order ready none =
     let there : get_or (sinks_of rows net order) i None ≡ sink_at rows net node = get_or-map (sink_at rows net) order i 0 None (omega (arith, below, size)) ∙ ap (sink_at rows net) at in
     let given : sink_at rows net node ≡ sink_given rows (name_of net node) = ap (λ b. cond b (sink_given rows (name_of net node)) None) marked in
     let count = sinks_size rows net order in
-    list_any_at is_some (sinks_of rows net order) i None (omega (arith, below, size, count)) (ap is_some (there ∙ given) ∙ timed_with (wants_inverted_of rows (key_of (name_of net node))) (required_of rows (key_of (name_of net node))) required)
+    list_any_at is_some (sinks_of rows net order) i None (omega (arith, below, size, count)) (ap is_some (there ∙ given) ∙ timed_with (wants_inverted_of rows (name_of net node)) (required_of rows (name_of net node)) required)

@@ -8,7 +8,7 @@ use Rattle.spef_file.specs.declared.fault.SpefKind.TheVariants.{Header, Unit as 
 use Rattle.spef_net.specs.declared.fault.NetFault.{NetFault}
 use Rattle.spef_net.specs.declared.fault.NetKind.{NetKind}
 use Rattle.spef_net.specs.declared.fault.NetKind.TheVariants.{Conn, Cap, Res, Number as NetNumber, Foreign, SelfCoupled, Memory as NetMemory}
-use Rattle.vg_cons.specs.declared.fault.ConsFault.{ConsFault}
+use Rattle.vg_scan.specs.declared.fault.LineFault.{LineFault}
 use Rattle.vg_cons.specs.declared.fault.ConsKind.{ConsKind}
 use Rattle.vg_cons.specs.declared.fault.ConsKind.TheVariants.{Version, Word, Number, Twice, Memory}
 
@@ -25,7 +25,7 @@ cons_kind Twice = codes "Twice"
 cons_kind Memory = codes "Memory"
 
 -- `KIND line L`
-abbrev pub cons_fault : ConsFault → List ℕ
+abbrev pub cons_fault : LineFault ConsKind → List ℕ
 cons_fault fault = cons_kind fault.kind ++ (codes " line " ++ decimal fault.line)
 
 abbrev pub spef_kind : SpefKind → List ℕ

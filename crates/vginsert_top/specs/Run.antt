@@ -6,7 +6,8 @@ use Rattle.vg_store.specs.Writing.{Gains, GainsPrefix}
 use Rattle.spef_file.specs.Readings.{File, file_of}
 use Rattle.vg_cons.specs.Lines.{lines_of as cons_lines}
 use Rattle.vg_cons.specs.Faults.{IsFaultIn}
-use Rattle.vg_cons.specs.declared.fault.ConsFault.{ConsFault}
+use Rattle.vg_scan.specs.declared.fault.LineFault.{LineFault}
+use Rattle.vg_cons.specs.declared.fault.ConsKind.{ConsKind}
 use Rattle.vg_words.specs.Options.{name_of as option_name}
 use Rattle.vg_words.specs.Request.{Request, IsRequest, IsRefused}
 use Rattle.vg_words.specs.declared.ask.Mode.{Mode}
@@ -61,7 +62,7 @@ IsRefusalFor Time texts net text = IsTimeRefusal texts.spef texts.cons net text
 
 -- the constraints have a fault, and the text tells it
 pub record IsConsFault (cons text : List ℕ) : Type 0 where
-  pub fault : ConsFault
+  pub fault : LineFault ConsKind
   pub found : IsFaultIn (cons_lines cons) fault
   pub text_is : text ≡ cons_fault fault
 

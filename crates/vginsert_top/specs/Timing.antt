@@ -4,7 +4,6 @@ use Rattle.std.specs.Fmt.{signed_decimal}
 use Rattle.std.specs.List.{list_any, find, range_with_len}
 use Rattle.vg_cons.specs.Lines.{lines_of as cons_lines}
 use Rattle.vg_cons.specs.Faults.{IsFaultless}
-use Rattle.vg_cons.specs.Names.{key_of}
 use Rattle.vg_cons.specs.Rows.{Rows, rows_of, required_of, arrival_of, wants_inverted_of, drive_of, load_of}
 use Rattle.vg_scan.specs.declared.name.NodeName.{NodeName}
 use Rattle.elmore.specs.Placements.{IsSlack, HasPolarity, IsFirstWrong}
@@ -43,7 +42,7 @@ name_of net v = (slice_index_or net.nodes v NO_NODE).name
 
 -- a sink without a required time
 abbrev pub is_free : Rows → ParNet → ParConn → Bool
-is_free rows net conn = is_sink conn && not (is_some (required_of rows (key_of (name_of net conn.node))))
+is_free rows net conn = is_sink conn && not (is_some (required_of rows (name_of net conn.node)))
 
 -- the first one, in the order of the connections
 abbrev pub first_free : Rows → ParNet → Option ParConn
@@ -63,7 +62,7 @@ timed_tree rows net tree order = map (λ i. loaded rows net (tree_node tree i) (
 
 -- what the constraints say of the port that drives the net
 abbrev pub driver_at : Rows → NodeName → Driver
-driver_at rows name = record { k = (drive_of rows name.owner).1; r = (drive_of rows name.owner).0; arrival = arrival_of rows (key_of name) }
+driver_at rows name = record { k = (drive_of rows name.owner).1; r = (drive_of rows name.owner).0; arrival = arrival_of rows name }
 
 abbrev pub driver_of : Rows → ParNet → List ℕ → Driver
 driver_of rows net order = driver_at rows (name_of net (slice_index order 0))
@@ -74,7 +73,7 @@ sink_with inverted (Some time) = Some (record { required = time; inverted = inve
 
 -- and of a port that is a sink
 abbrev pub sink_given : Rows → NodeName → Option Sink
-sink_given rows name = sink_with (wants_inverted_of rows (key_of name)) (required_of rows (key_of name))
+sink_given rows name = sink_with (wants_inverted_of rows name) (required_of rows name)
 
 -- the sink at a node of the net, if it is one
 abbrev pub sink_at : Rows → ParNet → ℕ → Option Sink
