@@ -3,7 +3,7 @@ use Rattle.std.proofs.Common.{◌≡◌, ℕ, zero, suc, ◌+◌, Bool, true, fa
 use Rattle.std.specs.Prelude.{IfOk, IfErr}
 use Rattle.std.specs.List.{slice_get}
 use Rattle.std.specs.Str.Lines.{lines}
-use Rattle.spef_file.specs.Indexes.{between, lines_after}
+use Rattle.spef_file.specs.Indexes.{lines_after}
 use Rattle.spef_file.specs.Readings.{File}
 use Rattle.spef_file.specs.States.{NetHead}
 use Rattle.spef_file.specs.Views.{head_in, heads_in}
@@ -23,10 +23,8 @@ nothing_said file = refl
 pub reduced_sayings : (text : List ℕ) (file : File) (head : NetHead) → head.reduced ≡ true → sayings file (lines []) ≡ sayings_in text file head
 reduced_sayings text file head e = nothing_said file ∙ sym (ap (λ t. cond t [] (sayings file (lines_after text head.line))) e)
 
-pub read_sayings : (text inner whole : List ℕ) (file : File) (head : NetHead) → head.reduced ≡ false → lines inner ≡ between (lines whole) → between (lines whole) ≡ lines_after text head.line
-    → sayings file (lines inner) ≡ sayings_in text file head
-read_sayings text inner whole file head e f g =
-    ap (sayings file) (f ∙ g) ∙ sym (ap (λ t. cond t [] (sayings file (lines_after text head.line))) e)
+pub read_sayings : (text inner : List ℕ) (file : File) (head : NetHead) → head.reduced ≡ false → lines inner ≡ lines_after text head.line → sayings file (lines inner) ≡ sayings_in text file head
+read_sayings text inner file head e f = ap (sayings file) f ∙ sym (ap (λ t. cond t [] (sayings file (lines_after text head.line))) e)
 
 pub net_of : (text : List ℕ) (file : File) (head : NetHead) (reduced : Bool) (all : List Said) (r : Result ParNet NetFault) → head.reduced ≡ reduced → all ≡ sayings_in text file head
     → IfOk r (λ net. IsFaultless head.name all) → IfOk r (IsNet head.name reduced all) → IfOk r (IsNetOf text file head)

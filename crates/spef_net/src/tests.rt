@@ -1,6 +1,6 @@
 //! Sections and what they denote, taken from the format.
 use super::*;
-use spef_file::index;
+use spef_file::{SpefText, index};
 use std::alloc::Global;
 use std::process::Abort;
 use std::test::Fail;
@@ -34,9 +34,10 @@ fn read(
     at: usize,
 ) -> Result<Result<ParNet, NetFault>, Fail> {
     assert!(rt; text.len() <= 2000);
-    let index = index(alloc, text.as_bytes())?;
+    let text = SpefText::new(Vec::from_slice(alloc, text.as_bytes())?);
+    let index = index(alloc, &text)?;
     assert!(rt; at < index.sections.len());
-    Ok(read_net(alloc, text.as_bytes(), &index, at))
+    Ok(read_net(alloc, &text, &index, at))
 }
 
 #[test]

@@ -1,6 +1,6 @@
 //! Nets of whole files: their wire delays, and why they are refused.
 use super::*;
-use spef_file::index;
+use spef_file::{SpefText, index};
 use spef_net::NetKind;
 use std::alloc::Global;
 use std::test::Fail;
@@ -29,9 +29,10 @@ fn wire(alloc: Global, lines: &str) -> Result<Result<WireNet, Refused>, Fail> {
     if text.len() > 2000 {
         return Err("a long text".into());
     }
-    let index = index(alloc, text.as_bytes())?;
+    let text = SpefText::new(Vec::from_slice(alloc, text.as_bytes())?);
+    let index = index(alloc, &text)?;
     let net = Name::from_bytes(alloc, b"n")?;
-    Ok(wire_net(alloc, text.as_bytes(), &index, &net))
+    Ok(wire_net(alloc, &text, &index, &net))
 }
 
 fn refusal(alloc: Global, lines: &str) -> Result<Refusal, Fail> {

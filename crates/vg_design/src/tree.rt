@@ -1,6 +1,6 @@
 //! The tree of a net of a SPEF file.
 
-ghost use Rattle.std.specs.Prelude.{◌≡◌, ◌≤◌, ◌^◌, length, IfOk, IfErr};
+ghost use Rattle.std.specs.Prelude.{◌≡◌, length, IfOk, IfErr};
 ghost use Rattle.spef_file.specs.Indexes.{IsIndexOf};
 ghost use Rattle.spef_net.specs.Sections.{IsSized};
 ghost use Rattle.vg_design.specs.Nets.{IsNetNamed, IsRefusedBelow};
@@ -12,7 +12,7 @@ use crate::ends::{driver_node, has_sink};
 use crate::refusal::{Refusal, Refused};
 use elmore::Tree;
 use rc_tree::{Built, TreeFault, build};
-use spef_file::{SpefIndex, net_at};
+use spef_file::{SpefIndex, SpefText, net_at};
 use spef_net::{NetKind, ParNet, read_net};
 use std::alloc::Global;
 use vg_num::Row;
@@ -29,9 +29,13 @@ pub struct NetTree {
 }
 
 /// The net of a name in a file.
-fn named_net(alloc: Global, spef: &[u8], index: &SpefIndex, name: &Name) -> Result<ParNet, Refused>
-    requires length { length spef.now ≤ 2 ^ 28 }
-    requires index { IsIndexOf spef.now index.now }
+fn named_net(
+    alloc: Global,
+    spef: &SpefText,
+    index: &SpefIndex,
+    name: &Name,
+) -> Result<ParNet, Refused>
+    requires { IsIndexOf spef.now index.now }
     ensures net { IfOk result (IsNetNamed spef.now name.now) }
     ensures sized { IfOk result IsSized }
     ensures refused { IfErr result (IsRefusedBelow 3 spef.now name.now) }
@@ -104,16 +108,15 @@ fn tree_of(alloc: Global, net: &ParNet) -> Result<Built, Refused>
 
 /// The net of a name in a SPEF file (IEEE Std 1481), with its tree.
 ///
-/// `index` is the index of the file's bytes. A net is refused by the first reason of `Refusal` that holds, but for `TooLarge`.
+/// `index` is the index of the file's text. A net is refused by the first reason of `Refusal` that holds, but for `TooLarge`.
 /// Answers `Memory` where there is no room.
 pub fn net_tree(
     alloc: Global,
-    spef: &[u8],
+    spef: &SpefText,
     index: &SpefIndex,
     net: &Name,
 ) -> Result<NetTree, Refused>
-    requires length { length spef.now ≤ 2 ^ 28 }
-    requires index { IsIndexOf spef.now index.now }
+    requires { IsIndexOf spef.now index.now }
     ensures tree { IfOk result (λ found. IsTreeNamed spef.now net.now found.net found.tree.nodes found.order) }
     ensures sized { IfOk result (λ found. IsSized found.net) }
     ensures refused { IfErr result (IsRefusedBelow 15 spef.now net.now) }

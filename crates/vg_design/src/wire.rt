@@ -14,7 +14,7 @@ use crate::marks::sink_marks;
 use crate::refusal::{Refusal, Refused};
 use crate::tree::{NetTree, net_tree};
 use elmore::{Scratch, wire_delays};
-use spef_file::SpefIndex;
+use spef_file::{SpefIndex, SpefText};
 use spef_net::ParNet;
 use std::alloc::Global;
 use vg_num::{Memory, Row};
@@ -135,16 +135,15 @@ fn wire_of(alloc: Global, found: &NetTree) -> Result<WireNet, Refused>
 
 /// The wire delays of the net of a name in a SPEF file (IEEE Std 1481).
 ///
-/// `index` is the index of the file's bytes. A net is refused by the first reason of `Refusal` that holds. Answers `Memory`
+/// `index` is the index of the file's text. A net is refused by the first reason of `Refusal` that holds. Answers `Memory`
 /// where there is no room.
 pub fn wire_net(
     alloc: Global,
-    spef: &[u8],
+    spef: &SpefText,
     index: &SpefIndex,
     net: &Name,
 ) -> Result<WireNet, Refused>
-    requires length { length spef.now ≤ 2 ^ 28 }
-    requires index { IsIndexOf spef.now index.now }
+    requires { IsIndexOf spef.now index.now }
     ensures wire { IfOk result (IsWireOf spef.now net.now) }
     ensures small { IfOk result (λ wire. wire.total < 2 ^ 127) }
     ensures refused { IfErr result (IsRefusedBelow 17 spef.now net.now) }

@@ -1,5 +1,5 @@
 -- What is said of a text without its comments is said of the text.
-use Rattle.std.proofs.Common.{◌≡◌, ℕ, ◌+◌, List, [], take, drop, map, sym, subst, ap, ◌∙◌, Ok, Err, Result}
+use Rattle.std.proofs.Common.{◌≡◌, ℕ, ◌+◌, List, [], take, drop, map, sym, subst, ap, ◌∙◌, Ok, Err, Result, ◌⊎◌, inl, inr}
 use Rattle.std.specs.Prelude.{unwrap_or, if◌then◌else◌}
 use Rattle.std.specs.Str.Lines.{lines}
 use Rattle.vg_scan.specs.Lines.{lines_of, words}
@@ -19,7 +19,12 @@ use Rattle.vg_design.specs.Wires.{IsWireOf}
 use Rattle.vg_design.specs.declared.refusal.Refusal.{Refusal}
 use Rattle.vg_design.specs.declared.refusal.Refusal.TheVariants.{UnknownNet, Section as Faulty, Reduced, Inductive, Bidirectional, NoDriver, ManyDrivers, Floating, Loop, NoSink, TooLarge}
 use Rattle.vg_design.specs.declared.wire.WireNet.{WireNet}
+use Rattle.vg_design.specs.Wires.{IsTreeNamed}
+use Rattle.elmore.specs.declared.tree.Node.{Node}
 use Rattle.vginsert_top.specs.Answer.{Answers}
+use Rattle.vginsert_top.specs.TimeAnswer.{AnswersTime}
+use Rattle.vginsert_top.specs.Timing.{IsTimed, IsTimeRefusal}
+use Rattle.vginsert_top.specs.Run.{IsSpef}
 use Rattle.vginsert_top.specs.Outcome.{IsDelays, IsRefusal, IsSpefFault}
 use Rattle.vginsert_top.specs.declared.answer.Answer.{Answer}
 use Rattle.vginsert_top.specs.declared.answer.Answer.TheVariants.{Report, Refused}
@@ -78,3 +83,23 @@ module _ (raw clear : List ℕ) (same : without_comments Spef clear ≡ without_
   answers_same (Err (SpefFaulty text)) name h = record { fault = h.fault; found = sym file_same ∙ h.found; text_is = h.text_is }
   answers_same (Err (Cons text)) name h = absurd h
   answers_same (Err Memory) name h = tt
+
+  tree_same : (name : List ℕ) (net : ParNet) (tree : List Node) (order : List ℕ) → IsTreeNamed clear name net tree order → IsTreeNamed raw name net tree order
+  tree_same name net tree order h = record { named = named_same name net h.named; accepted = h.accepted; a_tree = h.a_tree }
+
+  timed_same : (cons name text : List ℕ) → IsTimed clear cons name text → IsTimed raw cons name text
+  timed_same cons name text h = record { net = h.net; tree = h.tree; order = h.order; named = tree_same name h.net h.tree h.order h.named; rows = h.rows; constraints = h.constraints; timed = h.timed }
+
+  time_refusal_same : (cons name text : List ℕ) → IsTimeRefusal clear cons name text → IsTimeRefusal raw cons name text
+  time_refusal_same cons name text (inl h) =
+      inl (record { refusal = h.refusal; refused = refusal_same name h.refusal h.refused; low = h.low; rows = h.rows; constraints = h.constraints; text_is = h.text_is })
+  time_refusal_same cons name text (inr h) =
+      inr (record { net = h.net; tree = h.tree; order = h.order; named = tree_same name h.net h.tree h.order h.named; rows = h.rows; constraints = h.constraints; untimed = h.untimed })
+
+  -- the same of timing
+  pub times_same : (result : Result Answer AskFault) (cons name : List ℕ) → AnswersTime result clear cons name → AnswersTime result raw cons name
+  times_same (Ok (Report text)) cons name h = timed_same cons name text.items h
+  times_same (Ok (Refused text)) cons name h = time_refusal_same cons name text.items h
+  times_same (Err (SpefFaulty text)) cons name h = record { fault = h.fault; found = sym file_same ∙ h.found; text_is = h.text_is }
+  times_same (Err (Cons text)) cons name h = ((h.0.0, sym file_same ∙ h.0.1), h.1)
+  times_same (Err Memory) cons name h = tt

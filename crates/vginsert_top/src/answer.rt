@@ -1,15 +1,13 @@
 //! What is said of a net that is asked for.
 
-ghost use Rattle.std.specs.Prelude.{◌≡◌, ◌≤◌, ◌^◌, length, IfOk};
-ghost use Rattle.vg_scan.specs.Comments.{without_comments};
-ghost use Rattle.vg_scan.specs.declared.comments.Comments.TheVariants.{Spef};
+ghost use Rattle.std.specs.Prelude.{◌≡◌, IfOk};
 ghost use Rattle.vginsert_top.specs.Answer.{IsRefusedWith, Indexes};
 ghost use Rattle.vginsert_top.specs.Reports.{refused_line};
 ghost use Rattle.vginsert_top.specs.declared.answer.AskFault.TheVariants.{Memory as out_of_memory};
 
 use crate::faults::spef_fault;
 use crate::report::print_refused;
-use spef_file::{SpefIndex, SpefKind, index, index_clear};
+use spef_file::{SpefIndex, SpefKind, SpefText, index};
 use std::alloc::Global;
 use vg_num::Memory;
 
@@ -51,26 +49,10 @@ pub fn refused(alloc: Global, name: &[u8], number: u8, kind: &[u8]) -> Result<An
 }
 
 /// The index of a SPEF file, or the text of its fault.
-pub fn index_of(alloc: Global, file: &[u8]) -> Result<SpefIndex, AskFault>
-    requires { length file.now ≤ 2 ^ 28 }
+pub fn index_of(alloc: Global, file: &SpefText) -> Result<SpefIndex, AskFault>
     ensures { Indexes result file.now }
 {
     match index(alloc, file) {
-        Ok(index) => Ok(index),
-        Err(fault) => match fault.kind {
-            SpefKind::Memory => Err(AskFault::Memory),
-            _ => Err(AskFault::Spef(spef_fault(alloc, fault)?)),
-        },
-    }
-}
-
-/// The same of a file without comments.
-pub fn index_of_clear(alloc: Global, file: &[u8]) -> Result<SpefIndex, AskFault>
-    requires length { length file.now ≤ 2 ^ 28 }
-    requires clear { without_comments Spef file.now ≡ file.now }
-    ensures { Indexes result file.now }
-{
-    match index_clear(alloc, file) {
         Ok(index) => Ok(index),
         Err(fault) => match fault.kind {
             SpefKind::Memory => Err(AskFault::Memory),

@@ -1,16 +1,19 @@
 //! The top call: from the words to the bytes that are written.
-ghost use Rattle.std.specs.Prelude.{◌≡◌, ◌≢◌, ◌⊎◌, ◌↔◌, ◌≤◌, ◌++◌, [], Some, None, ℕ, List, IfSome, OnOk, OnErr, IsTrue};
+ghost use Rattle.std.specs.Prelude.{◌≡◌, ◌≢◌, ◌⊎◌, ◌↔◌, ◌≤◌, ◌^◌, length, ◌++◌, [], Some, None, ℕ, List, IfSome, OnOk, OnErr, IsTrue};
 ghost use Rattle.vg_store.specs.Causes.{Rose, HasCause};
 ghost use Rattle.vg_store.specs.Writing.{Gains, GainsPrefix};
 ghost use Rattle.vg_words.specs.Request.{texts, Request, IsRequest, HasCons};
 ghost use Rattle.vg_words.specs.declared.ask.Mode.{Mode};
 ghost use Rattle.vginsert_top.specs.Run.{ForRequest, Texts, PrintsReport, PrintsRefusal, IsUnreadable, IsUnread, AreRefused, AreTold, Says, refused_line, IsStatusFor, ErrorLine, is_status, prints_nothing};
+ghost use Rattle.vginsert_top.specs.Answer.{Answers};
+ghost use Rattle.vginsert_top.specs.TimeAnswer.{AnswersTime};
 ghost use Rattle.vginsert_top.specs.Ending.{request_of, mode_in, cons_in, IsPrinted, IsReadingOf, Ends, Tells, IsStatusOf, status_of, fault_status};
 
 use crate::answer::{Answer, AskFault};
 use crate::input::Input;
 use crate::time::time_for;
 use crate::wire::wire_for;
+use spef_file::SpefText;
 use std::alloc::Global;
 use vg_store::{Failed, Files, Out, ReadAll, put_all, read_all};
 use vg_words::{Ask, WordFault, read_words};
@@ -94,6 +97,25 @@ fn read_input<'a, F: Files>(
     }
 }
 
+/// What is said of the wire delays of a net of the file of these bytes.
+fn wire_in(alloc: Global, bytes: Vec<u8>, net: &[u8]) -> Result<Answer, AskFault>
+    requires { length bytes.items ≤ 2 ^ 28 }
+    ensures { Answers result bytes.items net.now }
+{
+    let text = SpefText::new(bytes);
+    wire_for(alloc, &text, net)
+}
+
+/// What is said of the slack of a net of the file of these bytes, under constraints.
+fn time_in(alloc: Global, bytes: Vec<u8>, cons: &[u8], net: &[u8]) -> Result<Answer, AskFault>
+    requires spef { length bytes.items ≤ 2 ^ 28 }
+    requires cons { length cons.now ≤ 2 ^ 28 }
+    ensures { AnswersTime result bytes.items cons.now net.now }
+{
+    let text = SpefText::new(bytes);
+    time_for(alloc, &text, cons, net)
+}
+
 /// Prints the wire delays of a net.
 fn wire<'a, F: Files, O: Out>(
     alloc: Global,
@@ -105,11 +127,11 @@ fn wire<'a, F: Files, O: Out>(
     ensures ends { Ends (F.holds files.old) (record { mode = Mode.Wire; spef = spef.now; cons = None; net = net.now }) (O.written out.old) (O.written out.new) (F.read_faults files.old) (F.read_faults files.new) (F.read_blame files.new) (O.faults out.old) (O.faults out.new) result }
     ensures kept { (file : List ℕ) → F.holds files.new file ≡ F.holds files.old file }
 {
-    let mut bytes = match read_input(alloc, files, spef) {
+    let bytes = match read_input(alloc, files, spef) {
         Ok(bytes) => bytes,
         Err(ending) => return ending,
     };
-    match wire_for(alloc, bytes.as_mut_slice(), net.as_bytes()) {
+    match wire_in(alloc, bytes, net.as_bytes()) {
         Ok(Answer::Report(text)) => print(out, &text, Ending::Done),
         Ok(Answer::Refused(text)) => print(out, &text, Ending::Refused),
         Err(AskFault::Spef(text)) => Ending::Faulty(Input::Spef, spef, text),
@@ -138,7 +160,7 @@ fn time<'a, F: Files, O: Out>(
         Ok(rows) => rows,
         Err(ending) => return ending,
     };
-    match time_for(alloc, &bytes, &rows, net.as_bytes()) {
+    match time_in(alloc, bytes, &rows, net.as_bytes()) {
         Ok(Answer::Report(text)) => print(out, &text, Ending::Done),
         Ok(Answer::Refused(text)) => print(out, &text, Ending::Refused),
         Err(AskFault::Spef(text)) => Ending::Faulty(Input::Spef, spef, text),

@@ -2,18 +2,17 @@
 
 ghost use Rattle.std.specs.Prelude.{◌≡◌, ◌<◌, ◌≤◌, ◌^◌, ◌++◌, length, OnOk, IfOk};
 ghost use Rattle.std.specs.List.{flat_map};
-ghost use Rattle.vg_scan.specs.Comments.{without_comments};
-ghost use Rattle.vg_scan.specs.declared.comments.Comments.TheVariants.{Spef};
 ghost use Rattle.vginsert_top.specs.Answer.{Answers, IsRefusedWith};
 ghost use Rattle.vginsert_top.specs.Reports.{sink_line, wire_report, refusal_kind, refusal_line};
 
-use crate::answer::{Answer, AskFault, index_of_clear, refused};
+use crate::answer::{Answer, AskFault, index_of, refused};
 use crate::faults::print_net_fault;
 use crate::report::{print_node, print_sink, print_total, push};
+use spef_file::SpefText;
 use std::alloc::Global;
 use vg_design::{Refusal, Refused, WireNet, wire_net};
 use vg_num::Memory;
-use vg_scan::{Comments, Name, NodeName, clear_comments};
+use vg_scan::{Name, NodeName};
 
 /// Appends a line for each sink.
 fn print_sinks(sinks: &[(NodeName, i128)], to: &mut Vec<u8>) -> Result<(), Memory>
@@ -72,26 +71,15 @@ pub fn refuse(alloc: Global, name: &[u8], refusal: &Refusal) -> Result<Answer, M
     Ok(answer)
 }
 
-/// What is said of the wire delays of the net of this name, of a file without comments.
-fn wire_for_clear(alloc: Global, file: &[u8], name: &[u8]) -> Result<Answer, AskFault>
-    requires length { length file.now ≤ 2 ^ 28 }
-    requires clear { without_comments Spef file.now ≡ file.now }
+/// What is said of the wire delays of the net of this name.
+pub fn wire_for(alloc: Global, file: &SpefText, name: &[u8]) -> Result<Answer, AskFault>
     ensures { Answers result file.now name.now }
 {
-    let index = index_of_clear(alloc, file)?;
+    let index = index_of(alloc, file)?;
     let net = Name::from_bytes(alloc, name)?;
     match wire_net(alloc, file, &index, &net) {
         Ok(wire) => Ok(Answer::Report(report_wire(alloc, name, &wire)?)),
         Err(Refused::Net(refusal)) => Ok(refuse(alloc, name, &refusal)?),
         Err(Refused::Memory) => Err(AskFault::Memory),
     }
-}
-
-/// What is said of the wire delays of the net of this name. The file's comments become blank.
-pub fn wire_for(alloc: Global, file: &mut [u8], name: &[u8]) -> Result<Answer, AskFault>
-    requires { length file.old ≤ 2 ^ 28 }
-    ensures { Answers result file.old name.now }
-{
-    clear_comments(file, Comments::Spef);
-    wire_for_clear(alloc, file, name)
 }

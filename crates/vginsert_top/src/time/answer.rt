@@ -13,7 +13,7 @@ use crate::report::{print_node, print_slack};
 use crate::time::ports::{first_free, has_pin, name_of};
 use crate::time::slack::{Timing, time_net};
 use crate::wire::refuse;
-use spef_file::SpefIndex;
+use spef_file::{SpefIndex, SpefText};
 use std::alloc::Global;
 use vg_cons::{ConsKind, Constraints, read_constraints};
 use vg_design::{NetTree, Refused, net_tree};
@@ -103,13 +103,12 @@ fn constraints_of(alloc: Global, cons: &[u8]) -> Result<Constraints, AskFault>
 /// What is said of the net of this name under constraints.
 fn judge_named(
     alloc: Global,
-    spef: &[u8],
+    spef: &SpefText,
     index: &SpefIndex,
     cons: &Constraints,
     name: &[u8],
 ) -> Result<Answer, AskFault>
-    requires length { length spef.now ≤ 2 ^ 28 }
-    requires index { IsIndexOf spef.now index.now }
+    requires { IsIndexOf spef.now index.now }
     ensures { JudgesNamed cons.now spef.now name.now result }
 {
     let net = Name::from_bytes(alloc, name)?;
@@ -121,9 +120,13 @@ fn judge_named(
 }
 
 /// What is said of the slack of the net of this name under constraints.
-pub fn time_for(alloc: Global, spef: &[u8], cons: &[u8], name: &[u8]) -> Result<Answer, AskFault>
-    requires spef { length spef.now ≤ 2 ^ 28 }
-    requires cons { length cons.now ≤ 2 ^ 28 }
+pub fn time_for(
+    alloc: Global,
+    spef: &SpefText,
+    cons: &[u8],
+    name: &[u8],
+) -> Result<Answer, AskFault>
+    requires { length cons.now ≤ 2 ^ 28 }
     ensures { AnswersTime result spef.now cons.now name.now }
 {
     let index = index_of(alloc, spef)?;

@@ -6,7 +6,7 @@ use Rattle.vginsert_top.proofs.program.wire.Goals as goal
 pub returns-in-Ok-Report-clause-ends : goal.returns-in-Ok-Report-clause-ends
 returns-in-Ok-Report-clause-ends g c =
     let said = rw c.in-Ok-Report.field-0-is at c.in-Ok-Report.ensures in
-    let of_bytes = rw (c.as_mut_slice.ensures.value, c.as_bytes.ensures.value) at said in
+    let of_bytes = rw (c.as_bytes.ensures.value) at said in
     report_ends (g.F.Files.holds c.args.files.now) (record { mode = Wire; spef = c.args.spef.now; cons = None; net = c.args.net.now }) (g.O.Out.written c.args.out.now) (g.O.Out.written c.print.new.out)
     (g.F.Files.read_faults c.args.files.now) (g.F.Files.read_faults c.read_input.new.files) (g.F.Files.read_blame c.read_input.new.files)
     (g.O.Out.faults c.args.out.now) (g.O.Out.faults c.print.new.out) (record { spef = c.in-Ok.bytes.items; cons = [] }) c.in-Ok-Report.text.items
@@ -16,7 +16,7 @@ returns-in-Ok-Report-clause-ends g c =
 pub returns-in-Ok-Refused-clause-ends : goal.returns-in-Ok-Refused-clause-ends
 returns-in-Ok-Refused-clause-ends g c =
     let said = rw c.in-Ok-Refused.field-0-is at c.in-Ok-Refused.ensures in
-    let of_bytes = rw (c.as_mut_slice.ensures.value, c.as_bytes.ensures.value) at said in
+    let of_bytes = rw (c.as_bytes.ensures.value) at said in
     refusal_ends (g.F.Files.holds c.args.files.now) (record { mode = Wire; spef = c.args.spef.now; cons = None; net = c.args.net.now }) (g.O.Out.written c.args.out.now) (g.O.Out.written c.print-in-Ok-Refused.new.out)
     (g.F.Files.read_faults c.args.files.now) (g.F.Files.read_faults c.read_input.new.files) (g.F.Files.read_blame c.read_input.new.files)
     (g.O.Out.faults c.args.out.now) (g.O.Out.faults c.print-in-Ok-Refused.new.out) (record { spef = c.in-Ok.bytes.items; cons = [] }) c.in-Ok-Refused.text.items
@@ -29,7 +29,7 @@ returns-in-Err-Spef-clause-ends g c = (
   (
     record { spef = c.in-Ok.bytes.items; cons = [] },
     wire_read (g.F.Files.holds c.args.files.now) c.args.spef.now c.args.net.now c.in-Ok.bytes.items c.in-Ok.ensures.reads.0 c.in-Ok.ensures.reads.1,
-    rw c.as_mut_slice.ensures.value at (rw c.in-Err-Spef.field-0-is at c.in-Err-Spef.ensures),
+    rw c.in-Err-Spef.field-0-is at c.in-Err-Spef.ensures,
   ),
   refl,
 )
