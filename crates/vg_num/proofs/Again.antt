@@ -11,7 +11,7 @@ use Rattle.std.proofs.lemmas.Bool.Decides.{nat_tests}
 use Rattle.std.proofs.lemmas.Int.{ints}
 use Rattle.std.proofs.lemmas.List.{append-nil}
 use Rattle.std.proofs.lemmas.List.Folds.{list_all-append}
-use Rattle.vg_num.specs.Number.{is_digit, is_e, is_point, value_of, are_digits, mantissa, whole, fraction, exponent, has_exponent, is_number, is_negative, coefficient, power, StandsFor, scaled}
+use Rattle.vg_num.specs.Number.{is_digit, is_e, is_point, value_of, are_digits, mantissa, whole, fraction, exponent, has_exponent, is_number, is_negative, coefficient, power, StandsFor, IsScaled, scaled}
 use Rattle.vg_num.specs.Printed.{with_point, scaled_text}
 use Rattle.vg_num.proofs.Caps.{near_whole}
 use Rattle.vg_num.proofs.Nearly.{exact_ok}
@@ -140,6 +140,31 @@ fraction_is front rest p at =
     ap (after_first is_point) (plain_mantissa (front ++ rest) p)
     ∙ ap (λ k. drop (k + 1) (front ++ rest)) at
     ∙ drop-append-add front rest 1
+
+-- the same as the record of what is read
+pub split_scaled : (front rest back : List ℕ) (p k n most : ℕ) → drop 1 rest ≡ back → position_or_len is_e rest ≡ length rest → position_or_len is_point rest ≡ 0
+    → 0 < length front → list_all is_digit front ≡ true → list_all is_digit (front ++ back) ≡ true → length back + k ≡ p
+    → value_of (front ++ back) * 10 ^ k ≡ n → n ≤ most → IsScaled (pos p) most (front ++ rest) n
+split_scaled front rest back p k n most e letters at some digits all long value small =
+    let text : List ℕ = front ++ rest in
+    let bare = plain front rest some digits letters in
+    let point = point_at front rest digits at in
+    let f : fraction text ≡ back = fraction_is front rest bare point ∙ e in
+    let ds : whole text ++ fraction text ≡ front ++ back = ap (λ w. w ++ fraction text) (whole_is front rest bare point) ∙ ap (λ b. front ++ b) f in
+    let d = are_some (front ++ back) (omega (arith, length-append front back)) all in
+    record {
+      number = is_number_of text (front ++ back) ds (plain_has text bare) d;
+      sign = not_negative text bare.sign;
+      value = stands (pos p) text k (value_of (front ++ back)) n (power_is text back p k (plain_exponent text bare) f long) (coefficient_is text (front ++ back) ds) value;
+      small = small;
+    }
+
+-- what no letter stands in
+pub no_letters : (ds : List ℕ) → list_all is_digit ds ≡ true → position_or_len is_e (46 ∷ ds) ≡ length (46 ∷ ds)
+no_letters ds e =
+    let none = past_digits is_e no_letter ds [] e in
+    let same = append-nil ds in
+    omega (arith, rw same at none)
 
 split_reads : (front rest back : List ℕ) (p k n most : ℕ) → drop 1 rest ≡ back → position_or_len is_e rest ≡ length rest → position_or_len is_point rest ≡ 0
     → 0 < length front → list_all is_digit front ≡ true → list_all is_digit (front ++ back) ≡ true → length back + k ≡ p

@@ -4,3 +4,4 @@ pub mod Nearly
 pub mod Printing
 pub mod Reading
 pub mod Again
+pub mod PlainLemmas

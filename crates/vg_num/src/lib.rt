@@ -6,6 +6,7 @@
 mod fault;
 mod laws;
 mod memory;
+mod plain;
 mod print;
 mod read;
 mod row;

@@ -5,6 +5,7 @@ ghost use Rattle.std.specs.List.{list_all, before_first, after_first, position};
 ghost use Rattle.vg_num.specs.Number.{scaled, is_number, is_negative, capped_value_of, StandsFor, is_digit, mantissa, exponent, has_exponent, value_of, value_after, signed_value_of, is_e, is_point, numerator, denominator, IsNearest, IsFault, IsScaled};
 
 use crate::fault::NumFault;
+use crate::plain::plain_value;
 use crate::signed::with_sign;
 
 /// No larger number is told apart.
@@ -114,7 +115,7 @@ fn exponent_value(text: &[u8]) -> i128
 }
 
 /// The value times ten to the power, or the cap where it is less.
-fn grown(front: u128, power: u128) -> u128
+pub(crate) fn grown(front: u128, power: u128) -> u128
     requires { front ≤ CAP }
     ensures { result ≡ min (front * 10 ^ power) CAP }
 {
@@ -278,6 +279,9 @@ pub fn read_scaled(text: &[u8], places: i32) -> Result<u64, NumFault>
     // The same as a function.
     ensures exact { result ≡ scaled places (10 ^ 15) text.now }
 {
+    if let Some(number) = plain_value(text, places) {
+        return Ok(number);
+    }
     if !is_number(text) {
         return Err(NumFault::Form);
     }

@@ -20,3 +20,8 @@ returns-clause-exact c =
     let (n, near, e) = rw (to_z-of_z w32 c.args.places c.ranges.places) at c.size_of-size.ensures in
     let same : c.size_of-size.result ≡ n = omega (arith, e) in
     ap Ok same ∙ exact_ok c.args.places 1000000000000000 c.args.text.now n (search rules) (search rules) near (omega (arith, e))
+
+pub returns-in-Some-clause-exact : goal.returns-in-Some-clause-exact
+returns-in-Some-clause-exact c =
+    let h = rw (to_z-of_z w32 c.args.places c.ranges.places) at c.in-Some.ensures in
+    exact_ok c.args.places 1000000000000000 c.args.text.now c.in-Some.number h.number h.sign h.value h.small
