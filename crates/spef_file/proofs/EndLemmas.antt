@@ -3,7 +3,7 @@ use Rattle.std.proofs.Common.{◌≡◌, ℕ, suc, ◌+◌, true, false, List, [
 use Rattle.std.proofs.lemmas.List.{take_more}
 use Rattle.std.specs.Prelude.{option_map}
 use Rattle.vg_scan.specs.Lines.{Line}
-use Rattle.spef_file.specs.States.{end_at, is_end, is_head}
+use Rattle.spef_file.specs.Nets.{end_at, is_end, is_head}
 
 -- so many lines more
 abbrev pub later_by : ℕ → Option ℕ → Option ℕ

@@ -8,3 +8,8 @@ pub mod SpanLemmas
 pub mod TextLemmas
 pub mod OtherLemmas
 pub mod InnerLemmas
+pub mod MoreLemmas
+pub mod FollowLemmas
+pub mod GoLemmas
+pub mod ReadLemmas
+pub mod LawLemmas

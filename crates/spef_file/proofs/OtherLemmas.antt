@@ -6,7 +6,7 @@ use Rattle.std.proofs.lemmas.Bool.Decides.{nat_tests}
 use Rattle.vg_scan.specs.Lines.{Line, words, is_blank, part}
 use Rattle.vg_scan.proofs.LineLemmas.{parts_cons}
 use Rattle.vg_scan.proofs.ClearedLemmas.{one}
-use Rattle.spef_file.specs.States.{is_end, is_head}
+use Rattle.spef_file.specs.Nets.{is_end, is_head}
 
 ne_test : (a b : ℕ) → (a ≡ b → ⊥) → eqb a b ≡ false
 ne_test a b e = grind (arith, nat_tests)

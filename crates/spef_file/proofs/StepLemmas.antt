@@ -21,15 +21,17 @@ use Rattle.spef_file.proofs.TableLemmas.{map-last}
 use Rattle.spef_file.specs.Words.{first_word, second_word, has_words}
 use Rattle.spef_file.specs.Openings.{opening_of}
 use Rattle.spef_file.specs.Headers.{header_line, is_idle}
-use Rattle.spef_file.specs.States.{State, after, after_body, with_heading, fault_in, counted, fault_of, body_fault, head_fault, name_fault, row_fault, map_line, with_row, after_nothing, head_name, head_of, is_taken, is_end, is_head, end_at}
-use Rattle.spef_file.specs.Readings.{read, unless_fault}
+use Rattle.spef_file.specs.Machine.{State, after, after_body, with_heading, fault_in, counted, state_fault, body_fault, head_fault, name_fault, row_fault, with_row, after_nothing, head_of}
+use Rattle.spef_file.specs.Rows.{map_line, head_name}
+use Rattle.spef_file.specs.Nets.{is_taken, is_end, is_head, end_at}
+use Rattle.spef_file.specs.Machine.{read, unless_fault}
 use Rattle.spef_file.specs.Views.{Fails, IsFaultOrMemory, IsHeadName, head_in, heads_in}
 
-pub passes : (s t : State) (line : Line) (later : List Line) → fault_of s line later ≡ None → after s line ≡ t → read s (line ∷ later) ≡ read t later
+pub passes : (s t : State) (line : Line) (later : List Line) → state_fault s line later ≡ None → after s line ≡ t → read s (line ∷ later) ≡ read t later
 unfolding read
 passes s t line later f e = ap (λ o. unless_fault o (s.count + 1) (read (after s line) later)) f ∙ ap (λ x. read x later) e
 
-stopped : (s : State) (line : Line) (later : List Line) (kind : SpefKind) → fault_of s line later ≡ Some kind → read s (line ∷ later) ≡ Err (record { kind = kind; line = s.count + 1 })
+pub stopped : (s : State) (line : Line) (later : List Line) (kind : SpefKind) → state_fault s line later ≡ Some kind → read s (line ∷ later) ≡ Err (record { kind = kind; line = s.count + 1 })
 unfolding read
 stopped s line later kind f = ap (λ o. unless_fault o (s.count + 1) (read (after s line) later)) f
 
@@ -37,10 +39,10 @@ fails_so : (s : State) (line : Line) (later : List Line) (kind : SpefKind) → r
 fails_so s line later Memory e = tt
 fails_so s line later kind e = e
 
-pub fails : (s : State) (line : Line) (later : List Line) (kind : SpefKind) → fault_of s line later ≡ Some kind → Fails kind s line later
+pub fails : (s : State) (line : Line) (later : List Line) (kind : SpefKind) → state_fault s line later ≡ Some kind → Fails kind s line later
 fails s line later kind f = fails_so s line later kind (stopped s line later kind f)
 
-pub may_fail : (s : State) (line : Line) (later : List Line) (kind : SpefKind) → IsFaultOrMemory (fault_of s line later) kind → Fails kind s line later
+pub may_fail : (s : State) (line : Line) (later : List Line) (kind : SpefKind) → IsFaultOrMemory (state_fault s line later) kind → Fails kind s line later
 may_fail s line later Memory f = tt
 may_fail s line later Header f = stopped s line later Header f
 may_fail s line later UnitKind f = stopped s line later UnitKind f
@@ -53,9 +55,9 @@ may_fail s line later Unsupported f = stopped s line later Unsupported f
 
 -- in the header
 
-header_says : (s : State) (line : Line) (later : List Line) (idle : Bool) (said : Result Heading SpefKind) → s.in_net ≡ false → s.headed < 14 → is_idle s.headed line ≡ idle → header_line s.headed s.heading line ≡ said
-    → (fault_of s line later ≡ cond idle None (fault_in said)) × (after s line ≡ counted (cond idle s (with_heading s said)))
-unfolding fault_of after
+pub header_says : (s : State) (line : Line) (later : List Line) (idle : Bool) (said : Result Heading SpefKind) → s.in_net ≡ false → s.headed < 14 → is_idle s.headed line ≡ idle → header_line s.headed s.heading line ≡ said
+    → (state_fault s line later ≡ cond idle None (fault_in said)) × (after s line ≡ counted (cond idle s (with_heading s said)))
+unfolding state_fault after
 header_says s line later idle said out low i h =
     let l : nat_lt s.headed 14 ≡ true = lt-ltb s.headed 14 low in
     (rw (out, l, i, h) refl, rw (out, l, i, h) refl)
@@ -76,9 +78,9 @@ header_fails s line later kind out low i said = fails s line later kind (header_
 
 -- after the header
 
-body_says : (s : State) (line : Line) (later : List Line) (opening : Opening) → s.in_net ≡ false → 14 ≤ s.headed → opening_of (first_word line) ≡ opening
-    → (fault_of s line later ≡ body_fault opening s line later) × (after s line ≡ counted (after_body opening s line))
-unfolding fault_of after
+pub body_says : (s : State) (line : Line) (later : List Line) (opening : Opening) → s.in_net ≡ false → 14 ≤ s.headed → opening_of (first_word line) ≡ opening
+    → (state_fault s line later ≡ body_fault opening s line later) × (after s line ≡ counted (after_body opening s line))
+unfolding state_fault after
 body_says s line later opening out high o =
     let l : nat_lt s.headed 14 ≡ false = le-ltb s.headed 14 high in
     (rw (out, l, o) refl, rw (out, l, o) refl)
@@ -102,8 +104,8 @@ abbrev pub left : State → ℕ → State
 left s n = record s { in_net = false; count = s.count + n }
 
 net_says : (s : State) (line : Line) (later : List Line) (ends : Bool) → is_end line ≡ ends
-    → (fault_of (record s { in_net = true }) line later ≡ None) × (after (record s { in_net = true }) line ≡ counted (cond ends (record s { in_net = false }) (record s { in_net = true })))
-unfolding fault_of after
+    → (state_fault (record s { in_net = true }) line later ≡ None) × (after (record s { in_net = true }) line ≡ counted (cond ends (record s { in_net = false }) (record s { in_net = true })))
+unfolding state_fault after
 net_says s line later ends e = (refl, rw e refl)
 
 one_less : (o : Option ℕ) (k : ℕ) → option_map (λ n. n + 1) o ≡ Some k → (m : ℕ) × (o ≡ Some m) × (k ≡ m + 1)

@@ -6,7 +6,8 @@ use Rattle.std.specs.Str.{bytes_eq}
 use Rattle.vg_scan.specs.Distinct.{with_name}
 use Rattle.spef_file.specs.declared.fault.SpefKind.{SpefKind}
 use Rattle.spef_file.specs.declared.fault.SpefKind.TheVariants.{MapTwice, Stray, Memory}
-use Rattle.spef_file.specs.States.{mapped, is_mapped, given_fault}
+use Rattle.spef_file.specs.Rows.{mapped, is_mapped}
+use Rattle.spef_file.specs.Machine.{given_fault}
 use Rattle.spef_file.specs.Views.{IsFaultOrMemory}
 use Rattle.std.specs.List.{list_any, position, prefix_len}
 use Rattle.std.proofs.lemmas.List.{length-map}

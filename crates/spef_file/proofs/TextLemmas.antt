@@ -14,7 +14,7 @@ use Rattle.vg_scan.specs.Lines.{is_newline, words, lines_of, part, BeginsLine}
 use Rattle.vg_scan.proofs.LineLemmas.{first_at, first_none, ended_line, last_line, newline_found}
 use Rattle.vg_scan.proofs.CutLemmas.{cut_ended, get_part}
 use Rattle.spef_file.specs.declared.section.Section.{Section}
-use Rattle.spef_file.specs.States.{end_at}
+use Rattle.spef_file.specs.Nets.{end_at}
 use Rattle.spef_file.specs.NetSpans.{IsSpan}
 use Rattle.spef_file.specs.Indexes.{between, lines_after}
 

@@ -6,7 +6,7 @@ use Rattle.vg_scan.specs.Spans.{part_at}
 use Rattle.vg_scan.specs.declared.lines.Span.{Span}
 use Rattle.spef_file.specs.declared.edge.Edge.{Edge}
 use Rattle.spef_file.specs.declared.edge.Edge.TheVariants.{End, Head, Inner}
-use Rattle.spef_file.specs.States.{is_end, is_head}
+use Rattle.spef_file.specs.Nets.{is_end, is_head}
 
 abbrev pub IsEdgeOf : Line → Edge → Type 0
 IsEdgeOf line (End _) = is_end line ≡ true

@@ -1,12 +1,12 @@
--- The lines of a header.
-use Rattle.std.specs.Prelude.{ℕ, ◌==◌, ◌&&◌, ◌||◌, not, nat_lt, ◌≤◌, Bool, List, [], ◌∷◌, length, slice_index_or, if◌then◌else◌, codes, Option, Some, None, option_and_then, Result, Ok, Err}
+-- The lines of a header, and what the functions that read one say that each makes of the header so far.
+use Rattle.std.specs.Prelude.{ℕ, ◌==◌, ◌&&◌, ◌||◌, not, nat_lt, ◌≤◌, Bool, List, [], ◌∷◌, length, slice_index_or, if◌then◌else◌, codes, Option, Some, None, Result, Ok, Err}
 use Rattle.std.specs.Str.{bytes_eq}
 use Rattle.vg_scan.specs.Lines.{Line}
 use Rattle.vg_scan.specs.declared.chars.Chars.{Chars}
 use Rattle.spef_file.specs.declared.fault.SpefKind.{SpefKind}
 use Rattle.spef_file.specs.declared.fault.SpefKind.TheVariants.{Header, Unit as UnitKind}
 use Rattle.spef_file.specs.declared.heading.Heading.{Heading}
-use Rattle.spef_file.specs.Marks.{with_divider, with_delimiter, with_bus, lone, bus_bytes}
+use Rattle.spef_file.specs.Marks.{divider_in, delimiter_in, bus_in}
 use Rattle.spef_file.specs.Units.{unit_places}
 use Rattle.spef_file.specs.Words.{first_word, has_words, is_quoted}
 
@@ -24,15 +24,13 @@ with_chars heading (Some chars) = Ok (record heading { chars = chars })
 with_chars heading None = Err Header
 
 abbrev pub divider_line : Heading → Line → Result Heading SpefKind
-divider_line heading (_ ∷ word ∷ []) = with_chars heading (option_and_then (with_divider heading.chars) (lone word))
-divider_line heading _ = Err Header
+divider_line heading line = with_chars heading (divider_in heading.chars line)
 
 abbrev pub delimiter_line : Heading → Line → Result Heading SpefKind
-delimiter_line heading (_ ∷ word ∷ []) = with_chars heading (option_and_then (with_delimiter heading.chars) (lone word))
-delimiter_line heading _ = Err Header
+delimiter_line heading line = with_chars heading (delimiter_in heading.chars line)
 
 abbrev pub bus_line : Heading → Line → Result Heading SpefKind
-bus_line heading line = with_chars heading (option_and_then (with_bus heading.chars) (bus_bytes line))
+bus_line heading line = with_chars heading (bus_in heading.chars line)
 
 abbrev pub with_c_places : Heading → Option ℕ → Result Heading SpefKind
 with_c_places heading (Some places) = Ok (record heading { c_places = places })

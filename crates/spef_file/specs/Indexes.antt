@@ -1,19 +1,19 @@
 -- The index of a text, and the text of a net.
-use Rattle.std.specs.Prelude.{◌≡◌, ℕ, ◌-◌, List, length, take, drop, map, unwrap_or, Ok}
+use Rattle.std.specs.Prelude.{ℕ, ◌-◌, List, length, take, drop, map, unwrap_or}
 use Rattle.std.specs.Str.Lines.{lines}
 use Rattle.vg_scan.specs.Lines.{words}
 use Rattle.vg_scan.specs.Comments.{without_comments}
 use Rattle.vg_scan.specs.declared.comments.Comments.TheVariants.{Spef}
 use Rattle.spef_file.specs.declared.section.Section.{Section}
 use Rattle.spef_file.specs.declared.spef_index.SpefIndex.{SpefIndex}
-use Rattle.spef_file.specs.States.{end_at}
-use Rattle.spef_file.specs.Readings.{file_of, file_lines}
+use Rattle.spef_file.specs.Nets.{end_at}
+use Rattle.spef_file.specs.Files.{file_lines, IsFileOf}
 use Rattle.spef_file.specs.NetSpans.{IsSpan, AreSpans}
 use Rattle.spef_file.specs.Shown.{shown}
 
 -- the index of a text: what the text says, and where its nets stand
 pub record IsIndexOf (text : List ℕ) (index : SpefIndex) : Type 0 where
-  pub said : file_of text ≡ Ok (shown index)
+  pub said : IsFileOf text (shown index)
   pub spans : AreSpans (without_comments Spef text) (file_lines text) index.sections
 
 -- a section of a text

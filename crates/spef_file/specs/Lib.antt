@@ -4,8 +4,14 @@ pub mod Words
 pub mod Marks
 pub mod Units
 pub mod Headers
-pub mod States
-pub mod Readings
+pub mod Rows
+pub mod Nets
+pub mod HeaderLines
+pub mod Regions
+pub mod Sayings
+pub mod Faults
+pub mod Files
+pub mod Machine
 pub mod Tables
 pub mod Edges
 pub mod Views

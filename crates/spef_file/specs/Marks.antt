@@ -1,8 +1,12 @@
 -- The bytes that a header gives a meaning.
-use Rattle.std.specs.Prelude.{◌≡◌, ℕ, Bool, true, false, List, [], ◌∷◌, Option, Some, None, refl}
+use Rattle.std.specs.Prelude.{◌≡◌, ℕ, Bool, true, false, List, [], ◌∷◌, Option, Some, None, option_and_then, refl}
 use Rattle.vg_scan.specs.Lines.{Line}
 use Rattle.vg_scan.specs.Separators.{is_separator, is_bus_pair}
 use Rattle.vg_scan.specs.declared.chars.Chars.{Chars}
+
+-- the usual bytes: `/`, `:`, `[` and `]`
+abbrev pub USUAL : Chars
+USUAL = record { divider = 47; delimiter = 58; bus_left = 91; bus_right = 93; divides = refl; delimits = refl; encloses = refl }
 
 abbrev pub divided : (chars : Chars) (b : ℕ) (t : Bool) → is_separator b ≡ t → Option Chars
 divided chars b true e = Some (record chars { divider = b; divides = e })
@@ -45,3 +49,16 @@ abbrev pub bus_bytes : Line → Option (ℕ × ℕ)
 bus_bytes (_ ∷ word ∷ []) = two word
 bus_bytes (_ ∷ left ∷ right ∷ []) = both (lone left) (lone right)
 bus_bytes _ = None
+
+-- the bytes with that which a line `WORD BYTE` gives, as the divider or the delimiter
+abbrev pub divider_in : Chars → Line → Option Chars
+divider_in chars (_ ∷ word ∷ []) = option_and_then (with_divider chars) (lone word)
+divider_in chars _ = None
+
+abbrev pub delimiter_in : Chars → Line → Option Chars
+delimiter_in chars (_ ∷ word ∷ []) = option_and_then (with_delimiter chars) (lone word)
+delimiter_in chars _ = None
+
+-- the bytes with the bus delimiters that a line gives
+abbrev pub bus_in : Chars → Line → Option Chars
+bus_in chars line = option_and_then (with_bus chars) (bus_bytes line)

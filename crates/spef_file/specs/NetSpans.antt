@@ -9,7 +9,7 @@ use Rattle.vg_scan.specs.declared.lines.Span.{Span}
 use Rattle.spef_file.specs.declared.fault.SpefKind.{SpefKind}
 use Rattle.spef_file.specs.declared.reader.Reader.{Reader}
 use Rattle.spef_file.specs.declared.section.Section.{Section}
-use Rattle.spef_file.specs.States.{end_at}
+use Rattle.spef_file.specs.Nets.{end_at}
 
 -- the lines of a net between its head and its end, where these lines follow its head
 abbrev pub inner_lines : List Line → List Line

@@ -1,6 +1,6 @@
 -- What an index shows of its file.
 use Rattle.spef_file.specs.declared.spef_index.SpefIndex.{SpefIndex}
-use Rattle.spef_file.specs.Readings.{File}
+use Rattle.spef_file.specs.Files.{File}
 use Rattle.spef_file.specs.Views.{heads_in}
 
 abbrev pub shown : SpefIndex → File

@@ -11,8 +11,10 @@ use Rattle.spef_file.specs.declared.map_table.MapTable.{MapTable}
 use Rattle.spef_file.specs.declared.section.Section.{Section}
 use Rattle.spef_file.specs.declared.reader.Reader.{Reader}
 use Rattle.spef_file.specs.Headers.{IsSmall}
-use Rattle.spef_file.specs.States.{State, NetHead, head_name}
-use Rattle.spef_file.specs.Readings.{read}
+use Rattle.spef_file.specs.Machine.{State}
+use Rattle.spef_file.specs.Nets.{NetHead}
+use Rattle.spef_file.specs.Rows.{head_name}
+use Rattle.spef_file.specs.Machine.{read}
 use Rattle.spef_file.specs.Tables.{IsIndexed, AreNamed}
 
 abbrev pub head_in : Section → NetHead

@@ -4,7 +4,7 @@ ghost use Rattle.std.specs.Prelude.{◌≡◌, ◌≤◌, ◌<◌, ◌+◌, ◌-
 ghost use Rattle.vg_scan.specs.Lines.{lines_of, part, words, BeginsLine};
 ghost use Rattle.vg_scan.specs.Printed.{is_solid};
 ghost use Rattle.vg_scan.specs.Spans.{IsIn, part_at};
-ghost use Rattle.spef_file.specs.States.{end_at, is_end, is_head};
+ghost use Rattle.spef_file.specs.Nets.{end_at, is_end, is_head};
 ghost use Rattle.spef_file.specs.NetSpans.{up_to_end};
 ghost use Rattle.spef_file.specs.Edges.{IsEdge};
 

@@ -24,7 +24,7 @@ mod units;
 
 pub use fault::{SpefFault, SpefKind};
 pub use header::Header;
-pub use laws::comments_say_nothing;
+pub use laws::{comments_say_nothing, says_one_thing};
 pub use look::{mapped, net_at};
 pub use read::index;
 pub use section::Section;

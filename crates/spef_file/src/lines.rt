@@ -11,7 +11,8 @@ ghost use Rattle.spef_file.specs.Views.{seen, IsWhole, Passes, GoesTo, AddsRow, 
 ghost use Rattle.spef_file.specs.declared.opening.Opening.TheVariants.{Nothing, Net};
 ghost use Rattle.std.specs.Prelude.{Ok, Some, None};
 ghost use Rattle.vg_scan.specs.Names.{canonical};
-ghost use Rattle.spef_file.specs.States.{given_fault, row_fault, row_of, map_line};
+ghost use Rattle.spef_file.specs.Machine.{given_fault, row_fault};
+ghost use Rattle.spef_file.specs.Rows.{row_of, map_line};
 
 use crate::edge::find_end;
 use crate::fault::SpefKind;

@@ -3,7 +3,7 @@
 ghost use Rattle.std.specs.Prelude.{◌≡◌, ◌<◌, length, option_map, IfSome};
 ghost use Rattle.std.specs.List.{position};
 ghost use Rattle.std.specs.Str.{bytes_eq};
-ghost use Rattle.spef_file.specs.States.{mapped};
+ghost use Rattle.spef_file.specs.Rows.{mapped};
 ghost use Rattle.spef_file.specs.Tables.{names_of};
 
 use crate::map_table::name_of;

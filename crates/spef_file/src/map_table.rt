@@ -1,7 +1,7 @@
 //! The rows of a name map.
 
 ghost use Rattle.std.specs.Prelude.{◌≡◌, ◌++◌, ◌∷◌, [], not, true, option_map, IfOk};
-ghost use Rattle.spef_file.specs.States.{is_mapped, mapped};
+ghost use Rattle.spef_file.specs.Rows.{is_mapped, mapped};
 ghost use Rattle.spef_file.specs.Tables.{IsIndexed, AreIndices};
 
 use crate::indices::Indices;

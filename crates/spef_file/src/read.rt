@@ -3,8 +3,9 @@
 ghost use Rattle.std.specs.Prelude.{◌≡◌, ◌<◌, ◌≤◌, ◌^◌, length, IfOk, IfErr, ◌⊎◌, Ok, Err, []};
 ghost use Rattle.vg_scan.specs.Lines.{lines_of};
 ghost use Rattle.spef_file.specs.declared.fault.SpefKind.TheVariants.{Memory};
-ghost use Rattle.spef_file.specs.States.{START};
-ghost use Rattle.spef_file.specs.Readings.{read, file_of, said};
+ghost use Rattle.spef_file.specs.Machine.{START};
+ghost use Rattle.spef_file.specs.Machine.{read, said};
+ghost use Rattle.spef_file.specs.Files.{IsFileFault};
 ghost use Rattle.spef_file.specs.NetSpans.{AreSpans};
 ghost use Rattle.spef_file.specs.Views.{seen, IsWhole};
 ghost use Rattle.spef_file.specs.Shown.{shown};
@@ -111,7 +112,7 @@ fn finish(reader: Reader) -> SpefIndex
 /// Answers `Memory` where there is no room, with the line at which it was wanted.
 pub fn index(alloc: Global, text: &SpefText) -> Result<SpefIndex, SpefFault>
     ensures index { IfOk result (IsIndexOf text.now) }
-    ensures fault { IfErr result (λ fault. (fault.kind ≡ Memory) ⊎ (file_of text.now ≡ Err fault)) }
+    ensures fault { IfErr result (λ fault. (fault.kind ≡ Memory) ⊎ IsFileFault text.now fault) }
 {
     match read_lines(alloc, text.as_bytes()) {
         Err(fault) => Err(fault),

@@ -3,7 +3,7 @@ use Rattle.std.specs.Prelude.{codes}
 use Rattle.std.specs.Str.{bytes_eq}
 use Rattle.std.proofs.lemmas.Slice.Eq.{bytes_eq-Decides}
 use Rattle.vg_scan.specs.Lines.{part}
-use Rattle.spef_file.specs.States.{is_end}
+use Rattle.spef_file.specs.Nets.{is_end}
 use Rattle.spef_file.proofs.SpanLemmas.{end_solid}
 use Rattle.spef_file.proofs.edge.edge_of.Goals as goal
 

@@ -2,7 +2,7 @@ use Rattle.std.proofs.Common.{sym, ◌∙◌, ap, drop, arith, ◌<◌, ◌≡�
 use Rattle.std.specs.Prelude.{codes, unwrap_or}
 use Rattle.vg_scan.specs.Lines.{lines_of, words, part}
 use Rattle.vg_scan.specs.Spans.{part_at}
-use Rattle.spef_file.specs.States.{end_at}
+use Rattle.spef_file.specs.Nets.{end_at}
 use Rattle.spef_file.proofs.EndLemmas.{ends_here, ends_later, later_by, later_more, drop_more, take_next}
 use Rattle.spef_file.proofs.edge.find_end.Goals as goal
 

@@ -1,6 +1,6 @@
 use Rattle.std.proofs.Common.{◌≡◌, ◌≤◌, ◌-◌, ◌+◌, drop, length, ℕ, take, ◌++◌}
 use Rattle.vg_scan.specs.Lines.{lines_of, part}
-use Rattle.spef_file.specs.States.{end_at}
+use Rattle.spef_file.specs.Nets.{end_at}
 use Rattle.spef_file.proofs.EndLemmas.{later_by}
 use Rattle.spef_file.proofs.edge.find_end.Given as goal
 

@@ -10,8 +10,8 @@ use Rattle.vg_scan.specs.Spans.{words_at}
 use Rattle.vg_scan.specs.declared.name.Name.{Name}
 use Rattle.spef_file.specs.declared.section.Section.{Section}
 use Rattle.spef_file.specs.declared.opening.Region.TheVariants.{Outside}
-use Rattle.spef_file.specs.States.{State}
-use Rattle.spef_file.specs.Readings.{read}
+use Rattle.spef_file.specs.Machine.{State}
+use Rattle.spef_file.specs.Machine.{read}
 use Rattle.spef_file.specs.Words.{first_word, second_word, has_words}
 use Rattle.spef_file.specs.Views.{seen, heads_in, IsHeadName}
 use Rattle.spef_file.proofs.StepLemmas.{no_end_fails, no_name_fails, twice_fails, net_goes, not_is}

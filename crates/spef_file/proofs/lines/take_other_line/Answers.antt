@@ -1,5 +1,5 @@
 use Rattle.std.proofs.Common.{◌≡◌, true, sym, ◌∙◌, refl, ap, ◌+◌}
-use Rattle.spef_file.specs.Readings.{read}
+use Rattle.spef_file.specs.Machine.{read}
 use Rattle.vg_scan.specs.Spans.{words_at, part_at}
 use Rattle.spef_file.specs.Words.{has_words}
 use Rattle.spef_file.specs.Views.{seen}

@@ -1,5 +1,5 @@
 use Rattle.std.proofs.Common.{sym, ◌∙◌, ap, None}
-use Rattle.spef_file.specs.States.{mapped}
+use Rattle.spef_file.specs.Rows.{mapped}
 use Rattle.spef_file.proofs.TableLemmas.{given_new, given_again}
 use Rattle.spef_file.proofs.lines.unnamed_fault.Goals as goal
 

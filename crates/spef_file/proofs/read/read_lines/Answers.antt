@@ -1,6 +1,6 @@
 use Rattle.std.proofs.Common.{◌∙◌, ap, refl, sym, subst, arith}
 use Rattle.vg_scan.specs.Lines.{lines_of, part, BeginsLine}
-use Rattle.spef_file.specs.Readings.{read}
+use Rattle.spef_file.specs.Machine.{read}
 use Rattle.spef_file.specs.Views.{seen}
 use Rattle.spef_file.proofs.FileLemmas.{read-nil}
 use Rattle.spef_file.proofs.read.read_lines.Goals as goal

@@ -1,7 +1,7 @@
 use Rattle.std.proofs.Common.{◌≡◌, ◌≤◌, ◌-◌, drop, length}
 use Rattle.vg_scan.specs.Lines.{lines_of, BeginsLine}
-use Rattle.spef_file.specs.States.{START}
-use Rattle.spef_file.specs.Readings.{read}
+use Rattle.spef_file.specs.Machine.{START}
+use Rattle.spef_file.specs.Machine.{read}
 use Rattle.spef_file.specs.Views.{seen, IsWhole}
 use Rattle.spef_file.specs.NetSpans.{AreSpans}
 use Rattle.spef_file.proofs.read.read_lines.Given as goal

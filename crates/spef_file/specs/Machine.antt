@@ -1,12 +1,12 @@
--- What the lines of a SPEF file have said so far.
-use Rattle.std.specs.Prelude.{ℕ, ◌+◌, ◌&&◌, not, nat_lt, Bool, true, false, List, [], ◌∷◌, ◌++◌, map, if◌then◌else◌, codes, refl, Option, Some, None, option_map, option_and_then, unwrap_or, is_some, Result, Ok, Err}
-use Rattle.std.specs.List.{list_any}
-use Rattle.std.specs.Map.{lookup}
+-- What the functions that read a file say between its lines: a state, what each line makes of it, and the fault that it has
+-- there. `Faults` and `Files` say what a file says, by its lines alone.
+use Rattle.std.specs.Prelude.{ℕ, pos, ◌+◌, ◌&&◌, not, nat_lt, Bool, true, false, List, [], ◌∷◌, ◌++◌, if◌then◌else◌, codes, Option, Some, None, unwrap_or, is_some, Result, Ok, Err}
 use Rattle.std.specs.Str.{bytes_eq}
 use Rattle.vg_scan.specs.Lines.{Line}
 use Rattle.vg_scan.specs.Names.{canonical}
 use Rattle.vg_scan.specs.References.{is_reference, index_of}
 use Rattle.vg_scan.specs.declared.chars.Chars.{Chars}
+use Rattle.spef_file.specs.declared.fault.SpefFault.{SpefFault}
 use Rattle.spef_file.specs.declared.fault.SpefKind.{SpefKind}
 use Rattle.spef_file.specs.declared.fault.SpefKind.TheVariants.{MapTwice, MapUnknown, NoEnd, Stray, NetTwice, Unsupported}
 use Rattle.spef_file.specs.declared.heading.Heading.{Heading}
@@ -15,14 +15,12 @@ use Rattle.spef_file.specs.declared.opening.Opening.TheVariants.{Map, Passed, Ne
 use Rattle.spef_file.specs.declared.opening.Region.{Region}
 use Rattle.spef_file.specs.declared.opening.Region.TheVariants.{Outside, InMap, InPassed}
 use Rattle.spef_file.specs.Words.{first_word, second_word, has_words}
-use Rattle.spef_file.specs.Openings.{opening_of, is_net}
+use Rattle.spef_file.specs.Openings.{opening_of}
+use Rattle.spef_file.specs.Marks.{USUAL}
 use Rattle.spef_file.specs.Headers.{header_line, is_idle}
-
--- the head of a net: its canonical name, whether it is reduced, and the number of its line
-pub record NetHead : Type 0 where
-  pub name : List ℕ
-  pub reduced : Bool
-  pub line : ℕ
+use Rattle.spef_file.specs.Rows.{map_line, head_name, is_mapped}
+use Rattle.spef_file.specs.Nets.{NetHead, is_end, end_at, is_taken}
+use Rattle.spef_file.specs.Files.{File}
 
 pub record State : Type 0 where
   -- how many header lines there were
@@ -38,43 +36,11 @@ pub record State : Type 0 where
   pub nets : List NetHead
 
 abbrev pub NO_HEADING : Heading
-NO_HEADING = record {
-  chars = record { divider = 47; delimiter = 58; bus_left = 91; bus_right = 93; divides = refl; delimits = refl; encloses = refl };
-  c_places = 0;
-  r_places = 0;
-}
+NO_HEADING = record { chars = USUAL; c_places = 0; r_places = 0 }
 
 -- before the first line
 abbrev pub START : State
 START = record { headed = 0; heading = NO_HEADING; region = Outside; in_net = false; count = 0; names = []; nets = [] }
-
--- `*digits name`
-abbrev pub row_of : Option (List ℕ) → Option (List ℕ) → Option (List ℕ × List ℕ)
-row_of (Some index) (Some name) = Some (index, name)
-row_of _ _ = None
-
-abbrev pub map_line : Chars → Line → Option (List ℕ × List ℕ)
-map_line chars (index ∷ name ∷ []) = row_of (index_of index) (canonical chars name)
-map_line chars _ = None
-
--- the name of an index
-abbrev pub mapped : List (List ℕ × List ℕ) → List ℕ → Option (List ℕ)
-mapped names index = lookup (bytes_eq index) names
-
--- the name of a net's head: an index that is mapped, or a name
-abbrev pub head_name : Chars → List (List ℕ × List ℕ) → List ℕ → Option (List ℕ)
-head_name chars names word = if is_reference word then option_and_then (mapped names) (index_of word) else canonical chars word
-
-abbrev pub is_end : Line → Bool
-is_end line = bytes_eq (first_word line) (codes "*END")
-
-abbrev pub is_head : Line → Bool
-is_head line = is_net (first_word line)
-
--- how many lines stand before the end of a net, which comes before the next head
-abbrev pub end_at : List Line → Option ℕ
-end_at [] = None
-end_at (line ∷ later) = if is_end line then Some 0 else (if is_head line then None else option_map (λ n. n + 1) (end_at later))
 
 -- what is said after one more line
 
@@ -125,12 +91,6 @@ abbrev pub fault_in : {A : Type 0} → Result A SpefKind → Option SpefKind
 fault_in (Ok _) = None
 fault_in (Err kind) = Some kind
 
-abbrev pub is_mapped : List (List ℕ × List ℕ) → List ℕ → Bool
-is_mapped names index = is_some (mapped names index)
-
-abbrev pub is_taken : List NetHead → List ℕ → Bool
-is_taken nets name = list_any (bytes_eq name) (map (λ net. net.name) nets)
-
 -- the fault of a line `*digits NAME`, by its digits and the name that its second word is
 abbrev pub given_fault : List (List ℕ × List ℕ) → Option (List ℕ) → Option (List ℕ) → Option SpefKind
 given_fault names (Some index) name = if is_mapped names index then Some MapTwice else (if is_some name then None else Some Stray)
@@ -163,8 +123,21 @@ body_fault Net s line later = head_fault s line later
 body_fault Foreign s line later = Some Unsupported
 body_fault Nothing s line later = if has_words line then nothing_fault s.region s line else None
 
-unfoldable pub fault_of : State → Line → List Line → Option SpefKind
-fault_of s line later =
+unfoldable pub state_fault : State → Line → List Line → Option SpefKind
+state_fault s line later =
     if s.in_net then None
     else (if nat_lt s.headed 14 then (if is_idle s.headed line then None else fault_in (header_line s.headed s.heading line))
     else body_fault (opening_of (first_word line)) s line later)
+
+abbrev pub unless_fault : Option SpefKind → ℕ → Result State SpefFault → Result State SpefFault
+unless_fault None number others = others
+unless_fault (Some kind) number others = Err (record { kind = kind; line = number })
+
+-- what is said after some lines, or the fault of the first of them that has one
+unfoldable pub read : State → List Line → Result State SpefFault
+read s [] = Ok s
+read s (line ∷ later) = unless_fault (state_fault s line later) (s.count + 1) (read (after s line) later)
+
+-- what is said at the end
+abbrev pub said : State → File
+said s = record { chars = s.heading.chars; c_places = pos s.heading.c_places; r_places = pos s.heading.r_places; names = s.names; nets = s.nets }
