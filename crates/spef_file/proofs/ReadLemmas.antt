@@ -7,7 +7,7 @@ use Rattle.vg_scan.specs.Comments.{without_comments}
 use Rattle.vg_scan.specs.declared.comments.Comments.TheVariants.{Spef}
 use Rattle.spef_file.specs.declared.fault.SpefKind.{SpefKind}
 use Rattle.spef_file.specs.declared.fault.SpefKind.TheVariants.{Header}
-use Rattle.spef_file.specs.declared.fault.SpefFault.{SpefFault}
+use Rattle.vg_scan.specs.declared.fault.LineFault.{LineFault}
 use Rattle.spef_file.specs.HeaderLines.{spoken, chars_of, c_places_of, r_places_of}
 use Rattle.spef_file.specs.Regions.{place_of}
 use Rattle.spef_file.specs.Sayings.{rows_of, nets_of}
@@ -41,7 +41,7 @@ abbrev Between : List Line → ℕ → ℕ → Type 0
 Between all n m = (i : ℕ) → n ≤ i → i < m → fault_at all i ≡ None
 
 -- the first fault from this place on
-record IsNextFault (all : List Line) (n : ℕ) (fault : SpefFault) : Type 0 where
+record IsNextFault (all : List Line) (n : ℕ) (fault : LineFault SpefKind) : Type 0 where
   at : ℕ
   order : (n ≤ at) × (at < length all)
   number : fault.line ≡ at + 1
@@ -49,7 +49,7 @@ record IsNextFault (all : List Line) (n : ℕ) (fault : SpefFault) : Type 0 wher
   here : fault_at all at ≡ Some fault.kind
 
 -- what reading from this place on tells
-abbrev Tells : List Line → ℕ → Result State SpefFault → Type 0
+abbrev Tells : List Line → ℕ → Result State (LineFault SpefKind) → Type 0
 Tells all n (Ok s) = Between all n (length all) × Follows all s
 Tells all n (Err fault) = IsNextFault all n fault
 
@@ -59,7 +59,7 @@ between_more all n m e rest = λ i low high. elim (cases_lt n i) [
   | inr same ↦ ap (fault_at all) (let z : i ≡ n = omega arith in z) ∙ e
 ]
 
-tells_more : (all : List Line) (n : ℕ) (r : Result State SpefFault) → fault_at all n ≡ None → Tells all (n + 1) r → Tells all n r
+tells_more : (all : List Line) (n : ℕ) (r : Result State (LineFault SpefKind)) → fault_at all n ≡ None → Tells all (n + 1) r → Tells all n r
 tells_more all n (Ok s) e t = (between_more all n (length all) e t.0, t.1)
 tells_more all n (Err fault) e t = record { at = t.at; order = (omega (arith, t.order), t.order.1); number = t.number; before = between_more all n t.at e t.before; here = t.here }
 
@@ -110,10 +110,10 @@ said_is all s f = λ i. record { chars = f.chars i; c_places = pos (f.c_places i
 
 module _ (text clear : List ℕ) (is : clear ≡ without_comments Spef text) where
   -- the lines are those of the file
-  told_of : (r : Result State SpefFault) → read START (lines_of clear) ≡ r → Tells (file_lines text) 0 r
+  told_of : (r : Result State (LineFault SpefKind)) → read START (lines_of clear) ≡ r → Tells (file_lines text) 0 r
   told_of r e = subst (λ t. Tells (lines_of t) 0 r) is (subst (Tells (lines_of clear) 0) e (told (lines_of clear)))
 
-  pub file_fault : (fault : SpefFault) → read START (lines_of clear) ≡ Err fault → IsFileFault text fault
+  pub file_fault : (fault : LineFault SpefKind) → read START (lines_of clear) ≡ Err fault → IsFileFault text fault
   file_fault fault e =
       let t = told_of (Err fault) e in
       inl (record {

@@ -1,11 +1,13 @@
 -- What a SPEF file says, and its first fault.
-use Rattle.std.specs.Prelude.{◌≡◌, ℕ, ℤ, pos, ◌-◌, ◌<◌, ◌≤◌, ◌⊎◌, max, List, length, Some, None}
+use Rattle.std.specs.Prelude.{◌≡◌, ℕ, ℤ, pos, ◌<◌, ◌≤◌, ◌⊎◌, max, List, length}
 use Rattle.vg_scan.specs.Lines.{Line, lines_of}
 use Rattle.vg_scan.specs.Comments.{without_comments}
 use Rattle.vg_scan.specs.declared.comments.Comments.TheVariants.{Spef}
 use Rattle.vg_scan.specs.declared.chars.Chars.{Chars}
+use Rattle.vg_scan.specs.Faults.{IsClear, IsFirstFault}
+use Rattle.spef_file.specs.declared.fault.SpefKind.{SpefKind}
 use Rattle.spef_file.specs.declared.fault.SpefKind.TheVariants.{Header}
-use Rattle.spef_file.specs.declared.fault.SpefFault.{SpefFault}
+use Rattle.vg_scan.specs.declared.fault.LineFault.{LineFault}
 use Rattle.spef_file.specs.Nets.{NetHead}
 use Rattle.spef_file.specs.HeaderLines.{spoken, chars_of, c_places_of, r_places_of}
 use Rattle.spef_file.specs.Sayings.{rows_of, nets_of}
@@ -27,30 +29,19 @@ said_by lines = record { chars = chars_of lines; c_places = pos (c_places_of lin
 abbrev pub file_lines : List ℕ → List Line
 file_lines text = lines_of (without_comments Spef text)
 
--- the first so many lines have no fault
-abbrev pub AreClear : List Line → ℕ → Type 0
-AreClear lines n = (i : ℕ) → i < n → fault_at lines i ≡ None
-
 -- a text says this: no line has a fault, the header has all its lines, and the lines say it
 pub record IsFileOf (text : List ℕ) (file : File) : Type 0 where
-  pub clear : AreClear (file_lines text) (length (file_lines text))
+  pub clear : IsClear (fault_at (file_lines text)) (length (file_lines text))
   pub headed : 14 ≤ length (spoken (file_lines text))
   pub says : file ≡ said_by (file_lines text)
 
--- the first fault of these lines, whose first line has the number 1
-pub record IsFirstFault (lines : List Line) (fault : SpefFault) : Type 0 where
-  pub counted : 1 ≤ fault.line
-  pub within : fault.line ≤ length lines
-  pub before : AreClear lines (fault.line - 1)
-  pub here : fault_at lines (fault.line - 1) ≡ Some fault.kind
-
 -- a header line is missing, and no line has a fault: it is told at the last line
-pub record IsHeaderless (lines : List Line) (fault : SpefFault) : Type 0 where
-  pub clear : AreClear lines (length lines)
+pub record IsHeaderless (lines : List Line) (fault : LineFault SpefKind) : Type 0 where
+  pub clear : IsClear (fault_at lines) (length lines)
   pub short : length (spoken lines) < 14
   pub kind : fault.kind ≡ Header
   pub last : fault.line ≡ max (length lines) 1
 
 -- the first fault of a text
-abbrev pub IsFileFault : List ℕ → SpefFault → Type 0
-IsFileFault text fault = IsFirstFault (file_lines text) fault ⊎ IsHeaderless (file_lines text) fault
+abbrev pub IsFileFault : List ℕ → LineFault SpefKind → Type 0
+IsFileFault text fault = IsFirstFault (fault_at (file_lines text)) (length (file_lines text)) 1 fault ⊎ IsHeaderless (file_lines text) fault

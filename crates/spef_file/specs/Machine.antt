@@ -6,7 +6,7 @@ use Rattle.vg_scan.specs.Lines.{Line}
 use Rattle.vg_scan.specs.Names.{canonical}
 use Rattle.vg_scan.specs.References.{is_reference, index_of}
 use Rattle.vg_scan.specs.declared.chars.Chars.{Chars}
-use Rattle.spef_file.specs.declared.fault.SpefFault.{SpefFault}
+use Rattle.vg_scan.specs.declared.fault.LineFault.{LineFault}
 use Rattle.spef_file.specs.declared.fault.SpefKind.{SpefKind}
 use Rattle.spef_file.specs.declared.fault.SpefKind.TheVariants.{MapTwice, MapUnknown, NoEnd, Stray, NetTwice, Unsupported}
 use Rattle.spef_file.specs.declared.heading.Heading.{Heading}
@@ -129,12 +129,12 @@ state_fault s line later =
     else (if nat_lt s.headed 14 then (if is_idle s.headed line then None else fault_in (header_line s.headed s.heading line))
     else body_fault (opening_of (first_word line)) s line later)
 
-abbrev pub unless_fault : Option SpefKind → ℕ → Result State SpefFault → Result State SpefFault
+abbrev pub unless_fault : Option SpefKind → ℕ → Result State (LineFault SpefKind) → Result State (LineFault SpefKind)
 unless_fault None number others = others
 unless_fault (Some kind) number others = Err (record { kind = kind; line = number })
 
 -- what is said after some lines, or the fault of the first of them that has one
-unfoldable pub read : State → List Line → Result State SpefFault
+unfoldable pub read : State → List Line → Result State (LineFault SpefKind)
 read s [] = Ok s
 read s (line ∷ later) = unless_fault (state_fault s line later) (s.count + 1) (read (after s line) later)
 

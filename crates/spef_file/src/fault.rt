@@ -1,4 +1,5 @@
 use thiserror::Error;
+use vg_scan::LineFault;
 
 /// What is wrong with a line of a SPEF file (IEEE Std 1481).
 #[derive(Clone, Copy, Debug, PartialEq, Eq, Error)]
@@ -33,9 +34,4 @@ pub enum SpefKind {
 }
 
 /// A fault of a SPEF file, and the number of its line; the first is 1.
-#[derive(Clone, Copy, Debug, PartialEq, Eq, Error)]
-#[error("line {line}: {kind}")]
-pub struct SpefFault {
-    pub kind: SpefKind,
-    pub line: usize,
-}
+pub type SpefFault = LineFault<SpefKind>;
