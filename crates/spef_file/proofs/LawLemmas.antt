@@ -1,44 +1,43 @@
 -- A text says one thing.
-use Rattle.std.proofs.Common.{◌≡◌, ℕ, ◌-◌, ◌≤◌, ◌⊎◌, inl, inr, List, length, sym, ap, ◌∙◌, subst, arith, Some, None}
-use Rattle.std.proofs.lemmas.Bool.{cases_lt}
-use Rattle.vg_scan.specs.Lines.{Line}
+use Rattle.std.proofs.Common.{◌≡◌, ℕ, ◌≤◌, ◌⊎◌, inl, inr, List, length, take, drop, map, sym, ap, ◌∙◌, subst, arith}
+use Rattle.std.specs.Prelude.{unwrap_or}
+use Rattle.std.specs.Str.Lines.{lines}
+use Rattle.vg_scan.specs.Lines.{Line, words}
+use Rattle.vg_scan.specs.Comments.{without_comments}
+use Rattle.vg_scan.specs.declared.comments.Comments.TheVariants.{Spef}
 use Rattle.vg_scan.specs.declared.fault.LineFault.{LineFault}
-use Rattle.spef_file.specs.declared.fault.SpefKind.{SpefKind}
 use Rattle.vg_scan.specs.Faults.{IsClear, IsFirstFault}
+use Rattle.vg_scan.proofs.FaultLemmas.{never_both, first_fault-unique}
+use Rattle.spef_file.specs.declared.fault.SpefKind.{SpefKind}
 use Rattle.spef_file.specs.Faults.{fault_at}
 use Rattle.spef_file.specs.HeaderLines.{spoken}
-use Rattle.spef_file.specs.Files.{File, file_lines, said_by, IsFileOf, IsHeaderless}
+use Rattle.spef_file.specs.Nets.{end_at}
+use Rattle.spef_file.specs.Files.{File, file_lines, said_by, IsFileOf, IsHeaderless, IsFileFault}
+use Rattle.spef_file.specs.Indexes.{lines_after}
 
--- a line has a fault among lines without one
-clash : (lines : List Line) (fault : LineFault SpefKind) (n : ℕ) → IsFirstFault (fault_at lines) (length lines) 1 fault → IsClear (fault_at lines) n → fault.line ≤ n → ⊥
-clash lines fault n f clear l =
-    let e : Some fault.kind ≡ None = sym f.here ∙ clear (fault.line - 1) (omega (arith, f.counted)) in
-    cc
+-- the first fault of some lines, or of a header that is missing
+abbrev IsFaultOf : List Line → LineFault SpefKind → Type 0
+IsFaultOf lines fault = IsFirstFault (fault_at lines) (length lines) 1 fault ⊎ IsHeaderless lines fault
 
 same_fields : (one other : LineFault SpefKind) → one.kind ≡ other.kind → one.line ≡ other.line → one ≡ other
 same_fields one other e f = λ i. record { kind = e i; line = f i }
 
-first_same : (lines : List Line) (one other : LineFault SpefKind) → IsFirstFault (fault_at lines) (length lines) 1 one → IsFirstFault (fault_at lines) (length lines) 1 other → one ≡ other
-first_same lines one other f g =
-    elim (cases_lt one.line other.line) [
-      | inl low ↦ absurd (clash lines one (other.line - 1) f g.before (omega arith))
-      | inr high ↦ elim (cases_lt other.line one.line) [
-        | inl low ↦ absurd (clash lines other (one.line - 1) g f.before (omega arith))
-        | inr most ↦ (
-            let same : one.line ≡ other.line = omega arith in
-            let kinds : Some one.kind ≡ Some other.kind = sym f.here ∙ ap (λ n. fault_at lines (n - 1)) same ∙ g.here in
-            same_fields one other (let k : one.kind ≡ other.kind = cc in k) same)
-      ]
-    ]
+one_of : (lines : List Line) (one other : LineFault SpefKind) → IsFaultOf lines one → IsFaultOf lines other → one ≡ other
+one_of lines one other (inl f) (inl g) = first_fault-unique (fault_at lines) (length lines) 1 one other f g
+one_of lines one other (inl f) (inr g) = absurd (never_both (fault_at lines) (length lines) 1 one g.clear f)
+one_of lines one other (inr f) (inl g) = absurd (never_both (fault_at lines) (length lines) 1 other f.clear g)
+one_of lines one other (inr f) (inr g) = same_fields one other (f.kind ∙ sym g.kind) (f.last ∙ sym g.last)
 
-pub no_first : (lines : List Line) (fault : LineFault SpefKind) → IsClear (fault_at lines) (length lines) → IsFirstFault (fault_at lines) (length lines) 1 fault → ⊥
-no_first lines fault clear f = clash lines fault (length lines) f clear (omega (arith, f.within))
+pub one_fault : (text : List ℕ) (one other : LineFault SpefKind) → IsFileFault text one → IsFileFault text other → one ≡ other
+one_fault text one other f g = one_of (file_lines text) one other f g
 
-pub one_fault : (lines : List Line) (one other : LineFault SpefKind) → IsFirstFault (fault_at lines) (length lines) 1 one ⊎ IsHeaderless lines one → IsFirstFault (fault_at lines) (length lines) 1 other ⊎ IsHeaderless lines other → one ≡ other
-one_fault lines one other (inl f) (inl g) = first_same lines one other f g
-one_fault lines one other (inl f) (inr g) = absurd (no_first lines one g.clear f)
-one_fault lines one other (inr f) (inl g) = absurd (no_first lines other f.clear g)
-one_fault lines one other (inr f) (inr g) = same_fields one other (f.kind ∙ sym g.kind) (f.last ∙ sym g.last)
+faultless : (text : List ℕ) (file : File) (fault : LineFault SpefKind) → IsFileOf text file → IsFaultOf (file_lines text) fault → ⊥
+faultless text file fault f (inl first) = never_both (fault_at (file_lines text)) (length (file_lines text)) 1 fault f.clear first
+faultless text file fault f (inr missing) = (let a = f.headed in let b = missing.short in omega arith)
+
+-- and has no fault where it says something
+pub file_or_fault : (text : List ℕ) (file : File) (fault : LineFault SpefKind) → IsFileOf text file → IsFileFault text fault → ⊥
+file_or_fault text file fault f g = faultless text file fault f g
 
 -- texts of the same lines say the same
 pub file_along : (one other : List ℕ) (file : File) → file_lines one ≡ file_lines other → IsFileOf one file → IsFileOf other file
@@ -47,3 +46,10 @@ file_along one other file e f = record {
   headed = subst (λ lines. 14 ≤ length (spoken lines)) e f.headed;
   says = f.says ∙ ap said_by e;
 }
+
+pub fault_along : (one other : List ℕ) (fault : LineFault SpefKind) → file_lines one ≡ file_lines other → IsFileFault one fault → IsFileFault other fault
+fault_along one other fault e f = subst (λ lines. IsFaultOf lines fault) e f
+
+-- and have the same nets
+pub lines_along : (one other : List ℕ) (line : ℕ) → without_comments Spef one ≡ without_comments Spef other → lines_after one line ≡ lines_after other line
+lines_along one other line e = ap (λ t. take (unwrap_or (end_at (map words (drop line (lines t)))) 0) (drop line (lines t))) e

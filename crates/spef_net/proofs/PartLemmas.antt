@@ -4,8 +4,8 @@ use Rattle.std.specs.Prelude.{IfOk, IfErr}
 use Rattle.std.specs.List.{slice_get}
 use Rattle.std.specs.Str.Lines.{lines}
 use Rattle.spef_file.specs.Indexes.{lines_after}
-use Rattle.spef_file.specs.Readings.{File}
-use Rattle.spef_file.specs.States.{NetHead}
+use Rattle.spef_file.specs.Files.{File}
+use Rattle.spef_file.specs.Nets.{NetHead}
 use Rattle.spef_file.specs.Views.{head_in, heads_in}
 use Rattle.spef_file.specs.declared.section.Section.{Section}
 use Rattle.spef_net.specs.declared.fault.NetFault.{NetFault}

@@ -10,7 +10,7 @@ use Rattle.vg_num.specs.declared.fault.NumFault.{NumFault}
 use Rattle.vg_num.specs.declared.fault.NumFault.TheVariants.{Form, Negative, TooLarge}
 use Rattle.vg_scan.specs.Lines.{words, Line}
 use Rattle.vg_scan.specs.declared.name.NodeName.{NodeName}
-use Rattle.spef_file.specs.Readings.{File}
+use Rattle.spef_file.specs.Files.{File}
 use Rattle.spef_net.specs.declared.fault.NetKind.{NetKind}
 use Rattle.spef_net.specs.declared.fault.NetKind.TheVariants.{Conn, Cap, Res}
 use Rattle.spef_net.specs.declared.net.ConnKind.{ConnKind}

@@ -8,7 +8,7 @@ use Rattle.vg_scan.specs.Names.{canonical}
 use Rattle.vg_scan.specs.Nodes.{leaf_at}
 use Rattle.vg_scan.specs.References.{is_reference, index_of}
 use Rattle.vg_scan.specs.declared.name.NodeName.{NodeName}
-use Rattle.spef_file.specs.Readings.{File}
+use Rattle.spef_file.specs.Files.{File}
 
 -- the same owner, and the same leaf
 abbrev pub same_node : NodeName → NodeName → Bool

@@ -7,7 +7,7 @@ use Rattle.vg_num.specs.declared.fault.NumFault.{NumFault}
 use Rattle.vg_num.specs.declared.fault.NumFault.TheVariants.{Form}
 use Rattle.vg_scan.specs.Lines.{words, Line}
 use Rattle.vg_scan.specs.declared.name.NodeName.{NodeName}
-use Rattle.spef_file.specs.Readings.{File}
+use Rattle.spef_file.specs.Files.{File}
 use Rattle.spef_net.specs.declared.net.ConnKind.{ConnKind}
 use Rattle.spef_net.specs.declared.net.ConnKind.TheVariants.{Pin, Port}
 use Rattle.spef_net.specs.declared.net.Direction.{Direction}

@@ -1,8 +1,8 @@
 -- The nets of a file: what the lines after a head say, and the net that they denote.
 use Rattle.std.specs.Prelude.{ℕ, ◌+◌, ◌<◌, ◌≤◌, ◌^◌, List, [], length, if◌then◌else◌}
 use Rattle.std.specs.List.{All}
-use Rattle.spef_file.specs.States.{NetHead}
-use Rattle.spef_file.specs.Readings.{File}
+use Rattle.spef_file.specs.Nets.{NetHead}
+use Rattle.spef_file.specs.Files.{File}
 use Rattle.spef_file.specs.Indexes.{lines_after}
 use Rattle.spef_net.specs.declared.fault.NetFault.{NetFault}
 use Rattle.spef_net.specs.declared.net.ParNet.{ParNet}

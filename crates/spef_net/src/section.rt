@@ -2,7 +2,7 @@
 
 ghost use Rattle.std.specs.Prelude.{◌≡◌, ◌<◌, length, Some, IfOk, IfErr, ◌⊎◌};
 ghost use Rattle.std.specs.List.{slice_get};
-ghost use Rattle.spef_file.specs.States.{NetHead};
+ghost use Rattle.spef_file.specs.Nets.{NetHead};
 ghost use Rattle.spef_file.specs.Views.{head_in};
 ghost use Rattle.spef_file.specs.Indexes.{IsIndexOf, IsSectionOf};
 ghost use Rattle.spef_file.specs.Shown.{shown};

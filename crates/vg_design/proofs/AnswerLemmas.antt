@@ -1,10 +1,9 @@
 -- A name has one answer.
-use Rattle.std.proofs.Common.{◌≡◌, ℕ, ◌+◌, length, ◌<◌, List, [], ◌∷◌, sym, ap, ◌∙◌, subst, Some, None, Result, Ok}
+use Rattle.std.proofs.Common.{◌≡◌, ℕ, ◌+◌, length, ◌<◌, List, [], ◌∷◌, sym, ap, ◌∙◌, subst, Some, None}
 use Rattle.rc_tree.specs.Answers.{IsTreeOf}
 use Rattle.rc_tree.proofs.OneTree.{one_tree}
-use Rattle.spef_file.specs.Readings.{File}
-use Rattle.spef_file.specs.States.{NetHead}
-use Rattle.spef_file.specs.declared.fault.SpefFault.{SpefFault}
+use Rattle.spef_file.specs.Files.{File}
+use Rattle.spef_file.specs.Nets.{NetHead}
 use Rattle.spef_net.specs.declared.net.ParConn.{ParConn}
 use Rattle.spef_net.specs.declared.net.ParNet.{ParNet}
 use Rattle.spef_net.specs.Sections.{sayings_in, IsNetOf}
@@ -15,15 +14,12 @@ use Rattle.vg_design.specs.Laws.{OneNet, OneTree, PassedOrRefused}
 use Rattle.vg_design.specs.declared.refusal.Refusal.{Refusal}
 use Rattle.vg_design.specs.declared.refusal.Refusal.TheVariants.{UnknownNet, Section as Faulty, Reduced, Inductive, Bidirectional, NoDriver, ManyDrivers, Floating, Loop, NoSink, TooLarge}
 
-same_file : (a b : File) → ◌≡◌ {A = Result File SpefFault} (Ok a) (Ok b) → a ≡ b
-same_file a b e = cc
-
 same_head : (a b : NetHead) → Some a ≡ Some b → a ≡ b
 same_head a b e = cc
 
 -- a name has one head
 files : (text name : List ℕ) (file other : File) (head heads : NetHead) → IsHeadOf text name file head → IsHeadOf text name other heads → file ≡ other
-files text name file other head heads a b = same_file file other (sym a.said ∙ b.said)
+files text name file other head heads a b = a.said.says ∙ sym b.said.says
 
 heads_are : (text name : List ℕ) (file other : File) (head heads : NetHead) → IsHeadOf text name file head → IsHeadOf text name other heads → head ≡ heads
 heads_are text name file other head heads a b =
@@ -53,7 +49,7 @@ passed text name net n refusal named passes refused low =
 
 pub passed_is : PassedOrRefused
 passed_is text name net n UnknownNet named passes some missing low =
-    let same = same_file named.file missing.file (sym named.head_of.said ∙ missing.said) in
+    let same : named.file ≡ missing.file = named.head_of.said.says ∙ sym missing.said.says in
     let none : None ≡ Some named.head = sym missing.none ∙ ap (λ f. head_named f name) (sym same) ∙ named.head_of.named in
     cc
 passed_is text name net n (Faulty fault) named passes some faulty low =

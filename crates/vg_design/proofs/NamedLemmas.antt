@@ -6,7 +6,7 @@ use Rattle.std.specs.List.{position, position_or_len, slice_get, find}
 use Rattle.std.specs.Str.{bytes_eq}
 use Rattle.spef_file.specs.Indexes.{IsIndexOf}
 use Rattle.spef_file.specs.Shown.{shown}
-use Rattle.spef_file.specs.States.{NetHead}
+use Rattle.spef_file.specs.Nets.{NetHead}
 use Rattle.spef_file.specs.Tables.{names_of}
 use Rattle.spef_file.specs.Views.{head_in, heads_in}
 use Rattle.spef_file.specs.declared.section.Section.{Section}

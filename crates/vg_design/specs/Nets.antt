@@ -1,9 +1,9 @@
 -- The net of a name in a file, and its refusal.
-use Rattle.std.specs.Prelude.{◌≡◌, ℕ, ◌<◌, List, Option, Some, None, Ok}
+use Rattle.std.specs.Prelude.{◌≡◌, ℕ, ◌<◌, List, Option, Some, None}
 use Rattle.std.specs.List.{find}
 use Rattle.std.specs.Str.{bytes_eq}
-use Rattle.spef_file.specs.Readings.{File, file_of}
-use Rattle.spef_file.specs.States.{NetHead}
+use Rattle.spef_file.specs.Files.{File, IsFileOf}
+use Rattle.spef_file.specs.Nets.{NetHead}
 use Rattle.spef_net.specs.Sections.{IsNetOf, IsFaultOf}
 use Rattle.spef_net.specs.declared.fault.NetFault.{NetFault}
 use Rattle.spef_net.specs.declared.net.ParNet.{ParNet}
@@ -20,12 +20,12 @@ head_named file name = find (λ head. bytes_eq name head.name) file.nets
 -- the file has no net of this name
 pub record IsMissing (text name : List ℕ) : Type 0 where
   pub file : File
-  pub said : file_of text ≡ Ok file
+  pub said : IsFileOf text file
   pub none : head_named file name ≡ None
 
 -- it has one with this head
 pub record IsHeadOf (text name : List ℕ) (file : File) (head : NetHead) : Type 0 where
-  pub said : file_of text ≡ Ok file
+  pub said : IsFileOf text file
   pub named : head_named file name ≡ Some head
 
 -- the net of this name

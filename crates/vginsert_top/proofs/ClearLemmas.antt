@@ -1,12 +1,14 @@
 -- What is said of a text without its comments is said of the text.
-use Rattle.std.proofs.Common.{◌≡◌, ℕ, ◌+◌, List, [], take, drop, map, sym, subst, ap, ◌∙◌, Ok, Err, Result, ◌⊎◌, inl, inr}
-use Rattle.std.specs.Prelude.{unwrap_or, if◌then◌else◌}
-use Rattle.std.specs.Str.Lines.{lines}
-use Rattle.vg_scan.specs.Lines.{lines_of, words}
+use Rattle.std.proofs.Common.{◌≡◌, ℕ, ◌+◌, List, [], subst, ap, Ok, Err, Result, inl, inr}
+use Rattle.std.specs.Prelude.{if◌then◌else◌}
+use Rattle.vg_scan.specs.Lines.{lines_of}
 use Rattle.vg_scan.specs.Comments.{without_comments}
 use Rattle.vg_scan.specs.declared.comments.Comments.TheVariants.{Spef}
-use Rattle.spef_file.specs.States.{START, NetHead, end_at}
-use Rattle.spef_file.specs.Readings.{File, file_of, read, ended_or_fault}
+use Rattle.vg_scan.specs.declared.fault.LineFault.{LineFault}
+use Rattle.spef_file.specs.declared.fault.SpefKind.{SpefKind}
+use Rattle.spef_file.specs.Nets.{NetHead}
+use Rattle.spef_file.specs.Files.{File, IsFileOf, IsFileFault}
+use Rattle.spef_file.proofs.LawLemmas.{file_along, fault_along, lines_along}
 use Rattle.spef_file.specs.Indexes.{lines_after}
 use Rattle.spef_net.specs.Sections.{sayings_in, IsNetOf, IsFaultOf}
 use Rattle.spef_net.specs.Sayings.{sayings}
@@ -14,7 +16,7 @@ use Rattle.spef_net.specs.Faults.{IsFaultless, IsFirstFault}
 use Rattle.spef_net.specs.Denoted.{IsNet}
 use Rattle.spef_net.specs.declared.net.ParNet.{ParNet}
 use Rattle.spef_net.specs.declared.fault.NetFault.{NetFault}
-use Rattle.vg_design.specs.Nets.{IsMissing, IsHeadOf, IsNetNamed, IsFaultNamed, IsNetRefused, IsRefusalOf}
+use Rattle.vg_design.specs.Nets.{IsHeadOf, IsNetNamed, IsNetRefused, IsRefusalOf}
 use Rattle.vg_design.specs.Wires.{IsWireOf}
 use Rattle.vg_design.specs.declared.refusal.Refusal.{Refusal}
 use Rattle.vg_design.specs.declared.refusal.Refusal.TheVariants.{UnknownNet, Section as Faulty, Reduced, Inductive, Bidirectional, NoDriver, ManyDrivers, Floating, Loop, NoSink, TooLarge}
@@ -24,20 +26,20 @@ use Rattle.elmore.specs.declared.tree.Node.{Node}
 use Rattle.vginsert_top.specs.Answer.{Answers}
 use Rattle.vginsert_top.specs.TimeAnswer.{AnswersTime}
 use Rattle.vginsert_top.specs.Timing.{IsTimed, IsTimeRefusal}
-use Rattle.vginsert_top.specs.Run.{IsSpef}
-use Rattle.vginsert_top.specs.Outcome.{IsDelays, IsRefusal, IsSpefFault}
 use Rattle.vginsert_top.specs.declared.answer.Answer.{Answer}
 use Rattle.vginsert_top.specs.declared.answer.Answer.TheVariants.{Report, Refused}
 use Rattle.vginsert_top.specs.declared.answer.AskFault.{AskFault}
 use Rattle.vginsert_top.specs.declared.answer.AskFault.TheVariants.{Spef as SpefFaulty, Cons, Memory}
 
 module _ (raw clear : List ℕ) (same : without_comments Spef clear ≡ without_comments Spef raw) where
-  file_same : file_of clear ≡ file_of raw
-  unfolding file_of
-  file_same = ap (λ t. ended_or_fault (read START (lines_of t))) same
+  file_same : (file : File) → IsFileOf clear file → IsFileOf raw file
+  file_same file = file_along clear raw file (ap lines_of same)
+
+  fault_of_file_same : (fault : LineFault SpefKind) → IsFileFault clear fault → IsFileFault raw fault
+  fault_of_file_same fault = fault_along clear raw fault (ap lines_of same)
 
   after_same : (line : ℕ) → lines_after clear line ≡ lines_after raw line
-  after_same line = ap (λ t. take (unwrap_or (end_at (map words (drop line (lines t)))) 0) (drop line (lines t))) same
+  after_same line = lines_along clear raw line same
 
   says_same : (file : File) (head : NetHead) → sayings_in clear file head ≡ sayings_in raw file head
   says_same file head = ap (λ ls. if head.reduced then [] else sayings file ls) (after_same head.line)
@@ -52,7 +54,7 @@ module _ (raw clear : List ℕ) (same : without_comments Spef clear ≡ without_
   fault_same file head fault h = subst (λ said. IsFirstFault head.name said (head.line + 1) fault) (says_same file head) h
 
   head_same : (name : List ℕ) (file : File) (head : NetHead) → IsHeadOf clear name file head → IsHeadOf raw name file head
-  head_same name file head h = record { said = sym file_same ∙ h.said; named = h.named }
+  head_same name file head h = record { said = file_same file h.said; named = h.named }
 
   pub named_same : (name : List ℕ) (net : ParNet) → IsNetNamed clear name net → IsNetNamed raw name net
   named_same name net h = record { file = h.file; head = h.head; head_of = head_same name h.file h.head h.head_of; read = net_same h.file h.head net h.read }
@@ -61,7 +63,7 @@ module _ (raw clear : List ℕ) (same : without_comments Spef clear ≡ without_
   refused_same name refusal h = record { net = h.net; named = named_same name h.net h.named; refused = h.refused }
 
   pub refusal_same : (name : List ℕ) (refusal : Refusal) → IsRefusalOf clear name refusal → IsRefusalOf raw name refusal
-  refusal_same name UnknownNet h = record { file = h.file; said = sym file_same ∙ h.said; none = h.none }
+  refusal_same name UnknownNet h = record { file = h.file; said = file_same h.file h.said; none = h.none }
   refusal_same name (Faulty fault) h = record { file = h.file; head = h.head; head_of = head_same name h.file h.head h.head_of; first = fault_same h.file h.head fault h.first }
   refusal_same name Reduced h = refused_same name Reduced h
   refusal_same name Inductive h = refused_same name Inductive h
@@ -80,7 +82,7 @@ module _ (raw clear : List ℕ) (same : without_comments Spef clear ≡ without_
   pub answers_same : (result : Result Answer AskFault) (name : List ℕ) → Answers result clear name → Answers result raw name
   answers_same (Ok (Report text)) name h = record { wire = h.wire; wire_of = wire_same name h.wire h.wire_of; text_is = h.text_is }
   answers_same (Ok (Refused text)) name h = record { refusal = h.refusal; refused = refusal_same name h.refusal h.refused; text_is = h.text_is }
-  answers_same (Err (SpefFaulty text)) name h = record { fault = h.fault; found = sym file_same ∙ h.found; text_is = h.text_is }
+  answers_same (Err (SpefFaulty text)) name h = record { fault = h.fault; found = fault_of_file_same h.fault h.found; text_is = h.text_is }
   answers_same (Err (Cons text)) name h = absurd h
   answers_same (Err Memory) name h = tt
 
@@ -100,6 +102,6 @@ module _ (raw clear : List ℕ) (same : without_comments Spef clear ≡ without_
   pub times_same : (result : Result Answer AskFault) (cons name : List ℕ) → AnswersTime result clear cons name → AnswersTime result raw cons name
   times_same (Ok (Report text)) cons name h = timed_same cons name text.items h
   times_same (Ok (Refused text)) cons name h = time_refusal_same cons name text.items h
-  times_same (Err (SpefFaulty text)) cons name h = record { fault = h.fault; found = sym file_same ∙ h.found; text_is = h.text_is }
-  times_same (Err (Cons text)) cons name h = ((h.0.0, sym file_same ∙ h.0.1), h.1)
+  times_same (Err (SpefFaulty text)) cons name h = record { fault = h.fault; found = fault_of_file_same h.fault h.found; text_is = h.text_is }
+  times_same (Err (Cons text)) cons name h = ((h.0.0, file_same h.0.0 h.0.1), h.1)
   times_same (Err Memory) cons name h = tt

@@ -1,5 +1,5 @@
 -- What a status tells of a run.
-use Rattle.std.proofs.Common.{◌≡◌, ◌≢◌, ◌⊎◌, inl, inr, ℕ, ◌^◌, ◌<◌, ◌-◌, List, length, refl, sym, ap, ◌∙◌, subst, arith, Option, Some, None, IfSome, Ok, Err}
+use Rattle.std.proofs.Common.{◌≡◌, ◌≢◌, ◌⊎◌, inl, inr, ℕ, ◌^◌, ◌<◌, ◌-◌, List, length, refl, sym, ap, ◌∙◌, subst, arith, Option, Some, None, IfSome, Err}
 use Rattle.std.proofs.lemmas.Bool.{false≢true}
 use Rattle.vg_store.specs.Causes.{Rose}
 use Rattle.vg_store.specs.Writing.{Gains, GainsPrefix}
@@ -14,8 +14,9 @@ use Rattle.vg_words.specs.declared.ask.WordFault.{WordFault}
 use Rattle.vg_words.specs.declared.ask.WordFault.TheVariants.{Unread, Missing, Excluded, BadValue, Equal, Memory as NoRoom}
 use Rattle.vg_words.proofs.JudgeLemmas.{refused_none, one}
 use Rattle.elmore.specs.declared.tree.Node.{Node}
-use Rattle.spef_file.specs.Readings.{File, file_of}
-use Rattle.spef_file.specs.declared.fault.SpefFault.{SpefFault}
+use Rattle.spef_file.specs.Files.{File, IsFileOf, IsFileFault}
+use Rattle.spef_file.proofs.LawLemmas.{file_or_fault}
+use Rattle.spef_file.specs.declared.fault.SpefKind.{SpefKind}
 use Rattle.spef_net.specs.declared.net.ParNet.{ParNet}
 use Rattle.vg_design.specs.Refusals.{number_of, IsNetTree}
 use Rattle.vg_design.specs.Nets.{IsRefusalOf}
@@ -65,8 +66,8 @@ apart_faults : (lines : List ConsLine) (fault : LineFault ConsKind) → IsFaultl
 apart_faults lines fault good (inl first) = let none : None ≡ Some fault.kind = sym (good.clear (fault.line - 1) (omega (arith, first.counted, first.within))) ∙ first.here in cc
 apart_faults lines fault good (inr missing) = false≢true (sym missing.empty ∙ good.heading)
 
-no_both : (file : File) (fault : SpefFault) (text : Bytes) → file_of text ≡ Ok file → file_of text ≡ Err fault → ⊥
-no_both file fault text said found = let both : Ok file ≡ Err fault = sym said ∙ found in absurd (cc)
+no_both : (file : File) (fault : LineFault SpefKind) (text : Bytes) → IsFileOf text file → IsFileFault text fault → ⊥
+no_both file fault text said found = file_or_fault text file fault said found
 
 -- a net is refused of a file that is in its form
 has_file : (text name : Bytes) (refusal : Refusal) → IsRefusalOf text name refusal → IsSpef text

@@ -2,7 +2,6 @@
 use Rattle.std.specs.Prelude.{ℕ, List, ◌++◌, codes, decimal}
 use Rattle.vg_num.specs.declared.fault.NumFault.{NumFault}
 use Rattle.vg_num.specs.declared.fault.NumFault.TheVariants.{Form, Negative, TooLarge}
-use Rattle.spef_file.specs.declared.fault.SpefFault.{SpefFault}
 use Rattle.spef_file.specs.declared.fault.SpefKind.{SpefKind}
 use Rattle.spef_file.specs.declared.fault.SpefKind.TheVariants.{Header, Unit as UnitKind, MapTwice, MapUnknown, NoEnd, Stray, NetTwice, Unsupported, Memory as SpefMemory}
 use Rattle.spef_net.specs.declared.fault.NetFault.{NetFault}
@@ -39,7 +38,7 @@ spef_kind NetTwice = codes "NetTwice"
 spef_kind Unsupported = codes "Unsupported"
 spef_kind SpefMemory = codes "Memory"
 
-abbrev pub spef_fault : SpefFault → List ℕ
+abbrev pub spef_fault : LineFault SpefKind → List ℕ
 spef_fault fault = spef_kind fault.kind ++ (codes " line " ++ decimal fault.line)
 
 -- the faults of a net's lines

@@ -1,7 +1,8 @@
 -- What a file says of the net that is asked for.
-use Rattle.std.specs.Prelude.{◌≡◌, ℕ, List, Err}
-use Rattle.spef_file.specs.Readings.{file_of}
-use Rattle.spef_file.specs.declared.fault.SpefFault.{SpefFault}
+use Rattle.std.specs.Prelude.{◌≡◌, ℕ, List}
+use Rattle.spef_file.specs.Files.{IsFileFault}
+use Rattle.vg_scan.specs.declared.fault.LineFault.{LineFault}
+use Rattle.spef_file.specs.declared.fault.SpefKind.{SpefKind}
 use Rattle.vg_design.specs.Nets.{IsRefusalOf}
 use Rattle.vg_design.specs.Wires.{IsWireOf}
 use Rattle.vg_design.specs.declared.refusal.Refusal.{Refusal}
@@ -23,6 +24,6 @@ pub record IsRefusal (file name text : List ℕ) : Type 0 where
 
 -- the text tells the fault of the file
 pub record IsSpefFault (file text : List ℕ) : Type 0 where
-  pub fault : SpefFault
-  pub found : file_of file ≡ Err fault
+  pub fault : LineFault SpefKind
+  pub found : IsFileFault file fault
   pub text_is : text ≡ spef_fault fault

@@ -1,9 +1,9 @@
 -- What a run of the program promises.
-use Rattle.std.specs.Prelude.{◌≡◌, ◌⊎◌, ℕ, ◌^◌, ◌<◌, ◌≤◌, List, [], ◌∷◌, ◌++◌, ◌==◌, Bool, length, codes, Option, Some, IfSome, Ok}
+use Rattle.std.specs.Prelude.{◌≡◌, ◌⊎◌, ℕ, ◌^◌, ◌<◌, ◌≤◌, List, [], ◌∷◌, ◌++◌, ◌==◌, Bool, length, codes, Option, Some, IfSome}
 use Rattle.std.specs.List.{list_any}
 use Rattle.vg_store.specs.Causes.{Rose}
 use Rattle.vg_store.specs.Writing.{Gains, GainsPrefix}
-use Rattle.spef_file.specs.Readings.{File, file_of}
+use Rattle.spef_file.specs.Files.{File, IsFileOf}
 use Rattle.vg_cons.specs.Lines.{lines_of as cons_lines}
 use Rattle.vg_cons.specs.Faults.{IsFaultIn}
 use Rattle.vg_scan.specs.declared.fault.LineFault.{LineFault}
@@ -68,7 +68,7 @@ pub record IsConsFault (cons text : List ℕ) : Type 0 where
 
 -- the file is in its form
 abbrev pub IsSpef : List ℕ → Type 0
-IsSpef file = (said : File) × (file_of file ≡ Ok said)
+IsSpef file = (said : File) × IsFileOf file said
 
 -- the first input that is not in its form, and what is wrong with it
 abbrev pub IsFaultyFor : Mode → Texts → Input → List ℕ → Type 0
