@@ -1,6 +1,5 @@
 -- One line of a text after another.
-use Rattle.std.proofs.Common.{◌≡◌, ℕ, suc, ◌+◌, ◌<◌, ◌≤◌, Bool, true, false, ◌||◌, List, [], ◌∷◌, ◌++◌, map, length, take, drop, get_or, refl, sym, ap, ◌∙◌, arith, drop-cons, length-drop, add-one, Option, Some, None, ◌⊎◌, inl, inr, Result, Ok, Err}
-use Rattle.std.proofs.lemmas.List.{take_more, get_or-map, length-map}
+use Rattle.std.proofs.Common.{◌≡◌, ℕ, ◌+◌, ◌<◌, Bool, true, false, ◌||◌, List, [], ◌∷◌, ◌++◌, map, length, take, get_or, refl, sym, ap, ◌∙◌, arith, Option, Some, None, ◌⊎◌, inl, inr, Result, Ok, Err}
 use Rattle.std.proofs.lemmas.List.{append-nil}
 use Rattle.std.proofs.lemmas.List.Elements.{filter_map-append}
 use Rattle.std.specs.Option.{option_or}
@@ -28,31 +27,14 @@ known fault Word h = inr h
 known fault Twice h = inr h
 known fault (Number f) h = inr h
 
--- what a text's n-th line is
-pub record NextLine (text : List ℕ) (n : ℕ) (line : List ℕ) (others : List (List ℕ)) : Type 0 where
-  pub within : n < length (lines_of text)
-  pub rest : drop (n + 1) (lines text) ≡ others
-  pub here : get_or (lines_of text) n [] ≡ line_words line
-  pub front : take (n + 1) (lines_of text) ≡ take n (lines_of text) ++ line_words line ∷ []
-
-pub next_is : (text : List ℕ) (n : ℕ) (line : List ℕ) (rest : List (List ℕ)) → drop n (lines text) ≡ line ∷ rest → NextLine text n line rest
+-- the lines of a text, from its first line on
+pub lines_first : (text more line : List ℕ) → lines text ≡ line ∷ lines more → lines_of text ≡ line_words line ∷ lines_of more
 unfolding lines_of
-next_is text n line rest e =
-    let l : n < length (lines text) = omega (arith, length-drop n (lines text), ap length e) in
-    let d : line ∷ rest ≡ get_or (lines text) n [] ∷ drop (suc n) (lines text) = sym e ∙ drop-cons (lines text) n [] l in
-    let x : get_or (lines text) n [] ≡ line = cc in
-    let g : get_or (lines_of text) n [] ≡ line_words line = get_or-map line_words (lines text) n [] [] l ∙ ap line_words x in
-    let w : n < length (lines_of text) = (let k : length (map line_words (lines text)) ≡ length (lines text) = length-map (lines text) line_words in omega (arith, k)) in
-    record {
-      within = w;
-      rest = ap (λ m. drop m (lines text)) (add-one n) ∙ (let r : drop (suc n) (lines text) ≡ rest = cc in r);
-      here = g;
-      front = take_more (lines_of text) n [] w ∙ ap (λ y. take n (lines_of text) ++ y ∷ []) g;
-    }
+lines_first text more line e = ap (map line_words) e
 
-pub last_is : (text : List ℕ) (n : ℕ) → drop n (lines text) ≡ [] → length (lines_of text) ≤ n
+pub lines_none : (text : List ℕ) → lines text ≡ [] → lines_of text ≡ []
 unfolding lines_of
-last_is text n e = let k : length (map line_words (lines text)) ≡ length (lines text) = length-map (lines text) line_words in omega (arith, k, length-drop n (lines text), ap length e)
+lines_none text e = ap (map line_words) e
 
 -- the first faulty line, from what is known of the lines before it
 pub first_cons_fault : (ls : List Line) (n : ℕ) (line : Line) (kind : ConsKind) → n < length ls → get_or ls n [] ≡ line → IsClear (fault_at ls) n

@@ -18,3 +18,4 @@ pub mod PartLemmas
 pub mod PlainLemmas
 pub mod BlankLemmas
 pub mod FaultLemmas
+pub mod ItemLemmas

@@ -1,13 +1,13 @@
-use Rattle.std.proofs.Common.{◌≡◌, ◌+◌, List, take, drop, length, max, sym, ◌∙◌, ap, refl, arith, inl, inr, take_all, subst}
+use Rattle.std.proofs.Common.{◌≡◌, ◌+◌, List, [], take, drop, length, max, sym, ◌∙◌, ap, refl, arith, inl, inr, subst}
 use Rattle.std.specs.List.{list_any}
-use Rattle.std.specs.Str.Lines.{lines}
 use Rattle.vg_scan.specs.Spans.{part_at}
+use Rattle.vg_scan.proofs.FaultLemmas.{clear_more}
+use Rattle.vg_scan.proofs.ItemLemmas.{next_is, all_read, take_whole}
 use Rattle.vg_cons.specs.Lines.{Line, lines_of, has_words}
 use Rattle.vg_cons.specs.Rows.{rows_of}
 use Rattle.vg_cons.specs.Faults.{fault_of, fault_at}
 use Rattle.vg_cons.specs.Views.{IsFaultOrMemory}
-use Rattle.vg_scan.proofs.FaultLemmas.{clear_more}
-use Rattle.vg_cons.proofs.LineLemmas.{line_words, next_is, last_is, first_cons_fault, started_more, rows_more, fault_of-after, no_rows_yet}
+use Rattle.vg_cons.proofs.LineLemmas.{line_words, lines_first, lines_none, first_cons_fault, started_more, rows_more, fault_of-after, no_rows_yet}
 use Rattle.vg_cons.proofs.read.read_lines.Goals as goal
 
 pub line-init : goal.line-init
@@ -24,11 +24,13 @@ line-init c = record {
 pub returns-in-Err-clause-fault : goal.returns-in-Err-clause-fault
 returns-in-Err-clause-fault c =
     let text = c.args.bytes.now in
+    let all = lines_of text in
     let n = c.line.count in
     let line : Line = line_words (part_at text c.in-Some.line) in
-    let x = next_is text n (part_at text c.in-Some.line) (lines (drop c.in-Some.next text)) (sym c.line.invariant.rest ∙ c.in-Some.ensures.line) in
-    let same = fault_of-after (take n (lines_of text)) line c.line.started c.line.cons c.line.invariant.started c.line.invariant.rows in
-    elim (first_cons_fault (lines_of text) n line c.in-Err.kind x.within x.here c.line.invariant.clear (subst (λ o. IsFaultOrMemory o c.in-Err.kind) (sym same) c.in-Err.ensures)) [
+    let more = drop c.in-Some.next text in
+    let x = next_is all n [] line (lines_of more) (sym c.line.invariant.rest ∙ lines_first (drop c.line.at text) more (part_at text c.in-Some.line) c.in-Some.ensures.line) in
+    let same = fault_of-after (take n all) line c.line.started c.line.cons c.line.invariant.started c.line.invariant.rows in
+    elim (first_cons_fault all n line c.in-Err.kind x.within x.here c.line.invariant.clear (subst (λ o. IsFaultOrMemory o c.in-Err.kind) (sym same) c.in-Err.ensures)) [
       | inl memory ↦ inl memory
       | inr fault ↦ inr (inl fault)
     ]
@@ -36,48 +38,44 @@ returns-in-Err-clause-fault c =
 pub line-preserved : goal.line-preserved
 line-preserved c =
     let text = c.args.bytes.now in
+    let all = lines_of text in
     let n = c.line.count in
     let line : Line = line_words (part_at text c.in-Some.line) in
-    let before : List Line = take n (lines_of text) in
-    let x = next_is text n (part_at text c.in-Some.line) (lines (drop c.in-Some.next text)) (sym c.line.invariant.rest ∙ c.in-Some.ensures.line) in
+    let before : List Line = take n all in
+    let more = drop c.in-Some.next text in
+    let x = next_is all n [] line (lines_of more) (sym c.line.invariant.rest ∙ lines_first (drop c.line.at text) more (part_at text c.in-Some.line) c.in-Some.ensures.line) in
     let same = fault_of-after before line c.line.started c.line.cons c.line.invariant.started c.line.invariant.rows in
     record {
       rest = sym x.rest;
       within = omega (arith, c.in-Some.ensures.place);
       counted = omega (arith, c.in-Some.ensures.place);
       few = omega (arith, x.within);
-      started = started_more before line (take (n + 1) (lines_of text)) c.line.started c.in-Ok.now x.front c.line.invariant.started c.in-Ok.ensures.1;
-      clear = clear_more (fault_at (lines_of text)) n c.line.invariant.clear (ap (fault_of before) x.here ∙ same ∙ c.in-Ok.ensures.0);
-      rows = rows_more before line (take (n + 1) (lines_of text)) c.line.cons c.take_line.new.cons x.front c.line.invariant.rows c.in-Ok.ensures.2;
+      started = started_more before line (take (n + 1) all) c.line.started c.in-Ok.now x.front c.line.invariant.started c.in-Ok.ensures.1;
+      clear = clear_more (fault_at all) n c.line.invariant.clear (ap (fault_of before) x.here ∙ same ∙ c.in-Ok.ensures.0);
+      rows = rows_more before line (take (n + 1) all) c.line.cons c.take_line.new.cons x.front c.line.invariant.rows c.in-Ok.ensures.2;
     }
 
 pub returns-then-not-started-clause-fault : goal.returns-then-not-started-clause-fault
 returns-then-not-started-clause-fault c =
-    let text = c.args.bytes.now in
-    let n = c.line.count in
-    let last = last_is text n (sym c.line.invariant.rest ∙ c.in_default.ensures.line) in
-    let all = take_all n (lines_of text) last in
-    let same : n ≡ length (lines_of text) = omega arith in
+    let all = lines_of c.args.bytes.now in
+    let end = sym c.line.invariant.rest ∙ lines_none (drop c.line.at c.args.bytes.now) c.in_default.ensures.line in
+    let same : c.line.count ≡ length all = omega (arith, all_read all c.line.count end) in
     inr (inr (record {
-      empty = ap (list_any has_words) (sym all) ∙ sym c.line.invariant.started ∙ c.if-not-started.true;
+      empty = ap (list_any has_words) (sym (take_whole all c.line.count end)) ∙ sym c.line.invariant.started ∙ c.if-not-started.true;
       kind = refl;
       last = c.max.ensures ∙ ap (λ m. max m 1) same;
     }))
 
 pub returns-clause-faultless : goal.returns-clause-faultless
 returns-clause-faultless c =
-    let text = c.args.bytes.now in
-    let n = c.line.count in
-    let last = last_is text n (sym c.line.invariant.rest ∙ c.in_default.ensures.line) in
-    let all = take_all n (lines_of text) last in
+    let all = lines_of c.args.bytes.now in
+    let end = sym c.line.invariant.rest ∙ lines_none (drop c.line.at c.args.bytes.now) c.in_default.ensures.line in
     record {
-      clear = λ i h. c.line.invariant.clear i (omega arith);
-      heading = ap (list_any has_words) (sym all) ∙ sym c.line.invariant.started ∙ c.if-not-started.false;
+      clear = λ i h. c.line.invariant.clear i (omega (arith, all_read all c.line.count end));
+      heading = ap (list_any has_words) (sym (take_whole all c.line.count end)) ∙ sym c.line.invariant.started ∙ c.if-not-started.false;
     }
 
 pub returns-clause-rows : goal.returns-clause-rows
 returns-clause-rows c =
-    let text = c.args.bytes.now in
-    let n = c.line.count in
-    let last = last_is text n (sym c.line.invariant.rest ∙ c.in_default.ensures.line) in
-    c.line.invariant.rows ∙ ap rows_of (take_all n (lines_of text) last)
+    let end = sym c.line.invariant.rest ∙ lines_none (drop c.line.at c.args.bytes.now) c.in_default.ensures.line in
+    c.line.invariant.rows ∙ ap rows_of (take_whole (lines_of c.args.bytes.now) c.line.count end)

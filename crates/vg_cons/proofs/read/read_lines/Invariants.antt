@@ -1,6 +1,5 @@
 use Rattle.std.proofs.Common.{◌≡◌, ◌≤◌, ◌-◌, drop, take, length}
 use Rattle.std.specs.List.{list_any}
-use Rattle.std.specs.Str.Lines.{lines}
 use Rattle.vg_cons.specs.Lines.{lines_of, has_words}
 use Rattle.vg_cons.specs.Rows.{rows_of}
 use Rattle.vg_scan.specs.Faults.{IsClear}
@@ -9,7 +8,7 @@ use Rattle.vg_cons.proofs.read.read_lines.Given as goal
 
 abbrev pub invariant-line : goal.invariant-line
 invariant-line l = record {
-  rest : lines (drop l.at l.bytes) ≡ drop l.count (lines l.bytes);
+  rest : lines_of (drop l.at l.bytes) ≡ drop l.count (lines_of l.bytes);
   within : l.at ≤ length l.bytes;
   counted : l.count ≤ l.at;
   few : l.count ≤ length (lines_of l.bytes);
