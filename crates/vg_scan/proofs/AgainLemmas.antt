@@ -1,7 +1,6 @@
 -- A text without comments stays as it is where its comments are made blank again.
 use Rattle.std.proofs.Common.{◌≡◌, ℕ, Bool, true, false, cond, eqb, ◌==◌, ◌||◌, ◌&&◌, ◌⊎◌, inl, inr, List, [], ◌∷◌, refl, sym, ap, subst, ◌∙◌, arith}
 use Rattle.std.specs.Prelude.{if◌then◌else◌}
-use Rattle.std.proofs.lemmas.Bool.Decides.{nat_tests}
 use Rattle.vg_scan.specs.declared.scan.Scan.{Scan}
 use Rattle.vg_scan.specs.declared.scan.Scan.TheVariants.{Outside, Quoted, InLine, InBlock}
 use Rattle.vg_scan.specs.declared.comments.Comments.{Comments}
@@ -9,10 +8,8 @@ use Rattle.vg_scan.specs.declared.comments.Comments.TheVariants.{Spef}
 use Rattle.vg_scan.specs.Comments.{without_comments, blanked}
 use Rattle.vg_scan.specs.Clearing.{cleared_in, is_mark}
 use Rattle.vg_scan.proofs.PieceLemmas.{cleared_is}
-use Rattle.vg_scan.proofs.ClearedLemmas.{escape, quote, plain, eq_of, ne_of_false}
-
-no_mark : (b m : ℕ) → is_mark b ≡ false → is_mark m ≡ true → b ≡ m → ⊥
-no_mark b m e f g = grind (arith, nat_tests)
+use Rattle.vg_scan.proofs.ClearedLemmas.{escape, quote, plain, eq_test, eq_of, ne_of_false}
+use Rattle.vg_scan.proofs.PlainLemmas.{no_mark}
 
 -- a byte that begins nothing stays
 keeps : (b : ℕ) (bs : List ℕ) → is_mark b ≡ false → cleared_in Outside bs ≡ bs → cleared_in Outside (b ∷ bs) ≡ b ∷ bs
@@ -55,12 +52,9 @@ begins c (d ∷ ds) =
 both_true : (a b : Bool) → a ≡ true → b ≡ true → (a && b) ≡ true
 both_true a b e f = rw (e, f) refl
 
-eq_yes : (a b : ℕ) → a ≡ b → eqb a b ≡ true
-eq_yes a b e = grind (arith, nat_tests)
-
 not_both : (b c w m : ℕ) → ((b == 47) && (c == m)) ≡ false → (m ≡ 32 → ⊥) → (w ≡ c) ⊎ (w ≡ 32) → b ≡ 47 → w ≡ m → ⊥
 not_both b c w m n far either e f = elim either [
-  | inl same ↦ (let yes : ((b == 47) && (c == m)) ≡ true = both_true _ _ (eq_yes b 47 e) (eq_yes c m (sym same ∙ f)) in absurd (cc))
+  | inl same ↦ (let yes : ((b == 47) && (c == m)) ≡ true = both_true _ _ (eq_test b 47 e) (eq_test c m (sym same ∙ f)) in absurd (cc))
   | inr space ↦ far (sym f ∙ space)
 ]
 

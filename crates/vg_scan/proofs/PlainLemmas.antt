@@ -23,7 +23,8 @@ none_before test bytes at m l k low high =
 pub plain_before : (bytes : List ℕ) (at m : ℕ) → m ≤ position_or_len is_mark (part bytes at (length bytes)) → (k : ℕ) → at ≤ k → k < at + m → is_mark (get_or bytes k 0) ≡ false
 plain_before = none_before is_mark
 
-no_mark : (b m : ℕ) → is_mark b ≡ false → is_mark m ≡ true → b ≡ m → ⊥
+-- a byte that is no mark is none of the marks
+pub no_mark : (b m : ℕ) → is_mark b ≡ false → is_mark m ≡ true → b ≡ m → ⊥
 no_mark b m e f g = grind (arith, nat_tests)
 
 -- they stay as they are

@@ -1,6 +1,6 @@
 -- A text whose comments become blank in place.
 use Rattle.std.proofs.Common.{◌≡◌, ℕ, ◌+◌, ◌-◌, ◌<◌, ◌≤◌, false, List, [], ◌∷◌, ◌++◌, length, take, take_all, drop, get_or, replicate, arith, refl, sym, ap, ◌∙◌, length-drop, drop-drop, append_assoc, Bool, true, cond}
-use Rattle.std.proofs.lemmas.List.{take_more, drop_all}
+use Rattle.std.proofs.lemmas.List.{take_more, drop_all, append-nil}
 use Rattle.std.proofs.Math.Seq.{take-add}
 use Rattle.std.proofs.lemmas.Grind.{common_steps}
 use Rattle.vg_scan.specs.Lines.{is_newline}
@@ -162,17 +162,13 @@ nothing_cleared Quoted = refl
 nothing_cleared InLine = refl
 nothing_cleared InBlock = refl
 
-append_none : (xs : List ℕ) → xs ++ [] ≡ xs
-append_none [] = refl
-append_none (x ∷ xs) = ap (λ ys. x ∷ ys) (append_none xs)
-
 -- the whole text was taken
 pub all_turned : (text : List ℕ) (scan : Scan) (at : ℕ) → length text ≤ at → take at text ++ cleared_in scan (drop at text) ≡ text
 all_turned text scan at l =
     ap (λ xs. xs ++ cleared_in scan (drop at text)) (take_all at text l)
     ∙ ap (λ xs. text ++ cleared_in scan xs) (drop_all at text l)
     ∙ ap (λ xs. text ++ xs) (nothing_cleared scan)
-    ∙ append_none text
+    ∙ append-nil text
 
 pub newline_stays : (b : ℕ) → b ≡ 10 → b ≡ blanked b
 newline_stays b e = rw (eq_test b 10 e) e
