@@ -1,5 +1,5 @@
 -- A draft, one line later.
-use Rattle.std.proofs.Common.{◌≡◌, ℕ, Bool, true, false, ◌||◌, map, List, [], ◌∷◌, ◌++◌, refl, sym, ap, ◌∙◌, subst, Option, Some, is_some, Ok, append_assoc}
+use Rattle.std.proofs.Common.{◌≡◌, ℕ, Bool, true, false, ◌||◌, cond, eqb, map, List, [], ◌∷◌, ◌++◌, refl, sym, ap, ◌∙◌, subst, Option, Some, Ok, append_assoc}
 use Rattle.std.proofs.lemmas.List.{append-nil}
 use Rattle.std.proofs.lemmas.List.Elements.{filter_map-append}
 use Rattle.std.proofs.lemmas.List.Sums.{fold-append}
@@ -9,20 +9,22 @@ use Rattle.vg_scan.specs.declared.name.NodeName.{NodeName}
 use Rattle.spef_net.specs.declared.net.ConnKind.{ConnKind}
 use Rattle.spef_net.specs.declared.net.Direction.{Direction}
 use Rattle.spef_net.specs.declared.part.Part.{Part}
-use Rattle.spef_net.specs.declared.saying.Saying.TheVariants.{Opens, Nothing, Connects, Star, Ground, Coupling, Resistor}
-use Rattle.spef_net.specs.Names.{with_node, node_value, distinct}
+use Rattle.spef_net.specs.Sayings.{Opens, Nothing, Connects, Star, Ground, Coupling, Resistor}
+use Rattle.spef_net.specs.Names.{has_node, with_node, distinct}
+use Rattle.spef_net.specs.Nodes.{Note, fresh, joined, starred, note_at, is_starred}
 use Rattle.spef_net.specs.Sayings.{Said}
-use Rattle.spef_net.specs.Rows.{conn_in, joined_in, starred_in, cap_in, res_in, named_in, own_one, is_inductance, conns_of, starred_of, caps_of, ress_of, nodes_of}
+use Rattle.spef_net.specs.Rows.{conn_in, joined_in, starred_in, cap_in, res_in, named_in, own_one, is_inductance, conns_of, joined_of, starred_of, caps_of, ress_of, nodes_of}
 use Rattle.spef_net.specs.Denoted.{AreConns, AreCaps, AreRess}
-use Rattle.spef_net.specs.Drafts.{Sketch, IsSketch, is_known}
-use Rattle.spef_net.proofs.NodeLists.{any-last, known-with_node, conns_grow, caps_grow, ress_grow, conns_more, caps_more, ress_more, value-again, value-more, slice_get-with_node}
+use Rattle.spef_net.specs.Drafts.{Sketch, IsSketch, is_known, noted_by, AreNoted}
+use Rattle.spef_net.proofs.NodeLists.{any-last, known-with_node, conns_grow, caps_grow, ress_grow, conns_more, caps_more, ress_more, slice_get-with_node}
+use Rattle.spef_net.proofs.OneNet.{Apart, apart_if, apart_fold}
+use Rattle.spef_net.proofs.NotedLemmas.{noted_kept, noted_grow, noted_conn, noted_star, noted_again}
 
 -- what a draft is after one line more
 pub record IsNext (connected : List NodeName) (net : List ℕ) (before : List Said) (old : Sketch) (line : Said) (new : Sketch) : Type 0 where
   pub nodes : new.nodes ≡ fold with_node old.nodes (named_in connected net line)
   pub own : (node : NodeName) → is_known new.nodes net node ≡ is_known old.nodes net node
-  pub joined : new.joined ≡ old.joined ++ cons_option (joined_in line) []
-  pub starred : (node : NodeName) → node_value new.starred node ≡ node_value (starred_of before ++ cons_option (starred_in line) []) node
+  pub noted : AreNoted new.nodes new.notes (joined_of before ++ cons_option (joined_in line) []) (starred_of before ++ cons_option (starred_in line) [])
   pub conns : AreConns new.nodes new.conns (conns_of before ++ cons_option (conn_in line) [])
   pub caps : AreCaps new.nodes new.caps (caps_of connected net before ++ cons_option (cap_in connected net line) [])
   pub ress : AreRess new.nodes new.ress (ress_of before ++ cons_option (res_in line) [])
@@ -43,8 +45,8 @@ pub sketch_more : (connected : List NodeName) (net : List ℕ) (before : List Sa
 sketch_more connected net before old line new s n = record {
   nodes = n.nodes ∙ ap (λ ns. fold with_node ns (named_in connected net line)) s.nodes ∙ sym (nodes-last connected net before line);
   own = λ node. n.own node ∙ s.own node;
-  joined = n.joined ∙ ap (λ rows. rows ++ cons_option (joined_in line) []) s.joined ∙ sym (kept-last joined_in before line);
-  starred = λ node. n.starred node ∙ ap (λ rows. node_value rows node) (sym (kept-last starred_in before line));
+  noted = subst (λ js. AreNoted new.nodes new.notes js (starred_of (before ++ line ∷ []))) (sym (kept-last joined_in before line))
+      (subst (λ ss. AreNoted new.nodes new.notes (joined_of before ++ cons_option (joined_in line) []) ss) (sym (kept-last starred_in before line)) n.noted);
   conns = subst (λ rows. AreConns new.nodes new.conns rows) (sym (kept-last conn_in before line)) n.conns;
   caps = subst (λ rows. AreCaps new.nodes new.caps rows) (sym (kept-last (cap_in connected net) before line)) n.caps;
   ress = subst (λ rows. AreRess new.nodes new.ress rows) (sym (kept-last res_in before line)) n.ress;
@@ -73,8 +75,7 @@ pub head_next : (connected : List NodeName) (net : List ℕ) (before : List Said
 head_next connected net before old part inductive s e = record {
   nodes = refl;
   own = λ node. refl;
-  joined = no_more old.joined;
-  starred = λ node. s.starred node ∙ ap (λ rows. node_value rows node) (no_more (starred_of before));
+  noted = noted_kept old.nodes old.notes (joined_of before) (starred_of before) s.noted;
   conns = s.conns ∙ no_conn (conns_of before);
   caps = s.caps ∙ no_cap (caps_of connected net before);
   ress = s.ress ∙ no_res (ress_of before);
@@ -86,50 +87,62 @@ pub nothing_next : (connected : List NodeName) (net : List ℕ) (before : List S
 nothing_next connected net before old s = record {
   nodes = refl;
   own = λ node. refl;
-  joined = no_more old.joined;
-  starred = λ node. s.starred node ∙ ap (λ rows. node_value rows node) (no_more (starred_of before));
+  noted = noted_kept old.nodes old.notes (joined_of before) (starred_of before) s.noted;
   conns = s.conns ∙ no_conn (conns_of before);
   caps = s.caps ∙ no_cap (caps_of connected net before);
   ress = s.ress ∙ no_res (ress_of before);
   inductive = or_false old.inductive;
 }
 
+-- what is noted at a node's number
+pub noted_there : (connected : List NodeName) (net : List ℕ) (before : List Said) (old : Sketch) (node : NodeName) (id : ℕ) → IsSketch connected net before old
+    → slice_get (with_node old.nodes node) id ≡ Some node → note_at old.notes id ≡ noted_by (joined_of before) (starred_of before) node
+noted_there connected net before old node id s at = (noted_grow old.nodes node old.notes (joined_of before) (starred_of before) s.noted).here id node at
+
+-- no node of a draft is another one of it
+apart_more : (connected : List NodeName) (net : List ℕ) (before : List Said) (old : Sketch) (node : NodeName) → IsSketch connected net before old → Apart (with_node old.nodes node)
+apart_more connected net before old node s =
+    apart_if (has_node old.nodes node) old.nodes node refl (subst (λ ns. Apart ns) (sym s.nodes) (apart_fold (connected ++ flat_map (named_in connected net) before) [] tt))
+
 -- a connection
-pub conn_next : (connected : List NodeName) (net : List ℕ) (before : List Said) (old : Sketch) (kind : ConnKind) (direction : Direction) (node : NodeName) (note : List ℕ) (id : ℕ) → IsSketch connected net before old
-    → is_known old.nodes net node ≡ true → slice_get (with_node old.nodes node) id ≡ Some node
-    → IsNext connected net before old (Ok (Connects kind direction node note)) (record old { nodes = with_node old.nodes node; joined = old.joined ++ (node, note) ∷ []; conns = old.conns ++ record { kind = kind; node = id; direction = direction } ∷ [] })
-conn_next connected net before old kind direction node note id s known at = record {
+pub conn_next : (connected : List NodeName) (net : List ℕ) (before : List Said) (old : Sketch) (kind : ConnKind) (direction : Direction) (node : NodeName) (note : List ℕ) (id : ℕ) (notes : List Note) → IsSketch connected net before old
+    → is_known old.nodes net node ≡ true → slice_get (with_node old.nodes node) id ≡ Some node → noted_by (joined_of before) (starred_of before) node ≡ fresh
+    → ((i : ℕ) → note_at notes i ≡ cond (eqb i id) (joined note) (note_at old.notes i))
+    → IsNext connected net before old (Ok (Connects kind direction node note)) (record old { nodes = with_node old.nodes node; notes = notes; conns = old.conns ++ record { kind = kind; node = id; direction = direction } ∷ [] })
+conn_next connected net before old kind direction node note id notes s known at none put = record {
   nodes = refl;
   own = λ q. known-with_node old.nodes net node q known;
-  joined = refl;
-  starred = λ node. s.starred node ∙ ap (λ rows. node_value rows node) (no_more (starred_of before));
+  noted = subst (λ ss. AreNoted (with_node old.nodes node) notes (joined_of before ++ (node, note) ∷ []) ss) (no_more (starred_of before))
+      (noted_conn (with_node old.nodes node) old.notes notes (joined_of before) (starred_of before) node note id (noted_grow old.nodes node old.notes (joined_of before) (starred_of before) s.noted) (apart_more connected net before old node s) at none put);
   conns = conns_more (with_node old.nodes node) old.conns (conns_of before) kind id node direction (conns_grow old.nodes node old.conns (conns_of before) s.conns) at;
   caps = caps_grow old.nodes node old.caps (caps_of connected net before) s.caps ∙ no_cap (caps_of connected net before);
   ress = ress_grow old.nodes node old.ress (ress_of before) s.ress ∙ no_res (ress_of before);
   inductive = or_false old.inductive;
 }
 
--- a `*N` line of a new node, and one of a node that has a note
-pub star_next : (connected : List NodeName) (net : List ℕ) (before : List Said) (old : Sketch) (node : NodeName) (note : List ℕ) → IsSketch connected net before old → is_known old.nodes net node ≡ true
-    → IsNext connected net before old (Ok (Star node note)) (record old { nodes = with_node old.nodes node; starred = old.starred ++ (node, note) ∷ [] })
-star_next connected net before old node note s known = record {
+-- a `*N` line of a node without a note, and one of a node that has a note
+pub star_next : (connected : List NodeName) (net : List ℕ) (before : List Said) (old : Sketch) (node : NodeName) (note : List ℕ) (id : ℕ) (notes : List Note) → IsSketch connected net before old
+    → is_known old.nodes net node ≡ true → slice_get (with_node old.nodes node) id ≡ Some node → noted_by (joined_of before) (starred_of before) node ≡ fresh
+    → ((i : ℕ) → note_at notes i ≡ cond (eqb i id) (starred note) (note_at old.notes i))
+    → IsNext connected net before old (Ok (Star node note)) (record old { nodes = with_node old.nodes node; notes = notes })
+star_next connected net before old node note id notes s known at none put = record {
   nodes = refl;
   own = λ q. known-with_node old.nodes net node q known;
-  joined = no_more old.joined;
-  starred = λ q. value-more old.starred (starred_of before) node q note (s.starred q);
+  noted = subst (λ js. AreNoted (with_node old.nodes node) notes js (starred_of before ++ (node, note) ∷ [])) (no_more (joined_of before))
+      (noted_star (with_node old.nodes node) old.notes notes (joined_of before) (starred_of before) node note id (noted_grow old.nodes node old.notes (joined_of before) (starred_of before) s.noted) (apart_more connected net before old node s) at none put);
   conns = conns_grow old.nodes node old.conns (conns_of before) s.conns ∙ no_conn (conns_of before);
   caps = caps_grow old.nodes node old.caps (caps_of connected net before) s.caps ∙ no_cap (caps_of connected net before);
   ress = ress_grow old.nodes node old.ress (ress_of before) s.ress ∙ no_res (ress_of before);
   inductive = or_false old.inductive;
 }
 
-pub again_next : (connected : List NodeName) (net : List ℕ) (before : List Said) (old : Sketch) (node : NodeName) (note : List ℕ) → IsSketch connected net before old → is_known old.nodes net node ≡ true → is_some (node_value old.starred node) ≡ true
+pub again_next : (connected : List NodeName) (net : List ℕ) (before : List Said) (old : Sketch) (node : NodeName) (note : List ℕ) → IsSketch connected net before old → is_known old.nodes net node ≡ true → is_starred (noted_by (joined_of before) (starred_of before) node) ≡ true
     → IsNext connected net before old (Ok (Star node note)) (record old { nodes = with_node old.nodes node })
 again_next connected net before old node note s known there = record {
   nodes = refl;
   own = λ q. known-with_node old.nodes net node q known;
-  joined = no_more old.joined;
-  starred = λ q. s.starred q ∙ sym (value-again (starred_of before) node q note (ap is_some (sym (s.starred node)) ∙ there));
+  noted = subst (λ js. AreNoted (with_node old.nodes node) old.notes js (starred_of before ++ (node, note) ∷ [])) (no_more (joined_of before))
+      (noted_again (with_node old.nodes node) old.notes (joined_of before) (starred_of before) node note (noted_grow old.nodes node old.notes (joined_of before) (starred_of before) s.noted) there);
   conns = conns_grow old.nodes node old.conns (conns_of before) s.conns ∙ no_conn (conns_of before);
   caps = caps_grow old.nodes node old.caps (caps_of connected net before) s.caps ∙ no_cap (caps_of connected net before);
   ress = ress_grow old.nodes node old.ress (ress_of before) s.ress ∙ no_res (ress_of before);
@@ -142,8 +155,7 @@ pub ground_next : (connected : List NodeName) (net : List ℕ) (before : List Sa
 ground_next connected net before old node value id s known at = record {
   nodes = refl;
   own = λ q. known-with_node old.nodes net node q known;
-  joined = no_more old.joined;
-  starred = λ node. s.starred node ∙ ap (λ rows. node_value rows node) (no_more (starred_of before));
+  noted = noted_kept (with_node old.nodes node) old.notes (joined_of before) (starred_of before) (noted_grow old.nodes node old.notes (joined_of before) (starred_of before) s.noted);
   conns = conns_grow old.nodes node old.conns (conns_of before) s.conns ∙ no_conn (conns_of before);
   caps = caps_more (with_node old.nodes node) old.caps (caps_of connected net before) id node value (caps_grow old.nodes node old.caps (caps_of connected net before) s.caps) at;
   ress = ress_grow old.nodes node old.ress (ress_of before) s.ress ∙ no_res (ress_of before);
@@ -155,8 +167,7 @@ pub coupling_next : (connected : List NodeName) (net : List ℕ) (before : List 
 coupling_next connected net before old a b node value id is s known at = record {
   nodes = ap (with_node old.nodes) is;
   own = λ q. known-with_node old.nodes net node q known;
-  joined = no_more old.joined;
-  starred = λ node. s.starred node ∙ ap (λ rows. node_value rows node) (no_more (starred_of before));
+  noted = noted_kept (with_node old.nodes node) old.notes (joined_of before) (starred_of before) (noted_grow old.nodes node old.notes (joined_of before) (starred_of before) s.noted);
   conns = conns_grow old.nodes node old.conns (conns_of before) s.conns ∙ no_conn (conns_of before);
   caps = subst (λ n. AreCaps (with_node old.nodes node) (old.caps ++ (id, value) ∷ []) (caps_of connected net before ++ (n, value) ∷ [])) is (caps_more (with_node old.nodes node) old.caps (caps_of connected net before) id node value (caps_grow old.nodes node old.caps (caps_of connected net before) s.caps) at);
   ress = ress_grow old.nodes node old.ress (ress_of before) s.ress ∙ no_res (ress_of before);
@@ -170,8 +181,8 @@ pub resistor_next : (connected : List NodeName) (net : List ℕ) (before : List 
 resistor_next connected net before old a b value i j s known also at after = record {
   nodes = refl;
   own = λ q. known-with_node (with_node old.nodes a) net b q (known-with_node old.nodes net a b known ∙ also) ∙ known-with_node old.nodes net a q known;
-  joined = no_more old.joined;
-  starred = λ node. s.starred node ∙ ap (λ rows. node_value rows node) (no_more (starred_of before));
+  noted = noted_kept (with_node (with_node old.nodes a) b) old.notes (joined_of before) (starred_of before)
+      (noted_grow (with_node old.nodes a) b old.notes (joined_of before) (starred_of before) (noted_grow old.nodes a old.notes (joined_of before) (starred_of before) s.noted));
   conns = conns_grow (with_node old.nodes a) b old.conns (conns_of before) (conns_grow old.nodes a old.conns (conns_of before) s.conns) ∙ no_conn (conns_of before);
   caps = caps_grow (with_node old.nodes a) b old.caps (caps_of connected net before) (caps_grow old.nodes a old.caps (caps_of connected net before) s.caps) ∙ no_cap (caps_of connected net before);
   ress = ress_more (with_node (with_node old.nodes a) b) old.ress (ress_of before) i j a b value (ress_grow (with_node old.nodes a) b old.ress (ress_of before) (ress_grow old.nodes a old.ress (ress_of before) s.ress)) (slice_get-with_node (with_node old.nodes a) b i a at) after;

@@ -1,31 +1,43 @@
 -- The net of a draft is what the lines denote.
-use Rattle.std.proofs.Common.{◌≡◌, ℕ, Bool, not, List, [], ◌∷◌, map, refl, sym, ap, ◌∙◌, subst, Option, is_some}
+use Rattle.std.proofs.Common.{◌≡◌, ℕ, suc, drop, Bool, not, List, [], ◌∷◌, map, refl, sym, ap, ◌∙◌, subst, Option, Some, None, is_some}
 use Rattle.std.specs.Option.{option_or, unwrap_or}
+use Rattle.std.specs.List.{slice_get}
 use Rattle.vg_scan.specs.declared.name.NodeName.{NodeName}
 use Rattle.spef_net.specs.declared.net.ParConn.{ParConn}
-use Rattle.spef_net.specs.declared.net.ParNode.{ParNode}
+use Rattle.spef_net.specs.Nodes.{ParNode, Note, note_at, noted, noted_all}
 use Rattle.spef_net.specs.declared.net.ParNet.{ParNet}
 use Rattle.spef_net.specs.Names.{node_value}
 use Rattle.spef_net.specs.Sayings.{Said}
 use Rattle.spef_net.specs.Rows.{joined_of, starred_of, connected_of, conns_of, caps_of, ress_of}
 use Rattle.spef_net.specs.Denoted.{described, AreConns, AreCaps, AreRess, all_nodes, IsNet}
-use Rattle.spef_net.specs.Drafts.{Sketch, IsSketch, IsMade}
+use Rattle.spef_net.specs.Drafts.{Sketch, IsSketch, note_from, IsMade}
 
--- notes depend on what nodes have
-same_notes : (joined xs ys : List (NodeName × List ℕ)) (node : NodeName) → node_value xs node ≡ node_value ys node → described joined xs node ≡ described joined ys node
-same_notes joined xs ys node e = ap (λ (o : Option (List ℕ)). let row : ParNode = record { name = node; inner = not (is_some (node_value joined node)); note = unwrap_or (option_or (node_value joined node) o) [] } in row) e
+-- a node with what is noted of it is the node that is described
+described_is : (j t : Option (List ℕ)) (node : NodeName)
+    → noted node (note_from j t) ≡ record { name = node; inner = not (is_some j); note = unwrap_or (option_or j t) [] }
+described_is None None node = refl
+described_is None (Some text) node = refl
+described_is (Some text) t node = refl
 
-map_same : {A B : Type 0} (f g : A → B) (xs : List A) → ((x : A) → f x ≡ g x) → map f xs ≡ map g xs
-map_same f g [] h = refl
-map_same f g (x ∷ xs) h = let a : f x ≡ g x = h x in let b : map f xs ≡ map g xs = map_same f g xs h in cc
+note_later : (notes : List Note) (i : ℕ) → note_at (drop 1 notes) i ≡ note_at notes (suc i)
+note_later [] i = refl
+note_later (n ∷ ns) i = refl
+
+all_noted : (nodes : List NodeName) (notes : List Note) (f : NodeName → ParNode) → ((i : ℕ) (node : NodeName) → slice_get nodes i ≡ Some node → noted node (note_at notes i) ≡ f node) → noted_all nodes notes ≡ map f nodes
+unfolding noted_all
+all_noted [] notes f h = refl
+all_noted (x ∷ xs) notes f h =
+    let a : noted x (note_at notes 0) ≡ f x = h 0 x refl in
+    let b : noted_all xs (drop 1 notes) ≡ map f xs = all_noted xs (drop 1 notes) f (λ i node e. ap (noted node) (note_later notes i) ∙ h (suc i) node e) in
+    cc
 
 pub made_net : (name : List ℕ) (reduced : Bool) (all : List Said) (draft : Sketch) (net : ParNet)
     → IsSketch (connected_of all) name all draft → IsMade name reduced draft net → IsNet name reduced all net
 made_net name reduced all draft net s m = record {
   named = m.named;
   nodes = m.nodes
-      ∙ ap (λ rows. map (described rows draft.starred) draft.nodes) s.joined
-      ∙ map_same (described (joined_of all) draft.starred) (described (joined_of all) (starred_of all)) draft.nodes (λ node. same_notes (joined_of all) draft.starred (starred_of all) node (s.starred node))
+      ∙ all_noted draft.nodes draft.notes (described (joined_of all) (starred_of all))
+      (λ i node e. ap (noted node) (s.noted.here i node e) ∙ described_is (node_value (joined_of all) node) (node_value (starred_of all) node) node)
       ∙ ap (map (described (joined_of all) (starred_of all))) s.nodes;
   conns = subst (λ (rows : List ParConn). AreConns (all_nodes name all) rows (conns_of all)) (sym m.conns) (subst (λ (ns : List NodeName). AreConns ns draft.conns (conns_of all)) s.nodes s.conns);
   caps = subst (λ (rows : List (ℕ × ℕ)). AreCaps (all_nodes name all) rows (caps_of (connected_of all) name all)) (sym m.caps) (subst (λ (ns : List NodeName). AreCaps ns draft.caps (caps_of (connected_of all) name all)) s.nodes s.caps);

@@ -1,10 +1,14 @@
 pub mod PlaceLemmas
-pub mod TableLemmas
 pub mod NodeLemmas
 pub mod NodeLists
+pub mod SpellLemmas
+pub mod NoteLemmas
+pub mod NodeTableLemmas
+pub mod NotedLemmas
 pub mod DraftLemmas
 pub mod TakeLemmas
 pub mod LineLemmas
+pub mod SeenLemmas
 pub mod FinishLemmas
 pub mod OneNet
 pub mod SizeLemmas

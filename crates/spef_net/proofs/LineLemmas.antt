@@ -1,6 +1,6 @@
 -- One line of a section after another.
-use Rattle.std.proofs.Common.{◌≡◌, ℕ, zero, suc, ◌+◌, ◌-◌, ◌<◌, ◌≤◌, true, false, ◌||◌, List, [], ◌∷◌, ◌++◌, map, length, take, drop, get_or, refl, sym, ap, ◌∙◌, arith, drop-cons, length-drop, add-one, Option, Some, None, ◌⊎◌, inl, inr, Result, Ok, Err, below_more, eqb, take_all}
-use Rattle.std.proofs.lemmas.List.{take_more, length-map, append-nil}
+use Rattle.std.proofs.Common.{◌≡◌, ℕ, zero, suc, ◌+◌, ◌-◌, ◌<◌, ◌≤◌, Bool, true, false, cond, ◌||◌, List, [], ◌∷◌, ◌++◌, map, length, take, drop, get_or, refl, sym, ap, ◌∙◌, arith, drop-cons, length-drop, add-one, Option, Some, None, ◌⊎◌, inl, inr, Result, Ok, Err, below_more, take_all}
+use Rattle.std.proofs.lemmas.List.{take_more, append-nil}
 use Rattle.std.proofs.lemmas.Slice.Eq.{bytes_eq-Decides}
 use Rattle.std.specs.List.{fold, filter_map, cons_option}
 use Rattle.vg_num.specs.declared.fault.NumFault.{NumFault}
@@ -11,21 +11,27 @@ use Rattle.spef_net.specs.declared.part.Part.{Part}
 use Rattle.spef_net.specs.declared.part.Part.TheVariants.{Nowhere, Conns, Caps, Ress, Inducs}
 use Rattle.spef_net.specs.declared.fault.NetKind.{NetKind}
 use Rattle.spef_net.specs.declared.fault.NetKind.TheVariants.{Conn, Cap, Res, Number, Foreign, SelfCoupled, Memory}
-use Rattle.spef_net.specs.declared.saying.Saying.TheVariants.{Opens, Nothing, Connects, Star, Ground, Coupling, Resistor}
-use Rattle.spef_net.specs.Names.{same_node, has_node, with_node, distinct}
-use Rattle.spef_net.specs.Sayings.{Said, ground, coupling, resistor, cap_line, res_line, said_words, said, part_after, sayings_from}
+use Rattle.spef_net.specs.Sayings.{Opens, Nothing, Connects, Star, Ground, Coupling, Resistor}
+use Rattle.spef_net.specs.Names.{node_in, same_node, has_node, with_node, distinct}
+use Rattle.spef_net.specs.Sayings.{Said, ground, coupling, resistor, cap_line, res_line, conn_line, connection, connected, star, starred, is_at, direction_in, said_in, said, part_after, sayings_from}
+use Rattle.spef_net.specs.Lines.{note_after}
+use Rattle.spef_net.specs.declared.net.ConnKind.{ConnKind}
+use Rattle.spef_net.specs.declared.net.ConnKind.TheVariants.{Pin, Port}
+use Rattle.spef_net.specs.declared.net.Direction.{Direction}
+use Rattle.std.specs.Prelude.{codes}
+use Rattle.std.specs.Str.{bytes_eq}
 use Rattle.spef_net.specs.Rows.{joined_in, connected_of}
 use Rattle.spef_net.specs.Faults.{fault_of, fault_at, IsClear, IsFirstFault}
 use Rattle.spef_net.specs.Drafts.{Sketch, IsSketch, IsCounted, Takes}
-use Rattle.spef_net.specs.Surveys.{matters, with_joined}
+use Rattle.spef_net.specs.Surveys.{is_conns, with_joined}
 use Rattle.spef_net.specs.Views.{IsFaultOrMemory, fault_in}
 use Rattle.spef_net.proofs.NodeLists.{has-distinct}
 use Rattle.spef_net.proofs.TakeLemmas.{or_right}
 
 -- a line that opens no part and names no connection
-record IsQuiet (line : Said) : Type 0 where
-  part : (part : Part) → part ≡ part_after part line
-  joined : joined_in line ≡ None
+pub record IsQuiet (line : Said) : Type 0 where
+  pub part : (part : Part) → part ≡ part_after part line
+  pub joined : joined_in line ≡ None
 
 bad : (kind : NetKind) → IsQuiet (Err kind)
 bad kind = record { part = λ part. refl; joined = refl }
@@ -60,22 +66,56 @@ res-quiet file (a ∷ b ∷ c ∷ []) = bad Res
 res-quiet file (a ∷ b ∷ c ∷ d ∷ []) = resistor-quiet _ _
 res-quiet file (a ∷ b ∷ c ∷ d ∷ e ∷ es) = bad Res
 
-quiet : (file : File) (part : Part) (line : List ℕ) (ws : Line) → matters part (length ws) ≡ false → IsQuiet (said_words file part line ws)
-unfolding said_words
-quiet file part line [] e = record { part = λ part. refl; joined = refl }
-quiet file part line (a ∷ []) e = absurd (cc)
-quiet file Nowhere line (a ∷ b ∷ ws) e = bad Conn
-quiet file Conns line (a ∷ b ∷ ws) e = absurd (let h = or_right (eqb (length (a ∷ b ∷ ws)) 1) true refl in cc)
-quiet file Caps line (a ∷ b ∷ ws) e = cap-quiet file (a ∷ b ∷ ws)
-quiet file Ress line (a ∷ b ∷ ws) e = res-quiet file (a ∷ b ∷ ws)
-quiet file Inducs line (a ∷ b ∷ ws) e = record { part = λ part. refl; joined = refl }
+-- where no connections stand, a line that is no head is such a one
+pub quiet : (file : File) (part : Part) (line : List ℕ) (ws : Line) → is_conns part ≡ false → IsQuiet (said_in part file line ws)
+quiet file Nowhere line ws e = bad Conn
+quiet file Conns line ws e = absurd (cc)
+quiet file Caps line ws e = cap-quiet file ws
+quiet file Ress line ws e = res-quiet file ws
+quiet file Inducs line ws e = record { part = λ part. refl; joined = refl }
 
--- such a line changes nothing in the survey
-pub passed_over : {X : Type 0} (file : File) (part : Part) (line : List ℕ) (view : X → List ℕ) (ws : List X) (nodes : List NodeName) → matters part (length ws) ≡ false
-    → (part ≡ part_after part (said_words file part line (map view ws))) × (nodes ≡ with_joined nodes (joined_in (said_words file part line (map view ws))))
-passed_over file part line view ws nodes e =
-    let q = quiet file part line (map view ws) (ap (matters part) (length-map ws view) ∙ e) in
-    (q.part part, sym (ap (with_joined nodes) q.joined))
+connected-part : (kind : ConnKind) (note : List ℕ) (node : Option NodeName) (direction : Option Direction) (part : Part) → part ≡ part_after part (connected kind note node direction)
+connected-part kind note (Some node) (Some direction) part = by_test (is_at kind node)
+  where
+    by_test : (b : Bool) → part ≡ part_after part (cond b (Ok (Connects kind direction node note)) (Err Conn))
+    by_test true = refl
+    by_test false = refl
+connected-part kind note (Some node) None part = refl
+connected-part kind note None direction part = refl
+
+connection-part : (file : File) (kind : ConnKind) (line : List ℕ) (ws : Line) (part : Part) → part ≡ part_after part (connection file kind line ws)
+connection-part file kind line [] part = refl
+connection-part file kind line (a ∷ []) part = refl
+connection-part file kind line (a ∷ b ∷ ws) part = connected-part kind (note_after 3 line) (node_in file a) (direction_in b) part
+
+starred-part : (note : List ℕ) (node : Option NodeName) (part : Part) → part ≡ part_after part (starred note node)
+starred-part note (Some node) part = refl
+starred-part note None part = refl
+
+star-part : (file : File) (line : List ℕ) (ws : Line) (part : Part) → part ≡ part_after part (star file line ws)
+star-part file line [] part = refl
+star-part file line (a ∷ ws) part = starred-part (note_after 2 line) (node_in file a) part
+
+tag-part : (p q r : Bool) (a b c : Said) (part : Part) → part ≡ part_after part a → part ≡ part_after part b → part ≡ part_after part c → part ≡ part_after part (cond p a (cond q b (cond r c (Err Conn))))
+tag-part true q r a b c part x y z = x
+tag-part false true r a b c part x y z = y
+tag-part false false true a b c part x y z = z
+tag-part false false false a b c part x y z = refl
+
+conn-part : (file : File) (line : List ℕ) (ws : Line) (part : Part) → part ≡ part_after part (conn_line file line ws)
+unfolding conn_line
+conn-part file line [] part = refl
+conn-part file line (tag ∷ ws) part =
+    tag-part (bytes_eq tag (codes "*I")) (bytes_eq tag (codes "*P")) (bytes_eq tag (codes "*N")) (connection file Pin line ws) (connection file Port line ws) (star file line ws) part
+    (connection-part file Pin line ws part) (connection-part file Port line ws part) (star-part file line ws part)
+
+-- a line that is no head opens no part
+pub same_part : (file : File) (within part : Part) (line : List ℕ) (ws : Line) → part ≡ part_after part (said_in within file line ws)
+same_part file Nowhere part line ws = refl
+same_part file Conns part line ws = conn-part file line ws part
+same_part file Caps part line ws = (cap-quiet file ws).part part
+same_part file Ress part line ws = (res-quiet file ws).part part
+same_part file Inducs part line ws = refl
 
 -- the lines that are left
 pub left : (file : File) (part : Part) (line : List ℕ) (others : List (List ℕ)) → sayings_from file part (line ∷ others) ≡ said file part line ∷ sayings_from file (part_after part (said file part line)) others
@@ -168,12 +208,11 @@ is_counted all n (Ok (Resistor a b value)) others e = tt
 
 -- before the first line
 pub no_lines : (connected : List NodeName) (net : List ℕ) (nodes : List NodeName) → nodes ≡ distinct connected
-    → IsSketch connected net [] (record { nodes = nodes; joined = []; starred = []; conns = []; caps = []; ress = []; inductive = false })
+    → IsSketch connected net [] (record { nodes = nodes; notes = []; conns = []; caps = []; ress = []; inductive = false })
 no_lines connected net nodes e = record {
   nodes = e ∙ ap distinct (sym (append-nil connected));
   own = λ node. ap (λ ns. has_node ns node || Rattle.spef_net.specs.Names.is_inner net node) e ∙ ap (λ b. b || Rattle.spef_net.specs.Names.is_inner net node) (has-distinct connected node);
-  joined = refl;
-  starred = λ node. refl;
+  noted = record { here = λ i node at. refl; beyond = λ i low. refl; others = λ node f. refl };
   conns = refl;
   caps = refl;
   ress = refl;

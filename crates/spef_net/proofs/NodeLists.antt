@@ -83,7 +83,7 @@ has_if nodes node q true e = there (same_node q node) refl
     there false _ = sym (or_false (has_node nodes q))
     there true s = let h : has_node nodes q ≡ true = ap (has_node nodes) (same_is q node s) ∙ e in rw h refl
 
-has-with_node : (nodes : List NodeName) (node q : NodeName) → has_node (with_node nodes node) q ≡ (has_node nodes q || same_node q node)
+pub has-with_node : (nodes : List NodeName) (node q : NodeName) → has_node (with_node nodes node) q ≡ (has_node nodes q || same_node q node)
 has-with_node nodes node q = has_if nodes node q (has_node nodes node) refl
 
 has-fold : (xs nodes : List NodeName) (q : NodeName) → has_node (fold with_node nodes xs) q ≡ (has_node nodes q || has_node xs q)

@@ -17,7 +17,7 @@ use Rattle.spef_net.specs.Laws.{OneNet, OneFault, FaultOrNone}
 use Rattle.spef_net.proofs.NodeLists.{same_is, any-last}
 
 -- no node of a list is another one of it
-abbrev Apart : List NodeName → Type 0
+abbrev pub Apart : List NodeName → Type 0
 Apart [] = Unit {0}
 Apart (x ∷ xs) = (has_node xs x ≡ false) × Apart xs
 
@@ -48,11 +48,11 @@ apart_last (x ∷ xs) y h f = (
   apart_last xs y h.1 (or_right (same_node y x) (has_node xs y) f),
 )
 
-apart_if : (b : Bool) (xs : List NodeName) (y : NodeName) → has_node xs y ≡ b → Apart xs → Apart (cond b xs (xs ++ y ∷ []))
+pub apart_if : (b : Bool) (xs : List NodeName) (y : NodeName) → has_node xs y ≡ b → Apart xs → Apart (cond b xs (xs ++ y ∷ []))
 apart_if true xs y e h = h
 apart_if false xs y e h = apart_last xs y h e
 
-apart_fold : (ys xs : List NodeName) → Apart xs → Apart (fold with_node xs ys)
+pub apart_fold : (ys xs : List NodeName) → Apart xs → Apart (fold with_node xs ys)
 apart_fold [] xs h = h
 apart_fold (y ∷ ys) xs h = apart_fold ys (with_node xs y) (apart_if (has_node xs y) xs y refl h)
 
@@ -65,7 +65,7 @@ same_eq a b p =
     let f : bytes_eq a.leaf b.leaf ≡ true = (bytes_eq-Decides a.leaf b.leaf).1 (ap (λ n. n.leaf) p) in
     rw (e, f) refl
 
-has_at : (xs : List NodeName) (i : ℕ) (x : NodeName) → slice_get xs i ≡ Some x → has_node xs x ≡ true
+pub has_at : (xs : List NodeName) (i : ℕ) (x : NodeName) → slice_get xs i ≡ Some x → has_node xs x ≡ true
 has_at [] i x e = absurd (cc)
 has_at (y ∷ xs) zero x e = ap (λ t. t || has_node xs x) (same_eq x y (sym (some_is y x e)))
 has_at (y ∷ xs) (suc i) x e = some (same_node x y) (has_node xs x) (has_at xs i x e)
@@ -74,7 +74,7 @@ has_at (y ∷ xs) (suc i) x e = some (same_node x y) (has_node xs x) (has_at xs 
 never : (y : NodeName) (xs : List NodeName) (j : ℕ) (x : NodeName) → has_node xs y ≡ false → Some y ≡ Some x → slice_get xs j ≡ Some x → ⊥
 never y xs j x h e f = (let k : true ≡ false = sym (has_at xs j x f) ∙ ap (has_node xs) (sym (some_is y x e)) ∙ h in absurd (cc))
 
-one_number : (xs : List NodeName) (i j : ℕ) (x : NodeName) → Apart xs → slice_get xs i ≡ Some x → slice_get xs j ≡ Some x → i ≡ j
+pub one_number : (xs : List NodeName) (i j : ℕ) (x : NodeName) → Apart xs → slice_get xs i ≡ Some x → slice_get xs j ≡ Some x → i ≡ j
 one_number [] i j x h e f = absurd (cc)
 one_number (y ∷ xs) zero zero x h e f = refl
 one_number (y ∷ xs) zero (suc j) x h e f = absurd (never y xs j x h.0 e f)

@@ -20,7 +20,7 @@ use Rattle.spef_net.specs.declared.net.ParConn.{ParConn}
 use Rattle.spef_net.specs.declared.net.ParNet.{ParNet}
 use Rattle.spef_net.specs.declared.part.Part.{Part}
 use Rattle.spef_net.specs.declared.part.Part.TheVariants.{Nowhere, Conns, Caps, Ress, Inducs}
-use Rattle.spef_net.specs.declared.saying.Saying.TheVariants.{Opens, Nothing, Connects, Star, Ground, Coupling, Resistor}
+use Rattle.spef_net.specs.Sayings.{Opens, Nothing, Connects, Star, Ground, Coupling, Resistor}
 use Rattle.spef_net.specs.Names.{has_node, with_node}
 use Rattle.spef_net.specs.Lines.{head_of}
 use Rattle.spef_net.specs.Sayings.{Said, is_colon, middle, value_of_parts, value_in, is_at, ground, coupling, resistor, cap_line, res_line, conn_line, connection, connected, star, starred, said_in, said_or_opens, said_words, said, part_after, sayings_from, sayings}

@@ -1,5 +1,5 @@
 -- A line is taken, or refused.
-use Rattle.std.proofs.Common.{◌≡◌, ℕ, Bool, true, false, ◌||◌, ◌&&◌, cond, not, List, [], ◌∷◌, ◌++◌, refl, sym, ap, ◌∙◌, subst, Option, Some, None, is_some, Result, Ok, Err}
+use Rattle.std.proofs.Common.{◌≡◌, ℕ, Bool, true, false, ◌||◌, ◌&&◌, cond, eqb, not, List, [], ◌∷◌, ◌++◌, refl, sym, ap, ◌∙◌, subst, Option, Some, None, is_some, Result, Ok, Err}
 use Rattle.vg_num.specs.declared.fault.NumFault.{NumFault}
 use Rattle.vg_scan.specs.declared.name.NodeName.{NodeName}
 use Rattle.spef_net.specs.declared.net.ConnKind.{ConnKind}
@@ -7,14 +7,19 @@ use Rattle.spef_net.specs.declared.net.Direction.{Direction}
 use Rattle.spef_net.specs.declared.part.Part.{Part}
 use Rattle.spef_net.specs.declared.fault.NetKind.{NetKind}
 use Rattle.spef_net.specs.declared.fault.NetKind.TheVariants.{Conn, Foreign, SelfCoupled}
-use Rattle.spef_net.specs.declared.saying.Saying.TheVariants.{Opens, Nothing, Connects, Star, Ground, Coupling, Resistor}
-use Rattle.spef_net.specs.Names.{has_node, node_value, is_own, is_inner}
-use Rattle.spef_net.specs.Sayings.{Said}
-use Rattle.spef_net.specs.Rows.{own_one, is_inductance, starred_of}
+use Rattle.spef_net.specs.Sayings.{Opens, Nothing, Connects, Star, Ground, Coupling, Resistor}
+use Rattle.std.specs.List.{slice_get}
+use Rattle.spef_net.specs.Names.{has_node, with_node, node_value, is_own, is_inner}
+use Rattle.spef_net.specs.Nodes.{fresh, joined, starred, note_at, is_joined, is_starred}
+use Rattle.spef_net.specs.Sayings.{Said, ground, coupling, resistor}
+use Rattle.spef_net.specs.Rows.{own_one, is_inductance, joined_of, starred_of}
 use Rattle.spef_net.specs.Faults.{number_fault, fault_of}
-use Rattle.spef_net.specs.Drafts.{Sketch, IsSketch, is_known, ConnAdded, StarAdded, ResAdded, Taken, Takes, TakesAgain, TakesValue}
+use Rattle.spef_net.specs.Drafts.{Sketch, IsSketch, is_known, noted_by, ConnAdded, AddsCap, AddsRes, Taken, Takes}
+use Rattle.spef_net.specs.Sights.{Sees, SeesTwo}
+use Rattle.spef_net.proofs.NodeLists.{known-with_node}
+use Rattle.spef_net.proofs.NotedLemmas.{again_is, joined_is, fresh_is}
 use Rattle.spef_net.specs.Views.{IsFaultOrMemory}
-use Rattle.spef_net.proofs.DraftLemmas.{IsNext, sketch_more, head_next, nothing_next, conn_next, star_next, again_next, ground_next, coupling_next, resistor_next}
+use Rattle.spef_net.proofs.DraftLemmas.{IsNext, noted_there, sketch_more, head_next, nothing_next, conn_next, star_next, again_next, ground_next, coupling_next, resistor_next}
 
 -- a line without a fault
 taken : (connected : List NodeName) (net : List ℕ) (before : List Said) (old next new : Sketch) (line : Said) (u : Unit {0}) → fault_of connected net before line ≡ None
@@ -23,17 +28,27 @@ taken connected net before old next new line u f s is n =
     (f, subst (λ (d : Sketch). IsSketch connected net (before ++ line ∷ []) d) (sym is) (sketch_more connected net before old line next s n))
 
 -- faults, by what is known
-conn_fault : (connected : List NodeName) (net : List ℕ) (before : List Said) (old : Sketch) (kind : ConnKind) (direction : Direction) (node : NodeName) (note : List ℕ) → IsSketch connected net before old
-    → fault_of connected net before (Ok (Connects kind direction node note)) ≡ cond (is_some (node_value old.joined node) || is_some (node_value old.starred node)) (Some Conn) None
+conn_fault : (connected : List NodeName) (net : List ℕ) (before : List Said) (old mid : Sketch) (kind : ConnKind) (direction : Direction) (node : NodeName) (note : List ℕ) (id : ℕ) → IsSketch connected net before old
+    → mid ≡ record old { nodes = with_node old.nodes node } → slice_get (with_node old.nodes node) id ≡ Some node
+    → fault_of connected net before (Ok (Connects kind direction node note)) ≡ cond (is_joined (note_at mid.notes id) || is_starred (note_at mid.notes id)) (Some Conn) None
 unfolding fault_of
-conn_fault connected net before old kind direction node note s =
-    sym (ap (λ rows. cond (is_some (node_value rows node) || is_some (node_value (starred_of before) node)) (Some Conn) None) s.joined)
-    ∙ sym (ap (λ o. cond (is_some (node_value old.joined node) || is_some o) (Some Conn) None) (s.starred node))
+conn_fault connected net before old mid kind direction node note id s grown at =
+    let there : note_at mid.notes id ≡ noted_by (joined_of before) (starred_of before) node = ap (λ m. note_at m.notes id) grown ∙ noted_there connected net before old node id s at in
+    sym (ap (λ b. cond b (Some Conn) None) (again_is (node_value (joined_of before) node) (node_value (starred_of before) node)))
+    ∙ sym (ap (λ n. cond (is_joined n || is_starred n) (Some Conn) None) there)
 
-star_fault : (connected : List NodeName) (net : List ℕ) (before : List Said) (old : Sketch) (node : NodeName) (note : List ℕ) → IsSketch connected net before old
-    → fault_of connected net before (Ok (Star node note)) ≡ cond (is_inner net node && not (is_some (node_value old.joined node))) None (Some Conn)
+star_fault : (connected : List NodeName) (net : List ℕ) (before : List Said) (old mid : Sketch) (node : NodeName) (note : List ℕ) (id : ℕ) → IsSketch connected net before old
+    → mid ≡ record old { nodes = with_node old.nodes node } → slice_get (with_node old.nodes node) id ≡ Some node → is_inner net node ≡ true
+    → fault_of connected net before (Ok (Star node note)) ≡ cond (not (is_joined (note_at mid.notes id))) None (Some Conn)
 unfolding fault_of
-star_fault connected net before old node note s = sym (ap (λ rows. cond (is_inner net node && not (is_some (node_value rows node))) None (Some Conn)) s.joined)
+star_fault connected net before old mid node note id s grown at inner =
+    let there : note_at mid.notes id ≡ noted_by (joined_of before) (starred_of before) node = ap (λ m. note_at m.notes id) grown ∙ noted_there connected net before old node id s at in
+    ap (λ b. cond (b && not (is_some (node_value (joined_of before) node))) None (Some Conn)) inner
+    ∙ sym (ap (λ b. cond (not b) None (Some Conn)) (ap is_joined there ∙ joined_is (node_value (joined_of before) node) (node_value (starred_of before) node)))
+
+outer_fault : (connected : List NodeName) (net : List ℕ) (before : List Said) (node : NodeName) (note : List ℕ) → is_inner net node ≡ false → fault_of connected net before (Ok (Star node note)) ≡ Some Conn
+unfolding fault_of
+outer_fault connected net before node note inner = ap (λ b. cond (b && not (is_some (node_value (joined_of before) node))) None (Some Conn)) inner
 
 ground_fault : (connected : List NodeName) (net : List ℕ) (before : List Said) (old : Sketch) (node : NodeName) (value : Result ℕ NumFault) → IsSketch connected net before old
     → fault_of connected net before (Ok (Ground node value)) ≡ cond (is_known old.nodes net node) (number_fault value) (Some Foreign)
@@ -74,25 +89,47 @@ takes_nothing net old u = λ connected before counted s.
     taken connected net before old old old (Ok Nothing) u (nothing_fault connected net before) s refl (nothing_next connected net before old s)
 
 -- connections
-pub conn_again : (net : List ℕ) (old new : Sketch) (kind : ConnKind) (direction : Direction) (node : NodeName) (note : List ℕ)
-    → (is_some (node_value old.joined node) || is_some (node_value old.starred node)) ≡ true → Takes (Err Conn) net old (Ok (Connects kind direction node note)) new
-conn_again net old new kind direction node note e = λ connected before counted s.
-    conn_fault connected net before old kind direction node note s ∙ ap (λ b. cond b (Some Conn) None) e
+pub conn_again : (net : List ℕ) (old mid new : Sketch) (kind : ConnKind) (direction : Direction) (node : NodeName) (note : List ℕ) (id : ℕ)
+    → mid ≡ record old { nodes = with_node old.nodes node } → slice_get (with_node old.nodes node) id ≡ Some node
+    → (is_joined (note_at mid.notes id) || is_starred (note_at mid.notes id)) ≡ true → Takes (Err Conn) net old (Ok (Connects kind direction node note)) new
+conn_again net old mid new kind direction node note id grown at e = λ connected before counted s.
+    conn_fault connected net before old mid kind direction node note id s grown at ∙ ap (λ b. cond b (Some Conn) None) e
 
-pub takes_conn : (net : List ℕ) (old new : Sketch) (kind : ConnKind) (direction : Direction) (node : NodeName) (note : List ℕ) (u : Unit {0})
-    → (is_some (node_value old.joined node) || is_some (node_value old.starred node)) ≡ false → ConnAdded old kind direction node note new → Takes (Ok u) net old (Ok (Connects kind direction node note)) new
-takes_conn net old new kind direction node note u e added = λ connected before counted s.
-    let (id, at, is) = added in
+or_split : (a b : Bool) → (a || b) ≡ false → (a ≡ false) × (b ≡ false)
+or_split true b e = absurd (cc)
+or_split false b e = (refl, e)
+
+-- nothing is noted of a node whose number has no note
+still_fresh : (connected : List NodeName) (net : List ℕ) (before : List Said) (old mid : Sketch) (node : NodeName) (id : ℕ) → IsSketch connected net before old
+    → mid ≡ record old { nodes = with_node old.nodes node } → slice_get (with_node old.nodes node) id ≡ Some node → is_joined (note_at mid.notes id) ≡ false → is_starred (note_at mid.notes id) ≡ false
+    → noted_by (joined_of before) (starred_of before) node ≡ fresh
+still_fresh connected net before old mid node id s grown at e f =
+    let there : note_at mid.notes id ≡ noted_by (joined_of before) (starred_of before) node = ap (λ m. note_at m.notes id) grown ∙ noted_there connected net before old node id s at in
+    fresh_is (node_value (joined_of before) node) (node_value (starred_of before) node) (sym (ap is_joined there) ∙ e) (sym (ap is_starred there) ∙ f)
+
+pub takes_conn : (net : List ℕ) (old mid new : Sketch) (kind : ConnKind) (direction : Direction) (node : NodeName) (note : List ℕ) (id : ℕ) (u : Unit {0})
+    → mid ≡ record old { nodes = with_node old.nodes node } → slice_get (with_node old.nodes node) id ≡ Some node
+    → (is_joined (note_at mid.notes id) || is_starred (note_at mid.notes id)) ≡ false → ConnAdded mid (record { kind = kind; node = id; direction = direction }) note new
+    → Takes (Ok u) net old (Ok (Connects kind direction node note)) new
+takes_conn net old mid new kind direction node note id u grown at e added = λ connected before counted s.
+    let (put, is) = added in
     let known : is_known old.nodes net node ≡ true = s.own node ∙ ap (λ b. b || is_inner net node) counted in
+    let n = or_split (is_joined (note_at mid.notes id)) (is_starred (note_at mid.notes id)) e in
     taken connected net before old _ new (Ok (Connects kind direction node note)) u
-    (conn_fault connected net before old kind direction node note s ∙ ap (λ b. cond b (Some Conn) None) e) s is
-    (conn_next connected net before old kind direction node note id s known at)
+    (conn_fault connected net before old mid kind direction node note id s grown at ∙ ap (λ b. cond b (Some Conn) None) e) s
+    (is ∙ ap (λ (m : Sketch). let r : Sketch = record m { notes = new.notes; conns = m.conns ++ record { kind = kind; node = id; direction = direction } ∷ [] } in r) grown)
+    (conn_next connected net before old kind direction node note id new.notes s known at (still_fresh connected net before old mid node id s grown at n.0 n.1)
+    (λ i. put i ∙ ap (λ (m : Sketch). cond (eqb i id) (joined note) (note_at m.notes i)) grown))
 
 -- nodes inside the net
-pub star_refused : (net : List ℕ) (old new : Sketch) (node : NodeName) (note : List ℕ)
-    → (is_inner net node && not (is_some (node_value old.joined node))) ≡ false → Takes (Err Conn) net old (Ok (Star node note)) new
-star_refused net old new node note e = λ connected before counted s.
-    star_fault connected net before old node note s ∙ ap (λ b. cond b None (Some Conn)) e
+pub star_outer : (net : List ℕ) (old new : Sketch) (node : NodeName) (note : List ℕ) → is_inner net node ≡ false → Takes (Err Conn) net old (Ok (Star node note)) new
+star_outer net old new node note e = λ connected before counted s. outer_fault connected net before node note e
+
+pub star_joined : (net : List ℕ) (old mid new : Sketch) (node : NodeName) (note : List ℕ) (id : ℕ)
+    → mid ≡ record old { nodes = with_node old.nodes node } → slice_get (with_node old.nodes node) id ≡ Some node → is_inner net node ≡ true
+    → is_joined (note_at mid.notes id) ≡ true → Takes (Err Conn) net old (Ok (Star node note)) new
+star_joined net old mid new node note id grown at inner e = λ connected before counted s.
+    star_fault connected net before old mid node note id s grown at inner ∙ ap (λ b. cond (not b) None (Some Conn)) e
 
 both_first : (a b : Bool) → (a && b) ≡ true → a ≡ true
 both_first true b e = refl
@@ -102,28 +139,48 @@ pub or_right : (a b : Bool) → b ≡ true → (a || b) ≡ true
 or_right true b e = refl
 or_right false b e = e
 
-pub or_none : (a b : Bool) → b ≡ false → a ≡ (a || b)
-or_none true b e = refl
-or_none false b e = sym e
-
-inner_known : (old : Sketch) (net : List ℕ) (node : NodeName) → (is_inner net node && not (is_some (node_value old.joined node))) ≡ true → is_known old.nodes net node ≡ true
-inner_known old net node e = or_right (has_node old.nodes node) (is_inner net node) (both_first (is_inner net node) (not (is_some (node_value old.joined node))) e)
-
-pub takes_star : (net : List ℕ) (old new : Sketch) (node : NodeName) (note : List ℕ) (u : Unit {0})
-    → (is_inner net node && not (is_some (node_value old.joined node))) ≡ true → StarAdded old node note new → Takes (Ok u) net old (Ok (Star node note)) new
-takes_star net old new node note u e is = λ connected before counted s.
+pub takes_star : (net : List ℕ) (old mid new : Sketch) (node : NodeName) (note : List ℕ) (id : ℕ) (u : Unit {0})
+    → mid ≡ record old { nodes = with_node old.nodes node } → slice_get (with_node old.nodes node) id ≡ Some node → is_inner net node ≡ true
+    → is_joined (note_at mid.notes id) ≡ false → is_starred (note_at mid.notes id) ≡ false
+    → ((i : ℕ) → note_at new.notes i ≡ cond (eqb i id) (starred note) (note_at mid.notes i)) → new ≡ record mid { notes = new.notes } → Takes (Ok u) net old (Ok (Star node note)) new
+takes_star net old mid new node note id u grown at inner e f put is = λ connected before counted s.
     taken connected net before old _ new (Ok (Star node note)) u
-    (star_fault connected net before old node note s ∙ ap (λ b. cond b None (Some Conn)) e) s is
-    (star_next connected net before old node note s (inner_known old net node e))
+    (star_fault connected net before old mid node note id s grown at inner ∙ ap (λ b. cond (not b) None (Some Conn)) e) s
+    (is ∙ ap (λ (m : Sketch). let r : Sketch = record m { notes = new.notes } in r) grown)
+    (star_next connected net before old node note id new.notes s (or_right (has_node old.nodes node) (is_inner net node) inner) at (still_fresh connected net before old mid node id s grown at e f)
+    (λ i. put i ∙ ap (λ (m : Sketch). cond (eqb i id) (starred note) (note_at m.notes i)) grown))
 
-pub takes_again : (result : Result (Unit {0}) NetKind) (net : List ℕ) (old new : Sketch) (node : NodeName) (note : List ℕ)
-    → (is_inner net node && not (is_some (node_value old.joined node))) ≡ true → is_some (node_value old.starred node) ≡ true → TakesAgain result old node new → Takes result net old (Ok (Star node note)) new
-takes_again (Ok u) net old new node note e there is = λ connected before counted s.
-    taken connected net before old _ new (Ok (Star node note)) u
-    (star_fault connected net before old node note s ∙ ap (λ b. cond b None (Some Conn)) e) s is
-    (again_next connected net before old node note s (inner_known old net node e) there)
-takes_again (Err kind) net old new node note e there is = λ connected before counted s.
-    subst (λ (k : NetKind). IsFaultOrMemory (fault_of connected net before (Ok (Star node note))) k) (sym is) tt
+pub takes_again : (net : List ℕ) (old mid : Sketch) (node : NodeName) (note : List ℕ) (id : ℕ) (u : Unit {0})
+    → mid ≡ record old { nodes = with_node old.nodes node } → slice_get (with_node old.nodes node) id ≡ Some node → is_inner net node ≡ true
+    → is_joined (note_at mid.notes id) ≡ false → is_starred (note_at mid.notes id) ≡ true → Takes (Ok u) net old (Ok (Star node note)) mid
+takes_again net old mid node note id u grown at inner e f = λ connected before counted s.
+    let there : note_at mid.notes id ≡ noted_by (joined_of before) (starred_of before) node = ap (λ m. note_at m.notes id) grown ∙ noted_there connected net before old node id s at in
+    taken connected net before old _ mid (Ok (Star node note)) u
+    (star_fault connected net before old mid node note id s grown at inner ∙ ap (λ b. cond (not b) None (Some Conn)) e) s grown
+    (again_next connected net before old node note s (or_right (has_node old.nodes node) (is_inner net node) inner) (sym (ap is_starred there) ∙ f))
+
+-- a capacitor or a resistor more, with its nodes last where they are new
+abbrev CapAdded : Sketch → NodeName → ℕ → Sketch → Type 0
+CapAdded old node value new =
+    (id : ℕ) × (slice_get (with_node old.nodes node) id ≡ Some node)
+    × (new ≡ record old { nodes = with_node old.nodes node; caps = old.caps ++ (id, value) ∷ [] })
+
+abbrev ResAdded : Sketch → NodeName → NodeName → ℕ → Sketch → Type 0
+ResAdded old a b value new =
+    (i : ℕ) × (j : ℕ) × (slice_get (with_node old.nodes a) i ≡ Some a) × (slice_get (with_node (with_node old.nodes a) b) j ≡ Some b)
+    × (new ≡ record old { nodes = with_node (with_node old.nodes a) b; ress = old.ress ++ (i, j, value) ∷ [] })
+
+-- the capacitor of a node is added, or the fault of its value is answered
+abbrev TakesValue : Result (Unit {0}) NetKind → Sketch → NodeName → Result ℕ NumFault → Sketch → Type 0
+TakesValue (Ok _) old node value new = (v : ℕ) × (value ≡ Ok v) × CapAdded old node v new
+TakesValue (Err kind) old node value new = IsFaultOrMemory (number_fault value) kind
+
+added_value : (result : Result (Unit {0}) NetKind) (old mid new : Sketch) (node : NodeName) (id : ℕ) (value : Result ℕ NumFault)
+    → mid ≡ record old { nodes = with_node old.nodes node } → slice_get (with_node old.nodes node) id ≡ Some node → AddsCap result mid id value new → TakesValue result old node value new
+added_value (Ok u) old mid new node id value grown at added =
+    let (v, good, is) = added in
+    (v, good, (id, at, is ∙ ap (λ (m : Sketch). let r : Sketch = record m { caps = m.caps ++ (id, v) ∷ [] } in r) grown))
+added_value (Err kind) old mid new node id value grown at added = added
 
 -- capacitors
 pub ground_foreign : (net : List ℕ) (old new : Sketch) (node : NodeName) (value : Result ℕ NumFault) → is_known old.nodes net node ≡ false → Takes (Err Foreign) net old (Ok (Ground node value)) new
@@ -201,3 +258,79 @@ pub takes_good_resistor : (net : List ℕ) (old new : Sketch) (a b : NodeName) (
     → value ≡ Ok v → (is_known old.nodes net a && is_known old.nodes net b) ≡ true → ResAdded old a b v new → Takes (Ok u) net old (Ok (Resistor a b value)) new
 takes_good_resistor net old new a b value v u good e added =
     subst (λ (n : Result ℕ NumFault). Takes (Ok u) net old (Ok (Resistor a b n)) new) (sym good) (takes_resistor net old new a b v u e added)
+
+-- what is seen of the nodes' texts
+pub ground_seen_foreign : (net : List ℕ) (old mid : Sketch) (o : Option NodeName) (value : Result ℕ NumFault) → Sees (Ok None) net old o mid → Takes (Err Foreign) net old (ground o value) mid
+ground_seen_foreign net old mid o value seen =
+    let (node, is, (known, same)) = seen in
+    subst (λ (o : Option NodeName). Takes (Err Foreign) net old (ground o value) mid) (sym is) (ground_foreign net old mid node value known)
+
+pub ground_seen : (result : Result (Unit {0}) NetKind) (net : List ℕ) (old mid new : Sketch) (o : Option NodeName) (value : Result ℕ NumFault) (id : ℕ) → Sees (Ok (Some id)) net old o mid → AddsCap result mid id value new
+    → Takes result net old (ground o value) new
+ground_seen result net old mid new o value id seen added =
+    let (node, is, (known, at, grown)) = seen in
+    subst (λ (o : Option NodeName). Takes result net old (ground o value) new) (sym is) (takes_ground result net old new node value known (added_value result old mid new node id value grown at added))
+
+pub coupling_seen_foreign : (net : List ℕ) (old new : Sketch) (o : Option (NodeName × NodeName)) (value : Result ℕ NumFault) → SeesTwo (Ok (None, None)) net old o new → Takes (Err Foreign) net old (coupling o value) new
+coupling_seen_foreign net old new o value seen =
+    let (a, b, mid, is, (known, same), (also, kept)) = seen in
+    subst (λ (o : Option (NodeName × NodeName)). Takes (Err Foreign) net old (coupling o value) new) (sym is)
+    (coupling_foreign net old new a b value known (sym (ap (λ (m : Sketch). is_known m.nodes net b) same) ∙ also))
+
+-- the second node is known or not as before the first
+as_before : (net : List ℕ) (old mid : Sketch) (a b : NodeName) (t : Bool) → mid ≡ record old { nodes = with_node old.nodes a } → is_known old.nodes net a ≡ true → is_known mid.nodes net b ≡ t → is_known old.nodes net b ≡ t
+as_before net old mid a b t grown known e = sym (known-with_node old.nodes net a b known) ∙ sym (ap (λ (m : Sketch). is_known m.nodes net b) grown) ∙ e
+
+pub coupling_seen_self : (net : List ℕ) (old new : Sketch) (o : Option (NodeName × NodeName)) (value : Result ℕ NumFault) (i j : ℕ) → SeesTwo (Ok (Some i, Some j)) net old o new → Takes (Err SelfCoupled) net old (coupling o value) new
+coupling_seen_self net old new o value i j seen =
+    let (a, b, mid, is, (known, at, grown), (also, after, more)) = seen in
+    subst (λ (o : Option (NodeName × NodeName)). Takes (Err SelfCoupled) net old (coupling o value) new) (sym is)
+    (coupling_self net old new a b value known (as_before net old mid a b true grown known also))
+
+pub coupling_seen_first : (result : Result (Unit {0}) NetKind) (net : List ℕ) (old both_seen new : Sketch) (o : Option (NodeName × NodeName)) (value : Result ℕ NumFault) (id : ℕ) → SeesTwo (Ok (Some id, None)) net old o both_seen → AddsCap result both_seen id value new
+    → Takes result net old (coupling o value) new
+coupling_seen_first result net old both_seen new o value id seen added =
+    let (a, b, mid, is, (known, at, grown), (also, kept)) = seen in
+    subst (λ (o : Option (NodeName × NodeName)). Takes result net old (coupling o value) new) (sym is)
+    (takes_first result net old new a b value known (as_before net old mid a b false grown known also) (added_value result old both_seen new a id value (kept ∙ grown) at added))
+
+pub coupling_seen_second : (result : Result (Unit {0}) NetKind) (net : List ℕ) (old both_seen new : Sketch) (o : Option (NodeName × NodeName)) (value : Result ℕ NumFault) (id : ℕ) → SeesTwo (Ok (None, Some id)) net old o both_seen → AddsCap result both_seen id value new
+    → Takes result net old (coupling o value) new
+coupling_seen_second result net old both_seen new o value id seen added =
+    let (a, b, mid, is, (known, same), (also, at, grown)) = seen in
+    subst (λ (o : Option (NodeName × NodeName)). Takes result net old (coupling o value) new) (sym is)
+    (takes_second result net old new a b value known (sym (ap (λ (m : Sketch). is_known m.nodes net b) same) ∙ also)
+    (added_value result old both_seen new b id value
+    (grown ∙ ap (λ (m : Sketch). let r : Sketch = record m { nodes = with_node m.nodes b } in r) same)
+    (sym (ap (λ (m : Sketch). slice_get (with_node m.nodes b) id) same) ∙ at) added))
+
+pub resistor_seen_first : (net : List ℕ) (old new : Sketch) (o : Option (NodeName × NodeName)) (value : Result ℕ NumFault) (other : Option ℕ) → SeesTwo (Ok (None, other)) net old o new → Takes (Err Foreign) net old (resistor o value) new
+resistor_seen_first net old new o value other seen =
+    let (a, b, mid, is, (known, same), more) = seen in
+    subst (λ (o : Option (NodeName × NodeName)). Takes (Err Foreign) net old (resistor o value) new) (sym is)
+    (resistor_foreign net old new a b value (ap (λ t. t && is_known old.nodes net b) known))
+
+pub resistor_seen_second : (net : List ℕ) (old new : Sketch) (o : Option (NodeName × NodeName)) (value : Result ℕ NumFault) (i : ℕ) → SeesTwo (Ok (Some i, None)) net old o new → Takes (Err Foreign) net old (resistor o value) new
+resistor_seen_second net old new o value i seen =
+    let (a, b, mid, is, (known, at, grown), (also, kept)) = seen in
+    subst (λ (o : Option (NodeName × NodeName)). Takes (Err Foreign) net old (resistor o value) new) (sym is)
+    (resistor_foreign net old new a b value (ap (λ t. t && is_known old.nodes net b) known ∙ as_before net old mid a b false grown known also))
+
+added_res : (result : Result (Unit {0}) NetKind) (net : List ℕ) (old seen new : Sketch) (a b : NodeName) (value : Result ℕ NumFault) (i j : ℕ) → (is_known old.nodes net a && is_known old.nodes net b) ≡ true
+    → seen ≡ record old { nodes = with_node (with_node old.nodes a) b } → slice_get (with_node old.nodes a) i ≡ Some a → slice_get (with_node (with_node old.nodes a) b) j ≡ Some b
+    → AddsRes result seen (i, j) value new → Takes result net old (Ok (Resistor a b value)) new
+added_res (Ok u) net old seen new a b value i j known grown at after added =
+    let (v, good, is) = added in
+    takes_good_resistor net old new a b value v u good known (i, j, at, after, is ∙ ap (λ (m : Sketch). let r : Sketch = record m { ress = m.ress ++ (i, j, v) ∷ [] } in r) grown)
+added_res (Err kind) net old seen new a b value i j known grown at after added = λ connected before counted s.
+    subst (λ (o : Option NetKind). IsFaultOrMemory o kind) (sym (resistor_fault connected net before old a b value s ∙ ap (λ t. cond t (number_fault value) (Some Foreign)) known)) added
+
+pub resistor_seen : (result : Result (Unit {0}) NetKind) (net : List ℕ) (old both_seen new : Sketch) (o : Option (NodeName × NodeName)) (value : Result ℕ NumFault) (i j : ℕ) → SeesTwo (Ok (Some i, Some j)) net old o both_seen → AddsRes result both_seen (i, j) value new
+    → Takes result net old (resistor o value) new
+resistor_seen result net old both_seen new o value i j seen added =
+    let (a, b, mid, is, (known, at, grown), (also, after, more)) = seen in
+    let nodes : mid.nodes ≡ with_node old.nodes a = ap (λ (m : Sketch). m.nodes) grown in
+    subst (λ (o : Option (NodeName × NodeName)). Takes result net old (resistor o value) new) (sym is)
+    (added_res result net old both_seen new a b value i j (ap (λ t. t && is_known old.nodes net b) known ∙ as_before net old mid a b true grown known also)
+    (more ∙ ap (λ (m : Sketch). let r : Sketch = record m { nodes = with_node m.nodes b } in r) grown) at
+    (sym (ap (λ (m : Sketch). slice_get (with_node m.nodes b) j) grown) ∙ after) added)

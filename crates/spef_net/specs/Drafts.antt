@@ -1,72 +1,83 @@
 -- What is known of a net after some of its section's lines.
-use Rattle.std.specs.Prelude.{◌≡◌, ℕ, ◌++◌, ◌||◌, Bool, true, map, List, [], ◌∷◌, Some, None, Result, Ok, Err}
+use Rattle.std.specs.Prelude.{◌≡◌, ℕ, ◌++◌, ◌||◌, ◌==◌, ◌≤◌, Bool, true, false, length, List, [], ◌∷◌, Option, Some, None, if◌then◌else◌, Result, Ok, Err}
 use Rattle.std.specs.List.{slice_get}
 use Rattle.vg_scan.specs.declared.name.NodeName.{NodeName}
 use Rattle.vg_num.specs.declared.fault.NumFault.{NumFault}
-use Rattle.spef_net.specs.declared.net.ConnKind.{ConnKind}
-use Rattle.spef_net.specs.declared.net.Direction.{Direction}
+use Rattle.vg_num.specs.declared.memory.Memory.{Memory as NoRoom}
 use Rattle.spef_net.specs.declared.net.ParConn.{ParConn}
 use Rattle.spef_net.specs.declared.net.ParNet.{ParNet}
 use Rattle.spef_net.specs.declared.fault.NetKind.{NetKind}
-use Rattle.spef_net.specs.declared.fault.NetKind.TheVariants.{Memory}
-use Rattle.spef_net.specs.declared.saying.Saying.TheVariants.{Connects}
+use Rattle.spef_net.specs.Sayings.{Connects}
 use Rattle.spef_net.specs.Names.{has_node, with_node, is_inner, is_own, node_value}
 use Rattle.spef_net.specs.declared.part.Part.{Part}
 use Rattle.spef_net.specs.Sayings.{Said, part_after}
 use Rattle.spef_net.specs.Rows.{joined_of, starred_of, conns_of, caps_of, ress_of, nodes_of, is_inductive}
 use Rattle.spef_net.specs.Faults.{number_fault, fault_of}
-use Rattle.spef_net.specs.Denoted.{AreConns, AreCaps, AreRess, described}
+use Rattle.spef_net.specs.Denoted.{AreConns, AreCaps, AreRess}
+use Rattle.spef_net.specs.Nodes.{Note, fresh, joined, starred, note_at, noted_all}
 use Rattle.spef_net.specs.Views.{IsFaultOrMemory}
 
--- the nodes so far, the notes of connections and of `*N` lines, and the rows, whose nodes are numbers
+-- the nodes so far, what is noted of them, and the rows, whose nodes are numbers
 pub record Sketch : Type 0 where
   pub nodes : List NodeName
-  pub joined : List (NodeName × List ℕ)
-  pub starred : List (NodeName × List ℕ)
+  pub notes : List Note
   pub conns : List ParConn
   pub caps : List (ℕ × ℕ)
   pub ress : List (ℕ × ℕ × ℕ)
   pub inductive : Bool
 
--- a row more, with its nodes last where they are new
-abbrev pub ConnAdded : Sketch → ConnKind → Direction → NodeName → List ℕ → Sketch → Type 0
-ConnAdded old kind direction node note new =
-    (id : ℕ) × (slice_get (with_node old.nodes node) id ≡ Some node)
-    × (new ≡ record old { nodes = with_node old.nodes node; joined = old.joined ++ (node, note) ∷ []; conns = old.conns ++ record { kind = kind; node = id; direction = direction } ∷ [] })
+-- a connection more, with its note
+abbrev pub ConnAdded : Sketch → ParConn → List ℕ → Sketch → Type 0
+ConnAdded old conn note new =
+    ((i : ℕ) → note_at new.notes i ≡ (if i == conn.node then joined note else note_at old.notes i))
+    × (new ≡ record old { notes = new.notes; conns = old.conns ++ conn ∷ [] })
 
-abbrev pub StarAdded : Sketch → NodeName → List ℕ → Sketch → Type 0
-StarAdded old node note new = new ≡ record old { nodes = with_node old.nodes node; starred = old.starred ++ (node, note) ∷ [] }
+-- the note of a `*N` line more
+abbrev pub StarAdded : Sketch → ℕ → List ℕ → Sketch → Type 0
+StarAdded old id note new =
+    ((i : ℕ) → note_at new.notes i ≡ (if i == id then starred note else note_at old.notes i)) × (new ≡ record old { notes = new.notes })
 
-abbrev pub CapAdded : Sketch → NodeName → ℕ → Sketch → Type 0
-CapAdded old node value new =
-    (id : ℕ) × (slice_get (with_node old.nodes node) id ≡ Some node)
-    × (new ≡ record old { nodes = with_node old.nodes node; caps = old.caps ++ (id, value) ∷ [] })
+-- a capacitor more at the node of a number, or the fault of its value
+abbrev pub AddsCap : Result (Unit {0}) NetKind → Sketch → ℕ → Result ℕ NumFault → Sketch → Type 0
+AddsCap (Ok _) old id value new = (v : ℕ) × (value ≡ Ok v) × (new ≡ record old { caps = old.caps ++ (id, v) ∷ [] })
+AddsCap (Err kind) old id value new = IsFaultOrMemory (number_fault value) kind
 
-abbrev pub ResAdded : Sketch → NodeName → NodeName → ℕ → Sketch → Type 0
-ResAdded old a b value new =
-    (i : ℕ) × (j : ℕ) × (slice_get (with_node old.nodes a) i ≡ Some a) × (slice_get (with_node (with_node old.nodes a) b) j ≡ Some b)
-    × (new ≡ record old { nodes = with_node (with_node old.nodes a) b; ress = old.ress ++ (i, j, value) ∷ [] })
-
--- the node is there, or memory is wanted
-abbrev pub TakesAgain : Result (Unit {0}) NetKind → Sketch → NodeName → Sketch → Type 0
-TakesAgain (Ok _) old node new = new ≡ record old { nodes = with_node old.nodes node }
-TakesAgain (Err kind) old node new = kind ≡ Memory
-
--- the capacitor of a node is added, or the fault of its value is answered
-abbrev pub TakesValue : Result (Unit {0}) NetKind → Sketch → NodeName → Result ℕ NumFault → Sketch → Type 0
-TakesValue (Ok _) old node value new = (v : ℕ) × (value ≡ Ok v) × CapAdded old node v new
-TakesValue (Err kind) old node value new = IsFaultOrMemory (number_fault value) kind
+-- a resistor more between the nodes of two numbers, or the fault of its value
+abbrev pub AddsRes : Result (Unit {0}) NetKind → Sketch → ℕ × ℕ → Result ℕ NumFault → Sketch → Type 0
+AddsRes (Ok _) old ends value new = (v : ℕ) × (value ≡ Ok v) × (new ≡ record old { ress = old.ress ++ (ends.0, ends.1, v) ∷ [] })
+AddsRes (Err kind) old ends value new = IsFaultOrMemory (number_fault value) kind
 
 -- a node is the net's by what is known
 abbrev pub is_known : List NodeName → List ℕ → NodeName → Bool
 is_known nodes net node = has_node nodes node || is_inner net node
 
+-- the number of a node that is the net's, which is put last where it is new, or none
+abbrev pub Owns : Result (Option ℕ) NoRoom → List ℕ → Sketch → NodeName → Sketch → Type 0
+Owns (Ok (Some id)) net old node new =
+    (is_known old.nodes net node ≡ true) × (slice_get (with_node old.nodes node) id ≡ Some node) × (new ≡ record old { nodes = with_node old.nodes node })
+Owns (Ok None) net old node new = (is_known old.nodes net node ≡ false) × (new ≡ old)
+Owns (Err _) net old node new = Unit {0}
+
+-- what connections and `*N` lines note of a node
+abbrev pub note_from : Option (List ℕ) → Option (List ℕ) → Note
+note_from (Some text) _ = joined text
+note_from None (Some text) = starred text
+note_from None None = fresh
+
+abbrev pub noted_by : List (NodeName × List ℕ) → List (NodeName × List ℕ) → NodeName → Note
+noted_by connections stars node = note_from (node_value connections node) (node_value stars node)
+
+-- the notes are those of the nodes: nothing is noted past them, and nothing of other nodes
+pub record AreNoted (nodes : List NodeName) (notes : List Note) (connections stars : List (NodeName × List ℕ)) : Type 0 where
+  pub here : (i : ℕ) (node : NodeName) → slice_get nodes i ≡ Some node → note_at notes i ≡ noted_by connections stars node
+  pub beyond : (i : ℕ) → length nodes ≤ i → note_at notes i ≡ fresh
+  pub others : (node : NodeName) → has_node nodes node ≡ false → noted_by connections stars node ≡ fresh
+
 -- it is what the lines so far denote
 pub record IsSketch (connected : List NodeName) (net : List ℕ) (before : List Said) (draft : Sketch) : Type 0 where
   pub nodes : draft.nodes ≡ nodes_of connected net before
   pub own : (node : NodeName) → is_known draft.nodes net node ≡ is_own connected net node
-  pub joined : draft.joined ≡ joined_of before
-  pub starred : (node : NodeName) → node_value draft.starred node ≡ node_value (starred_of before) node
+  pub noted : AreNoted draft.nodes draft.notes (joined_of before) (starred_of before)
   pub conns : AreConns draft.nodes draft.conns (conns_of before)
   pub caps : AreCaps draft.nodes draft.caps (caps_of connected net before)
   pub ress : AreRess draft.nodes draft.ress (ress_of before)
@@ -94,7 +105,7 @@ Follows (Err kind) net part old line new = Takes (Err kind) net old line new
 -- the net of a draft
 pub record IsMade (name : List ℕ) (reduced : Bool) (draft : Sketch) (net : ParNet) : Type 0 where
   pub named : net.name ≡ name
-  pub nodes : net.nodes ≡ map (described draft.joined draft.starred) draft.nodes
+  pub nodes : net.nodes ≡ noted_all draft.nodes draft.notes
   pub conns : net.conns ≡ draft.conns
   pub caps : net.caps ≡ draft.caps
   pub ress : net.ress ≡ draft.ress

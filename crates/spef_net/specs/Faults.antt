@@ -5,7 +5,7 @@ use Rattle.vg_scan.specs.declared.name.NodeName.{NodeName}
 use Rattle.spef_net.specs.declared.fault.NetKind.{NetKind}
 use Rattle.spef_net.specs.declared.fault.NetKind.TheVariants.{Conn, Number, Foreign, SelfCoupled}
 use Rattle.spef_net.specs.declared.fault.NetFault.{NetFault}
-use Rattle.spef_net.specs.declared.saying.Saying.TheVariants.{Opens, Nothing, Connects, Star, Ground, Coupling, Resistor}
+use Rattle.spef_net.specs.Sayings.{Opens, Nothing, Connects, Star, Ground, Coupling, Resistor}
 use Rattle.spef_net.specs.Names.{is_own, is_inner, node_value}
 use Rattle.spef_net.specs.Sayings.{Said}
 use Rattle.spef_net.specs.Rows.{joined_of, starred_of, connected_of}

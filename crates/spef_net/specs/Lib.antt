@@ -1,4 +1,8 @@
-pub mod Reads
+pub mod Spellings
+pub mod ConnLines
+pub mod Nodes
+pub mod Notes
+pub mod NodeTables
 pub mod Names
 pub mod Lines
 pub mod Sayings
@@ -8,5 +12,6 @@ pub mod Denoted
 pub mod Sections
 pub mod Views
 pub mod Drafts
+pub mod Sights
 pub mod Surveys
 pub mod Laws

@@ -5,7 +5,7 @@ use Rattle.vg_scan.specs.declared.name.NodeName.{NodeName}
 use Rattle.spef_net.specs.declared.net.ConnKind.{ConnKind}
 use Rattle.spef_net.specs.declared.net.Direction.{Direction}
 use Rattle.spef_net.specs.declared.part.Part.TheVariants.{Inducs}
-use Rattle.spef_net.specs.declared.saying.Saying.TheVariants.{Opens, Connects, Star, Ground, Coupling, Resistor}
+use Rattle.spef_net.specs.Sayings.{Opens, Connects, Star, Ground, Coupling, Resistor}
 use Rattle.spef_net.specs.Names.{is_own, distinct}
 use Rattle.spef_net.specs.Sayings.{Said}
 

@@ -16,10 +16,19 @@ use Rattle.spef_net.specs.declared.part.Part.{Part}
 use Rattle.spef_net.specs.declared.part.Part.TheVariants.{Nowhere, Conns, Caps, Ress, Inducs}
 use Rattle.spef_net.specs.declared.fault.NetKind.{NetKind}
 use Rattle.spef_net.specs.declared.fault.NetKind.TheVariants.{Conn, Cap, Res}
-use Rattle.spef_net.specs.declared.saying.Saying.{Saying}
-use Rattle.spef_net.specs.declared.saying.Saying.TheVariants.{Opens, Nothing, Connects, Star, Ground, Coupling, Resistor}
 use Rattle.spef_net.specs.Names.{node_in}
 use Rattle.spef_net.specs.Lines.{head_of, note_after}
+
+-- what a line says by itself: it is the head of a part; it has no words, or is not read; a connection with its note; a
+-- node inside the net with its note; a capacitor to the ground, or between two nodes; a resistor between two nodes
+pub data Saying : Type 0 where
+  Opens : Part → Saying
+  Nothing : Saying
+  Connects : ConnKind → Direction → NodeName → List ℕ → Saying
+  Star : NodeName → List ℕ → Saying
+  Ground : NodeName → Result ℕ NumFault → Saying
+  Coupling : NodeName → NodeName → Result ℕ NumFault → Saying
+  Resistor : NodeName → NodeName → Result ℕ NumFault → Saying
 
 -- what a line says, or the fault of its form and names
 abbrev pub Said : Type 0

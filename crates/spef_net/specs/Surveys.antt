@@ -1,5 +1,5 @@
 -- What one line adds to the connections of a section.
-use Rattle.std.specs.Prelude.{◌≡◌, ℕ, ◌==◌, ◌||◌, Bool, true, false, List, Option, Some, None, Result, Ok, Err}
+use Rattle.std.specs.Prelude.{◌≡◌, ℕ, Bool, true, false, List, Option, Some, None, Result, Ok, Err}
 use Rattle.vg_num.specs.declared.memory.Memory.{Memory as NoRoom}
 use Rattle.vg_scan.specs.declared.name.NodeName.{NodeName}
 use Rattle.spef_net.specs.declared.fault.NetKind.{NetKind}
@@ -13,10 +13,6 @@ use Rattle.spef_net.specs.Rows.{joined_in}
 abbrev pub is_conns : Part → Bool
 is_conns Conns = true
 is_conns _ = false
-
--- a line of so many words may be a head or name a connection
-abbrev pub matters : Part → ℕ → Bool
-matters part count = (count == 1) || is_conns part
 
 abbrev pub with_joined : List NodeName → Option (NodeName × List ℕ) → List NodeName
 with_joined nodes (Some row) = with_node nodes row.0

@@ -1,85 +1,35 @@
 //! A section as a net.
 
-ghost use Rattle.std.specs.Prelude.{◌≡◌, ◌^◌, ◌≤◌, length, map, unwrap_or, [], IfOk, IfErr, ◌⊎◌};
-ghost use Rattle.std.specs.Option.{option_or};
+ghost use Rattle.std.specs.Prelude.{◌≡◌, ◌^◌, ◌≤◌, length, IfOk, IfErr, ◌⊎◌};
 ghost use Rattle.std.specs.Str.Lines.{lines};
 ghost use Rattle.spef_file.specs.Shown.{shown};
-ghost use Rattle.spef_net.specs.Names.{node_value};
 ghost use Rattle.spef_net.specs.Sayings.{sayings};
 ghost use Rattle.spef_net.specs.Faults.{IsFaultless, IsFirstFault};
-ghost use Rattle.spef_net.specs.Denoted.{described, IsNet};
+ghost use Rattle.spef_net.specs.Denoted.{IsNet};
 ghost use Rattle.spef_net.specs.Sections.{IsSized};
 ghost use Rattle.spef_net.specs.Drafts.{IsMade};
 ghost use Rattle.spef_net.specs.declared.fault.NetKind.TheVariants.{Memory};
 
 use crate::draft::Draft;
 use crate::fault::{NetFault, NetKind};
-use crate::net::{ParNet, ParNode};
+use crate::net::ParNet;
+use crate::nodes::Nodes;
 use crate::read::read_lines;
 use crate::survey::find_connections;
-use crate::tables::{NodeNotes, NodeSet};
 use spef_file::SpefIndex;
 use std::alloc::Global;
 use vg_num::{Memory as NoRoom, Row};
-use vg_scan::{Name, NodeName};
-
-/// The note of a node.
-fn note_of(
-    alloc: Global,
-    joined: &NodeNotes,
-    starred: &NodeNotes,
-    node: &NodeName,
-) -> Result<Name, NoRoom>
-    ensures { IfOk result (λ note. note ≡ unwrap_or (option_or (node_value joined.now node.now) (node_value starred.now node.now)) []) }
-{
-    match joined.get(node) {
-        Some(note) => note.copy(alloc),
-        None => match starred.get(node) {
-            Some(note) => note.copy(alloc),
-            None => Name::from_bytes(alloc, b""),
-        },
-    }
-}
-
-fn described(
-    alloc: Global,
-    joined: &NodeNotes,
-    starred: &NodeNotes,
-    node: &NodeName,
-) -> Result<ParNode, NoRoom>
-    ensures { IfOk result (λ row. row ≡ described joined.now starred.now node.now) }
-{
-    let note = note_of(alloc, joined, starred, node)?;
-    let name = node.copy(alloc)?;
-    let inner = !joined.contains(node);
-    Ok(ParNode { name, inner, note })
-}
-
-/// The nodes with their notes.
-fn describe(
-    alloc: Global,
-    nodes: &NodeSet,
-    joined: &NodeNotes,
-    starred: &NodeNotes,
-) -> Result<Vec<ParNode>, NoRoom>
-    ensures { IfOk result (λ rows. rows.items ≡ map (described joined.now starred.now) nodes.now) }
-{
-    let mut rows = Vec::with_capacity(alloc, nodes.len())?;
-    'node: for node in nodes.as_slice() {
-        rows.push(described(alloc, joined, starred, node)?)?;
-    }
-    Ok(rows)
-}
+use vg_scan::Name;
 
 /// The net of a draft.
 fn finish(alloc: Global, net: &Name, reduced: bool, draft: Draft) -> Result<ParNet, NoRoom>
     ensures { IfOk result (λ par. IsMade net.now reduced draft par) }
 {
-    let nodes = describe(alloc, &draft.nodes, &draft.joined, &draft.starred)?;
     let name = net.copy(alloc)?;
+    let (owners, leaves) = draft.nodes.into_names();
     Ok(ParNet {
         name,
-        nodes: Row::from_vec(nodes),
+        nodes: Nodes::new(owners, leaves, draft.notes),
         conns: Row::from_vec(draft.conns),
         caps: Row::from_vec(draft.caps),
         ress: Row::from_vec(draft.ress),

@@ -1,6 +1,7 @@
 //! One section of a SPEF file (IEEE Std 1481): the connections, nodes, capacitors and resistors of a net.
 #![tactic(auto)]
 
+mod conn_line;
 mod draft;
 mod fault;
 mod finish;
@@ -8,18 +9,21 @@ mod laws;
 mod line;
 mod net;
 mod node;
+mod node_table;
+mod nodes;
+mod notes;
 mod part;
 mod read;
-mod say;
-mod saying;
 mod section;
+mod see;
 mod survey;
-mod tables;
+mod take;
 mod value;
 
 pub use fault::{NetFault, NetKind};
 pub use laws::one_net;
-pub use net::{ConnKind, Direction, ParConn, ParNet, ParNode};
+pub use net::{ConnKind, Direction, ParConn, ParNet};
+pub use nodes::Nodes;
 pub use section::read_net;
 
 #[cfg(test)]

@@ -1,5 +1,6 @@
+use crate::nodes::Nodes;
 use vg_num::Row;
-use vg_scan::{Name, NodeName};
+use vg_scan::Name;
 
 /// What a connection is at.
 #[derive(Clone, Copy, Debug, PartialEq, Eq)]
@@ -29,22 +30,11 @@ pub struct ParConn {
     pub direction: Direction,
 }
 
-/// A node of a net.
-#[derive(Drop)]
-pub struct ParNode {
-    pub name: NodeName,
-    /// Whether it is no connection.
-    pub inner: bool,
-    /// The text after the direction of its connection, or after the node of its first `*N` line, without blanks and
-    /// carriage returns at its ends; empty where there is none.
-    pub note: Name,
-}
-
 /// A net with its parasitics. Nodes are numbered from 0: connections in order, then inner nodes as they come in the text.
 #[derive(Drop)]
 pub struct ParNet {
     pub name: Name,
-    pub nodes: Row<ParNode>,
+    pub nodes: Nodes,
     pub conns: Row<ParConn>,
     /// A node, and the capacitance there in units of ten to the minus places of the file's unit. A coupling capacitor
     /// stands whole at the node that is this net's.

@@ -4,39 +4,22 @@ ghost use Rattle.std.specs.Prelude.{◌≡◌, ◌^◌, ◌≤◌, length, IfOk,
 ghost use Rattle.std.specs.Str.Lines.{lines};
 ghost use Rattle.spef_file.specs.Shown.{shown};
 ghost use Rattle.spef_net.specs.Names.{distinct};
-ghost use Rattle.spef_net.specs.Sayings.{said, said_words, sayings, part_after};
+ghost use Rattle.spef_net.specs.Sayings.{said, said_words, sayings};
 ghost use Rattle.spef_net.specs.Rows.{connected_of};
 ghost use Rattle.spef_net.specs.Faults.{IsFaultless, IsFirstFault};
 ghost use Rattle.spef_net.specs.Drafts.{IsSketch, Follows};
 ghost use Rattle.vg_scan.specs.Spans.{words_at};
 ghost use Rattle.spef_net.specs.declared.fault.NetKind.TheVariants.{Memory};
-ghost use Rattle.std.specs.Prelude.{Ok};
 
 use crate::draft::Draft;
 use crate::fault::{NetFault, NetKind};
-use crate::line::line_words;
+use crate::line::{head_of, line_words};
+use crate::node_table::NodeTable;
 use crate::part::Part;
-use crate::say::say;
-use crate::saying::Saying;
-use crate::tables::NodeSet;
+use crate::take::take_in;
 use spef_file::SpefIndex;
 use std::alloc::Global;
 use vg_scan::{Name, Span, next_line, text_at};
-
-/// The part that is open after what a line says.
-fn part_after(part: Part, saying: &Saying) -> Part
-    ensures { result ≡ part_after part (Ok saying.now) }
-{
-    match saying {
-        Saying::Opens(opened) => *opened,
-        Saying::Nothing => part,
-        Saying::Connects(_, _, _, _) => part,
-        Saying::Star(_, _) => part,
-        Saying::Ground(_, _) => part,
-        Saying::Coupling(_, _, _) => part,
-        Saying::Resistor(_, _, _) => part,
-    }
-}
 
 /// Takes a line's words, and says which part is open after it.
 fn take_words(
@@ -50,15 +33,18 @@ fn take_words(
 ) -> Result<Part, NetKind>
     ensures { Follows result net.now part draft.old (said_words (shown index.now) part line.now (words_at line.now words.now)) draft.new }
 {
-    match say(alloc, index, part, line, words) {
-        Err(kind) => Err(kind),
-        Ok(saying) => {
-            let next = part_after(part, &saying);
-            match draft.take(alloc, net, saying) {
-                Err(kind) => Err(kind),
-                Ok(()) => Ok(next),
-            }
+    if words.is_empty() {
+        return Ok(part);
+    }
+    match head_of(line, words) {
+        Some(opened) => {
+            draft.open(opened);
+            Ok(opened)
         }
+        None => match take_in(alloc, index, net, part, line, words, draft) {
+            Err(kind) => Err(kind),
+            Ok(()) => Ok(part),
+        },
     }
 }
 
@@ -87,7 +73,7 @@ pub(crate) fn read_lines(
     net: &Name,
     bytes: &[u8],
     first: usize,
-    nodes: NodeSet,
+    nodes: NodeTable,
 ) -> Result<Draft, NetFault>
     requires length { length bytes.now ≤ 2 ^ 28 }
     requires first { first ≤ 2 ^ 62 }

@@ -1,30 +1,28 @@
 //! The connections of a section, before its lines are read in order.
 
-ghost use Rattle.std.specs.Prelude.{◌≡◌, IfOk, Ok, length};
+ghost use Rattle.std.specs.Prelude.{◌≡◌, ◌≤◌, ◌^◌, IfOk, OnOk, length};
 ghost use Rattle.std.specs.Str.Lines.{lines};
 ghost use Rattle.spef_file.specs.Shown.{shown};
 ghost use Rattle.spef_net.specs.Names.{distinct};
-ghost use Rattle.spef_net.specs.Sayings.{said, said_words, sayings};
-ghost use Rattle.spef_net.specs.Rows.{connected_of};
+ghost use Rattle.spef_net.specs.Sayings.{said, said_words, sayings, conn_line};
+ghost use Rattle.spef_net.specs.Rows.{connected_of, joined_in};
 ghost use Rattle.vg_scan.specs.Spans.{words_at};
-ghost use Rattle.spef_net.specs.Surveys.{Surveys, is_memory, matters};
+ghost use Rattle.spef_net.specs.Surveys.{Surveys, is_conns, is_memory, with_joined};
 
+use crate::conn_line::{ConnLine, read_conn};
 use crate::fault::NetKind;
-use crate::line::line_words;
+use crate::line::{head_of, line_words};
+use crate::node_table::NodeTable;
 use crate::part::Part;
-use crate::say::say;
-use crate::saying::Saying;
-use crate::tables::NodeSet;
 use spef_file::SpefIndex;
 use std::alloc::Global;
 use vg_num::Memory;
 use vg_scan::{Span, next_line, text_at};
 
-/// Whether a line may name a connection or be a head.
-fn matters(part: Part, words: &[Span]) -> bool
-    ensures { result ≡ matters part (length words.now) }
+fn is_conns(part: Part) -> bool
+    ensures { result ≡ is_conns part }
 {
-    words.len() == 1 || matches!(part, Part::Conns)
+    matches!(part, Part::Conns)
 }
 
 fn is_memory(kind: NetKind) -> bool
@@ -33,21 +31,28 @@ fn is_memory(kind: NetKind) -> bool
     matches!(kind, NetKind::Memory)
 }
 
-/// The part that is open after what a line says, and its node where that is a connection.
-fn note_saying(part: Part, saying: Saying, nodes: &mut NodeSet) -> Result<Part, Memory>
-    ensures { Surveys result nodes.old nodes.new part (Ok saying) }
+/// The node of a line of connections, where it is a connection, which the nodes are to hold.
+fn survey_conn(
+    alloc: Global,
+    index: &SpefIndex,
+    line: &[u8],
+    words: &[Span],
+    nodes: &mut NodeTable,
+) -> Result<(), Memory>
+    ensures { OnOk result (nodes.new ≡ with_joined nodes.old (joined_in (conn_line (shown index.now) line.now (words_at line.now words.now)))) }
 {
-    match saying {
-        Saying::Opens(opened) => Ok(opened),
-        Saying::Connects(_, _, node, _) => {
-            nodes.intern(node)?;
-            Ok(part)
+    match read_conn(alloc, index, line, words) {
+        Ok(ConnLine::Joins(_, _, node)) => {
+            nodes.intern(node.owner.as_bytes(), node.leaf.as_bytes())?;
+            Ok(())
         }
-        Saying::Nothing => Ok(part),
-        Saying::Star(_, _) => Ok(part),
-        Saying::Ground(_, _) => Ok(part),
-        Saying::Coupling(_, _, _) => Ok(part),
-        Saying::Resistor(_, _, _) => Ok(part),
+        Ok(ConnLine::Stars(_)) => Ok(()),
+        Err(kind) => {
+            if is_memory(kind) {
+                return Err(Memory);
+            }
+            Ok(())
+        }
     }
 }
 
@@ -58,19 +63,20 @@ fn survey_words(
     part: Part,
     line: &[u8],
     words: &[Span],
-    nodes: &mut NodeSet,
+    nodes: &mut NodeTable,
 ) -> Result<Part, Memory>
     ensures { Surveys result nodes.old nodes.new part (said_words (shown index.now) part line.now (words_at line.now words.now)) }
 {
-    if !matters(part, words) {
+    if words.is_empty() {
         return Ok(part);
     }
-    match say(alloc, index, part, line, words) {
-        Ok(saying) => note_saying(part, saying, nodes),
-        Err(kind) => {
-            if is_memory(kind) {
-                return Err(Memory);
+    match head_of(line, words) {
+        Some(opened) => Ok(opened),
+        None => {
+            if !is_conns(part) {
+                return Ok(part);
             }
+            survey_conn(alloc, index, line, words, nodes)?;
             Ok(part)
         }
     }
@@ -83,7 +89,7 @@ fn survey_line(
     part: Part,
     line: &[u8],
     found: &mut Vec<Span>,
-    nodes: &mut NodeSet,
+    nodes: &mut NodeTable,
 ) -> Result<Part, Memory>
     ensures { Surveys result nodes.old nodes.new part (said (shown index.now) part line.now) }
 {
@@ -97,10 +103,11 @@ pub(crate) fn find_connections(
     alloc: Global,
     index: &SpefIndex,
     bytes: &[u8],
-) -> Result<NodeSet, Memory>
+) -> Result<NodeTable, Memory>
+    requires { length bytes.now ≤ 2 ^ 28 }
     ensures { IfOk result (λ nodes. nodes ≡ distinct (connected_of (sayings (shown index.now) (lines bytes.now)))) }
 {
-    let mut nodes = NodeSet::new(alloc);
+    let mut nodes = NodeTable::new(alloc, bytes.len() / 32 + 1)?;
     let mut found = Vec::new(alloc);
     let mut part = Part::Nowhere;
     let mut at = 0usize;

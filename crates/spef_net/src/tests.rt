@@ -128,11 +128,12 @@ fn a_net(rt: HostRuntime) -> Result<(), Fail> {
         let text = text.replace(rt.alloc(), "\n", end)?;
         let net = read(&rt, rt.alloc(), text.as_str(), 0)??;
         assert_eq!(rt; net.nodes.len(), 4);
-        for (node, (owner, leaf, inner, note)) in net.nodes.as_slice().iter().zip(nodes.iter()) {
-            assert_eq!(rt; node.name.owner.as_bytes(), *owner);
-            assert_eq!(rt; node.name.leaf.as_bytes(), *leaf);
-            assert_eq!(rt; node.inner, *inner);
-            assert_eq!(rt; node.note.as_bytes(), *note);
+        for (at, (owner, leaf, inner, note)) in nodes.iter().enumerate() {
+            assert!(rt; at < net.nodes.len());
+            assert_eq!(rt; net.nodes.owner(at), *owner);
+            assert_eq!(rt; net.nodes.leaf(at), *leaf);
+            assert_eq!(rt; net.nodes.is_inner(at), *inner);
+            assert_eq!(rt; net.nodes.note(at), *note);
         }
         assert_eq!(rt; net.conns.as_slice(), conns.as_slice());
         assert_eq!(rt; net.caps.as_slice(), [(2, 500), (0, 2000)].as_slice());
@@ -183,9 +184,11 @@ fn node_names_and_values(rt: HostRuntime) -> Result<(), Fail> {
         let text = format!(in rt.alloc(); "{HEADER}{body}\n")?;
         let net = read(&rt, rt.alloc(), text.as_str(), 0)??;
         assert_eq!(rt; net.nodes.len(), nodes.len(), "{body}");
-        for (node, (owner, leaf)) in net.nodes.as_slice().iter().zip(nodes.iter()) {
-            assert_eq!(rt; node.name.owner.as_bytes(), *owner, "{body}");
-            assert_eq!(rt; node.name.leaf.as_bytes(), *leaf, "{body}");
+        for (at, (owner, leaf)) in nodes.iter().enumerate() {
+            assert!(rt; at < net.nodes.len());
+            let name = net.nodes.name(rt.alloc(), at)?;
+            assert_eq!(rt; name.owner.as_bytes(), *owner, "{body}");
+            assert_eq!(rt; name.leaf.as_bytes(), *leaf, "{body}");
         }
         assert_eq!(rt; net.caps.as_slice(), caps, "{body}");
     }

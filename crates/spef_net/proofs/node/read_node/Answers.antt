@@ -4,13 +4,13 @@ use Rattle.vg_scan.specs.declared.name.NodeName.{NodeName}
 use Rattle.vg_scan.proofs.NodeLemmas.{part-owner, part-leaf}
 use Rattle.spef_file.specs.Shown.{shown}
 use Rattle.spef_net.specs.Names.{owner_in, node_in, node_of_parts}
-use Rattle.spef_net.specs.Reads.{Reads}
+use Rattle.spef_net.specs.Spellings.{SpellsNode}
 use Rattle.spef_net.proofs.NodeLemmas.{node_in-None, node_in-parts}
 use Rattle.spef_net.proofs.node.read_node.Goals as goal
 
 pub returns-in-None : goal.returns-in-None
 returns-in-None c =
-    subst (λ (o : Option NodeName). Reads c.port_node.result o)
+    subst (λ (o : Option NodeName). SpellsNode c.port_node.result o)
     (sym (node_in-None (shown c.args.index.now) c.args.text.now (sym c.split_node.ensures.place ∙ ap (option_map (λ parts. parts.0.to)) c.in-None.is)))
     c.port_node.ensures
 
@@ -23,4 +23,4 @@ returns-in-Some c =
     (sym c.split_node.ensures.place ∙ ap (option_map (λ parts. parts.0.to)) c.in-Some.is)
     (c.text_at.ensures ∙ part-owner text c.in-Some.owner.from c.in-Some.owner.to c.in-Some.ensures.parts.0)
     (c.text_at-in-Some.ensures ∙ part-leaf text c.in-Some.owner.to c.in-Some.leaf.from c.in-Some.leaf.to c.in-Some.ensures.parts.1 c.in-Some.ensures.parts.2) in
-    subst (λ (o : Option NodeName). Reads c.inner_node.result o) (sym same) c.inner_node.ensures
+    subst (λ (o : Option NodeName). SpellsNode c.inner_node.result o) (sym same) c.inner_node.ensures

@@ -1,7 +1,7 @@
 use Rattle.std.proofs.Common.{◌≡◌, ◌∷◌, List, [], take, drop, sym, ◌∙◌, ap, refl, arith, subst, Ok}
 use Rattle.std.specs.Str.Lines.{lines}
 use Rattle.spef_file.specs.Shown.{shown}
-use Rattle.spef_net.specs.declared.saying.Saying.TheVariants.{Nothing}
+use Rattle.spef_net.specs.Sayings.{Nothing}
 use Rattle.spef_net.specs.Sayings.{Said, said, part_after, sayings, sayings_from}
 use Rattle.spef_net.specs.Rows.{connected_of}
 use Rattle.spef_net.specs.Drafts.{Sketch, IsSketch}

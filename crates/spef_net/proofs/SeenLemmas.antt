@@ -1,0 +1,96 @@
+-- Lines taken, by their words.
+use Rattle.std.proofs.Common.{◌≡◌, ◌||◌, Bool, ℕ, true, false, List, [], ◌∷◌, map, length, eqb, arith, refl, sym, ap, subst, Option, None, Result, Ok, Err}
+use Rattle.std.proofs.lemmas.Bool.Decides.{nat_tests}
+use Rattle.vg_num.specs.declared.fault.NumFault.{NumFault}
+use Rattle.vg_scan.specs.Lines.{Line}
+use Rattle.vg_scan.specs.declared.name.NodeName.{NodeName}
+use Rattle.spef_file.specs.Readings.{File}
+use Rattle.spef_net.specs.declared.part.Part.{Part}
+use Rattle.spef_net.specs.declared.part.Part.TheVariants.{Nowhere, Conns, Caps, Ress, Inducs}
+use Rattle.spef_net.specs.declared.fault.NetKind.{NetKind}
+use Rattle.spef_net.specs.declared.fault.NetKind.TheVariants.{Cap, Res}
+use Rattle.spef_net.specs.Lines.{head_of}
+use Rattle.spef_net.specs.Sayings.{Said, Opens, Nothing, conn_line, cap_line, res_line, ground, coupling, resistor, said_in, said_or_opens, said_words}
+use Rattle.spef_net.specs.Rows.{is_inductance, joined_in}
+use Rattle.spef_net.specs.Drafts.{Sketch, Takes, Follows}
+use Rattle.spef_net.specs.Surveys.{is_conns, with_joined, Surveys}
+use Rattle.spef_net.proofs.TakeLemmas.{takes_head, takes_nothing}
+use Rattle.spef_net.proofs.LineLemmas.{bad_line, quiet, same_part}
+
+-- a text that names no node
+pub ground_bad : (net : List ℕ) (old new : Sketch) (o : Option NodeName) (value : Result ℕ NumFault) → o ≡ None → Takes (Err Cap) net old (ground o value) new
+ground_bad net old new o value e = subst (λ (o : Option NodeName). Takes (Err Cap) net old (ground o value) new) (sym e) (bad_line net old new (Err Cap) Cap refl)
+
+pub coupling_bad : (net : List ℕ) (old new : Sketch) (o : Option (NodeName × NodeName)) (value : Result ℕ NumFault) → o ≡ None → Takes (Err Cap) net old (coupling o value) new
+coupling_bad net old new o value e = subst (λ (o : Option (NodeName × NodeName)). Takes (Err Cap) net old (coupling o value) new) (sym e) (bad_line net old new (Err Cap) Cap refl)
+
+pub resistor_bad : (net : List ℕ) (old new : Sketch) (o : Option (NodeName × NodeName)) (value : Result ℕ NumFault) → o ≡ None → Takes (Err Res) net old (resistor o value) new
+resistor_bad net old new o value e = subst (λ (o : Option (NodeName × NodeName)). Takes (Err Res) net old (resistor o value) new) (sym e) (bad_line net old new (Err Res) Res refl)
+
+-- what a line with words says
+pub said_here : {X : Type 0} (file : File) (part : Part) (line : List ℕ) (view : X → List ℕ) (ws : List X) → eqb (length ws) 0 ≡ false
+    → said_words file part line (map view ws) ≡ said_or_opens (head_of (map view ws)) (said_in part file line (map view ws))
+unfolding said_words
+said_here file part line view [] e = absurd (cc)
+said_here file part line view (w ∷ ws) e = refl
+
+no_length : (n : ℕ) → eqb n 0 ≡ true → n ≡ 0
+no_length n e = grind (arith, nat_tests)
+
+pub said_none : {X : Type 0} (file : File) (part : Part) (line : List ℕ) (view : X → List ℕ) (ws : List X) → eqb (length ws) 0 ≡ true → said_words file part line (map view ws) ≡ Ok Nothing
+unfolding said_words
+said_none file part line view [] e = refl
+said_none file part line view (w ∷ ws) e = absurd (let n = no_length (length (w ∷ ws)) e in omega arith)
+
+-- the survey of a line: of a head, of no words, and of a line that names no connection
+pub surveys_head : (nodes : List NodeName) (part opened : Part) (s : Said) → s ≡ Ok (Opens opened) → Surveys (Ok opened) nodes nodes part s
+surveys_head nodes part opened s e = subst (λ (s : Said). Surveys (Ok opened) nodes nodes part s) (sym e) (refl, refl)
+
+pub surveys_none : (nodes : List NodeName) (part : Part) (s : Said) → s ≡ Ok Nothing → Surveys (Ok part) nodes nodes part s
+surveys_none nodes part s e = subst (λ (s : Said). Surveys (Ok part) nodes nodes part s) (sym e) (refl, refl)
+
+pub surveys_quiet : (file : File) (part : Part) (line : List ℕ) (ws : Line) (nodes : List NodeName) (s : Said) → s ≡ said_in part file line ws → is_conns part ≡ false → Surveys (Ok part) nodes nodes part s
+surveys_quiet file part line ws nodes s e n =
+    let q = quiet file part line ws n in
+    subst (λ (s : Said). Surveys (Ok part) nodes nodes part s) (sym e) (q.part part, sym (ap (with_joined nodes) q.joined))
+
+-- a line is taken: one of no words, a head, and another
+pub follows_none : (net : List ℕ) (part : Part) (old : Sketch) (s : Said) → s ≡ Ok Nothing → Follows (Ok part) net part old s old
+follows_none net part old s e = subst (λ (s : Said). Follows (Ok part) net part old s old) (sym e) (refl, takes_nothing net old tt)
+
+pub follows_head : (net : List ℕ) (part opened : Part) (old new : Sketch) (inductive : Bool) (s : Said) → s ≡ Ok (Opens opened)
+    → inductive ≡ (old.inductive || is_inductance (Ok (Opens opened))) → new ≡ record old { inductive = inductive } → Follows (Ok opened) net part old s new
+follows_head net part opened old new inductive s e i is = subst (λ (s : Said). Follows (Ok opened) net part old s new) (sym e) (refl, takes_head net old new opened inductive tt i is)
+
+pub follows_line : (file : File) (net : List ℕ) (part : Part) (line : List ℕ) (ws : Line) (old new : Sketch) (s : Said) → s ≡ said_in part file line ws → Takes (Ok tt) net old (said_in part file line ws) new → Follows (Ok part) net part old s new
+follows_line file net part line ws old new s e t = subst (λ (s : Said). Follows (Ok part) net part old s new) (sym e) (same_part file part part line ws, t)
+
+pub follows_fault : (net : List ℕ) (part : Part) (old new : Sketch) (kind : NetKind) (s t : Said) → s ≡ t → Takes (Err kind) net old t new → Follows (Err kind) net part old s new
+follows_fault net part old new kind s t e h = subst (λ (s : Said). Follows (Err kind) net part old s new) (sym e) h
+
+-- lines of another number of words
+pub cap_bad : {X : Type 0} (file : File) (view : X → List ℕ) (ws : List X) (net : List ℕ) (old : Sketch) → (length ws ≡ 3 → ⊥) → (length ws ≡ 4 → ⊥) → Takes (Err Cap) net old (cap_line file (map view ws)) old
+unfolding cap_line
+cap_bad file view [] net old h k = bad_line net old old (Err Cap) Cap refl
+cap_bad file view (a ∷ []) net old h k = bad_line net old old (Err Cap) Cap refl
+cap_bad file view (a ∷ b ∷ []) net old h k = bad_line net old old (Err Cap) Cap refl
+cap_bad file view (a ∷ b ∷ c ∷ []) net old h k = absurd (h refl)
+cap_bad file view (a ∷ b ∷ c ∷ d ∷ []) net old h k = absurd (k refl)
+cap_bad file view (a ∷ b ∷ c ∷ d ∷ e ∷ es) net old h k = bad_line net old old (Err Cap) Cap refl
+
+pub res_bad : {X : Type 0} (file : File) (view : X → List ℕ) (ws : List X) (net : List ℕ) (old : Sketch) → (length ws ≡ 4 → ⊥) → Takes (Err Res) net old (res_line file (map view ws)) old
+unfolding res_line
+res_bad file view [] net old k = bad_line net old old (Err Res) Res refl
+res_bad file view (a ∷ []) net old k = bad_line net old old (Err Res) Res refl
+res_bad file view (a ∷ b ∷ []) net old k = bad_line net old old (Err Res) Res refl
+res_bad file view (a ∷ b ∷ c ∷ []) net old k = bad_line net old old (Err Res) Res refl
+res_bad file view (a ∷ b ∷ c ∷ d ∷ []) net old k = absurd (k refl)
+res_bad file view (a ∷ b ∷ c ∷ d ∷ e ∷ es) net old k = bad_line net old old (Err Res) Res refl
+
+-- the survey of a line of connections
+pub surveys_conn : (file : File) (part : Part) (line : List ℕ) (ws : Line) (old new : List NodeName) (s : Said) → s ≡ said_in part file line ws → is_conns part ≡ true → new ≡ with_joined old (joined_in (conn_line file line ws)) → Surveys (Ok part) old new part s
+surveys_conn file Nowhere line ws old new s e n h = absurd (cc)
+surveys_conn file Caps line ws old new s e n h = absurd (cc)
+surveys_conn file Ress line ws old new s e n h = absurd (cc)
+surveys_conn file Inducs line ws old new s e n h = absurd (cc)
+surveys_conn file Conns line ws old new s e n h = subst (λ (s : Said). Surveys (Ok Conns) old new Conns s) (sym e) (same_part file Conns Conns line ws, h)

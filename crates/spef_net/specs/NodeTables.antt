@@ -1,0 +1,28 @@
+-- The nodes of a table, and the buckets in which they are.
+use Rattle.std.specs.Prelude.{◌≡◌, ℕ, ◌+◌, ◌*◌, ◌%◌, ◌^◌, ◌<◌, ◌≤◌, List, [], ◌∷◌, length, Some}
+use Rattle.std.specs.List.{slice_get, fold}
+use Rattle.vg_scan.specs.declared.name.NodeName.{NodeName}
+use Rattle.vg_scan.specs.declared.chains.Chains.{Chains}
+use Rattle.vg_scan.specs.Chains.{AreChains}
+
+-- a hash, with one byte more
+abbrev pub hash_with : ℕ → ℕ → ℕ
+hash_with hash byte = (hash + byte) * 16777619 % 2 ^ 32
+
+-- a node's bucket among so many is that of the hash of its owner and its leaf
+unfoldable pub bucket_of : ℕ → NodeName → ℕ
+bucket_of buckets node = fold hash_with (fold hash_with 2166136261 node.owner) node.leaf % buckets
+
+-- the nodes of these owners and leaves
+unfoldable pub nodes_in : List (List ℕ) → List (List ℕ) → List NodeName
+nodes_in (owner ∷ owners) (leaf ∷ leaves) = record { owner = owner; leaf = leaf } ∷ nodes_in owners leaves
+nodes_in _ _ = []
+
+-- each node is in its bucket, and the buckets have chains
+pub record IsTable (nodes : List NodeName) (rows : List ℕ) (chains : Chains) : Type 0 where
+  pub some : 0 < length chains.lasts.items
+  pub fit : length chains.lasts.items ≤ 2 ^ 32
+  pub chained : AreChains chains rows
+  pub within : length nodes ≤ length rows
+  pub few : length rows < 2 ^ 32
+  pub placed : (at : ℕ) (node : NodeName) → slice_get nodes at ≡ Some node → slice_get rows at ≡ Some (bucket_of (length chains.lasts.items) node)

@@ -1,0 +1,19 @@
+-- What reading the texts of nodes answers.
+use Rattle.std.specs.Prelude.{◌≡◌, ℕ, List, Option, Some, None, Result, Ok, Err}
+use Rattle.vg_scan.specs.declared.fault.NameFault.{NameFault}
+use Rattle.vg_scan.specs.declared.fault.NameFault.TheVariants.{Bad, Memory}
+use Rattle.vg_scan.specs.declared.name.NodeName.{NodeName}
+use Rattle.spef_net.specs.Drafts.{Sketch, Owns}
+
+-- the node's number where it is the net's, or none
+abbrev pub Sees : Result (Option ℕ) NameFault → List ℕ → Sketch → Option NodeName → Sketch → Type 0
+Sees (Ok found) net old o new = (node : NodeName) × (o ≡ Some node) × Owns (Ok found) net old node new
+Sees (Err Bad) net old o new = o ≡ None
+Sees (Err Memory) net old o new = Unit {0}
+
+-- the numbers of two nodes, one after the other
+abbrev pub SeesTwo : Result (Option ℕ × Option ℕ) NameFault → List ℕ → Sketch → Option (NodeName × NodeName) → Sketch → Type 0
+SeesTwo (Ok found) net old o new =
+    (a : NodeName) × (b : NodeName) × (mid : Sketch) × (o ≡ Some (a, b)) × Owns (Ok found.0) net old a mid × Owns (Ok found.1) net mid b new
+SeesTwo (Err Bad) net old o new = o ≡ None
+SeesTwo (Err Memory) net old o new = Unit {0}

@@ -1,0 +1,137 @@
+//! Lines of connections.
+
+ghost use Rattle.std.specs.Prelude.{◌≡◌, Some};
+ghost use Rattle.spef_file.specs.Shown.{shown};
+ghost use Rattle.spef_net.specs.Lines.{note_after};
+ghost use Rattle.spef_net.specs.Sayings.{direction_in, is_at, connected, connection, star, conn_line};
+ghost use Rattle.spef_net.specs.Spellings.{named_by};
+ghost use Rattle.spef_net.specs.ConnLines.{Tells};
+ghost use Rattle.vg_scan.specs.Spans.{part_at, words_at};
+
+use crate::fault::NetKind;
+use crate::line::is_word;
+use crate::net::{ConnKind, Direction};
+use crate::node::{Node, is_bare, read_node};
+use spef_file::SpefIndex;
+use std::alloc::Global;
+use vg_scan::{NameFault, Span, text_at};
+
+/// What a line of connections says, but for its note.
+#[derive(Drop)]
+pub(crate) enum ConnLine<'a> {
+    /// The node is a connection.
+    Joins(ConnKind, Direction, Node<'a>),
+    /// The node is inside the net.
+    Stars(Node<'a>),
+}
+
+fn direction_in(line: &[u8], word: Span) -> Option<Direction>
+    ensures { result ≡ direction_in (part_at line.now word) }
+{
+    if is_word(line, word, b"I") {
+        Some(Direction::In)
+    } else if is_word(line, word, b"O") {
+        Some(Direction::Out)
+    } else if is_word(line, word, b"B") {
+        Some(Direction::Both)
+    } else {
+        None
+    }
+}
+
+fn is_at(kind: ConnKind, node: &Node) -> bool
+    ensures { result ≡ is_at kind (named_by node.now) }
+{
+    match kind {
+        ConnKind::Pin => !is_bare(node),
+        ConnKind::Port => is_bare(node),
+    }
+}
+
+/// A connection of this node.
+fn joins<'a>(
+    kind: ConnKind,
+    line: &[u8],
+    node: Node<'a>,
+    direction: Option<Direction>,
+) -> Result<ConnLine<'a>, NetKind>
+    ensures { Tells result line.now (connected kind (note_after 3 line.now) (Some (named_by node.entry)) direction) }
+{
+    match direction {
+        None => Err(NetKind::Conn),
+        Some(direction) => {
+            if is_at(kind, &node) {
+                Ok(ConnLine::Joins(kind, direction, node))
+            } else {
+                Err(NetKind::Conn)
+            }
+        }
+    }
+}
+
+/// A connection, from the words after the first.
+fn connection<'a>(
+    alloc: Global,
+    index: &'a SpefIndex,
+    kind: ConnKind,
+    line: &'a [u8],
+    words: &[Span],
+) -> Result<ConnLine<'a>, NetKind>
+    ensures { Tells result line.now (connection (shown index.now) kind line.now (words_at line.now words.now)) }
+{
+    let [node, direction, ..] = words else {
+        return Err(NetKind::Conn);
+    };
+    match read_node(alloc, index, text_at(line, *node)) {
+        Err(NameFault::Bad) => Err(NetKind::Conn),
+        Err(NameFault::Memory) => Err(NetKind::Memory),
+        Ok(node) => joins(kind, line, node, direction_in(line, *direction)),
+    }
+}
+
+/// A node inside the net, from the words after the first.
+fn star<'a>(
+    alloc: Global,
+    index: &'a SpefIndex,
+    line: &'a [u8],
+    words: &[Span],
+) -> Result<ConnLine<'a>, NetKind>
+    ensures { Tells result line.now (star (shown index.now) line.now (words_at line.now words.now)) }
+{
+    let [node, ..] = words else {
+        return Err(NetKind::Conn);
+    };
+    match read_node(alloc, index, text_at(line, *node)) {
+        Err(NameFault::Bad) => Err(NetKind::Conn),
+        Err(NameFault::Memory) => Err(NetKind::Memory),
+        Ok(node) => Ok(ConnLine::Stars(node)),
+    }
+}
+
+/// A line of connections, but for its note.
+///
+/// Answers `Conn` where its form or its name is no such line's, and `Memory` where there is no room.
+#[tactic(auto, unfolding(crate::specs::Sayings::conn_line))]
+pub(crate) fn read_conn<'a>(
+    alloc: Global,
+    index: &'a SpefIndex,
+    line: &'a [u8],
+    words: &[Span],
+) -> Result<ConnLine<'a>, NetKind>
+    ensures { Tells result line.now (conn_line (shown index.now) line.now (words_at line.now words.now)) }
+{
+    if words.is_empty() {
+        return Err(NetKind::Conn);
+    }
+    let rest = &words[1..];
+    if is_word(line, words[0], b"*I") {
+        return connection(alloc, index, ConnKind::Pin, line, rest);
+    }
+    if is_word(line, words[0], b"*P") {
+        return connection(alloc, index, ConnKind::Port, line, rest);
+    }
+    if is_word(line, words[0], b"*N") {
+        return star(alloc, index, line, rest);
+    }
+    Err(NetKind::Conn)
+}
