@@ -4,13 +4,13 @@ use Rattle.std.specs.Prelude.{slice_index}
 use Rattle.std.specs.List.{AllZip, range_with_len}
 use Rattle.std.proofs.lemmas.List.{append-nil}
 use Rattle.std.proofs.lemmas.List.Elements.{filter-append}
-use Rattle.std.proofs.lemmas.Option.{slice_get_read}
+use Rattle.std.proofs.lemmas.Option.{slice_get-get_or}
 use Rattle.elmore.specs.Wire.{delay_in}
 use Rattle.elmore.specs.declared.tree.Node.{Node}
 use Rattle.vg_scan.specs.declared.name.NodeName.{NodeName}
-use Rattle.spef_net.specs.declared.net.ParNode.{ParNode}
+use Rattle.spef_net.specs.Nodes.{ParNode}
 use Rattle.spef_net.specs.declared.net.ParNet.{ParNet}
-use Rattle.vg_design.specs.Refusals.{IsNetTree}
+use Rattle.vg_design.specs.Refusals.{IsNamed, IsNetTree}
 use Rattle.vg_design.specs.Steps.{IsSinkPushed}
 use Rattle.vg_design.specs.Wires.{is_sink_node, AreMarks, IsDelay}
 
@@ -38,19 +38,16 @@ below_more net order i =
     ∙ ap (λ j. sinks_below net order i ++ cond (is_sink_node net (slice_index order j)) (j ∷ []) []) (omega arith)
 
 -- a node's row is put behind others
-pub is_pushed : (net : ParNet) (v : ℕ) (delay : ℤ) (marked : Bool) (node : ParNode) (name : NodeName) (nodes : List ParNode) (before after : List (NodeName × ℤ))
-    → marked ≡ true → nodes ≡ net.nodes → v < length net.nodes → node ≡ get_or nodes v node → name ≡ (get_or nodes v node).name → after ≡ before ++ (name, delay) ∷ []
+pub is_named : (net : ParNet) (v : ℕ) (name : NodeName) → v < length net.nodes → ((other : ParNode) → name ≡ (get_or net.nodes v other).name) → IsNamed net v name
+is_named net v name h is =
+    let none : ParNode = record { name = name; inner = false; note = [] } in
+    record { node = get_or net.nodes v none; at = slice_get-get_or net.nodes v none h; name_is = is none }
+
+pub is_pushed : (net : ParNet) (v : ℕ) (delay : ℤ) (marked : Bool) (name : NodeName) (before after : List (NodeName × ℤ))
+    → marked ≡ true → v < length net.nodes → ((other : ParNode) → name ≡ (get_or net.nodes v other).name) → after ≡ before ++ (name, delay) ∷ []
     → IsSinkPushed net v delay marked before after
-is_pushed net v delay marked node name nodes before after e same h at copied rows =
-    subst (λ (b : Bool). IsSinkPushed net v delay b before after) (sym e) (record {
-      name = name;
-      named = record {
-        node = node;
-        at = slice_get_read net.nodes (length net.nodes) v node (ap length (sym same) ∙ ap length same) h (at ∙ ap (λ (ns : List ParNode). get_or ns v node) same);
-        name_is = copied ∙ ap (λ (n : ParNode). n.name) (sym at);
-      };
-      rows = rows;
-    })
+is_pushed net v delay marked name before after e h is rows =
+    subst (λ (b : Bool). IsSinkPushed net v delay b before after) (sym e) (record { name = name; named = is_named net v name h is; rows = rows })
 
 module _ (net : ParNet) (tree : List Node) (order : List ℕ) (i : ℕ) (delay : ℤ) (before after : List (NodeName × ℤ)) where
   with_row : (marked : Bool) → delay ≡ pos (delay_in tree i) → AllZip (IsDelay net tree order) (sinks_below net order i) before

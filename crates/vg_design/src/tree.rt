@@ -60,7 +60,7 @@ fn refused_by(alloc: Global, net: &ParNet, fault: TreeFault) -> Refused
 {
     match fault {
         TreeFault::Floating(node) => {
-            match net.nodes.as_slice()[node as usize].name.copy(alloc) {
+            match net.nodes.name(alloc, node as usize) {
                 Ok(name) => Refused::Net(Refusal::Floating(name)),
                 Err(_) => Refused::Memory,
             }

@@ -68,7 +68,7 @@ fn push_sink(
     ensures { OnOk result (IsSinkPushed net.now node delay is_sink rows.old.items rows.new.items) }
 {
     if is_sink {
-        let name = net.nodes.as_slice()[node as usize].name.copy(alloc)?;
+        let name = net.nodes.name(alloc, node as usize)?;
         rows.push((name, delay))?;
     }
     Ok(())

@@ -40,7 +40,8 @@ fn printed_at(alloc: Global, found: &NetTree, i: u32) -> Result<Vec<u8>, Memory>
 {
     let mut text = Vec::new(alloc);
     let v = found.order.as_slice()[i as usize];
-    print_node(name_of(&found.net, v), &mut text)?;
+    let name = name_of(alloc, &found.net, v)?;
+    print_node(&name, &mut text)?;
     Ok(text)
 }
 
@@ -74,8 +75,9 @@ fn judge(alloc: Global, name: &[u8], found: &NetTree, cons: &Constraints) -> Res
     if has_pin(&found.net) {
         return refused(alloc, name, 0, b"NotYet");
     }
-    if let Some(sink) = first_free(cons, &found.net) {
-        return refuse_free(alloc, name, name_of(&found.net, sink.node));
+    if let Some(sink) = first_free(alloc, cons, &found.net)? {
+        let sink = name_of(alloc, &found.net, sink.node)?;
+        return refuse_free(alloc, name, &sink);
     }
     if found.net.caps.len() > MOST_CAPACITORS {
         return refused(alloc, name, 16, b"TooLarge");

@@ -13,44 +13,63 @@ use vg_cons::{Constraints, port_load};
 use vg_num::Memory;
 
 /// The sink at a node of a net, if it is one.
-fn sink_at(cons: &Constraints, net: &ParNet, marks: &[bool], v: u32) -> Option<Sink>
+fn sink_at(
+    alloc: Global,
+    cons: &Constraints,
+    net: &ParNet,
+    marks: &[bool],
+    v: u32,
+) -> Result<Option<Sink>, Memory>
     requires node { v < length net.now.nodes }
     requires marks { AreMarks net.now marks.now }
-    ensures { result ≡ sink_in cons.now net.now v }
+    ensures { IfOk result (λ sink. sink ≡ sink_in cons.now net.now v) }
 {
-    if marks[v as usize] {
-        sink_given(cons, name_of(net, v))
-    } else {
-        None
+    if !marks[v as usize] {
+        return Ok(None);
     }
+    let name = name_of(alloc, net, v)?;
+    Ok(sink_given(cons, &name))
 }
 
 /// The load of the port at a node of a net (aF), if it is a sink.
-fn load_at(cons: &Constraints, net: &ParNet, marks: &[bool], v: u32) -> u64
+fn load_at(
+    alloc: Global,
+    cons: &Constraints,
+    net: &ParNet,
+    marks: &[bool],
+    v: u32,
+) -> Result<u64, Memory>
     requires node { v < length net.now.nodes }
     requires marks { AreMarks net.now marks.now }
-    ensures { result ≡ load_in cons.now net.now v }
+    ensures { IfOk result (λ load. load ≡ load_in cons.now net.now v) }
 {
-    if marks[v as usize] {
-        port_load(cons, &name_of(net, v).owner)
-    } else {
-        0
+    if !marks[v as usize] {
+        return Ok(0);
     }
+    let name = name_of(alloc, net, v)?;
+    Ok(port_load(cons, &name.owner))
 }
 
 /// A node of the tree with its load, where it is node `v` of the net.
-fn loaded(cons: &Constraints, net: &ParNet, marks: &[bool], node: Node, v: u32) -> Node
+fn loaded(
+    alloc: Global,
+    cons: &Constraints,
+    net: &ParNet,
+    marks: &[bool],
+    node: Node,
+    v: u32,
+) -> Result<Node, Memory>
     requires node { v < length net.now.nodes }
     requires marks { AreMarks net.now marks.now }
     requires small { node.c < 2 ^ 127 }
-    ensures { result ≡ loaded_in cons.now net.now node v }
+    ensures { IfOk result (λ loaded. loaded ≡ loaded_in cons.now net.now node v) }
 {
-    let load = load_at(cons, net, marks, v);
-    Node {
+    let load = load_at(alloc, cons, net, marks, v)?;
+    Ok(Node {
         parent: node.parent,
         r: node.r,
         c: node.c + u128::from(load),
-    }
+    })
 }
 
 /// For each node of the tree its sink, if it has one.
@@ -67,7 +86,7 @@ pub fn sinks_of(
 {
     let mut sinks = Vec::new(alloc);
     'node: for v in order {
-        sinks.push(sink_at(cons, net, marks, *v))?;
+        sinks.push(sink_at(alloc, cons, net, marks, *v)?)?;
     }
     Ok(sinks)
 }
@@ -89,7 +108,7 @@ pub fn loaded_nodes(
 {
     let mut nodes = Vec::new(alloc);
     'node: for i in 0..tree.len() {
-        nodes.push(loaded(cons, net, marks, tree[i], order[i]))?;
+        nodes.push(loaded(alloc, cons, net, marks, tree[i], order[i])?)?;
     }
     Ok(nodes)
 }

@@ -1,12 +1,14 @@
 //! The connections of a net, and what constraints say of its ports.
-ghost use Rattle.std.specs.Prelude.{◌≡◌, ◌<◌, length};
+ghost use Rattle.std.specs.Prelude.{◌≡◌, ◌<◌, length, IfOk};
 ghost use Rattle.std.specs.List.{All};
 ghost use Rattle.vginsert_top.specs.Timing.{is_pin_kind, has_pin as has_pin_in, name_of as name_in, is_free as is_free_in, first_free as first_free_in, sink_given as sink_given_in, driver_at as driver_by};
 
 use elmore::{Driver, Sink};
 use spef_net::{ConnKind, ParConn, ParNet};
+use std::alloc::Global;
 use vg_cons::{Constraints, arrival, port_drive, required, wants_inverted};
 use vg_design::is_sink;
+use vg_num::Memory;
 use vg_scan::NodeName;
 
 /// Whether a connection is a pin.
@@ -26,33 +28,47 @@ pub fn has_pin(net: &ParNet) -> bool
     net.conns.as_slice().iter().any(|conn| is_pin(conn.kind))
 }
 
-/// The name of a node of a net.
-pub fn name_of(net: &ParNet, v: u32) -> &NodeName
+/// The name of a node of a net. Answers `Memory` where there is no room.
+pub fn name_of(alloc: Global, net: &ParNet, v: u32) -> Result<NodeName, Memory>
     requires { v < length net.now.nodes }
-    ensures { result.now ≡ name_in net.now v }
+    ensures { IfOk result (λ name. name ≡ name_in net.now v) }
 {
-    &net.nodes.as_slice()[v as usize].name
+    let name = net.nodes.name(alloc, v as usize)?;
+    Ok(name)
 }
 
 /// Whether a connection is a sink without a required time.
-fn is_free(cons: &Constraints, net: &ParNet, conn: ParConn) -> bool
+fn is_free(
+    alloc: Global,
+    cons: &Constraints,
+    net: &ParNet,
+    conn: ParConn,
+) -> Result<bool, Memory>
     requires { conn.node < length net.now.nodes }
-    ensures { result ≡ is_free_in cons.now net.now conn }
+    ensures { IfOk result (λ free. free ≡ is_free_in cons.now net.now conn) }
 {
-    is_sink(&conn) && required(cons, name_of(net, conn.node)).is_none()
+    if !is_sink(&conn) {
+        return Ok(false);
+    }
+    let name = name_of(alloc, net, conn.node)?;
+    Ok(required(cons, &name).is_none())
 }
 
 /// The first sink, in the order of the connections, without a required time.
-pub fn first_free(cons: &Constraints, net: &ParNet) -> Option<ParConn>
+pub fn first_free(
+    alloc: Global,
+    cons: &Constraints,
+    net: &ParNet,
+) -> Result<Option<ParConn>, Memory>
     requires { All (λ conn. conn.node < length net.now.nodes) net.now.conns }
-    ensures { result ≡ first_free_in cons.now net.now }
+    ensures { IfOk result (λ first. first ≡ first_free_in cons.now net.now) }
 {
     'connection: for conn in net.conns.as_slice() {
-        if is_free(cons, net, *conn) {
-            return Some(*conn);
+        if is_free(alloc, cons, net, *conn)? {
+            return Ok(Some(*conn));
         }
     }
-    None
+    Ok(None)
 }
 
 /// What constraints say of a port as a sink.

@@ -53,7 +53,8 @@ fn problem_of(alloc: Global, cons: &Constraints, found: &NetTree) -> Result<Opti
     let marks = sink_marks(alloc, &found.net)?;
     let tree = loaded_tree(alloc, cons, found, &marks)?;
     let sinks = sinks_of(alloc, cons, &found.net, &marks, order)?;
-    let driver = driver_at(cons, name_of(&found.net, order[0]));
+    let name = name_of(alloc, &found.net, order[0])?;
+    let driver = driver_at(cons, &name);
     let free = vec![in alloc; false; sinks.len()]?;
     let reps = Row::from_vec(Vec::new(alloc));
     let made = Problem::new(alloc, tree, driver, Row::from_vec(sinks), &free, reps)?;

@@ -5,5 +5,5 @@ use Rattle.vg_design.proofs.wire.push_sink.Goals as goal
 pub returns-in_ok-push : goal.returns-in_ok-push
 returns-in_ok-push c =
     let pushed : c.push.new.self.items ≡ c.args.rows.now.items ++ (c.in_ok-name.name, c.args.delay) ∷ [] = search rules in
-    is_pushed c.args.net.now c.args.node c.args.delay c.args.is_sink c.index-as_slice-node.result c.in_ok-name.name c.as_slice.result.now c.args.rows.now.items c.push.new.self.items
-    c.if-is_sink.true c.as_slice.ensures c.requires c.index-as_slice-node.is c.in_ok-name.ensures pushed
+    is_pushed c.args.net.now c.args.node c.args.delay c.args.is_sink c.in_ok-name.name c.args.rows.now.items c.push.new.self.items
+    c.if-is_sink.true c.requires c.in_ok-name.ensures pushed
