@@ -13,3 +13,4 @@ pub mod FollowLemmas
 pub mod GoLemmas
 pub mod ReadLemmas
 pub mod LawLemmas
+pub mod ZipLemmas

@@ -7,7 +7,6 @@ use Rattle.vg_scan.specs.declared.chars.Chars.{Chars}
 use Rattle.vg_scan.specs.declared.name.Name.{Name}
 use Rattle.spef_file.specs.declared.fault.SpefKind.{SpefKind}
 use Rattle.spef_file.specs.declared.fault.SpefKind.TheVariants.{Memory, MapUnknown}
-use Rattle.spef_file.specs.declared.map_table.MapTable.{MapTable}
 use Rattle.spef_file.specs.declared.section.Section.{Section}
 use Rattle.spef_file.specs.declared.reader.Reader.{Reader}
 use Rattle.spef_file.specs.Headers.{IsSmall}
@@ -15,7 +14,7 @@ use Rattle.spef_file.specs.Machine.{State}
 use Rattle.spef_file.specs.Nets.{NetHead}
 use Rattle.spef_file.specs.Rows.{head_name}
 use Rattle.spef_file.specs.Machine.{read}
-use Rattle.spef_file.specs.Tables.{IsIndexed, AreNamed}
+use Rattle.spef_file.specs.Tables.{AreNamed}
 
 abbrev pub head_in : Section → NetHead
 head_in section = record { name = section.name; reduced = section.reduced; line = section.line }
@@ -24,11 +23,11 @@ abbrev pub heads_in : List Section → List NetHead
 heads_in sections = map head_in sections
 
 abbrev pub seen : Reader → State
-seen r = record { headed = r.headed; heading = r.heading; region = r.region; in_net = false; count = r.count; names = r.map.rows.items; nets = heads_in r.nets.rows.items }
+seen r = record { headed = r.headed; heading = r.heading; region = r.region; in_net = false; count = r.count; names = r.map; nets = heads_in r.nets.rows.items }
 
--- the tables are those of the rows, and all counts are as large as they may be
+-- the table of names is that of the nets, and no count is larger than it may be
 pub record IsWhole (r : Reader) : Type 0 where
-  pub indexed : IsIndexed r.map
+  pub rows : length r.map ≤ r.count
   pub named : AreNamed r.nets.names r.nets.rows.items
   pub small : IsSmall r.heading
   pub few : length r.nets.rows.items ≤ r.count
@@ -54,8 +53,8 @@ GoesTo bytes next (Ok to) old new line = read old (line ∷ lines_of (drop next 
 GoesTo bytes next (Err kind) old new line = Fails kind old line (lines_of (drop next bytes))
 
 -- a row of a name map is added, or its fault is answered
-abbrev pub AddsRow : Result (Unit {0}) SpefKind → Option SpefKind → Option (List ℕ × List ℕ) → MapTable → MapTable → Type 0
-AddsRow (Ok _) fault given old new = (row : List ℕ × List ℕ) × (given ≡ Some row) × (fault ≡ None) × (new.rows.items ≡ old.rows.items ++ row ∷ []) × IsIndexed new
+abbrev pub AddsRow : Result (Unit {0}) SpefKind → Option SpefKind → Option (List ℕ × List ℕ) → List (List ℕ × List ℕ) → List (List ℕ × List ℕ) → Type 0
+AddsRow (Ok _) fault given old new = (row : List ℕ × List ℕ) × (given ≡ Some row) × (fault ≡ None) × (new ≡ old ++ row ∷ [])
 AddsRow (Err kind) fault given old new = IsFaultOrMemory fault kind
 
 -- the name of a head, none where its text is bad, or the fault of a reference

@@ -6,7 +6,6 @@ ghost use Rattle.spef_file.specs.NetSpans.{IsLine, KeepsSpans};
 ghost use Rattle.vg_scan.specs.Spans.{IsIn, words_at, part_at};
 ghost use Rattle.spef_file.specs.Words.{first_word, second_word, has_words};
 ghost use Rattle.spef_file.specs.Openings.{opening_of};
-ghost use Rattle.spef_file.specs.Tables.{IsIndexed};
 ghost use Rattle.spef_file.specs.Views.{seen, IsWhole, Passes, GoesTo, AddsRow, IsHeadName, CanonicalName};
 ghost use Rattle.spef_file.specs.declared.opening.Opening.TheVariants.{Nothing, Net};
 ghost use Rattle.std.specs.Prelude.{Ok, Some, None};
@@ -17,7 +16,7 @@ ghost use Rattle.spef_file.specs.Rows.{row_of, map_line};
 use crate::edge::find_end;
 use crate::fault::SpefKind;
 use crate::header_line::{first_word, header_line, is_idle};
-use crate::map_table::{MapTable, add_row, name_of};
+use crate::name_map::NameMap;
 use crate::net_table::add_net;
 use crate::opening::{Opening, Region, opening_of, same};
 use crate::reader::Reader;
@@ -68,11 +67,10 @@ fn canonical_name(alloc: Global, word: &[u8], chars: &Chars) -> Result<Option<Na
 }
 
 /// The fault of a line `*digits NAME` of a name map whose NAME is bad.
-fn unnamed_fault(table: &MapTable, index: &[u8]) -> SpefKind
-    requires { IsIndexed table.now }
-    ensures { given_fault table.now.rows.items (Some index.now) None ≡ Some result }
+fn unnamed_fault(map: &NameMap, index: &[u8]) -> SpefKind
+    ensures { given_fault map.now (Some index.now) None ≡ Some result }
 {
-    match name_of(&table.indices, table.rows.as_slice(), index) {
+    match map.find(index) {
         None => SpefKind::Stray,
         Some(_) => SpefKind::MapTwice,
     }
@@ -81,17 +79,17 @@ fn unnamed_fault(table: &MapTable, index: &[u8]) -> SpefKind
 /// Adds the row of a name map whose line is `*digits NAME`, of these digits and this word.
 fn take_given(
     alloc: Global,
-    table: &mut MapTable,
+    map: &mut NameMap,
     chars: &Chars,
     index: &[u8],
     word: &[u8],
 ) -> Result<(), SpefKind>
-    requires { IsIndexed table.old }
-    ensures { AddsRow result (given_fault table.old.rows.items (Some index.now) (canonical chars.now word.now)) (row_of (Some index.now) (canonical chars.now word.now)) table.old table.new }
+    requires { length map.old < 2 ^ 28 }
+    ensures { AddsRow result (given_fault map.old (Some index.now) (canonical chars.now word.now)) (row_of (Some index.now) (canonical chars.now word.now)) map.old map.new }
 {
     match canonical_name(alloc, word, chars)? {
-        None => Err(unnamed_fault(table, index)),
-        Some(name) => match add_row(alloc, table, index, name) {
+        None => Err(unnamed_fault(map, index)),
+        Some(name) => match map.add(index, name.as_bytes()) {
             Ok(true) => Ok(()),
             Ok(false) => Err(SpefKind::MapTwice),
             Err(_) => Err(SpefKind::Memory),
@@ -102,13 +100,13 @@ fn take_given(
 /// Adds the row of a name map that a line states.
 fn take_row(
     alloc: Global,
-    table: &mut MapTable,
+    map: &mut NameMap,
     chars: &Chars,
     bytes: &[u8],
     words: &[Span],
 ) -> Result<(), SpefKind>
-    requires { IsIndexed table.old }
-    ensures { AddsRow result (row_fault chars.now table.old.rows.items (words_at bytes.now words.now)) (map_line chars.now (words_at bytes.now words.now)) table.old table.new }
+    requires { length map.old < 2 ^ 28 }
+    ensures { AddsRow result (row_fault chars.now map.old (words_at bytes.now words.now)) (map_line chars.now (words_at bytes.now words.now)) map.old map.new }
 {
     let [index, name] = words else {
         return Err(SpefKind::Stray);
@@ -116,7 +114,7 @@ fn take_row(
     let Some(index) = index_of(text_at(bytes, *index)) else {
         return Err(SpefKind::Stray);
     };
-    take_given(alloc, table, chars, index, text_at(bytes, *name))
+    take_given(alloc, map, chars, index, text_at(bytes, *name))
 }
 
 /// Takes a line that opens nothing.
@@ -166,12 +164,11 @@ fn take_other_line(
 /// Answers `MapUnknown` where the word refers to an index that is not mapped, and `Memory` where there is no room.
 fn head_name(
     alloc: Global,
-    table: &MapTable,
+    map: &NameMap,
     chars: &Chars,
     word: &[u8],
 ) -> Result<Option<Name>, SpefKind>
-    requires { IsIndexed table.now }
-    ensures { IsHeadName chars.now table.now.rows.items word.now result }
+    ensures { IsHeadName chars.now map.now word.now result }
 {
     if !is_reference(word) {
         return canonical_name(alloc, word, chars);
@@ -179,10 +176,10 @@ fn head_name(
     let Some(index) = index_of(word) else {
         return Err(SpefKind::MapUnknown);
     };
-    let Some(name) = name_of(&table.indices, table.rows.as_slice(), index) else {
+    let Some(name) = map.find(index) else {
         return Err(SpefKind::MapUnknown);
     };
-    match Name::from_bytes(alloc, name.as_bytes()) {
+    match Name::from_bytes(alloc, name) {
         Ok(name) => Ok(Some(name)),
         Err(_) => Err(SpefKind::Memory),
     }
@@ -228,7 +225,7 @@ fn take_named_net(
     requires few { reader.old.count < 2 ^ 28 }
     requires line { IsLine bytes.now line next (words_at bytes.now words.now) }
     requires place { (next ≤ length bytes.now) × (length bytes.now ≤ 2 ^ 28) }
-    requires name { IsHeadName reader.old.heading.chars reader.old.map.rows.items (second_word (words_at bytes.now words.now)) (Ok name) }
+    requires name { IsHeadName reader.old.heading.chars reader.old.map (second_word (words_at bytes.now words.now)) (Ok name) }
     ensures goes { GoesTo bytes.now next result (seen reader.old) (seen reader.new) (words_at bytes.now words.now) }
     ensures whole { OnOk result (IsWhole reader.new) }
     ensures spans { KeepsSpans bytes.now next result reader.old reader.new (words_at bytes.now words.now) }

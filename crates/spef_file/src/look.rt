@@ -6,7 +6,6 @@ ghost use Rattle.std.specs.Str.{bytes_eq};
 ghost use Rattle.spef_file.specs.Rows.{mapped};
 ghost use Rattle.spef_file.specs.Tables.{names_of};
 
-use crate::map_table::name_of;
 use crate::spef_index::SpefIndex;
 use vg_scan::Name;
 
@@ -22,8 +21,8 @@ pub fn net_at(index: &SpefIndex, name: &Name) -> Option<usize>
 }
 
 /// The name of an index of the name map, by its digits. `None`: it is not mapped.
-pub fn mapped<'a>(index: &'a SpefIndex, digits: &[u8]) -> Option<&'a Name>
+pub fn mapped<'a>(index: &'a SpefIndex, digits: &[u8]) -> Option<&'a [u8]>
     ensures { option_map (λ name. name.now) result ≡ mapped index.now.map digits.now }
 {
-    name_of(&index.indices, index.map.as_slice(), digits)
+    index.map.find(digits)
 }

@@ -14,9 +14,8 @@ ghost use Rattle.spef_file.specs.Indexes.{IsIndexOf};
 use crate::fault::{SpefFault, SpefKind};
 use crate::header::Header;
 use crate::heading::Heading;
-use crate::indices::Indices;
 use crate::lines::take_line;
-use crate::map_table::MapTable;
+use crate::name_map::NameMap;
 use crate::net_table::NetTable;
 use crate::opening::Region;
 use crate::reader::Reader;
@@ -47,10 +46,7 @@ fn start(alloc: Global) -> Reader
         },
         region: Region::Outside,
         count: 0,
-        map: MapTable {
-            indices: Indices::new(alloc),
-            rows: Vec::new(alloc),
-        },
+        map: NameMap::new(alloc),
         nets: NetTable {
             names: Names::new(alloc),
             rows: Vec::new(alloc),
@@ -92,15 +88,12 @@ fn finish(reader: Reader) -> SpefIndex
         c_places: i32::from(reader.heading.c_places),
         r_places: i32::from(reader.heading.r_places),
     };
-    let MapTable { indices, rows } = reader.map;
-    let map = Row::from_vec(rows);
     let NetTable { names, rows } = reader.nets;
     let sections = Row::from_vec(rows);
     SpefIndex {
         header,
-        map,
+        map: reader.map,
         sections,
-        indices,
         names,
     }
 }

@@ -1,5 +1,5 @@
 use crate::heading::Heading;
-use crate::map_table::MapTable;
+use crate::name_map::NameMap;
 use crate::net_table::NetTable;
 use crate::opening::Region;
 
@@ -12,6 +12,6 @@ pub(crate) struct Reader {
     pub region: Region,
     /// How many lines there were.
     pub count: usize,
-    pub map: MapTable,
+    pub map: NameMap,
     pub nets: NetTable,
 }

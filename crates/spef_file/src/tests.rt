@@ -64,11 +64,8 @@ fn a_file(rt: HostRuntime) -> Result<(), Fail> {
     assert_eq!(rt; (chars.divider, chars.delimiter), (b'/', b':'));
     assert_eq!(rt; (chars.bus_left, chars.bus_right), (b'<', b'>'));
     assert_eq!(rt; (index.header.c_places, index.header.r_places), (6, 6));
-    assert_eq!(rt;
-        mapped(&index, b"1").map(|name| name.as_bytes()),
-        Some(b"u1/d[3]".as_slice())
-    );
-    assert_eq!(rt; mapped(&index, b"2").map(|name| name.as_bytes()), None);
+    assert_eq!(rt; mapped(&index, b"1"), Some(b"u1/d[3]".as_slice()));
+    assert_eq!(rt; mapped(&index, b"2"), None);
     assert_eq!(rt; index.map.len(), 2);
     let nets = [
         (

@@ -29,6 +29,6 @@ returns-in-Err-clause-passes c = λ later.
 pub returns-in-Ok-clause-passes : goal.returns-in-Ok-clause-passes
 returns-in-Ok-clause-passes c = λ later.
     let some : has_words (words_at c.args.bytes.now c.args.words.now) ≡ true = some_words (part_at c.args.bytes.now) c.args.words.now (sym c.is_empty.ensures ∙ c.if-is_empty.false) in
-    let (row, is, clear, rows, indexed) = c.in-Ok.ensures in
+    let (row, is, clear, rows) = c.in-Ok.ensures in
     row_passes (seen c.args.reader.now) (words_at c.args.bytes.now c.args.words.now) later row refl c.requires.headed c.requires.opens some c.in-InMap.is is clear
     ∙ ap (λ names. read (record (seen c.args.reader.now) { count = c.args.reader.now.count + 1; names = names }) later) (sym rows)
