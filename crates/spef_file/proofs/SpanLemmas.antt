@@ -12,13 +12,14 @@ use Rattle.vg_scan.proofs.BlankLemmas.{lines_skip}
 use Rattle.vg_scan.proofs.CutLemmas.{get_part}
 use Rattle.spef_file.specs.declared.opening.Opening.TheVariants.{Map, Passed, Net, Foreign, Nothing}
 use Rattle.spef_file.specs.declared.section.Section.{Section}
+use Rattle.spef_file.specs.Tables.{NetRow}
 use Rattle.spef_file.specs.Openings.{opening_of, is_passed, is_net, is_foreign}
 use Rattle.spef_file.specs.Words.{first_word, has_words}
 use Rattle.spef_file.specs.NetSpans.{net_lines, up_to_end, IsSpan, AreSpans, StaysRight}
 use Rattle.spef_file.proofs.EndLemmas.{drop_more}
 
 -- the sections stay the same
-pub keeps_same : (clear : List ℕ) (next count new_count : ℕ) (old new : List Section) (line : Line) → new ≡ old → new_count ≡ count + 1 → StaysRight clear next next count new_count old new line
+pub keeps_same : (clear : List ℕ) (next count new_count : ℕ) (old new : List NetRow) (line : Line) → new ≡ old → new_count ≡ count + 1 → StaysRight clear next next count new_count old new line
 keeps_same clear next count new_count old new line same counts = λ lines at spans. (
   subst (AreSpans clear lines) (sym same) spans,
   ap (λ n. drop n lines) counts ∙ sym (drop_more count lines line (lines_of (drop next clear)) (sym at)),
@@ -81,13 +82,13 @@ drop_drop_more n m all line rest e =
     ap (λ k. drop k all) (let x : n + (m + 2) ≡ n + 1 + (m + 1) = omega arith in x) ∙ sym (drop-drop (m + 1) (n + 1) all) ∙ ap (drop (m + 1)) (sym (drop_more n all line rest e))
 
 -- one section more
-pub keeps_net : (clear : List ℕ) (next to n count new_count : ℕ) (old new : List Section) (line : Line) (section : Section)
-    → new ≡ old ++ section ∷ [] → new_count ≡ count + (n + 2) → section.line ≡ count + 1
+pub keeps_net : (clear : List ℕ) (next to n count new_count : ℕ) (old new : List NetRow) (line : Line) (name : List ℕ) (section : Section)
+    → new ≡ old ++ (name, section) ∷ [] → new_count ≡ count + (n + 2) → section.line ≡ count + 1
     → lines_of (part clear section.from section.to) ≡ line ∷ up_to_end (lines_of (drop next clear))
     → IsFirstSolid clear section.from → is_solid (get_or clear (section.to - 1) 0) ≡ true → (section.from < section.to) × (section.to ≤ length clear)
     → section.line ≤ 2 ^ 28 → BeginsLine clear next → (section.from ≤ next) × (next < section.to) → length (lines_of (part clear section.from next)) ≡ 1 → lines_of (part clear next section.to) ≡ up_to_end (lines_of (drop next clear))
     → lines_of (drop to clear) ≡ drop (n + 1) (lines_of (drop next clear)) → StaysRight clear next to count new_count old new line
-keeps_net clear next to n count new_count old new line section rows counts number net first last order few begins within head inner rest = λ lines at spans.
+keeps_net clear next to n count new_count old new line name section rows counts number net first last order few begins within head inner rest = λ lines at spans.
     let later = lines_of (drop next clear) in
     let here : drop (section.line - 1) lines ≡ line ∷ later = ap (λ k. drop k lines) (let x : section.line - 1 ≡ count = omega (arith, number) in x) ∙ at in
     let one : IsSpan clear lines section = record {
@@ -103,8 +104,8 @@ keeps_net clear next to n count new_count old new line section rows counts numbe
       later = drop_more count lines line later (sym at) ∙ ap (λ k. drop k lines) (sym number);
       inner = inner;
     } in (
-      subst (AreSpans clear lines) (sym rows) (All-append (IsSpan clear lines) old (section ∷ []) spans
-          (λ k d l. let z : 0 ≡ k = omega arith in subst (λ j. IsSpan clear lines (get_or (section ∷ []) j d)) z one)),
+      subst (AreSpans clear lines) (sym rows) (All-append (λ (net : NetRow). IsSpan clear lines net.1) old ((name, section) ∷ []) spans
+          (λ k d l. let z : 0 ≡ k = omega arith in subst (λ j. IsSpan clear lines (get_or ((name, section) ∷ []) j d).1) z one)),
       ap (λ k. drop k lines) counts ∙ drop_drop_more count n lines line later (sym at) ∙ sym rest,
     )
 

@@ -10,13 +10,12 @@ use Rattle.spef_file.specs.declared.opening.Opening.{Opening}
 use Rattle.spef_file.specs.declared.opening.Opening.TheVariants.{Net, Nothing}
 use Rattle.spef_file.specs.declared.opening.Region.{Region}
 use Rattle.spef_file.specs.declared.opening.Region.TheVariants.{Outside, InMap, InPassed}
-use Rattle.spef_file.specs.declared.section.Section.{Section}
 use Rattle.vg_scan.specs.declared.chars.Chars.{Chars}
 use Rattle.vg_scan.specs.declared.name.Name.{Name}
 use Rattle.vg_scan.specs.References.{is_reference}
 use Rattle.std.specs.List.{list_any}
 use Rattle.std.specs.Str.{bytes_eq}
-use Rattle.spef_file.specs.Tables.{names_of, is_section}
+use Rattle.spef_file.specs.Tables.{NetRow, names_of, is_section}
 use Rattle.spef_file.proofs.TableLemmas.{map-last}
 use Rattle.spef_file.specs.Words.{first_word, second_word, has_words}
 use Rattle.spef_file.specs.Openings.{opening_of}
@@ -199,21 +198,21 @@ no_name_fails s line later n out high o h e =
     let k = known s.heading.chars s.names (second_word line) None h in
     body_fails s line later Net Stray out high o (head_says s line later None (Some n) false k.0 e k.1)
 
-names-heads : (sections : List Section) → map (λ head. head.name) (heads_in sections) ≡ names_of sections
+names-heads : (sections : List NetRow) → map (λ head. head.name) (heads_in sections) ≡ names_of sections
 names-heads [] = refl
-names-heads (section ∷ sections) = ap (λ names. section.name ∷ names) (names-heads sections)
+names-heads (section ∷ sections) = ap (λ names. section.0 ∷ names) (names-heads sections)
 
-taken_is : (sections : List Section) (name : List ℕ) → is_taken (heads_in sections) name ≡ is_section sections name
+taken_is : (sections : List NetRow) (name : List ℕ) → is_taken (heads_in sections) name ≡ is_section sections name
 taken_is sections name = ap (list_any (bytes_eq name)) (names-heads sections)
 
-pub twice_fails : (s : State) (line : Line) (later : List Line) (name : Name) (n : ℕ) (sections : List Section) → s.in_net ≡ false → 14 ≤ s.headed → opening_of (first_word line) ≡ Net
+pub twice_fails : (s : State) (line : Line) (later : List Line) (name : Name) (n : ℕ) (sections : List NetRow) → s.in_net ≡ false → 14 ≤ s.headed → opening_of (first_word line) ≡ Net
     → IsHeadName s.heading.chars s.names (second_word line) (Ok (Some name)) → end_at later ≡ Some n → s.nets ≡ heads_in sections → is_section sections name ≡ true → Fails NetTwice s line later
 twice_fails s line later name n sections out high o h e nets taken =
     let k = known s.heading.chars s.names (second_word line) (Some name) h in
     let t : is_taken s.nets name ≡ true = ap (λ heads. is_taken heads name) nets ∙ taken_is sections name ∙ taken in
     body_fails s line later Net NetTwice out high o (head_says s line later (Some name) (Some n) false k.0 e k.1 ∙ (rw t refl))
 
-pub net_goes : (s : State) (line : Line) (later : List Line) (name : Name) (n : ℕ) (sections : List Section) (section : Section) → s.in_net ≡ false → 14 ≤ s.headed → opening_of (first_word line) ≡ Net
+pub net_goes : (s : State) (line : Line) (later : List Line) (name : Name) (n : ℕ) (sections : List NetRow) (section : NetRow) → s.in_net ≡ false → 14 ≤ s.headed → opening_of (first_word line) ≡ Net
     → IsHeadName s.heading.chars s.names (second_word line) (Ok (Some name)) → end_at later ≡ Some n → s.nets ≡ heads_in sections → is_section sections name ≡ false
     → head_in section ≡ record { name = name; reduced = bytes_eq (first_word line) (codes "*R_NET"); line = s.count + 1 }
     → read s (line ∷ later) ≡ read (record s { region = Outside; in_net = false; count = s.count + (n + 2); nets = heads_in (sections ++ section ∷ []) }) (drop (n + 1) later)

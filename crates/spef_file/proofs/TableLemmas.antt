@@ -1,25 +1,15 @@
 -- Look-ups in the tables.
-use Rattle.std.proofs.Common.{◌≡◌, ℕ, ◌+◌, Bool, ◌||◌, not, cond, List, [], ◌∷◌, map, length, refl, sym, ap, ap₂, ◌∙◌, Option, Some, None, IfSome, nat_lt, ◌<◌, ◌≤◌, true, false, is_some, suc, arith, get_or, ◌++◌, inl, inr}
+use Rattle.std.proofs.Common.{◌≡◌, ℕ, ◌+◌, Bool, ◌||◌, not, cond, List, [], ◌∷◌, map, length, refl, sym, ap, ◌∙◌, Option, Some, None, nat_lt, ◌<◌, true, false, is_some, suc, arith, get_or, ◌++◌, inl, inr}
 use Rattle.std.proofs.lemmas.Bool.Decides.{nat_tests}
 use Rattle.std.specs.Map.{lookup}
 use Rattle.std.specs.Str.{bytes_eq}
 use Rattle.vg_scan.specs.Distinct.{with_name}
-use Rattle.spef_file.specs.declared.fault.SpefKind.{SpefKind}
-use Rattle.spef_file.specs.declared.fault.SpefKind.TheVariants.{MapTwice, Stray, Memory}
-use Rattle.spef_file.specs.Rows.{mapped, is_mapped}
+use Rattle.spef_file.specs.declared.fault.SpefKind.TheVariants.{MapTwice, Stray}
+use Rattle.spef_file.specs.Rows.{mapped}
 use Rattle.spef_file.specs.Machine.{given_fault}
-use Rattle.spef_file.specs.Views.{IsFaultOrMemory}
 use Rattle.std.specs.List.{list_any, position, prefix_len}
 use Rattle.std.proofs.lemmas.List.{length-map}
 use Rattle.std.proofs.lemmas.Bool.{cases_lt, lt-ltb, le-ltb}
-
-pub list_any-map : {X Y : Type 0} (f : X → Y) (p : Y → Bool) (xs : List X) → list_any (λ x. p (f x)) xs ≡ list_any p (map f xs)
-list_any-map f p [] = refl
-list_any-map f p (x ∷ xs) = ap (λ b. p (f x) || b) (list_any-map f p xs)
-
-prefix_len-map : {X Y : Type 0} (f : X → Y) (p : Y → Bool) (xs : List X) → prefix_len (λ x. p (f x)) xs ≡ prefix_len p (map f xs)
-prefix_len-map f p [] = refl
-prefix_len-map f p (x ∷ xs) = ap (λ n. cond (p (f x)) (1 + n) 0) (prefix_len-map f p xs)
 
 -- a place is the first one, and within
 pub some_of : (k n i : ℕ) → cond (nat_lt k n) (Some k) None ≡ Some i → (k ≡ i) × (k < n)
@@ -27,24 +17,6 @@ some_of k n i e =
     elim (cases_lt k n) [
       | inl low ↦ (let f : cond (nat_lt k n) (Some k) None ≡ Some k = ap (λ b. cond b (Some k) None) (lt-ltb k n low) in let g : Some k ≡ Some i = sym f ∙ e in (cc), low)
       | inr high ↦ absurd (let f : cond (nat_lt k n) (Some k) None ≡ None = ap (λ b. cond b (Some k) None) (le-ltb k n high) in let g : None ≡ Some i = sym f ∙ e in cc)
-    ]
-
-place_of : ℕ → ℕ → Option ℕ
-place_of k n = cond (nat_lt k n) (Some k) None
-
-pub position-map : {X Y : Type 0} (f : X → Y) (p : Y → Bool) (xs : List X) → position (λ x. p (f x)) xs ≡ position p (map f xs)
-unfolding place_of
-position-map f p xs = ap₂ place_of (prefix_len-map f (λ y. not (p y)) xs) (sym (length-map xs f))
-
-pub place_within : {X : Type 0} (p : X → Bool) (xs : List X) (o : Option ℕ) → o ≡ position p xs → IfSome o (λ k. (k ≡ prefix_len (λ x. not (p x)) xs) × (k < length xs))
-place_within p xs None e = tt
-place_within p xs (Some k) e = let s = some_of (prefix_len (λ x. not (p x)) xs) (length xs) k (sym e) in (sym s.0, (rw (sym s.0) s.1))
-
-none_of : (k n : ℕ) → cond (nat_lt k n) (Some k) None ≡ None → n ≤ k
-none_of k n e =
-    elim (cases_lt k n) [
-      | inl low ↦ absurd (let f : cond (nat_lt k n) (Some k) None ≡ Some k = ap (λ b. cond b (Some k) None) (lt-ltb k n low) in let g : Some k ≡ None = sym f ∙ e in cc)
-      | inr high ↦ high
     ]
 
 is_some_cond : {X : Type 0} (t : Bool) (x : X) → is_some (cond t (Some x) None) ≡ t
@@ -86,12 +58,6 @@ lookup_some p rows at d e =
     let l : prefix_len (λ x. not (p x)) (keys rows) < length rows = omega (arith, h.1, k) in
     sym (value_at p rows l d ∙ ap (λ m. Some (get_or rows m d).1) h.0)
 
-pub within_rows : (p : List ℕ → Bool) (rows : Rows) (at : ℕ) → position p (keys rows) ≡ Some at → at < length rows
-within_rows p rows at e =
-    let h = some_of (prefix_len (λ x. not (p x)) (keys rows)) (length (keys rows)) at e in
-    let k : length (keys rows) ≡ length rows = length-map rows (λ row. row.0) in
-    omega (arith, h.1, h.0, k)
-
 found_step : (t : Bool) (v : List ℕ) (found : Option (List ℕ)) (b : Bool) → is_some found ≡ b → is_some (cond t (Some v) found) ≡ (t || b)
 found_step true v found b e = refl
 found_step false v found b e = e
@@ -118,18 +84,8 @@ map-last f (y ∷ ys) x = ap (λ zs. f y ∷ zs) (map-last f ys x)
 
 -- the fault of a row whose index and name are these
 
-pub fault_or : (fault : Option SpefKind) (kind : SpefKind) → fault ≡ Some kind → IsFaultOrMemory fault kind
-fault_or fault Memory e = tt
-fault_or fault kind e = e
-
 pub given_new : (rows : Rows) (index : List ℕ) → mapped rows index ≡ None → given_fault rows (Some index) None ≡ Some Stray
 given_new rows index e = rw e refl
 
 pub given_again : (rows : Rows) (index name : List ℕ) (word : Option (List ℕ)) → mapped rows index ≡ Some name → given_fault rows (Some index) word ≡ Some MapTwice
 given_again rows index name word e = rw e refl
-
-pub given_twice : (rows : Rows) (index : List ℕ) (word : Option (List ℕ)) → is_mapped rows index ≡ true → given_fault rows (Some index) word ≡ Some MapTwice
-given_twice rows index word e = rw e refl
-
-pub given_well : (rows : Rows) (index name : List ℕ) (word : Option (List ℕ)) → is_mapped rows index ≡ false → word ≡ Some name → given_fault rows (Some index) word ≡ None
-given_well rows index name word e f = rw (e, f) refl

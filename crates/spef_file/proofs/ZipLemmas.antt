@@ -1,6 +1,6 @@
 -- Keys beside their values.
 use Rattle.std.proofs.Common.{◌≡◌, ℕ, zero, suc, ◌<◌, false, List, [], ◌∷◌, ◌++◌, length, map, get_or, refl, sym, ap, ◌∙◌, arith, Some, None, is_some}
-use Rattle.std.specs.List.{zip, list_any, position}
+use Rattle.std.specs.List.{zip, list_any, position, slice_get}
 use Rattle.std.specs.Str.{bytes_eq}
 use Rattle.vg_scan.specs.Distinct.{with_name, number_of}
 use Rattle.spef_file.specs.Rows.{mapped, is_mapped}
@@ -51,3 +51,10 @@ mapped_any keys names digits e =
 -- one more key, which is new
 pub key_more : (keys : List (List ℕ)) (key : List ℕ) → is_some (number_of keys key) ≡ false → with_name keys key ≡ keys ++ key ∷ []
 key_more keys key e = named_more keys key (sym (position_any (bytes_eq key) keys) ∙ e)
+
+-- what is found at a place, by its key and its value
+pub zip_at : {A : Type 0} (keys : List (List ℕ)) (values : List A) (at : ℕ) (k : List ℕ) (v : A) → length keys ≡ length values → at < length values → slice_get (zip keys values) at ≡ Some (get_or keys at k, get_or values at v)
+zip_at [] values at k v e l = absurd (omega arith)
+zip_at (x ∷ keys) [] at k v e l = absurd (omega arith)
+zip_at (x ∷ keys) (y ∷ values) zero k v e l = refl
+zip_at (x ∷ keys) (y ∷ values) (suc at) k v e l = zip_at keys values at k v (omega arith) (omega arith)

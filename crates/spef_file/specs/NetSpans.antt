@@ -9,6 +9,7 @@ use Rattle.vg_scan.specs.declared.lines.Span.{Span}
 use Rattle.spef_file.specs.declared.fault.SpefKind.{SpefKind}
 use Rattle.spef_file.specs.declared.reader.Reader.{Reader}
 use Rattle.spef_file.specs.declared.section.Section.{Section}
+use Rattle.spef_file.specs.Tables.{NetRow}
 use Rattle.spef_file.specs.Nets.{end_at}
 
 -- the lines of a net between its head and its end, where these lines follow its head
@@ -40,16 +41,16 @@ pub record IsSpan (clear : List ℕ) (lines : List Line) (section : Section) : T
   pub later : lines_of (drop next clear) ≡ drop section.line lines
   pub inner : lines_of (part clear next section.to) ≡ up_to_end (lines_of (drop next clear))
 
-abbrev pub AreSpans : List ℕ → List Line → List Section → Type 0
-AreSpans clear lines sections = All (IsSpan clear lines) sections
+abbrev pub AreSpans : List ℕ → List Line → List NetRow → Type 0
+AreSpans clear lines nets = All (λ (net : NetRow). IsSpan clear lines net.1) nets
 
 -- where these lines follow so many others, the sections before a line is taken and after it are right, and so is the count of the lines
-abbrev pub StaysRight : List ℕ → ℕ → ℕ → ℕ → ℕ → List Section → List Section → Line → Type 0
+abbrev pub StaysRight : List ℕ → ℕ → ℕ → ℕ → ℕ → List NetRow → List NetRow → Line → Type 0
 StaysRight clear next to count new_count sections new_sections line =
     (lines : List Line) → drop count lines ≡ line ∷ lines_of (drop next clear) → AreSpans clear lines sections → AreSpans clear lines new_sections × (drop new_count lines ≡ lines_of (drop to clear))
 
 abbrev pub KeepsSpans : List ℕ → ℕ → Result ℕ SpefKind → Reader → Reader → Line → Type 0
-KeepsSpans clear next (Ok to) old new line = StaysRight clear next to old.count new.count old.nets.rows.items new.nets.rows.items line
+KeepsSpans clear next (Ok to) old new line = StaysRight clear next to old.count new.count old.nets new.nets line
 KeepsSpans clear next (Err _) old new line = Unit {0}
 
 -- the text's parts that begin with a line go on with the lines after it

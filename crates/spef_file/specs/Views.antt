@@ -7,30 +7,28 @@ use Rattle.vg_scan.specs.declared.chars.Chars.{Chars}
 use Rattle.vg_scan.specs.declared.name.Name.{Name}
 use Rattle.spef_file.specs.declared.fault.SpefKind.{SpefKind}
 use Rattle.spef_file.specs.declared.fault.SpefKind.TheVariants.{Memory, MapUnknown}
-use Rattle.spef_file.specs.declared.section.Section.{Section}
 use Rattle.spef_file.specs.declared.reader.Reader.{Reader}
 use Rattle.spef_file.specs.Headers.{IsSmall}
 use Rattle.spef_file.specs.Machine.{State}
 use Rattle.spef_file.specs.Nets.{NetHead}
 use Rattle.spef_file.specs.Rows.{head_name}
 use Rattle.spef_file.specs.Machine.{read}
-use Rattle.spef_file.specs.Tables.{AreNamed}
+use Rattle.spef_file.specs.Tables.{NetRow}
 
-abbrev pub head_in : Section → NetHead
-head_in section = record { name = section.name; reduced = section.reduced; line = section.line }
+abbrev pub head_in : NetRow → NetHead
+head_in net = record { name = net.0; reduced = net.1.reduced; line = net.1.line }
 
-abbrev pub heads_in : List Section → List NetHead
-heads_in sections = map head_in sections
+abbrev pub heads_in : List NetRow → List NetHead
+heads_in nets = map head_in nets
 
 abbrev pub seen : Reader → State
-seen r = record { headed = r.headed; heading = r.heading; region = r.region; in_net = false; count = r.count; names = r.map; nets = heads_in r.nets.rows.items }
+seen r = record { headed = r.headed; heading = r.heading; region = r.region; in_net = false; count = r.count; names = r.map; nets = heads_in r.nets }
 
--- the table of names is that of the nets, and no count is larger than it may be
+-- no count is larger than it may be
 pub record IsWhole (r : Reader) : Type 0 where
   pub rows : length r.map ≤ r.count
-  pub named : AreNamed r.nets.names r.nets.rows.items
   pub small : IsSmall r.heading
-  pub few : length r.nets.rows.items ≤ r.count
+  pub few : length r.nets ≤ r.count
 
 -- this fault, or want of memory
 abbrev pub IsFaultOrMemory : Option SpefKind → SpefKind → Type 0

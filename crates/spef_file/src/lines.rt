@@ -17,7 +17,6 @@ use crate::edge::find_end;
 use crate::fault::SpefKind;
 use crate::header_line::{first_word, header_line, is_idle};
 use crate::name_map::NameMap;
-use crate::net_table::add_net;
 use crate::opening::{Opening, Region, opening_of, same};
 use crate::reader::Reader;
 use crate::section::Section;
@@ -37,7 +36,7 @@ pub(crate) fn take_header_line(
     requires few { reader.old.count < 2 ^ 28 }
     ensures passes { Passes result (seen reader.old) (seen reader.new) (words_at bytes.now words.now) }
     ensures whole { OnOk result (IsWhole reader.new) }
-    ensures nets { OnOk result (reader.new.nets.rows.items ≡ reader.old.nets.rows.items) }
+    ensures nets { OnOk result (reader.new.nets ≡ reader.old.nets) }
     ensures count { OnOk result (reader.new.count ≡ reader.old.count + 1) }
 {
     if is_idle(reader.headed, bytes, words) {
@@ -130,7 +129,7 @@ fn take_other_line(
     requires few { reader.old.count < 2 ^ 28 }
     ensures passes { Passes result (seen reader.old) (seen reader.new) (words_at bytes.now words.now) }
     ensures whole { OnOk result (IsWhole reader.new) }
-    ensures nets { OnOk result (reader.new.nets.rows.items ≡ reader.old.nets.rows.items) }
+    ensures nets { OnOk result (reader.new.nets ≡ reader.old.nets) }
     ensures count { OnOk result (reader.new.count ≡ reader.old.count + 1) }
 {
     if words.is_empty() {
@@ -238,14 +237,13 @@ fn take_named_net(
     let Some(name) = name else {
         return Err(SpefKind::Stray);
     };
-    let net = Section {
-        name,
+    let section = Section {
+        from: start_of(bytes, line) as u32,
+        to: end.to as u32,
+        line: (reader.count + 1) as u32,
         reduced: same(first_word(bytes, words), b"*R_NET"),
-        from: start_of(bytes, line),
-        to: end.to,
-        line: reader.count + 1,
     };
-    match add_net(&mut reader.nets, net) {
+    match reader.nets.add(name.as_bytes(), section) {
         Ok(true) => {
             reader.region = Region::Outside;
             reader.count += end.lines + 2;

@@ -14,10 +14,7 @@ pub fn net_at(index: &SpefIndex, name: &Name) -> Option<usize>
     ensures place { result ≡ position (bytes_eq name.now) (names_of index.now.sections) }
     ensures within { IfSome result (λ place. place < length index.now.sections) }
 {
-    match index.names.find(name.as_bytes()) {
-        None => None,
-        Some(id) => Some(id as usize),
-    }
+    index.sections.find(name.as_bytes())
 }
 
 /// The name of an index of the name map, by its digits. `None`: it is not mapped.

@@ -16,20 +16,19 @@ use crate::header::Header;
 use crate::heading::Heading;
 use crate::lines::take_line;
 use crate::name_map::NameMap;
-use crate::net_table::NetTable;
 use crate::opening::Region;
 use crate::reader::Reader;
+use crate::sections::Sections;
 use crate::spef_index::SpefIndex;
 use crate::spef_text::SpefText;
 use std::alloc::Global;
-use vg_num::Row;
-use vg_scan::{Chars, Names, next_line};
+use vg_scan::{Chars, next_line};
 
 /// What is said before the first line.
 fn start(alloc: Global) -> Reader
     ensures seen { seen result ≡ START }
     ensures whole { IsWhole result }
-    ensures empty { (result.nets.rows.items ≡ []) × (result.count ≡ 0) }
+    ensures empty { (result.nets ≡ []) × (result.count ≡ 0) }
 {
     let chars = Chars {
         divider: b'/',
@@ -47,10 +46,7 @@ fn start(alloc: Global) -> Reader
         region: Region::Outside,
         count: 0,
         map: NameMap::new(alloc),
-        nets: NetTable {
-            names: Names::new(alloc),
-            rows: Vec::new(alloc),
-        },
+        nets: Sections::new(alloc),
     }
 }
 
@@ -59,7 +55,7 @@ fn read_lines(alloc: Global, bytes: &[u8]) -> Result<Reader, SpefFault>
     requires { length bytes.now ≤ 2 ^ 28 }
     ensures said { IfOk result (λ reader. read START (lines_of bytes.now) ≡ Ok (seen reader)) }
     ensures whole { IfOk result IsWhole }
-    ensures spans { IfOk result (λ reader. AreSpans bytes.now (lines_of bytes.now) reader.nets.rows.items) }
+    ensures spans { IfOk result (λ reader. AreSpans bytes.now (lines_of bytes.now) reader.nets) }
     ensures fault { IfErr result (λ fault. (fault.kind ≡ Memory) ⊎ (read START (lines_of bytes.now) ≡ Err fault)) }
 {
     let mut reader = start(alloc);
@@ -81,20 +77,17 @@ fn read_lines(alloc: Global, bytes: &[u8]) -> Result<Reader, SpefFault>
 fn finish(reader: Reader) -> SpefIndex
     requires { IsWhole reader }
     ensures shown { shown result ≡ said (seen reader) }
-    ensures sections { result.sections ≡ reader.nets.rows.items }
+    ensures sections { result.sections ≡ reader.nets }
 {
     let header = Header {
         chars: reader.heading.chars,
         c_places: i32::from(reader.heading.c_places),
         r_places: i32::from(reader.heading.r_places),
     };
-    let NetTable { names, rows } = reader.nets;
-    let sections = Row::from_vec(rows);
     SpefIndex {
         header,
         map: reader.map,
-        sections,
-        names,
+        sections: reader.nets,
     }
 }
 

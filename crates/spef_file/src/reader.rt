@@ -1,7 +1,7 @@
 use crate::heading::Heading;
 use crate::name_map::NameMap;
-use crate::net_table::NetTable;
 use crate::opening::Region;
+use crate::sections::Sections;
 
 /// What the lines of a file have said so far.
 #[derive(Drop)]
@@ -13,5 +13,5 @@ pub(crate) struct Reader {
     /// How many lines there were.
     pub count: usize,
     pub map: NameMap,
-    pub nets: NetTable,
+    pub nets: Sections,
 }

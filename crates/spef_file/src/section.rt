@@ -1,16 +1,12 @@
-use vg_scan::Name;
-
-/// A net of a SPEF file (IEEE Std 1481), and where it stands in the file.
-#[derive(Debug, Drop)]
+/// A net of a SPEF file (IEEE Std 1481): where it stands in the file.
+#[derive(Clone, Copy, Debug)]
 pub struct Section {
-    /// The net's canonical name.
-    pub name: Name,
+    /// Where the first word of its head begins.
+    pub from: u32,
+    /// Where the word `*END` ends.
+    pub to: u32,
+    /// The number of its head's line; the first line is 1.
+    pub line: u32,
     /// Whether its head is `*R_NET`.
     pub reduced: bool,
-    /// Where the first word of its head begins.
-    pub from: usize,
-    /// Where the word `*END` ends.
-    pub to: usize,
-    /// The number of its head's line; the first line is 1.
-    pub line: usize,
 }

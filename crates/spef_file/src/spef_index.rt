@@ -1,20 +1,24 @@
 //! The index of a SPEF file.
 
-ghost use Rattle.spef_file.specs.Tables.{AreNamed};
+ghost use Rattle.std.specs.Prelude.{◌≡◌, length};
 
 use crate::header::Header;
 use crate::name_map::NameMap;
-use crate::section::Section;
-use vg_num::Row;
-use vg_scan::Names;
+use crate::sections::Sections;
 
 /// The index of a SPEF file (IEEE Std 1481).
 #[derive(Drop)]
 pub struct SpefIndex {
     pub header: Header,
     pub map: NameMap,
-    /// The nets, in the file's order.
-    pub sections: Row<Section>,
-    pub(crate) names: Names,
-    ghost named: { AreNamed names sections },
+    pub sections: Sections,
+}
+
+impl SpefIndex {
+    /// How many nets the file has.
+    pub fn net_count(&self) -> usize
+        ensures { result ≡ length self.now.sections }
+    {
+        self.sections.len()
+    }
 }

@@ -82,14 +82,13 @@ fn a_file(rt: HostRuntime) -> Result<(), Fail> {
             net_at(&index, &Name::from_bytes(rt.alloc(), name)?),
             Some(at)
         );
-        let net = &index.sections.as_slice()[at];
-        assert_eq!(rt;
-            (net.name.as_bytes(), net.reduced, net.line),
-            (name, reduced, line)
-        );
+        assert!(rt; at < index.net_count());
+        assert_eq!(rt; index.sections.name(at), name);
+        let net = index.sections.get(at);
+        assert_eq!(rt; (net.reduced, net.line), (reduced, line));
         let span = Span {
-            from: net.from,
-            to: net.to,
+            from: net.from as usize,
+            to: net.to as usize,
         };
         assert_eq!(rt; text_at(text.as_bytes(), span), part.as_bytes());
     }
@@ -112,7 +111,7 @@ fn the_lines_of_a_net(rt: HostRuntime) -> Result<(), Fail> {
     let text = text_of(&rt, rt.alloc(), text.as_str())?;
     let index = index(rt.alloc(), &text)?;
     assert!(rt; index.sections.len() == 1);
-    let lines = net_lines(&text, &index.sections.as_slice()[0]);
+    let lines = net_lines(&text, &index.sections.get(0));
     assert_eq!(rt; lines, b"*CONN     \n".as_slice());
     Ok(())
 }

@@ -45,8 +45,8 @@ pub fn net_lines<'a>(text: &'a SpefText, section: &Section) -> &'a [u8]
 {
     let bytes = text.as_bytes();
     let span = Span {
-        from: section.from,
-        to: section.to,
+        from: section.from as usize,
+        to: section.to as usize,
     };
     inner_text(text_at(bytes, span))
 }

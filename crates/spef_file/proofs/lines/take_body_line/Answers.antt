@@ -25,10 +25,10 @@ returns-in-Foreign-clause-goes c =
     (ap opening_of (sym c.first_word.ensures) ∙ sym c.opening_of.ensures ∙ c.in-Foreign.is) refl
 
 pub returns-in-Map-clause-spans : goal.returns-in-Map-clause-spans
-returns-in-Map-clause-spans c = keeps_same c.args.bytes.now c.args.next c.args.reader.now.count (c.args.reader.now.count + 1) c.args.reader.now.nets.rows.items c.args.reader.now.nets.rows.items (words_at c.args.bytes.now c.args.words.now) refl refl
+returns-in-Map-clause-spans c = keeps_same c.args.bytes.now c.args.next c.args.reader.now.count (c.args.reader.now.count + 1) c.args.reader.now.nets c.args.reader.now.nets (words_at c.args.bytes.now c.args.words.now) refl refl
 
 pub returns-in-Passed-clause-spans : goal.returns-in-Passed-clause-spans
-returns-in-Passed-clause-spans c = keeps_same c.args.bytes.now c.args.next c.args.reader.now.count (c.args.reader.now.count + 1) c.args.reader.now.nets.rows.items c.args.reader.now.nets.rows.items (words_at c.args.bytes.now c.args.words.now) refl refl
+returns-in-Passed-clause-spans c = keeps_same c.args.bytes.now c.args.next c.args.reader.now.count (c.args.reader.now.count + 1) c.args.reader.now.nets c.args.reader.now.nets (words_at c.args.bytes.now c.args.words.now) refl refl
 
 pub returns-in-Ok-clause-spans : goal.returns-in-Ok-clause-spans
-returns-in-Ok-clause-spans c = keeps_same c.args.bytes.now c.args.next c.args.reader.now.count c.take_other_line.new.reader.count c.args.reader.now.nets.rows.items c.take_other_line.new.reader.nets.rows.items (words_at c.args.bytes.now c.args.words.now) c.in-Ok.ensures.nets c.in-Ok.ensures.count
+returns-in-Ok-clause-spans c = keeps_same c.args.bytes.now c.args.next c.args.reader.now.count c.take_other_line.new.reader.count c.args.reader.now.nets c.take_other_line.new.reader.nets (words_at c.args.bytes.now c.args.words.now) c.in-Ok.ensures.nets c.in-Ok.ensures.count

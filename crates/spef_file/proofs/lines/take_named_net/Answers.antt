@@ -1,8 +1,9 @@
-use Rattle.std.proofs.Common.{get_or, true, ◌<◌, ◌≤◌, ◌∷◌, length, arith, ◌≡◌, ◌+◌, drop, sym, ◌∙◌, refl, ap, subst, Option, Ok, not}
+use Rattle.std.proofs.Common.{get_or, true, ◌<◌, ◌≤◌, ◌∷◌, length, arith, ◌≡◌, ◌+◌, drop, sym, ◌∙◌, refl, ap, subst, Option, Ok, not, List, ℕ, ◌++◌, []}
 use Rattle.std.specs.Prelude.{codes}
 use Rattle.std.specs.Str.{bytes_eq}
 use Rattle.vg_scan.specs.Lines.{Line, lines_of, part}
 use Rattle.spef_file.specs.NetSpans.{up_to_end}
+use Rattle.spef_file.specs.Tables.{is_section}
 use Rattle.spef_file.proofs.SpanLemmas.{net_words, net_solid, keeps_net, line_alone}
 use Rattle.vg_scan.specs.Parts.{IsFirstSolid}
 use Rattle.vg_scan.specs.Printed.{is_solid}
@@ -32,23 +33,24 @@ pub returns-in-Ok-false-clause-goes : goal.returns-in-Ok-false-clause-goes
 returns-in-Ok-false-clause-goes c =
     let s : State = seen c.args.reader.now in
     let line : Line = words_at c.args.bytes.now c.args.words.now in
-    twice_fails s line (lines_of (drop c.args.next c.args.bytes.now)) c.in-Some-name.name c.in-Some.end.lines c.args.reader.now.nets.rows.items refl c.requires.headed c.requires.opens
+    twice_fails s line (lines_of (drop c.args.next c.args.bytes.now)) c.in-Some-name.name c.in-Some.end.lines c.args.reader.now.nets refl c.requires.headed c.requires.opens
     (subst (λ (o : Option Name). IsHeadName s.heading.chars s.names (second_word line) (Ok o)) c.in-Some-name.is c.requires.name) (sym c.in-Some.ensures.lines)
-    refl (not_is _ c.in-Ok-false.ensures.fresh ∙ ap not c.in-Ok-false.field-0-test)
+    refl (ap (is_section c.args.reader.now.nets) (sym c.as_bytes.ensures) ∙ not_is _ c.in-Ok-false.ensures.fresh ∙ ap not c.in-Ok-false.field-0-test)
 
 pub returns-in-Ok-true-clause-goes : goal.returns-in-Ok-true-clause-goes
 returns-in-Ok-true-clause-goes c =
     let s : State = seen c.args.reader.now in
     let line : Line = words_at c.args.bytes.now c.args.words.now in
     let later = lines_of (drop c.args.next c.args.bytes.now) in
-    let sections = c.args.reader.now.nets.rows.items in
-    let section : Section = record { name = c.in-Some-name.name; reduced = c.same.result; from = c.start_of.result; to = c.in-Some.end.to; line = c.args.reader.now.count + 1 } in
+    let sections = c.args.reader.now.nets in
+    let section : Section = record { reduced = c.same.result; from = c.start_of.result; to = c.in-Some.end.to; line = c.args.reader.now.count + 1 } in
+    let name = c.in-Some-name.name in
     let reduced : c.same.result ≡ bytes_eq (first_word line) (codes "*R_NET") = c.same.ensures ∙ ap (λ word. bytes_eq word (codes "*R_NET")) c.first_word.ensures in
-    net_goes s line later c.in-Some-name.name c.in-Some.end.lines sections section refl c.requires.headed c.requires.opens
+    net_goes s line later c.in-Some-name.name c.in-Some.end.lines sections (name, section) refl c.requires.headed c.requires.opens
     (subst (λ (o : Option Name). IsHeadName s.heading.chars s.names (second_word line) (Ok o)) c.in-Some-name.is c.requires.name) (sym c.in-Some.ensures.lines)
-    refl (not_is _ c.in-Ok-true.ensures.fresh ∙ ap not c.in-Ok-true.field-0-test) (λ i. record { name = c.in-Some-name.name; reduced = reduced i; line = c.args.reader.now.count + 1 })
-    ∙ ap (λ rows. read (record s { region = Outside; count = s.count + (c.in-Some.end.lines + 2); nets = heads_in rows }) (drop (c.in-Some.end.lines + 1) later)) (sym (c.in-Ok-true.ensures.last c.in-Ok-true.field-0-test))
-    ∙ ap (read (record s { region = Outside; count = s.count + (c.in-Some.end.lines + 2); nets = heads_in c.add_net.new.table.rows.items })) (sym c.in-Some.ensures.rest)
+    refl (ap (is_section sections) (sym c.as_bytes.ensures) ∙ not_is _ c.in-Ok-true.ensures.fresh ∙ ap not c.in-Ok-true.field-0-test) (λ i. record { name = c.in-Some-name.name; reduced = reduced i; line = c.args.reader.now.count + 1 })
+    ∙ ap (λ rows. read (record s { region = Outside; count = s.count + (c.in-Some.end.lines + 2); nets = heads_in rows }) (drop (c.in-Some.end.lines + 1) later)) (sym (c.in-Ok-true.ensures.last c.in-Ok-true.field-0-test ∙ ap (λ (bytes : List ℕ). sections ++ (bytes, section) ∷ []) c.as_bytes.ensures))
+    ∙ ap (read (record s { region = Outside; count = s.count + (c.in-Some.end.lines + 2); nets = heads_in c.add.new.self })) (sym c.in-Some.ensures.rest)
 
 pub returns-in-Ok-true-clause-spans : goal.returns-in-Ok-true-clause-spans
 returns-in-Ok-true-clause-spans c =
@@ -56,7 +58,7 @@ returns-in-Ok-true-clause-spans c =
     let line : Line = words_at text c.args.words.now in
     let next = c.args.next in
     let end = c.in-Some.end in
-    let section : Section = record { name = c.in-Some-name.name; reduced = c.same.result; from = c.start_of.result; to = end.to; line = c.args.reader.now.count + 1 } in
+    let section : Section = record { reduced = c.same.result; from = c.start_of.result; to = end.to; line = c.args.reader.now.count + 1 } in
     let order : (section.from < section.to) × (section.to ≤ length text) = (omega (arith, c.start_of.ensures.place, c.requires.line.order, c.in-Some.ensures.place), omega (arith, c.in-Some.ensures.place)) in
     let net : lines_of (part text section.from section.to) ≡ line ∷ up_to_end (lines_of (drop next text)) =
     c.start_of.ensures.starts section.to order.0 order.1 ∙ c.requires.line.on section.to (omega (arith, c.in-Some.ensures.place)) ∙ ap (λ xs. line ∷ xs) c.in-Some.ensures.span in
@@ -65,5 +67,5 @@ returns-in-Ok-true-clause-spans c =
     let first : IsFirstSolid text section.from = record { line = c.args.line.from; begins = c.requires.line.begins.0; order = c.start_of.ensures.place.0; blank = c.start_of.ensures.blank; solid = solid } in
     let low : section.from < next = omega (arith, c.start_of.ensures.some (ap has_words (sym c.requires.line.here) ∙ net_words line c.requires.opens), c.requires.line.order) in
     let head = line_alone text section.from next line (c.start_of.ensures.starts next low c.requires.line.order.2 ∙ c.requires.line.on next (omega arith)) in
-    keeps_net text next end.next end.lines c.args.reader.now.count (c.args.reader.now.count + (end.lines + 2)) c.args.reader.now.nets.rows.items c.add_net.new.table.rows.items line section (c.in-Ok-true.ensures.last c.in-Ok-true.field-0-test) refl refl net first c.in-Some.ensures.solid order (omega (arith, c.requires.few)) c.requires.line.begins.1
+    keeps_net text next end.next end.lines c.args.reader.now.count (c.args.reader.now.count + (end.lines + 2)) c.args.reader.now.nets c.add.new.self line c.in-Some-name.name section (c.in-Ok-true.ensures.last c.in-Ok-true.field-0-test ∙ ap (λ (bytes : List ℕ). c.args.reader.now.nets ++ (bytes, section) ∷ []) c.as_bytes.ensures) refl refl net first c.in-Some.ensures.solid order (omega (arith, c.requires.few)) c.requires.line.begins.1
     (omega arith, omega (arith, c.in-Some.ensures.place)) head c.in-Some.ensures.span c.in-Some.ensures.rest

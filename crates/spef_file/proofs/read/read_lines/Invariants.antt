@@ -10,7 +10,7 @@ abbrev pub invariant-line : goal.invariant-line
 invariant-line l = record {
   reads : read START (lines_of l.bytes) ≡ read (seen l.reader) (lines_of (drop l.at l.bytes));
   rest : lines_of (drop l.at l.bytes) ≡ drop l.reader.count (lines_of l.bytes);
-  spans : AreSpans l.bytes (lines_of l.bytes) l.reader.nets.rows.items;
+  spans : AreSpans l.bytes (lines_of l.bytes) l.reader.nets;
   whole : IsWhole l.reader;
   begins : BeginsLine l.bytes l.at;
   within : l.at ≤ length l.bytes;

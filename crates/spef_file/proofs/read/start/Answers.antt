@@ -4,4 +4,4 @@ use Rattle.spef_file.proofs.FileLemmas.{start_is}
 use Rattle.spef_file.proofs.read.start.Goals as goal
 
 pub returns-clause-seen : goal.returns-clause-seen
-returns-clause-seen c = start_is _ _ _ _ _ c.new.ensures (ap heads_in c.new-3.ensures.items)
+returns-clause-seen c = start_is _ _ _ _ _ c.new.ensures (ap heads_in c.new-2.ensures)
