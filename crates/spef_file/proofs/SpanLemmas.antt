@@ -1,7 +1,10 @@
 -- Where the nets of a file stand.
 use Rattle.std.proofs.Common.{◌≡◌, ℕ, Bool, false, ◌||◌, ◌⊎◌, inl, inr, ◌+◌, ◌-◌, ◌<◌, ◌≤◌, ◌^◌, true, List, [], ◌∷◌, ◌++◌, take, drop, length, get_or, refl, sym, ap, subst, ◌∙◌, arith, length-drop, length-take, drop-drop}
 use Rattle.std.proofs.lemmas.List.{drop-take}
-use Rattle.std.proofs.lemmas.List.Elements.{All-append}
+use Rattle.std.proofs.lemmas.List.Elements.{All-append, All-get_or}
+use Rattle.std.proofs.lemmas.Option.{get_or_from_slice_get, slice_get_within}
+use Rattle.std.specs.List.{slice_get}
+use Rattle.std.specs.Prelude.{Option, Some, None, option_map}
 use Rattle.vg_scan.specs.Lines.{Line, lines_of, part, is_blank, BeginsLine}
 use Rattle.vg_scan.specs.Parts.{IsFirstSolid}
 use Rattle.vg_scan.specs.Printed.{is_solid}
@@ -117,3 +120,15 @@ no_lines = refl
 pub line_alone : (clear : List ℕ) (from next : ℕ) (line : Line) → lines_of (part clear from next) ≡ line ∷ lines_of (part clear next next) → length (lines_of (part clear from next)) ≡ 1
 line_alone clear from next line e =
     ap length (e ∙ ap (λ n. line ∷ lines_of (take n (drop next clear))) (let z : next - next ≡ 0 = omega arith in z) ∙ ap (λ ls. line ∷ ls) no_lines)
+
+-- the section at a place is one of the text
+
+section_in : (clear : List ℕ) (lines : List Line) (nets : List NetRow) (at : ℕ) (section : Section) (found : Option NetRow) → slice_get nets at ≡ found → option_map (λ (net : NetRow). net.1) found ≡ Some section → AreSpans clear lines nets → IsSpan clear lines section
+section_in clear lines nets at section None e f all = absurd (cc)
+section_in clear lines nets at section (Some net) e f all =
+    let same : net.1 ≡ section = cc in
+    let here : IsSpan clear lines (get_or nets at net).1 = All-get_or (λ (net : NetRow). IsSpan clear lines net.1) nets at net (slice_get_within nets at net e) all in
+    subst (IsSpan clear lines) (ap (λ (net : NetRow). net.1) (get_or_from_slice_get nets at net net e) ∙ same) here
+
+pub section_at : (clear : List ℕ) (lines : List Line) (nets : List NetRow) (at : ℕ) (section : Section) → AreSpans clear lines nets → option_map (λ (net : NetRow). net.1) (slice_get nets at) ≡ Some section → IsSpan clear lines section
+section_at clear lines nets at section all e = section_in clear lines nets at section (slice_get nets at) refl e all
