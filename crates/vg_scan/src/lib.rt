@@ -34,7 +34,7 @@ pub use names::Names;
 pub use nodes::{inner_name, node_name, port_name};
 pub use print::print_spef_name;
 pub use reference::{are_digits, index_of, is_reference};
-pub use spef::{spef_name, split_node};
+pub use spef::{spef_name, spell_name, split_node};
 pub use texts::Texts;
 pub use words::words_of;
 

@@ -52,6 +52,40 @@ fn read_byte(chars: &Chars, escaped: bool, byte: u8) -> Reading
     }
 }
 
+/// Puts the canonical name of a text in place of what a list holds, as `spef_name` does, in memory that may be used again.
+///
+/// Answers `Bad` where `spef_name` does, and `Memory` where there is no room; the list then holds no name.
+pub fn spell_name(text: &[u8], chars: &Chars, name: &mut Vec<u8>) -> Result<(), NameFault>
+    ensures name { OnOk result (canonical chars.now text.now ≡ Some name.new.items) }
+    ensures bad { result ≡ Err NameFault.Bad → (canonical chars.now text.now ≡ None) × IsBad text.now }
+    ensures good { OnOk result (¬ IsBad text.now) }
+    ensures ordinary { AllPass (is_ordinary chars.now) text.now → OnOk result (name.new.items ≡ text.now) }
+{
+    if text.is_empty() {
+        return Err(NameFault::Bad);
+    }
+    name.clear();
+    let mut escaped = false;
+    'byte: for byte in text {
+        match read_byte(chars, escaped, *byte) {
+            Reading::Escape => {
+                escaped = true;
+            }
+            Reading::Quote => return Err(NameFault::Bad),
+            Reading::Stands(byte) => {
+                let Ok(()) = name.push(byte) else {
+                    return Err(NameFault::Memory);
+                };
+                escaped = false;
+            }
+        }
+    }
+    if escaped {
+        return Err(NameFault::Bad);
+    }
+    Ok(())
+}
+
 /// The canonical name of a text with escapes (IEEE Std 1481): `/` parts its instances, and `[` and `]` enclose a bit,
 /// whatever the file takes for them. A backslash is dropped, and the byte after it is kept as it is.
 ///
@@ -63,31 +97,13 @@ pub fn spef_name(alloc: Global, text: &[u8], chars: &Chars) -> Result<Name, Name
     ensures good { OnOk result (¬ IsBad text.now) }
     ensures ordinary { AllPass (is_ordinary chars.now) text.now → IfOk result (λ name. name ≡ text.now) }
 {
-    if text.is_empty() {
-        return Err(NameFault::Bad);
-    }
     let Ok(mut bytes) = Vec::with_capacity(alloc, text.len()) else {
         return Err(NameFault::Memory);
     };
-    let mut escaped = false;
-    'byte: for byte in text {
-        match read_byte(chars, escaped, *byte) {
-            Reading::Escape => {
-                escaped = true;
-            }
-            Reading::Quote => return Err(NameFault::Bad),
-            Reading::Stands(byte) => {
-                let Ok(()) = bytes.push(byte) else {
-                    return Err(NameFault::Memory);
-                };
-                escaped = false;
-            }
-        }
+    match spell_name(text, chars, &mut bytes) {
+        Err(fault) => Err(fault),
+        Ok(()) => Ok(Name::from_vec(bytes)),
     }
-    if escaped {
-        return Err(NameFault::Bad);
-    }
-    Ok(Name::from_vec(bytes))
 }
 
 /// Where a byte stands unescaped for the last time.

@@ -1,5 +1,0 @@
-use Rattle.vg_scan.proofs.Spelled.{IsReadTo}
-use Rattle.vg_scan.proofs.spef.spef_name.Given as goal
-
-abbrev pub invariant-byte : goal.invariant-byte
-invariant-byte l = IsReadTo l.chars l.text l.bytes.items l.byte-index l.escaped
