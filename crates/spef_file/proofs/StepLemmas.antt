@@ -11,7 +11,6 @@ use Rattle.spef_file.specs.declared.opening.Opening.TheVariants.{Net, Nothing}
 use Rattle.spef_file.specs.declared.opening.Region.{Region}
 use Rattle.spef_file.specs.declared.opening.Region.TheVariants.{Outside, InMap, InPassed}
 use Rattle.vg_scan.specs.declared.chars.Chars.{Chars}
-use Rattle.vg_scan.specs.declared.name.Name.{Name}
 use Rattle.vg_scan.specs.References.{is_reference}
 use Rattle.std.specs.List.{list_any}
 use Rattle.std.specs.Str.{bytes_eq}
@@ -24,7 +23,7 @@ use Rattle.spef_file.specs.Machine.{State, after, after_body, with_heading, faul
 use Rattle.spef_file.specs.Rows.{map_line, head_name}
 use Rattle.spef_file.specs.Nets.{is_taken, is_end, is_head, end_at}
 use Rattle.spef_file.specs.Machine.{read, unless_fault}
-use Rattle.spef_file.specs.Views.{Fails, IsFaultOrMemory, IsHeadName, head_in, heads_in}
+use Rattle.spef_file.specs.Views.{Fails, IsFaultOrMemory, IsHeadName, IsHead, head_in, heads_in}
 
 pub passes : (s t : State) (line : Line) (later : List Line) → state_fault s line later ≡ None → after s line ≡ t → read s (line ∷ later) ≡ read t later
 unfolding read
@@ -170,7 +169,7 @@ and_false : (b : Bool) → (b && false) ≡ false
 and_false true = refl
 and_false false = refl
 
-known : (chars : Chars) (rows : List (List ℕ × List ℕ)) (word : List ℕ) (name : Option Name) → IsHeadName chars rows word (Ok name) → (head_name chars rows word ≡ name) × ((is_reference word && not (is_some name)) ≡ false)
+known : (chars : Chars) (rows : List (List ℕ × List ℕ)) (word : List ℕ) (name : Option (List ℕ)) → IsHead chars rows word name → (head_name chars rows word ≡ name) × ((is_reference word && not (is_some name)) ≡ false)
 known chars rows word (Some name) h = (h, and_false (is_reference word))
 known chars rows word None h = (h.0, ap (λ b. b && true) h.1)
 
@@ -179,21 +178,21 @@ head_says : (s : State) (line : Line) (later : List Line) (name : Option (List �
     → head_fault s line later ≡ cond unknown (Some MapUnknown) (cond (is_some end) (name_fault s.nets name) (Some NoEnd))
 head_says s line later name end unknown n e u = rw (n, e) (rw u refl)
 
-pub unknown_fails : (s : State) (line : Line) (later : List Line) (kind : SpefKind) → s.in_net ≡ false → 14 ≤ s.headed → opening_of (first_word line) ≡ Net
-    → IsHeadName s.heading.chars s.names (second_word line) (Err kind) → Fails kind s line later
-unknown_fails s line later Memory out high o h = tt
-unknown_fails s line later MapUnknown out high o h =
+pub unknown_fails : (s : State) (line : Line) (later : List Line) (name : List ℕ) (kind : SpefKind) → s.in_net ≡ false → 14 ≤ s.headed → opening_of (first_word line) ≡ Net
+    → IsHeadName s.heading.chars s.names (second_word line) name (Err kind) → Fails kind s line later
+unknown_fails s line later name Memory out high o h = tt
+unknown_fails s line later name MapUnknown out high o h =
     body_fails s line later Net MapUnknown out high o (head_says s line later None (end_at later) true h.1 refl (ap (λ b. b && true) h.2))
-unknown_fails s line later kind out high o h = let e = h.0 in absurd (cc)
+unknown_fails s line later name kind out high o h = let e = h.0 in absurd (cc)
 
-pub no_end_fails : (s : State) (line : Line) (later : List Line) (name : Option Name) → s.in_net ≡ false → 14 ≤ s.headed → opening_of (first_word line) ≡ Net
-    → IsHeadName s.heading.chars s.names (second_word line) (Ok name) → end_at later ≡ None → Fails NoEnd s line later
+pub no_end_fails : (s : State) (line : Line) (later : List Line) (name : Option (List ℕ)) → s.in_net ≡ false → 14 ≤ s.headed → opening_of (first_word line) ≡ Net
+    → IsHead s.heading.chars s.names (second_word line) name → end_at later ≡ None → Fails NoEnd s line later
 no_end_fails s line later name out high o h e =
     let k = known s.heading.chars s.names (second_word line) name h in
     body_fails s line later Net NoEnd out high o (head_says s line later name None false k.0 e k.1)
 
 pub no_name_fails : (s : State) (line : Line) (later : List Line) (n : ℕ) → s.in_net ≡ false → 14 ≤ s.headed → opening_of (first_word line) ≡ Net
-    → IsHeadName s.heading.chars s.names (second_word line) (Ok None) → end_at later ≡ Some n → Fails Stray s line later
+    → IsHead s.heading.chars s.names (second_word line) None → end_at later ≡ Some n → Fails Stray s line later
 no_name_fails s line later n out high o h e =
     let k = known s.heading.chars s.names (second_word line) None h in
     body_fails s line later Net Stray out high o (head_says s line later None (Some n) false k.0 e k.1)
@@ -205,15 +204,15 @@ names-heads (section ∷ sections) = ap (λ names. section.0 ∷ names) (names-h
 taken_is : (sections : List NetRow) (name : List ℕ) → is_taken (heads_in sections) name ≡ is_section sections name
 taken_is sections name = ap (list_any (bytes_eq name)) (names-heads sections)
 
-pub twice_fails : (s : State) (line : Line) (later : List Line) (name : Name) (n : ℕ) (sections : List NetRow) → s.in_net ≡ false → 14 ≤ s.headed → opening_of (first_word line) ≡ Net
-    → IsHeadName s.heading.chars s.names (second_word line) (Ok (Some name)) → end_at later ≡ Some n → s.nets ≡ heads_in sections → is_section sections name ≡ true → Fails NetTwice s line later
+pub twice_fails : (s : State) (line : Line) (later : List Line) (name : List ℕ) (n : ℕ) (sections : List NetRow) → s.in_net ≡ false → 14 ≤ s.headed → opening_of (first_word line) ≡ Net
+    → IsHead s.heading.chars s.names (second_word line) (Some name) → end_at later ≡ Some n → s.nets ≡ heads_in sections → is_section sections name ≡ true → Fails NetTwice s line later
 twice_fails s line later name n sections out high o h e nets taken =
     let k = known s.heading.chars s.names (second_word line) (Some name) h in
     let t : is_taken s.nets name ≡ true = ap (λ heads. is_taken heads name) nets ∙ taken_is sections name ∙ taken in
     body_fails s line later Net NetTwice out high o (head_says s line later (Some name) (Some n) false k.0 e k.1 ∙ (rw t refl))
 
-pub net_goes : (s : State) (line : Line) (later : List Line) (name : Name) (n : ℕ) (sections : List NetRow) (section : NetRow) → s.in_net ≡ false → 14 ≤ s.headed → opening_of (first_word line) ≡ Net
-    → IsHeadName s.heading.chars s.names (second_word line) (Ok (Some name)) → end_at later ≡ Some n → s.nets ≡ heads_in sections → is_section sections name ≡ false
+pub net_goes : (s : State) (line : Line) (later : List Line) (name : List ℕ) (n : ℕ) (sections : List NetRow) (section : NetRow) → s.in_net ≡ false → 14 ≤ s.headed → opening_of (first_word line) ≡ Net
+    → IsHead s.heading.chars s.names (second_word line) (Some name) → end_at later ≡ Some n → s.nets ≡ heads_in sections → is_section sections name ≡ false
     → head_in section ≡ record { name = name; reduced = bytes_eq (first_word line) (codes "*R_NET"); line = s.count + 1 }
     → read s (line ∷ later) ≡ read (record s { region = Outside; in_net = false; count = s.count + (n + 2); nets = heads_in (sections ++ section ∷ []) }) (drop (n + 1) later)
 net_goes s line later name n sections section out high o h e nets free is =

@@ -1,10 +1,9 @@
 -- What the code's values stand for, and what may come where memory is wanted.
-use Rattle.std.specs.Prelude.{◌≡◌, ℕ, ◌+◌, ◌≤◌, true, false, List, ◌∷◌, ◌++◌, [], length, map, drop, Option, Some, None, Result, Ok, Err}
+use Rattle.std.specs.Prelude.{◌≡◌, ℕ, ◌+◌, ◌≤◌, Bool, true, false, List, ◌∷◌, ◌++◌, [], length, map, drop, Option, Some, None, Result, Ok, Err}
 use Rattle.vg_scan.specs.Lines.{Line, lines_of}
 use Rattle.vg_scan.specs.Names.{canonical}
 use Rattle.vg_scan.specs.References.{is_reference}
 use Rattle.vg_scan.specs.declared.chars.Chars.{Chars}
-use Rattle.vg_scan.specs.declared.name.Name.{Name}
 use Rattle.spef_file.specs.declared.fault.SpefKind.{SpefKind}
 use Rattle.spef_file.specs.declared.fault.SpefKind.TheVariants.{Memory, MapUnknown}
 use Rattle.spef_file.specs.declared.reader.Reader.{Reader}
@@ -55,15 +54,20 @@ abbrev pub AddsRow : Result (Unit {0}) SpefKind → Option SpefKind → Option (
 AddsRow (Ok _) fault given old new = (row : List ℕ × List ℕ) × (given ≡ Some row) × (fault ≡ None) × (new ≡ old ++ row ∷ [])
 AddsRow (Err kind) fault given old new = IsFaultOrMemory fault kind
 
--- the name of a head, none where its text is bad, or the fault of a reference
-abbrev pub IsHeadName : Chars → List (List ℕ × List ℕ) → List ℕ → Result (Option Name) SpefKind → Type 0
-IsHeadName chars rows word (Ok (Some name)) = head_name chars rows word ≡ Some name
-IsHeadName chars rows word (Ok None) = (head_name chars rows word ≡ None) × (is_reference word ≡ false)
-IsHeadName chars rows word (Err Memory) = Unit {0}
-IsHeadName chars rows word (Err kind) = (kind ≡ MapUnknown) × (head_name chars rows word ≡ None) × (is_reference word ≡ true)
+-- the name that a head has, none where its text is bad
+abbrev pub IsHead : Chars → List (List ℕ × List ℕ) → List ℕ → Option (List ℕ) → Type 0
+IsHead chars rows word (Some name) = head_name chars rows word ≡ Some name
+IsHead chars rows word None = (head_name chars rows word ≡ None) × (is_reference word ≡ false)
 
--- the name that a word is, or none
-abbrev pub CanonicalName : Chars → List ℕ → Result (Option Name) SpefKind → Type 0
-CanonicalName chars word (Ok (Some name)) = canonical chars word ≡ Some name
-CanonicalName chars word (Ok None) = canonical chars word ≡ None
-CanonicalName chars word (Err kind) = kind ≡ Memory
+-- this name is that of a head, or it has none, or the fault of a reference is answered
+abbrev pub IsHeadName : Chars → List (List ℕ × List ℕ) → List ℕ → List ℕ → Result Bool SpefKind → Type 0
+IsHeadName chars rows word name (Ok true) = IsHead chars rows word (Some name)
+IsHeadName chars rows word name (Ok false) = IsHead chars rows word None
+IsHeadName chars rows word name (Err Memory) = Unit {0}
+IsHeadName chars rows word name (Err kind) = (kind ≡ MapUnknown) × (head_name chars rows word ≡ None) × (is_reference word ≡ true)
+
+-- this name is what a word stands for, or the word is none
+abbrev pub CanonicalName : Chars → List ℕ → List ℕ → Result Bool SpefKind → Type 0
+CanonicalName chars word name (Ok true) = canonical chars word ≡ Some name
+CanonicalName chars word name (Ok false) = canonical chars word ≡ None
+CanonicalName chars word name (Err kind) = kind ≡ Memory

@@ -1,12 +1,12 @@
 //! One line of a file after another.
 
-ghost use Rattle.std.specs.Prelude.{◌≡◌, ◌<◌, ◌≤◌, ◌^◌, ◌+◌, length, OnOk, IfOk, ℕ, true, slice_index};
+ghost use Rattle.std.specs.Prelude.{◌≡◌, ◌<◌, ◌≤◌, ◌^◌, ◌+◌, length, OnOk, IfOk, ℕ, true, slice_index, option_map};
 ghost use Rattle.vg_scan.specs.Lines.{lines_of, words, part, is_blank, BeginsLine};
 ghost use Rattle.spef_file.specs.NetSpans.{IsLine, KeepsSpans};
 ghost use Rattle.vg_scan.specs.Spans.{IsIn, words_at, part_at};
 ghost use Rattle.spef_file.specs.Words.{first_word, second_word, has_words};
 ghost use Rattle.spef_file.specs.Openings.{opening_of};
-ghost use Rattle.spef_file.specs.Views.{seen, IsWhole, Passes, GoesTo, AddsRow, IsHeadName, CanonicalName};
+ghost use Rattle.spef_file.specs.Views.{seen, IsWhole, Passes, GoesTo, AddsRow, IsHeadName, IsHead, CanonicalName};
 ghost use Rattle.spef_file.specs.declared.opening.Opening.TheVariants.{Nothing, Net};
 ghost use Rattle.std.specs.Prelude.{Ok, Some, None};
 ghost use Rattle.vg_scan.specs.Names.{canonical};
@@ -20,9 +20,8 @@ use crate::name_map::NameMap;
 use crate::opening::{Opening, Region, opening_of, same};
 use crate::reader::Reader;
 use crate::section::Section;
-use std::alloc::Global;
 use vg_scan::{
-    Chars, Name, NameFault, Span, index_of, is_reference, next_word, spef_name, text_at, words_of,
+    Chars, NameFault, Span, index_of, is_reference, next_word, spell_name, text_at, words_of,
 };
 
 /// Takes a line of the header, or one that says nothing there.
@@ -54,13 +53,13 @@ pub(crate) fn take_header_line(
     }
 }
 
-/// The name that a word is.
-fn canonical_name(alloc: Global, word: &[u8], chars: &Chars) -> Result<Option<Name>, SpefKind>
-    ensures { CanonicalName chars.now word.now result }
+/// Puts the name that a word is in place of what a list holds, and says whether the word is a name.
+fn canonical_name(word: &[u8], chars: &Chars, name: &mut Vec<u8>) -> Result<bool, SpefKind>
+    ensures { CanonicalName chars.now word.now name.new.items result }
 {
-    match spef_name(alloc, word, chars) {
-        Ok(name) => Ok(Some(name)),
-        Err(NameFault::Bad) => Ok(None),
+    match spell_name(word, chars, name) {
+        Ok(()) => Ok(true),
+        Err(NameFault::Bad) => Ok(false),
         Err(NameFault::Memory) => Err(SpefKind::Memory),
     }
 }
@@ -77,7 +76,7 @@ fn unnamed_fault(map: &NameMap, index: &[u8]) -> SpefKind
 
 /// Adds the row of a name map whose line is `*digits NAME`, of these digits and this word.
 fn take_given(
-    alloc: Global,
+    name: &mut Vec<u8>,
     map: &mut NameMap,
     chars: &Chars,
     index: &[u8],
@@ -86,9 +85,9 @@ fn take_given(
     requires { length map.old < 2 ^ 28 }
     ensures { AddsRow result (given_fault map.old (Some index.now) (canonical chars.now word.now)) (row_of (Some index.now) (canonical chars.now word.now)) map.old map.new }
 {
-    match canonical_name(alloc, word, chars)? {
-        None => Err(unnamed_fault(map, index)),
-        Some(name) => match map.add(index, name.as_bytes()) {
+    match canonical_name(word, chars, name)? {
+        false => Err(unnamed_fault(map, index)),
+        true => match map.add(index, name.as_slice()) {
             Ok(true) => Ok(()),
             Ok(false) => Err(SpefKind::MapTwice),
             Err(_) => Err(SpefKind::Memory),
@@ -98,7 +97,7 @@ fn take_given(
 
 /// Adds the row of a name map that a line states.
 fn take_row(
-    alloc: Global,
+    name: &mut Vec<u8>,
     map: &mut NameMap,
     chars: &Chars,
     bytes: &[u8],
@@ -107,18 +106,18 @@ fn take_row(
     requires { length map.old < 2 ^ 28 }
     ensures { AddsRow result (row_fault chars.now map.old (words_at bytes.now words.now)) (map_line chars.now (words_at bytes.now words.now)) map.old map.new }
 {
-    let [index, name] = words else {
+    let [index, word] = words else {
         return Err(SpefKind::Stray);
     };
     let Some(index) = index_of(text_at(bytes, *index)) else {
         return Err(SpefKind::Stray);
     };
-    take_given(alloc, map, chars, index, text_at(bytes, *name))
+    take_given(name, map, chars, index, text_at(bytes, *word))
 }
 
 /// Takes a line that opens nothing.
 fn take_other_line(
-    alloc: Global,
+    name: &mut Vec<u8>,
     reader: &mut Reader,
     bytes: &[u8],
     words: &[Span],
@@ -143,7 +142,7 @@ fn take_other_line(
             Ok(())
         }
         Region::InMap => match take_row(
-            alloc,
+            name,
             &mut reader.map,
             &reader.heading.chars,
             bytes,
@@ -158,28 +157,29 @@ fn take_other_line(
     }
 }
 
-/// The name of a net's head, by its second word. `None`: the word is no name.
+/// Puts the name of a net's head, by its second word, in place of what a list holds, and says whether the word is a name.
 ///
 /// Answers `MapUnknown` where the word refers to an index that is not mapped, and `Memory` where there is no room.
 fn head_name(
-    alloc: Global,
     map: &NameMap,
     chars: &Chars,
     word: &[u8],
-) -> Result<Option<Name>, SpefKind>
-    ensures { IsHeadName chars.now map.now word.now result }
+    name: &mut Vec<u8>,
+) -> Result<bool, SpefKind>
+    ensures { IsHeadName chars.now map.now word.now name.new.items result }
 {
     if !is_reference(word) {
-        return canonical_name(alloc, word, chars);
+        return canonical_name(word, chars, name);
     }
     let Some(index) = index_of(word) else {
         return Err(SpefKind::MapUnknown);
     };
-    let Some(name) = map.find(index) else {
+    let Some(found) = map.find(index) else {
         return Err(SpefKind::MapUnknown);
     };
-    match Name::from_bytes(alloc, name) {
-        Ok(name) => Ok(Some(name)),
+    name.clear();
+    match name.extend_from_slice(found) {
+        Ok(()) => Ok(true),
         Err(_) => Err(SpefKind::Memory),
     }
 }
@@ -216,7 +216,7 @@ fn take_named_net(
     words: &[Span],
     line: Span,
     next: usize,
-    name: Option<Name>,
+    name: Option<&[u8]>,
 ) -> Result<usize, SpefKind>
     requires headed { 14 ≤ reader.old.headed }
     requires opens { opening_of (first_word (words_at bytes.now words.now)) ≡ Net }
@@ -224,7 +224,7 @@ fn take_named_net(
     requires few { reader.old.count < 2 ^ 28 }
     requires line { IsLine bytes.now line next (words_at bytes.now words.now) }
     requires place { (next ≤ length bytes.now) × (length bytes.now ≤ 2 ^ 28) }
-    requires name { IsHeadName reader.old.heading.chars reader.old.map (second_word (words_at bytes.now words.now)) (Ok name) }
+    requires name { IsHead reader.old.heading.chars reader.old.map (second_word (words_at bytes.now words.now)) (option_map (λ name. name.now) name) }
     ensures goes { GoesTo bytes.now next result (seen reader.old) (seen reader.new) (words_at bytes.now words.now) }
     ensures whole { OnOk result (IsWhole reader.new) }
     ensures spans { KeepsSpans bytes.now next result reader.old reader.new (words_at bytes.now words.now) }
@@ -243,7 +243,7 @@ fn take_named_net(
         line: (reader.count + 1) as u32,
         reduced: same(first_word(bytes, words), b"*R_NET"),
     };
-    match reader.nets.add(name.as_bytes(), section) {
+    match reader.nets.add(name, section) {
         Ok(true) => {
             reader.region = Region::Outside;
             reader.count += end.lines + 2;
@@ -256,7 +256,7 @@ fn take_named_net(
 
 /// Takes a net from its head on.
 fn take_net(
-    alloc: Global,
+    name: &mut Vec<u8>,
     reader: &mut Reader,
     bytes: &[u8],
     words: &[Span],
@@ -276,15 +276,16 @@ fn take_net(
     ensures place { IfOk result (λ to. (next ≤ to) × (to ≤ length bytes.now) × (reader.new.count + next ≤ reader.old.count + 1 + to)) }
 {
     let word = second_word(bytes, words);
-    match head_name(alloc, &reader.map, &reader.heading.chars, word) {
+    match head_name(&reader.map, &reader.heading.chars, word, name) {
         Err(kind) => Err(kind),
-        Ok(name) => take_named_net(reader, bytes, words, line, next, name),
+        Ok(false) => take_named_net(reader, bytes, words, line, next, None),
+        Ok(true) => take_named_net(reader, bytes, words, line, next, Some(name.as_slice())),
     }
 }
 
 /// Takes a line after the header, and a net with its head, and says where the next line begins.
 fn take_body_line(
-    alloc: Global,
+    name: &mut Vec<u8>,
     reader: &mut Reader,
     bytes: &[u8],
     words: &[Span],
@@ -313,9 +314,9 @@ fn take_body_line(
             reader.count += 1;
             Ok(next)
         }
-        Opening::Net => take_net(alloc, reader, bytes, words, line, next),
+        Opening::Net => take_net(name, reader, bytes, words, line, next),
         Opening::Foreign => Err(SpefKind::Unsupported),
-        Opening::Nothing => match take_other_line(alloc, reader, bytes, words) {
+        Opening::Nothing => match take_other_line(name, reader, bytes, words) {
             Err(kind) => Err(kind),
             Ok(()) => Ok(next),
         },
@@ -324,7 +325,7 @@ fn take_body_line(
 
 /// Takes the words of a line, and a net with its head, and says where the next line begins.
 fn take_words(
-    alloc: Global,
+    name: &mut Vec<u8>,
     reader: &mut Reader,
     bytes: &[u8],
     words: &[Span],
@@ -342,7 +343,7 @@ fn take_words(
     ensures place { IfOk result (λ to. (next ≤ to) × (to ≤ length bytes.now) × (reader.new.count + next ≤ reader.old.count + 1 + to)) }
 {
     if reader.headed >= 14 {
-        return take_body_line(alloc, reader, bytes, words, line, next);
+        return take_body_line(name, reader, bytes, words, line, next);
     }
     match take_header_line(reader, bytes, words) {
         Err(kind) => Err(kind),
@@ -350,9 +351,9 @@ fn take_words(
     }
 }
 
-/// Takes a line, and a net with its head, and says where the next line begins. The list is to hold the line's words.
+/// Takes a line, and a net with its head, and says where the next line begins. The lists are to hold a name and the line's words.
 pub(crate) fn take_line(
-    alloc: Global,
+    name: &mut Vec<u8>,
     reader: &mut Reader,
     bytes: &[u8],
     line: Span,
@@ -371,6 +372,6 @@ pub(crate) fn take_line(
 {
     match words_of(bytes, line, found) {
         Err(_) => Err(SpefKind::Memory),
-        Ok(()) => take_words(alloc, reader, bytes, found.as_slice(), line, next),
+        Ok(()) => take_words(name, reader, bytes, found.as_slice(), line, next),
     }
 }

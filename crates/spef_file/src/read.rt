@@ -60,10 +60,11 @@ fn read_lines(alloc: Global, bytes: &[u8]) -> Result<Reader, SpefFault>
 {
     let mut reader = start(alloc);
     let mut found = Vec::new(alloc);
+    let mut name = Vec::new(alloc);
     let mut at = 0;
     'line: while let Some((line, next)) = next_line(bytes, at) {
         let number = reader.count + 1;
-        match take_line(alloc, &mut reader, bytes, line, next, &mut found) {
+        match take_line(&mut name, &mut reader, bytes, line, next, &mut found) {
             Err(kind) => return Err(SpefFault { kind, line: number }),
             Ok(to) => {
                 at = to;

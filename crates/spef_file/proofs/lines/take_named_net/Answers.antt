@@ -1,41 +1,39 @@
-use Rattle.std.proofs.Common.{get_or, true, ◌<◌, ◌≤◌, ◌∷◌, length, arith, ◌≡◌, ◌+◌, drop, sym, ◌∙◌, refl, ap, subst, Option, Ok, not, List, ℕ, ◌++◌, []}
+use Rattle.std.proofs.Common.{get_or, true, ◌<◌, ◌≤◌, ◌∷◌, length, arith, ◌≡◌, ◌+◌, drop, sym, ◌∙◌, refl, ap, subst, Option, not, Bor, option_map, List, ℕ}
 use Rattle.std.specs.Prelude.{codes}
 use Rattle.std.specs.Str.{bytes_eq}
 use Rattle.vg_scan.specs.Lines.{Line, lines_of, part}
 use Rattle.spef_file.specs.NetSpans.{up_to_end}
-use Rattle.spef_file.specs.Tables.{is_section}
 use Rattle.spef_file.proofs.SpanLemmas.{net_words, net_solid, keeps_net, line_alone}
 use Rattle.vg_scan.specs.Parts.{IsFirstSolid}
 use Rattle.vg_scan.specs.Printed.{is_solid}
 use Rattle.vg_scan.specs.Spans.{words_at}
-use Rattle.vg_scan.specs.declared.name.Name.{Name}
 use Rattle.spef_file.specs.declared.section.Section.{Section}
 use Rattle.spef_file.specs.declared.opening.Region.TheVariants.{Outside}
 use Rattle.spef_file.specs.Machine.{State}
 use Rattle.spef_file.specs.Machine.{read}
 use Rattle.spef_file.specs.Words.{first_word, second_word, has_words}
-use Rattle.spef_file.specs.Views.{seen, heads_in, IsHeadName}
+use Rattle.spef_file.specs.Views.{seen, heads_in, IsHead}
 use Rattle.spef_file.proofs.StepLemmas.{no_end_fails, no_name_fails, twice_fails, net_goes, not_is}
 use Rattle.spef_file.proofs.lines.take_named_net.Goals as goal
 
 pub returns-in_default-clause-goes : goal.returns-in_default-clause-goes
 returns-in_default-clause-goes c =
-    no_end_fails (seen c.args.reader.now) (words_at c.args.bytes.now c.args.words.now) (lines_of (drop c.args.next c.args.bytes.now)) c.args.name refl c.requires.headed c.requires.opens c.requires.name (sym c.in_default.ensures.lines)
+    no_end_fails (seen c.args.reader.now) (words_at c.args.bytes.now c.args.words.now) (lines_of (drop c.args.next c.args.bytes.now)) (option_map (λ (n : Bor (List ℕ)). n.now) c.args.name) refl c.requires.headed c.requires.opens c.requires.name (sym c.in_default.ensures.lines)
 
 pub returns-in_default-name-clause-goes : goal.returns-in_default-name-clause-goes
 returns-in_default-name-clause-goes c =
     let s : State = seen c.args.reader.now in
     let line : Line = words_at c.args.bytes.now c.args.words.now in
     no_name_fails s line (lines_of (drop c.args.next c.args.bytes.now)) c.in-Some.end.lines refl c.requires.headed c.requires.opens
-    (subst (λ (o : Option Name). IsHeadName s.heading.chars s.names (second_word line) (Ok o)) c.in_default-name.is c.requires.name) (sym c.in-Some.ensures.lines)
+    (subst (λ (o : Option (Bor (List ℕ))). IsHead s.heading.chars s.names (second_word line) (option_map (λ (n : Bor (List ℕ)). n.now) o)) c.in_default-name.is c.requires.name) (sym c.in-Some.ensures.lines)
 
 pub returns-in-Ok-false-clause-goes : goal.returns-in-Ok-false-clause-goes
 returns-in-Ok-false-clause-goes c =
     let s : State = seen c.args.reader.now in
     let line : Line = words_at c.args.bytes.now c.args.words.now in
-    twice_fails s line (lines_of (drop c.args.next c.args.bytes.now)) c.in-Some-name.name c.in-Some.end.lines c.args.reader.now.nets refl c.requires.headed c.requires.opens
-    (subst (λ (o : Option Name). IsHeadName s.heading.chars s.names (second_word line) (Ok o)) c.in-Some-name.is c.requires.name) (sym c.in-Some.ensures.lines)
-    refl (ap (is_section c.args.reader.now.nets) (sym c.as_bytes.ensures) ∙ not_is _ c.in-Ok-false.ensures.fresh ∙ ap not c.in-Ok-false.field-0-test)
+    twice_fails s line (lines_of (drop c.args.next c.args.bytes.now)) c.in-Some-name.name.now c.in-Some.end.lines c.args.reader.now.nets refl c.requires.headed c.requires.opens
+    (subst (λ (o : Option (Bor (List ℕ))). IsHead s.heading.chars s.names (second_word line) (option_map (λ (n : Bor (List ℕ)). n.now) o)) c.in-Some-name.is c.requires.name) (sym c.in-Some.ensures.lines)
+    refl (not_is _ c.in-Ok-false.ensures.fresh ∙ ap not c.in-Ok-false.field-0-test)
 
 pub returns-in-Ok-true-clause-goes : goal.returns-in-Ok-true-clause-goes
 returns-in-Ok-true-clause-goes c =
@@ -44,12 +42,12 @@ returns-in-Ok-true-clause-goes c =
     let later = lines_of (drop c.args.next c.args.bytes.now) in
     let sections = c.args.reader.now.nets in
     let section : Section = record { reduced = c.same.result; from = c.start_of.result; to = c.in-Some.end.to; line = c.args.reader.now.count + 1 } in
-    let name = c.in-Some-name.name in
+    let name = c.in-Some-name.name.now in
     let reduced : c.same.result ≡ bytes_eq (first_word line) (codes "*R_NET") = c.same.ensures ∙ ap (λ word. bytes_eq word (codes "*R_NET")) c.first_word.ensures in
-    net_goes s line later c.in-Some-name.name c.in-Some.end.lines sections (name, section) refl c.requires.headed c.requires.opens
-    (subst (λ (o : Option Name). IsHeadName s.heading.chars s.names (second_word line) (Ok o)) c.in-Some-name.is c.requires.name) (sym c.in-Some.ensures.lines)
-    refl (ap (is_section sections) (sym c.as_bytes.ensures) ∙ not_is _ c.in-Ok-true.ensures.fresh ∙ ap not c.in-Ok-true.field-0-test) (λ i. record { name = c.in-Some-name.name; reduced = reduced i; line = c.args.reader.now.count + 1 })
-    ∙ ap (λ rows. read (record s { region = Outside; count = s.count + (c.in-Some.end.lines + 2); nets = heads_in rows }) (drop (c.in-Some.end.lines + 1) later)) (sym (c.in-Ok-true.ensures.last c.in-Ok-true.field-0-test ∙ ap (λ (bytes : List ℕ). sections ++ (bytes, section) ∷ []) c.as_bytes.ensures))
+    net_goes s line later c.in-Some-name.name.now c.in-Some.end.lines sections (name, section) refl c.requires.headed c.requires.opens
+    (subst (λ (o : Option (Bor (List ℕ))). IsHead s.heading.chars s.names (second_word line) (option_map (λ (n : Bor (List ℕ)). n.now) o)) c.in-Some-name.is c.requires.name) (sym c.in-Some.ensures.lines)
+    refl (not_is _ c.in-Ok-true.ensures.fresh ∙ ap not c.in-Ok-true.field-0-test) (λ i. record { name = c.in-Some-name.name.now; reduced = reduced i; line = c.args.reader.now.count + 1 })
+    ∙ ap (λ rows. read (record s { region = Outside; count = s.count + (c.in-Some.end.lines + 2); nets = heads_in rows }) (drop (c.in-Some.end.lines + 1) later)) (sym (c.in-Ok-true.ensures.last c.in-Ok-true.field-0-test))
     ∙ ap (read (record s { region = Outside; count = s.count + (c.in-Some.end.lines + 2); nets = heads_in c.add.new.self })) (sym c.in-Some.ensures.rest)
 
 pub returns-in-Ok-true-clause-spans : goal.returns-in-Ok-true-clause-spans
@@ -67,5 +65,5 @@ returns-in-Ok-true-clause-spans c =
     let first : IsFirstSolid text section.from = record { line = c.args.line.from; begins = c.requires.line.begins.0; order = c.start_of.ensures.place.0; blank = c.start_of.ensures.blank; solid = solid } in
     let low : section.from < next = omega (arith, c.start_of.ensures.some (ap has_words (sym c.requires.line.here) ∙ net_words line c.requires.opens), c.requires.line.order) in
     let head = line_alone text section.from next line (c.start_of.ensures.starts next low c.requires.line.order.2 ∙ c.requires.line.on next (omega arith)) in
-    keeps_net text next end.next end.lines c.args.reader.now.count (c.args.reader.now.count + (end.lines + 2)) c.args.reader.now.nets c.add.new.self line c.in-Some-name.name section (c.in-Ok-true.ensures.last c.in-Ok-true.field-0-test ∙ ap (λ (bytes : List ℕ). c.args.reader.now.nets ++ (bytes, section) ∷ []) c.as_bytes.ensures) refl refl net first c.in-Some.ensures.solid order (omega (arith, c.requires.few)) c.requires.line.begins.1
+    keeps_net text next end.next end.lines c.args.reader.now.count (c.args.reader.now.count + (end.lines + 2)) c.args.reader.now.nets c.add.new.self line c.in-Some-name.name.now section (c.in-Ok-true.ensures.last c.in-Ok-true.field-0-test) refl refl net first c.in-Some.ensures.solid order (omega (arith, c.requires.few)) c.requires.line.begins.1
     (omega arith, omega (arith, c.in-Some.ensures.place)) head c.in-Some.ensures.span c.in-Some.ensures.rest
