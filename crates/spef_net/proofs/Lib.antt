@@ -9,6 +9,7 @@ pub mod DraftLemmas
 pub mod TakeLemmas
 pub mod LineLemmas
 pub mod SeenLemmas
+pub mod HeadLemmas
 pub mod FinishLemmas
 pub mod OneNet
 pub mod SizeLemmas

@@ -34,7 +34,7 @@ unfolding said_words
 said_here file part line view [] e = absurd (cc)
 said_here file part line view (w ∷ ws) e = refl
 
-no_length : (n : ℕ) → eqb n 0 ≡ true → n ≡ 0
+pub no_length : (n : ℕ) → eqb n 0 ≡ true → n ≡ 0
 no_length n e = grind (arith, nat_tests)
 
 pub said_none : {X : Type 0} (file : File) (part : Part) (line : List ℕ) (view : X → List ℕ) (ws : List X) → eqb (length ws) 0 ≡ true → said_words file part line (map view ws) ≡ Ok Nothing

@@ -7,11 +7,11 @@ use Rattle.vg_scan.specs.Chains.{AreChains}
 
 -- a hash, with one byte more
 abbrev pub hash_with : ℕ → ℕ → ℕ
-hash_with hash byte = (hash + byte) * 16777619 % 2 ^ 32
+hash_with hash byte = (hash * 31 + byte) % 2 ^ 32
 
 -- a node's bucket among so many is that of the hash of its owner and its leaf
 unfoldable pub bucket_of : ℕ → NodeName → ℕ
-bucket_of buckets node = fold hash_with (fold hash_with 2166136261 node.owner) node.leaf % buckets
+bucket_of buckets node = fold hash_with (fold hash_with 0 node.owner) node.leaf % buckets
 
 -- the nodes of these owners and leaves
 unfoldable pub nodes_in : List (List ℕ) → List (List ℕ) → List NodeName

@@ -40,7 +40,8 @@ impl Model for NodeTable {
     ghost invariant = { λ nodes. IsTable (nodes_in nodes.table.owners nodes.table.leaves) nodes.table.rows.items nodes.table.chains };
 }
 
-/// A hash, with some bytes more.
+/// A hash, with some bytes more: nodes of one owner whose leaves are numbers close to each other are in buckets close to each
+/// other.
 fn hash_more(start: u64, text: &[u8]) -> u64
     requires { start < 2 ^ 32 }
     ensures hash { result ≡ fold hash_with start text.now }
@@ -48,7 +49,7 @@ fn hash_more(start: u64, text: &[u8]) -> u64
 {
     let mut hash = start;
     'byte: for byte in text {
-        hash = (hash + u64::from(*byte)) * 16_777_619 % 0x1_0000_0000;
+        hash = (hash * 31 + u64::from(*byte)) % 0x1_0000_0000;
     }
     hash
 }
@@ -59,7 +60,7 @@ fn bucket_of(buckets: usize, owner: &[u8], leaf: &[u8]) -> usize
     ensures bucket { result ≡ bucket_of buckets (record { owner = owner.now; leaf = leaf.now }) }
     ensures within { result < buckets }
 {
-    let start = hash_more(0x811C_9DC5, owner);
+    let start = hash_more(0, owner);
     let hash = hash_more(start, leaf);
     (hash % buckets as u64) as usize
 }

@@ -1,12 +1,14 @@
 //! The connections of a section, before its lines are read in order.
 
-ghost use Rattle.std.specs.Prelude.{◌≡◌, ◌≤◌, ◌^◌, IfOk, OnOk, length};
+ghost use Rattle.std.specs.Prelude.{◌≡◌, ◌≤◌, ◌^◌, false, None, IfOk, OnOk, length};
 ghost use Rattle.std.specs.Str.Lines.{lines};
 ghost use Rattle.spef_file.specs.Shown.{shown};
 ghost use Rattle.spef_net.specs.Names.{distinct};
 ghost use Rattle.spef_net.specs.Sayings.{said, said_words, sayings, conn_line};
 ghost use Rattle.spef_net.specs.Rows.{connected_of, joined_in};
+ghost use Rattle.vg_scan.specs.Lines.{words};
 ghost use Rattle.vg_scan.specs.Spans.{words_at};
+ghost use Rattle.spef_net.specs.Lines.{head_of};
 ghost use Rattle.spef_net.specs.Surveys.{Surveys, is_conns, is_memory, with_joined};
 
 use crate::conn_line::{ConnLine, read_conn};
@@ -82,6 +84,22 @@ fn survey_words(
     }
 }
 
+/// Whether a line's first byte is a blank or a `*`, so that it may be a head.
+fn may_be_head(line: &[u8]) -> bool
+    ensures { result ≡ false → head_of (words line.now) ≡ None }
+{
+    if line.is_empty() {
+        return false;
+    }
+    if line[0] == b'*' {
+        return true;
+    }
+    if line[0] == b' ' {
+        return true;
+    }
+    line[0] == b'\t'
+}
+
 /// The same of a line. The list is to hold its words.
 fn survey_line(
     alloc: Global,
@@ -93,6 +111,9 @@ fn survey_line(
 ) -> Result<Part, Memory>
     ensures { Surveys result nodes.old nodes.new part (said (shown index.now) part line.now) }
 {
+    if !is_conns(part) && !may_be_head(line) {
+        return Ok(part);
+    }
     line_words(line, found)?;
     let next = survey_words(alloc, index, part, line, found.as_slice(), nodes)?;
     Ok(next)
