@@ -184,9 +184,9 @@ fn node_names_and_values(rt: HostRuntime) -> Result<(), Fail> {
         let text = format!(in rt.alloc(); "{HEADER}{body}\n")?;
         let net = read(&rt, rt.alloc(), text.as_str(), 0)??;
         assert_eq!(rt; net.nodes.len(), nodes.len(), "{body}");
-        for (at, (owner, leaf)) in nodes.iter().enumerate() {
-            assert!(rt; at < net.nodes.len());
+        for at in 0..net.nodes.len() {
             let name = net.nodes.name(rt.alloc(), at)?;
+            let (owner, leaf) = nodes.get(at).ok_or("a node too many")?;
             assert_eq!(rt; name.owner.as_bytes(), *owner, "{body}");
             assert_eq!(rt; name.leaf.as_bytes(), *leaf, "{body}");
         }
