@@ -1,5 +1,5 @@
 -- Names as texts spell them.
-use Rattle.std.specs.Prelude.{◌≡◌, ℕ, ◌==◌, ◌||◌, not, Bool, true, List, Option, Some, None, Result, Ok, Err, if◌then◌else◌}
+use Rattle.std.specs.Prelude.{◌≡◌, ℕ, ◌==◌, ◌||◌, not, Bool, true, false, slice_index, List, Option, Some, None, Result, Ok, Err, if◌then◌else◌}
 use Rattle.vg_scan.specs.declared.chars.Chars.{Chars}
 use Rattle.vg_scan.specs.declared.fault.NameFault.{NameFault}
 use Rattle.vg_scan.specs.declared.fault.NameFault.TheVariants.{Bad, Memory}
@@ -16,6 +16,10 @@ is_itself chars b =
     else (if b == chars.divider then b == 47
     else (if b == chars.bus_left then b == 91
     else (if b == chars.bus_right then b == 93 else true)))
+
+-- no byte of a text is a backslash
+abbrev pub IsUnescaped : List ℕ → Type 0
+IsUnescaped text = (i : ℕ) → is_backslash (slice_index text i) ≡ false
 
 abbrev pub bytes_of : Spelled → List ℕ
 bytes_of (Plain bytes) = bytes.now

@@ -1,12 +1,13 @@
 //! The names of nodes, as texts spell them.
 
-ghost use Rattle.std.specs.Prelude.{◌≡◌, ◌==◌, ◌&&◌, not, [], length, Some};
+ghost use Rattle.std.specs.Prelude.{◌≡◌, ◌==◌, ◌<◌, true, [], length, Some, IfSome};
 ghost use Rattle.std.specs.List.{list_all};
-ghost use Rattle.vg_scan.specs.Names.{canonical};
+ghost use Rattle.vg_scan.specs.Names.{canonical, last_bare};
 ghost use Rattle.spef_file.specs.Shown.{shown};
 ghost use Rattle.spef_net.specs.Names.{owner_in, node_in, node_of_parts, is_inner};
-ghost use Rattle.spef_net.specs.Spellings.{is_itself, bytes_of, named_by, Spells, SpellsNode};
+ghost use Rattle.spef_net.specs.Spellings.{is_itself, IsUnescaped, bytes_of, named_by, Spells, SpellsNode};
 
+use crate::line::text_from;
 use spef_file::{SpefIndex, mapped};
 use std::alloc::Global;
 use vg_scan::{
@@ -137,8 +138,89 @@ fn inner_node<'a>(
     }
 }
 
-/// The node that a text names. Answers `Bad` where it names none, and `Memory` where there is no room.
-pub(crate) fn read_node<'a>(
+/// Where a byte stands for the last time, in a text without backslashes.
+fn last_of(text: &[u8], byte: u8) -> Option<usize>
+    requires { IsUnescaped text.now }
+    ensures place { result ≡ last_bare byte text.now (length text.now) }
+    ensures within { IfSome result (λ at. at < length text.now) }
+{
+    let mut end = text.len();
+    'back: while end > 0 {
+        if text[end - 1] == byte {
+            return Some(end - 1);
+        }
+        end -= 1;
+    }
+    None
+}
+
+/// The name of an owner whose bytes stand for themselves, or of an index.
+#[tactic(auto, unfolding(crate::specs::Names::owner_in))]
+fn plain_owner<'a>(index: &'a SpefIndex, text: &'a [u8]) -> Result<Spelled<'a>, NameFault>
+    requires { list_all (is_itself index.now.header.chars) text.now ≡ true }
+    ensures { Spells result (owner_in (shown index.now) text.now) }
+{
+    if !is_reference(text) {
+        return plain_name(&index.header.chars, text);
+    }
+    match index_of(text) {
+        None => Err(NameFault::Bad),
+        Some(digits) => match mapped(index, digits) {
+            None => Err(NameFault::Bad),
+            Some(name) => Ok(Spelled::Plain(name.as_bytes())),
+        },
+    }
+}
+
+/// The name of a text whose bytes stand for themselves.
+fn plain_name<'a>(chars: &Chars, text: &'a [u8]) -> Result<Spelled<'a>, NameFault>
+    requires { list_all (is_itself chars.now) text.now ≡ true }
+    ensures { Spells result (canonical chars.now text.now) }
+{
+    if text.is_empty() {
+        return Err(NameFault::Bad);
+    }
+    Ok(Spelled::Plain(text))
+}
+
+/// The node of an owner's text and a leaf's, whose bytes stand for themselves.
+fn plain_parts<'a>(
+    index: &'a SpefIndex,
+    owner: &'a [u8],
+    leaf: &'a [u8],
+) -> Result<Node<'a>, NameFault>
+    requires owner { list_all (is_itself index.now.header.chars) owner.now ≡ true }
+    requires leaf { list_all (is_itself index.now.header.chars) leaf.now ≡ true }
+    ensures { SpellsNode result (node_of_parts (owner_in (shown index.now) owner.now) (canonical index.now.header.chars leaf.now)) }
+{
+    match plain_owner(index, owner) {
+        Err(NameFault::Bad) => Err(NameFault::Bad),
+        Err(NameFault::Memory) => Err(NameFault::Memory),
+        Ok(owner) => match plain_name(&index.header.chars, leaf) {
+            Err(NameFault::Bad) => Err(NameFault::Bad),
+            Err(NameFault::Memory) => Err(NameFault::Memory),
+            Ok(leaf) => Ok(Node { owner, leaf }),
+        },
+    }
+}
+
+/// The node that a text names whose bytes stand for themselves.
+fn plain_node<'a>(
+    alloc: Global,
+    index: &'a SpefIndex,
+    text: &'a [u8],
+) -> Result<Node<'a>, NameFault>
+    requires { list_all (is_itself index.now.header.chars) text.now ≡ true }
+    ensures { SpellsNode result (node_in (shown index.now) text.now) }
+{
+    match last_of(text, index.header.chars.delimiter) {
+        None => port_node(alloc, index, text),
+        Some(at) => plain_parts(index, &text[..at], text_from(text, at + 1)),
+    }
+}
+
+/// The node that a text with escapes names, or one that writes the file's own divider or bus delimiters.
+fn spelled_node<'a>(
     alloc: Global,
     index: &'a SpefIndex,
     text: &'a [u8],
@@ -150,6 +232,21 @@ pub(crate) fn read_node<'a>(
         Some((owner, leaf)) => {
             inner_node(alloc, index, text_at(text, owner), text_at(text, leaf))
         }
+    }
+}
+
+/// The node that a text names. Answers `Bad` where it names none, and `Memory` where there is no room.
+pub(crate) fn read_node<'a>(
+    alloc: Global,
+    index: &'a SpefIndex,
+    text: &'a [u8],
+) -> Result<Node<'a>, NameFault>
+    ensures { SpellsNode result (node_in (shown index.now) text.now) }
+{
+    if is_plain(&index.header.chars, text) {
+        plain_node(alloc, index, text)
+    } else {
+        spelled_node(alloc, index, text)
     }
 }
 

@@ -6,7 +6,7 @@ use Rattle.spef_file.specs.Shown.{shown}
 use Rattle.spef_net.specs.Names.{owner_in, node_in, node_of_parts}
 use Rattle.spef_net.specs.Spellings.{SpellsNode}
 use Rattle.spef_net.proofs.NodeLemmas.{node_in-None, node_in-parts}
-use Rattle.spef_net.proofs.node.read_node.Goals as goal
+use Rattle.spef_net.proofs.node.spelled_node.Goals as goal
 
 pub returns-in-None : goal.returns-in-None
 returns-in-None c =
