@@ -7,7 +7,7 @@ use Rattle.std.specs.List.{slice_split, onto_first}
 use Rattle.std.specs.Str.{bytes_eq}
 use Rattle.vg_scan.specs.Lines.{is_blank, words, Line}
 use Rattle.vg_scan.specs.declared.name.NodeName.{NodeName}
-use Rattle.spef_file.specs.Readings.{File}
+use Rattle.spef_file.specs.Files.{File}
 use Rattle.spef_net.specs.declared.part.Part.{Part}
 use Rattle.spef_net.specs.declared.part.Part.TheVariants.{Conns, Caps, Ress, Inducs}
 use Rattle.spef_net.specs.Lines.{head_of, part_named}

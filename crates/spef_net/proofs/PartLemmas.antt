@@ -1,13 +1,15 @@
 -- What reading a section's lines says of the file.
 use Rattle.std.proofs.Common.{◌≡◌, ℕ, zero, suc, ◌+◌, Bool, true, false, cond, List, [], ◌∷◌, get_or, refl, sym, ap, ◌∙◌, subst, Some, Result, Ok, Err, ◌⊎◌, inl, inr}
-use Rattle.std.specs.Prelude.{IfOk, IfErr}
-use Rattle.std.specs.List.{slice_get}
+use Rattle.std.specs.Prelude.{option_map, IfOk, IfErr}
+use Rattle.std.proofs.lemmas.List.Elements.{All-head, All-tail}
+use Rattle.std.specs.List.{All, slice_get}
 use Rattle.std.specs.Str.Lines.{lines}
 use Rattle.spef_file.specs.Indexes.{lines_after}
 use Rattle.spef_file.specs.Files.{File}
 use Rattle.spef_file.specs.Nets.{NetHead}
 use Rattle.spef_file.specs.Views.{head_in, heads_in}
 use Rattle.spef_file.specs.declared.section.Section.{Section}
+use Rattle.spef_file.specs.Tables.{NetRow}
 use Rattle.spef_net.specs.declared.fault.NetFault.{NetFault}
 use Rattle.spef_net.specs.declared.fault.NetKind.TheVariants.{Memory}
 use Rattle.spef_net.specs.declared.net.ParNet.{ParNet}
@@ -41,22 +43,34 @@ fault_of_part text file head all r f h = subst (λ ss. IfErr r (λ fault. (fault
 some_is : {A : Type 0} (a b : A) → Some a ≡ Some b → a ≡ b
 some_is a b e = cc
 
--- the head at a section's place
-head_is : (sections : List Section) (at : ℕ) (head : NetHead) (d : Section) → slice_get (heads_in sections) at ≡ Some head → head_in (get_or sections at d) ≡ head
-head_is [] at head d e = absurd (cc)
-head_is (section ∷ sections) zero head d e = some_is (head_in section) head e
-head_is (section ∷ sections) (suc at) head d e = head_is sections at head d e
+-- the head at a net's place
+head_is : (nets : List NetRow) (at : ℕ) (head : NetHead) (name : List ℕ) (section : Section)
+    → slice_get (heads_in nets) at ≡ Some head → option_map (λ (net : NetRow). net.0) (slice_get nets at) ≡ Some name → option_map (λ (net : NetRow). net.1) (slice_get nets at) ≡ Some section
+    → head_in (name, section) ≡ head
+head_is [] at head name section e f g = absurd (cc)
+head_is (net ∷ nets) zero head name section e f g =
+    ap (λ (n : List ℕ). head_in (n, section)) (sym (some_is net.0 name f)) ∙ ap (λ (s : Section). head_in (net.0, s)) (sym (some_is net.1 section g)) ∙ some_is (head_in net) head e
+head_is (net ∷ nets) (suc at) head name section e f g = head_is nets at head name section e f g
 
-pub net_at_place : (text : List ℕ) (file : File) (sections : List Section) (at : ℕ) (found : Section) (r : Result ParNet NetFault) → found ≡ get_or sections at found
-    → IfOk r (IsNetOf text file (head_in found)) → IfOk r (λ net. (head : NetHead) → slice_get (heads_in sections) at ≡ Some head → IsNetOf text file head net)
-net_at_place text file sections at found (Ok net) e h = λ head f. subst (λ s. IsNetOf text file s net) (ap head_in e ∙ head_is sections at head found f) h
-net_at_place text file sections at found (Err fault) e h = tt
+module _ (text : List ℕ) (file : File) (nets : List NetRow) (at : ℕ) (name : List ℕ) (section : Section) where
+  pub net_at_place : (r : Result ParNet NetFault)
+      → option_map (λ (net : NetRow). net.0) (slice_get nets at) ≡ Some name → option_map (λ (net : NetRow). net.1) (slice_get nets at) ≡ Some section
+      → IfOk r (IsNetOf text file (head_in (name, section))) → IfOk r (λ net. (head : NetHead) → slice_get (heads_in nets) at ≡ Some head → IsNetOf text file head net)
+  net_at_place (Ok net) f g h = λ head e. subst (λ s. IsNetOf text file s net) (head_is nets at head name section e f g) h
+  net_at_place (Err fault) f g h = tt
 
-pub fault_at_place : (text : List ℕ) (file : File) (sections : List Section) (at : ℕ) (found : Section) (r : Result ParNet NetFault) → found ≡ get_or sections at found
-    → IfErr r (λ fault. (fault.kind ≡ Memory) ⊎ IsFaultOf text file (head_in found) fault)
-    → IfErr r (λ fault. (fault.kind ≡ Memory) ⊎ ((head : NetHead) → slice_get (heads_in sections) at ≡ Some head → IsFaultOf text file head fault))
-fault_at_place text file sections at found (Ok net) e h = tt
-fault_at_place text file sections at found (Err fault) e h = elim h [
-  | inl memory ↦ inl memory
-  | inr first ↦ inr (λ head f. subst (λ s. IsFaultOf text file s fault) (ap head_in e ∙ head_is sections at head found f) first)
-]
+  pub fault_at_place : (r : Result ParNet NetFault)
+      → option_map (λ (net : NetRow). net.0) (slice_get nets at) ≡ Some name → option_map (λ (net : NetRow). net.1) (slice_get nets at) ≡ Some section
+      → IfErr r (λ fault. (fault.kind ≡ Memory) ⊎ IsFaultOf text file (head_in (name, section)) fault)
+      → IfErr r (λ fault. (fault.kind ≡ Memory) ⊎ ((head : NetHead) → slice_get (heads_in nets) at ≡ Some head → IsFaultOf text file head fault))
+  fault_at_place (Ok net) f g h = tt
+  fault_at_place (Err fault) f g h = elim h [
+    | inl memory ↦ inl memory
+    | inr first ↦ inr (λ head e. subst (λ s. IsFaultOf text file s fault) (head_is nets at head name section e f g) first)
+  ]
+
+-- what is so of each net's section is so of this one
+pub span_at : (Q : Section → Type 0) (nets : List NetRow) (at : ℕ) (section : Section) → All (λ (net : NetRow). Q net.1) nets → option_map (λ (net : NetRow). net.1) (slice_get nets at) ≡ Some section → Q section
+span_at Q [] at section h e = absurd (cc)
+span_at Q (net ∷ nets) zero section h e = subst Q (some_is net.1 section e) (All-head (λ (n : NetRow). Q n.1) net nets h)
+span_at Q (net ∷ nets) (suc at) section h e = span_at Q nets at section (All-tail (λ (n : NetRow). Q n.1) net nets h) e

@@ -18,7 +18,6 @@ use crate::part::Part;
 use std::alloc::Global;
 use std::marker::Model;
 use vg_num::{Memory, NumFault};
-use vg_scan::Name;
 
 /// The nodes so far, what is noted of them, and the rows.
 #[derive(Drop)]
@@ -59,7 +58,7 @@ impl Draft {
     }
 
     /// The number of a node of the net, which is put last where it is new. `None`: it is another net's.
-    pub fn own(&mut self, net: &Name, node: &Node) -> Result<Option<u32>, Memory>
+    pub fn own(&mut self, net: &[u8], node: &Node) -> Result<Option<u32>, Memory>
         ensures { Owns result net.now self.old (named_by node.now) self.new }
     {
         let owner = node.owner.as_bytes();
@@ -148,7 +147,7 @@ impl Draft {
     /// Takes a `*N` line: the first note of a node stays.
     ///
     /// Answers `Conn` where its node is no inner one or a connection, and `Memory` where there is no room.
-    pub fn star(&mut self, net: &Name, node: &Node, note: &[u8]) -> Result<(), NetKind>
+    pub fn star(&mut self, net: &[u8], node: &Node, note: &[u8]) -> Result<(), NetKind>
         ensures { Takes result net.now self.old (Ok (Star (named_by node.now) note.now)) self.new }
     {
         if !is_inner(net, node.owner.as_bytes(), node.leaf.as_bytes()) {

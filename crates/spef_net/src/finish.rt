@@ -22,10 +22,10 @@ use vg_num::{Memory as NoRoom, Row};
 use vg_scan::Name;
 
 /// The net of a draft.
-fn finish(alloc: Global, net: &Name, reduced: bool, draft: Draft) -> Result<ParNet, NoRoom>
+fn finish(alloc: Global, net: &[u8], reduced: bool, draft: Draft) -> Result<ParNet, NoRoom>
     ensures { IfOk result (λ par. IsMade net.now reduced draft par) }
 {
-    let name = net.copy(alloc)?;
+    let name = Name::from_bytes(alloc, net)?;
     let (owners, leaves) = draft.nodes.into_names();
     Ok(ParNet {
         name,
@@ -47,7 +47,7 @@ fn finish(alloc: Global, net: &Name, reduced: bool, draft: Draft) -> Result<ParN
 pub(crate) fn read_section(
     alloc: Global,
     index: &SpefIndex,
-    net: &Name,
+    net: &[u8],
     reduced: bool,
     bytes: &[u8],
     first: usize,

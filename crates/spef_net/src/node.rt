@@ -99,7 +99,7 @@ fn owner_of<'a>(
         None => Err(NameFault::Bad),
         Some(digits) => match mapped(index, digits) {
             None => Err(NameFault::Bad),
-            Some(name) => Ok(Spelled::Plain(name.as_bytes())),
+            Some(name) => Ok(Spelled::Plain(name)),
         },
     }
 }
@@ -167,7 +167,7 @@ fn plain_owner<'a>(index: &'a SpefIndex, text: &'a [u8]) -> Result<Spelled<'a>, 
         None => Err(NameFault::Bad),
         Some(digits) => match mapped(index, digits) {
             None => Err(NameFault::Bad),
-            Some(name) => Ok(Spelled::Plain(name.as_bytes())),
+            Some(name) => Ok(Spelled::Plain(name)),
         },
     }
 }
@@ -251,10 +251,10 @@ pub(crate) fn read_node<'a>(
 }
 
 /// Whether a node of this owner and leaf is inside the net of this name.
-pub(crate) fn is_inner(net: &Name, owner: &[u8], leaf: &[u8]) -> bool
+pub(crate) fn is_inner(net: &[u8], owner: &[u8], leaf: &[u8]) -> bool
     ensures { result ≡ is_inner net.now (record { owner = owner.now; leaf = leaf.now }) }
 {
-    owner == net.as_bytes() && are_digits(leaf)
+    owner == net && are_digits(leaf)
 }
 
 /// Whether a node has no leaf.

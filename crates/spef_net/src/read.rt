@@ -19,13 +19,13 @@ use crate::part::Part;
 use crate::take::take_in;
 use spef_file::SpefIndex;
 use std::alloc::Global;
-use vg_scan::{Name, Span, next_line, text_at};
+use vg_scan::{Span, next_line, text_at};
 
 /// Takes a line's words, and says which part is open after it.
 fn take_words(
     alloc: Global,
     index: &SpefIndex,
-    net: &Name,
+    net: &[u8],
     part: Part,
     line: &[u8],
     words: &[Span],
@@ -52,7 +52,7 @@ fn take_words(
 fn take_line(
     alloc: Global,
     index: &SpefIndex,
-    net: &Name,
+    net: &[u8],
     part: Part,
     line: &[u8],
     found: &mut Vec<Span>,
@@ -70,7 +70,7 @@ fn take_line(
 pub(crate) fn read_lines(
     alloc: Global,
     index: &SpefIndex,
-    net: &Name,
+    net: &[u8],
     bytes: &[u8],
     first: usize,
     nodes: NodeTable,

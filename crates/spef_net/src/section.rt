@@ -15,24 +15,25 @@ use crate::net::ParNet;
 use spef_file::{Section, SpefIndex, SpefText, net_lines};
 use std::alloc::Global;
 
-/// The net of a section that is known to be the file's.
+/// The net of a section, of this name, that is known to be the file's.
 fn read_part(
     alloc: Global,
     text: &SpefText,
     index: &SpefIndex,
-    section: &Section,
+    name: &[u8],
+    section: Section,
 ) -> Result<ParNet, NetFault>
-    requires { IsSectionOf text.now section.now }
-    ensures net { IfOk result (IsNetOf text.now (shown index.now) (head_in section.now)) }
+    requires { IsSectionOf text.now section }
+    ensures net { IfOk result (IsNetOf text.now (shown index.now) (head_in (name.now, section))) }
     ensures sized { IfOk result IsSized }
-    ensures fault { IfErr result (λ fault. (fault.kind ≡ Memory) ⊎ IsFaultOf text.now (shown index.now) (head_in section.now) fault) }
+    ensures fault { IfErr result (λ fault. (fault.kind ≡ Memory) ⊎ IsFaultOf text.now (shown index.now) (head_in (name.now, section)) fault) }
 {
-    let first = section.line + 1;
+    let first = section.line as usize + 1;
     if section.reduced {
-        return read_section(alloc, index, &section.name, true, b"", first);
+        return read_section(alloc, index, name, true, b"", first);
     }
-    let lines = net_lines(text, section);
-    read_section(alloc, index, &section.name, false, lines, first)
+    let lines = net_lines(text, &section);
+    read_section(alloc, index, name, false, lines, first)
 }
 
 /// The net of a section of a SPEF file (IEEE Std 1481), or its first fault, with the number of its line in the file.
@@ -53,5 +54,7 @@ pub fn read_net(
     ensures sized { IfOk result IsSized }
     ensures fault { IfErr result (λ fault. (fault.kind ≡ Memory) ⊎ ((head : NetHead) → slice_get (shown index.now).nets at ≡ Some head → IsFaultOf text.now (shown index.now) head fault)) }
 {
-    read_part(alloc, text, index, &index.sections.as_slice()[at])
+    let name = index.sections.name(at);
+    let section = index.sections.get(at);
+    read_part(alloc, text, index, name, section)
 }

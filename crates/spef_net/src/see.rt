@@ -10,7 +10,7 @@ use crate::draft::Draft;
 use crate::node::read_node;
 use spef_file::SpefIndex;
 use std::alloc::Global;
-use vg_scan::{Name, NameFault};
+use vg_scan::NameFault;
 
 /// The number of the node that a text names, if it is the net's; it is put last where it is new.
 ///
@@ -18,7 +18,7 @@ use vg_scan::{Name, NameFault};
 pub(crate) fn see(
     alloc: Global,
     index: &SpefIndex,
-    net: &Name,
+    net: &[u8],
     text: &[u8],
     draft: &mut Draft,
 ) -> Result<Option<u32>, NameFault>
@@ -38,7 +38,7 @@ pub(crate) fn see(
 pub(crate) fn see_two(
     alloc: Global,
     index: &SpefIndex,
-    net: &Name,
+    net: &[u8],
     texts: (&[u8], &[u8]),
     draft: &mut Draft,
 ) -> Result<(Option<u32>, Option<u32>), NameFault>

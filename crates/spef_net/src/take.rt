@@ -16,13 +16,13 @@ use crate::see::{see, see_two};
 use crate::value::read_value;
 use spef_file::SpefIndex;
 use std::alloc::Global;
-use vg_scan::{Name, NameFault, Span, text_at};
+use vg_scan::{NameFault, Span, text_at};
 
 /// A line of connections.
 fn take_conn(
     alloc: Global,
     index: &SpefIndex,
-    net: &Name,
+    net: &[u8],
     line: &[u8],
     words: &[Span],
     draft: &mut Draft,
@@ -42,7 +42,7 @@ fn take_conn(
 fn take_ground(
     alloc: Global,
     index: &SpefIndex,
-    net: &Name,
+    net: &[u8],
     node: &[u8],
     value: &[u8],
     draft: &mut Draft,
@@ -61,7 +61,7 @@ fn take_ground(
 fn take_coupling(
     alloc: Global,
     index: &SpefIndex,
-    net: &Name,
+    net: &[u8],
     nodes: (&[u8], &[u8]),
     value: &[u8],
     draft: &mut Draft,
@@ -82,7 +82,7 @@ fn take_coupling(
 fn take_resistor(
     alloc: Global,
     index: &SpefIndex,
-    net: &Name,
+    net: &[u8],
     nodes: (&[u8], &[u8]),
     value: &[u8],
     draft: &mut Draft,
@@ -105,7 +105,7 @@ fn take_resistor(
 fn take_cap(
     alloc: Global,
     index: &SpefIndex,
-    net: &Name,
+    net: &[u8],
     line: &[u8],
     words: &[Span],
     draft: &mut Draft,
@@ -129,7 +129,7 @@ fn take_cap(
 fn take_res(
     alloc: Global,
     index: &SpefIndex,
-    net: &Name,
+    net: &[u8],
     line: &[u8],
     words: &[Span],
     draft: &mut Draft,
@@ -149,7 +149,7 @@ fn take_res(
 pub(crate) fn take_in(
     alloc: Global,
     index: &SpefIndex,
-    net: &Name,
+    net: &[u8],
     part: Part,
     line: &[u8],
     words: &[Span],

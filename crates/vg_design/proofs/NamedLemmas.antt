@@ -7,9 +7,8 @@ use Rattle.std.specs.Str.{bytes_eq}
 use Rattle.spef_file.specs.Indexes.{IsIndexOf}
 use Rattle.spef_file.specs.Shown.{shown}
 use Rattle.spef_file.specs.Nets.{NetHead}
-use Rattle.spef_file.specs.Tables.{names_of}
+use Rattle.spef_file.specs.Tables.{NetRow, names_of}
 use Rattle.spef_file.specs.Views.{head_in, heads_in}
-use Rattle.spef_file.specs.declared.section.Section.{Section}
 use Rattle.spef_file.specs.declared.spef_index.SpefIndex.{SpefIndex}
 use Rattle.spef_net.specs.Sections.{IsNetOf, IsFaultOf}
 use Rattle.spef_net.specs.declared.fault.NetFault.{NetFault}
@@ -38,29 +37,29 @@ here name head heads e = record { head = head; is = refl; first = rw e refl }
 later : (name : List ℕ) (head : NetHead) (heads : List NetHead) (at : ℕ) → bytes_eq name head.name ≡ false → IsHeadAt name heads at → IsHeadAt name (head ∷ heads) (suc at)
 later name head heads at e h = record { head = h.head; is = h.is; first = rw e h.first }
 
-head_step : (name : List ℕ) (section : Section) (sections : List Section) (at : ℕ) (t : Bool) → bytes_eq name section.name ≡ t
-    → cond (not t) (1 + position_or_len (bytes_eq name) (names_of sections)) 0 ≡ at → at < suc (length (names_of sections))
-    → ((k : ℕ) → position_or_len (bytes_eq name) (names_of sections) ≡ k → k < length (names_of sections) → IsHeadAt name (heads_in sections) k)
-    → IsHeadAt name (head_in section ∷ heads_in sections) at
-head_step name section sections zero true e f l more = here name (head_in section) (heads_in sections) e
-head_step name section sections (suc at) true e f l more = absurd (omega (arith, f))
-head_step name section sections zero false e f l more = absurd (omega (arith, f))
-head_step name section sections (suc at) false e f l more = later name (head_in section) (heads_in sections) at e (more at (omega (arith, f)) (omega arith))
+head_step : (name : List ℕ) (net : NetRow) (nets : List NetRow) (at : ℕ) (t : Bool) → bytes_eq name net.0 ≡ t
+    → cond (not t) (1 + position_or_len (bytes_eq name) (names_of nets)) 0 ≡ at → at < suc (length (names_of nets))
+    → ((k : ℕ) → position_or_len (bytes_eq name) (names_of nets) ≡ k → k < length (names_of nets) → IsHeadAt name (heads_in nets) k)
+    → IsHeadAt name (head_in net ∷ heads_in nets) at
+head_step name net nets zero true e f l more = here name (head_in net) (heads_in nets) e
+head_step name net nets (suc at) true e f l more = absurd (omega (arith, f))
+head_step name net nets zero false e f l more = absurd (omega (arith, f))
+head_step name net nets (suc at) false e f l more = later name (head_in net) (heads_in nets) at e (more at (omega (arith, f)) (omega arith))
 
-head_at : (name : List ℕ) (sections : List Section) (at : ℕ) → position_or_len (bytes_eq name) (names_of sections) ≡ at → at < length (names_of sections) → IsHeadAt name (heads_in sections) at
+head_at : (name : List ℕ) (nets : List NetRow) (at : ℕ) → position_or_len (bytes_eq name) (names_of nets) ≡ at → at < length (names_of nets) → IsHeadAt name (heads_in nets) at
 head_at name [] at e l = absurd (omega arith)
-head_at name (section ∷ sections) at e l = head_step name section sections at (bytes_eq name section.name) refl e l (head_at name sections)
+head_at name (net ∷ nets) at e l = head_step name net nets at (bytes_eq name net.0) refl e l (head_at name nets)
 
-no_head_step : (name : List ℕ) (section : Section) (sections : List Section) (t : Bool) → bytes_eq name section.name ≡ t
-    → cond (not t) (1 + position_or_len (bytes_eq name) (names_of sections)) 0 ≡ suc (length (names_of sections))
-    → (position_or_len (bytes_eq name) (names_of sections) ≡ length (names_of sections) → find (λ h. bytes_eq name h.name) (heads_in sections) ≡ None)
-    → find (λ h. bytes_eq name h.name) (head_in section ∷ heads_in sections) ≡ None
-no_head_step name section sections true e f more = absurd (omega (arith, f))
-no_head_step name section sections false e f more = rw e (more (omega (arith, f)))
+no_head_step : (name : List ℕ) (net : NetRow) (nets : List NetRow) (t : Bool) → bytes_eq name net.0 ≡ t
+    → cond (not t) (1 + position_or_len (bytes_eq name) (names_of nets)) 0 ≡ suc (length (names_of nets))
+    → (position_or_len (bytes_eq name) (names_of nets) ≡ length (names_of nets) → find (λ h. bytes_eq name h.name) (heads_in nets) ≡ None)
+    → find (λ h. bytes_eq name h.name) (head_in net ∷ heads_in nets) ≡ None
+no_head_step name net nets true e f more = absurd (omega (arith, f))
+no_head_step name net nets false e f more = rw e (more (omega (arith, f)))
 
-no_head : (name : List ℕ) (sections : List Section) → position_or_len (bytes_eq name) (names_of sections) ≡ length (names_of sections) → find (λ h. bytes_eq name h.name) (heads_in sections) ≡ None
+no_head : (name : List ℕ) (nets : List NetRow) → position_or_len (bytes_eq name) (names_of nets) ≡ length (names_of nets) → find (λ h. bytes_eq name h.name) (heads_in nets) ≡ None
 no_head name [] e = refl
-no_head name (section ∷ sections) e = no_head_step name section sections (bytes_eq name section.name) refl e (no_head name sections)
+no_head name (net ∷ nets) e = no_head_step name net nets (bytes_eq name net.0) refl e (no_head name nets)
 
 prefix_le : (p : List ℕ → Bool) (xs : List (List ℕ)) → position_or_len p xs ≤ length xs
 prefix_le p xs = prefix_len-le-length (λ x. not (p x)) xs

@@ -11,14 +11,14 @@ pub returns-then-section-clause-net : goal.returns-then-section-clause-net
 returns-then-section-clause-net c =
     let text = c.args.text.now in
     let file = shown c.args.index.now in
-    let head = head_in c.args.section.now in
+    let head = head_in (c.args.name.now, c.args.section) in
     net_of text file head true (sayings file (lines [])) c.read_section.result c.if-section.true (reduced_sayings text file head c.if-section.true) c.read_section.ensures.faultless c.read_section.ensures.net
 
 pub returns-then-section-clause-fault : goal.returns-then-section-clause-fault
 returns-then-section-clause-fault c =
     let text = c.args.text.now in
     let file = shown c.args.index.now in
-    let head = head_in c.args.section.now in
+    let head = head_in (c.args.name.now, c.args.section) in
     fault_of_part text file head (sayings file (lines [])) c.read_section.result (reduced_sayings text file head c.if-section.true) c.read_section.ensures.fault
 
 pub read_section-requires-2-clause-count : goal.read_section-requires-2-clause-count
@@ -28,7 +28,7 @@ pub returns-clause-net : goal.returns-clause-net
 returns-clause-net c =
     let text = c.args.text.now in
     let file = shown c.args.index.now in
-    let head = head_in c.args.section.now in
+    let head = head_in (c.args.name.now, c.args.section) in
     net_of text file head false (sayings file (lines c.net_lines-lines.result.now)) c.read_section-2.result c.if-section.false
     (read_sayings text c.net_lines-lines.result.now file head c.if-section.false c.net_lines-lines.ensures.lines)
     c.read_section-2.ensures.faultless c.read_section-2.ensures.net
@@ -37,7 +37,7 @@ pub returns-clause-fault : goal.returns-clause-fault
 returns-clause-fault c =
     let text = c.args.text.now in
     let file = shown c.args.index.now in
-    let head = head_in c.args.section.now in
+    let head = head_in (c.args.name.now, c.args.section) in
     fault_of_part text file head (sayings file (lines c.net_lines-lines.result.now)) c.read_section-2.result
     (read_sayings text c.net_lines-lines.result.now file head c.if-section.false c.net_lines-lines.ensures.lines)
     c.read_section-2.ensures.fault

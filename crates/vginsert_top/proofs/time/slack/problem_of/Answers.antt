@@ -39,7 +39,7 @@ returns c =
     let cons = c.args.cons.now in
     let found = c.args.found.now in
     let driver : c.driver_at-driver.result ≡ driver_of cons found.net found.order =
-    c.driver_at-driver.ensures ∙ ap (driver_at cons) (c.name_of.ensures ∙ ap (λ (order : List ℕ). name_of found.net (slice_index order 0)) c.as_slice-order.ensures) in
+    c.driver_at-driver.ensures ∙ ap (driver_at cons) (c.in_ok-name.ensures ∙ ap (λ (order : List ℕ). name_of found.net (slice_index order 0)) c.as_slice-order.ensures) in
     made_is cons found.net found.tree.nodes found.order c.in_ok-made.made c.in_ok-tree.tree.nodes c.driver_at-driver.result c.from_vec.result (places c.in_ok-tree.tree.nodes c.from_vec.result c.deref-3.result.now) c.from_vec-reps.result
     c.in_ok-tree.ensures driver (c.from_vec.ensures ∙ c.in_ok-sinks.ensures ∙ ap (sinks_of cons found.net) c.as_slice-order.ensures) (c.from_vec-reps.ensures ∙ c.new.ensures.items)
     c.in_ok-made.ensures.within c.in_ok-made.ensures.nodes c.in_ok-made.ensures.driver c.in_ok-made.ensures.sinks c.in_ok-made.ensures.reps
