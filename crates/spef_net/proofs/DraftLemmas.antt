@@ -10,7 +10,8 @@ use Rattle.spef_net.specs.declared.net.ConnKind.{ConnKind}
 use Rattle.spef_net.specs.declared.net.Direction.{Direction}
 use Rattle.spef_net.specs.declared.part.Part.{Part}
 use Rattle.spef_net.specs.Sayings.{Opens, Nothing, Connects, Star, Ground, Coupling, Resistor}
-use Rattle.spef_net.specs.Names.{has_node, with_node, distinct}
+use Rattle.vg_scan.specs.Nodes.{has_node}
+use Rattle.spef_net.specs.Names.{with_node, distinct}
 use Rattle.spef_net.specs.Nodes.{Note, fresh, joined, starred, note_at, is_starred}
 use Rattle.spef_net.specs.Sayings.{Said}
 use Rattle.spef_net.specs.Rows.{conn_in, joined_in, starred_in, cap_in, res_in, named_in, own_one, is_inductance, conns_of, joined_of, starred_of, caps_of, ress_of, nodes_of}

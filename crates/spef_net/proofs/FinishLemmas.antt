@@ -6,7 +6,7 @@ use Rattle.vg_scan.specs.declared.name.NodeName.{NodeName}
 use Rattle.spef_net.specs.declared.net.ParConn.{ParConn}
 use Rattle.spef_net.specs.Nodes.{ParNode, Note, note_at, noted, noted_all}
 use Rattle.spef_net.specs.declared.net.ParNet.{ParNet}
-use Rattle.spef_net.specs.Names.{node_value}
+use Rattle.vg_scan.specs.Nodes.{node_value}
 use Rattle.spef_net.specs.Sayings.{Said}
 use Rattle.spef_net.specs.Rows.{joined_of, starred_of, connected_of, conns_of, caps_of, ress_of}
 use Rattle.spef_net.specs.Denoted.{described, AreConns, AreCaps, AreRess, all_nodes, IsNet}

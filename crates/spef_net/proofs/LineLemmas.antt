@@ -12,7 +12,8 @@ use Rattle.spef_net.specs.declared.part.Part.TheVariants.{Nowhere, Conns, Caps, 
 use Rattle.spef_net.specs.declared.fault.NetKind.{NetKind}
 use Rattle.spef_net.specs.declared.fault.NetKind.TheVariants.{Conn, Cap, Res, Number, Foreign, SelfCoupled, Memory}
 use Rattle.spef_net.specs.Sayings.{Opens, Nothing, Connects, Star, Ground, Coupling, Resistor}
-use Rattle.spef_net.specs.Names.{node_in, same_node, has_node, with_node, distinct}
+use Rattle.vg_scan.specs.Nodes.{same_node, has_node}
+use Rattle.spef_net.specs.Names.{node_in, with_node, distinct}
 use Rattle.spef_net.specs.Sayings.{Said, ground, coupling, resistor, cap_line, res_line, conn_line, connection, connected, star, starred, is_at, direction_in, said_in, said, part_after, sayings_from}
 use Rattle.spef_net.specs.Lines.{note_after}
 use Rattle.spef_net.specs.declared.net.ConnKind.{ConnKind}
@@ -21,7 +22,9 @@ use Rattle.spef_net.specs.declared.net.Direction.{Direction}
 use Rattle.std.specs.Prelude.{codes}
 use Rattle.std.specs.Str.{bytes_eq}
 use Rattle.spef_net.specs.Rows.{joined_in, connected_of}
-use Rattle.spef_net.specs.Faults.{fault_of, fault_at, IsClear, IsFirstFault}
+use Rattle.vg_scan.specs.Faults.{IsClear}
+use Rattle.vg_scan.proofs.FaultLemmas.{first_fault as first_here}
+use Rattle.spef_net.specs.Faults.{fault_of, fault_at, IsFirstFaultIn}
 use Rattle.spef_net.specs.Drafts.{Sketch, IsSketch, IsCounted, Takes}
 use Rattle.spef_net.specs.Surveys.{is_conns, with_joined}
 use Rattle.spef_net.specs.Views.{IsFaultOrMemory, fault_in}
@@ -156,25 +159,6 @@ bad_line net old new line Foreign h = λ connected before counted s. bad_fault c
 bad_line net old new line SelfCoupled h = λ connected before counted s. bad_fault connected net before line SelfCoupled h
 bad_line net old new line (Number f) h = λ connected before counted s. bad_fault connected net before line (Number f) h
 
--- a list's next item
-pub record NextItem {X : Type 0} (all : List X) (n : ℕ) (d x : X) (others : List X) : Type 0 where
-  pub within : n < length all
-  pub rest : drop (n + 1) all ≡ others
-  pub here : get_or all n d ≡ x
-  pub front : take (n + 1) all ≡ take n all ++ x ∷ []
-
-pub next_is : {X : Type 0} (all : List X) (n : ℕ) (d x : X) (others : List X) → drop n all ≡ x ∷ others → NextItem all n d x others
-next_is all n d x others e =
-    let l : n < length all = omega (arith, length-drop n all, ap length e) in
-    let k : x ∷ others ≡ get_or all n d ∷ drop (suc n) all = sym e ∙ drop-cons all n d l in
-    let g : get_or all n d ≡ x = cc in
-    record {
-      within = l;
-      rest = ap (λ m. drop m all) (add-one n) ∙ (let r : drop (suc n) all ≡ others = cc in r);
-      here = g;
-      front = take_more all n d l ∙ ap (λ y. take n all ++ y ∷ []) g;
-    }
-
 same_refl : (node : NodeName) → same_node node node ≡ true
 same_refl node =
     let a : Rattle.std.specs.Str.bytes_eq node.owner node.owner ≡ true = (bytes_eq-Decides node.owner node.owner).1 refl in
@@ -229,25 +213,10 @@ known fault SelfCoupled h = inr h
 known fault (Number f) h = inr h
 
 -- the first faulty line, from what is known of the lines before it
-pub first_fault : (net : List ℕ) (all : List Said) (n first : ℕ) (line : Said) (kind : NetKind) → n < length all → get_or all n (Ok Nothing) ≡ line → IsClear net all n
-    → IsFaultOrMemory (fault_of (connected_of all) net (take n all) line) kind → (kind ≡ Memory) ⊎ IsFirstFault net all first (record { kind = kind; line = first + n })
+pub first_fault : (net : List ℕ) (all : List Said) (n first : ℕ) (line : Said) (kind : NetKind) → n < length all → get_or all n (Ok Nothing) ≡ line → IsClear (fault_at net all) n
+    → IsFaultOrMemory (fault_of (connected_of all) net (take n all) line) kind → (kind ≡ Memory) ⊎ IsFirstFaultIn net all first (record { kind = kind; line = first + n })
 first_fault net all n first line kind l e clear f =
-    let m : first + n - first ≡ n = omega arith in
     elim (known (fault_of (connected_of all) net (take n all) line) kind f) [
       | inl memory ↦ inl memory
-      | inr fault ↦ inr (record {
-        counted = omega arith;
-        within = omega arith;
-        before = rw m clear;
-        here = rw m (ap (fault_of (connected_of all) net (take n all)) e ∙ fault);
-      })
+      | inr fault ↦ inr (first_here (fault_at net all) (length all) first n (first + n) kind clear (ap (fault_of (connected_of all) net (take n all)) e ∙ fault) l refl)
     ]
-
-pub clear_more : (net : List ℕ) (all : List Said) (n : ℕ) (line : Said) → get_or all n (Ok Nothing) ≡ line → IsClear net all n → fault_of (connected_of all) net (take n all) line ≡ None → IsClear net all (n + 1)
-clear_more net all n line e clear f = below_more (λ i. fault_at net all i ≡ None) n clear (ap (fault_of (connected_of all) net (take n all)) e ∙ f)
-
-pub all_read : {X : Type 0} (all : List X) (n : ℕ) → drop n all ≡ [] → length all ≤ n
-all_read all n e = omega (arith, length-drop n all, ap length e)
-
-pub take_whole : {X : Type 0} (all : List X) (n : ℕ) → drop n all ≡ [] → take n all ≡ all
-take_whole all n e = take_all n all (all_read all n e)

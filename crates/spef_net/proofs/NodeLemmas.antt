@@ -3,7 +3,8 @@ use Rattle.std.proofs.Common.{◌≡◌, ℕ, ◌+◌, List, [], take, drop, ap,
 use Rattle.vg_scan.specs.Names.{canonical}
 use Rattle.vg_scan.specs.Nodes.{leaf_at}
 use Rattle.spef_file.specs.Files.{File}
-use Rattle.spef_net.specs.Names.{owner_in, node_of_parts, node_split, node_in}
+use Rattle.vg_scan.specs.Nodes.{node_of_parts}
+use Rattle.spef_net.specs.Names.{owner_in, node_split, node_in}
 
 pub node_in-None : (file : File) (text : List ℕ) → leaf_at file.chars text ≡ None → node_in file text ≡ node_of_parts (owner_in file text) (Some [])
 unfolding node_in

@@ -9,7 +9,8 @@ use Rattle.vg_scan.specs.declared.name.NodeName.{NodeName}
 use Rattle.spef_net.specs.declared.net.ConnKind.{ConnKind}
 use Rattle.spef_net.specs.declared.net.Direction.{Direction}
 use Rattle.spef_net.specs.declared.net.ParConn.{ParConn}
-use Rattle.spef_net.specs.Names.{same_node, has_node, with_node, distinct, node_value, is_inner}
+use Rattle.vg_scan.specs.Nodes.{same_node, has_node, node_value}
+use Rattle.spef_net.specs.Names.{with_node, distinct, is_inner}
 use Rattle.spef_net.specs.Denoted.{conn_at, cap_at, res_at, AreConns, AreCaps, AreRess}
 use Rattle.spef_net.specs.Drafts.{is_known}
 

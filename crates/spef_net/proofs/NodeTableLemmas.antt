@@ -8,7 +8,8 @@ use Rattle.std.specs.List.{slice_get}
 use Rattle.vg_scan.specs.declared.name.NodeName.{NodeName}
 use Rattle.vg_scan.specs.declared.chains.Chains.{Chains}
 use Rattle.vg_scan.specs.Chains.{IsLastBelow, AreChains}
-use Rattle.spef_net.specs.Names.{same_node, has_node, with_node}
+use Rattle.vg_scan.specs.Nodes.{same_node, has_node}
+use Rattle.spef_net.specs.Names.{with_node}
 use Rattle.spef_net.specs.NodeTables.{bucket_of, nodes_in, IsTable}
 use Rattle.spef_net.specs.Nodes.{ParNode, Note, note_at, noted, noted_all}
 use Rattle.std.proofs.Common.{min, drop}

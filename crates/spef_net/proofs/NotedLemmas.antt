@@ -7,7 +7,8 @@ use Rattle.std.proofs.lemmas.Option.{slice_get_within}
 use Rattle.std.specs.List.{slice_get}
 use Rattle.std.specs.Option.{option_or}
 use Rattle.vg_scan.specs.declared.name.NodeName.{NodeName}
-use Rattle.spef_net.specs.Names.{same_node, has_node, with_node, node_value}
+use Rattle.vg_scan.specs.Nodes.{same_node, has_node, node_value}
+use Rattle.spef_net.specs.Names.{with_node}
 use Rattle.spef_net.specs.Nodes.{Note, fresh, joined, starred, note_at, is_joined, is_starred}
 use Rattle.spef_net.specs.Drafts.{note_from, noted_by, AreNoted}
 use Rattle.spef_net.proofs.NodeLists.{same_is, has-with_node, value-last, value-again}

@@ -1,5 +1,5 @@
 -- Lines have one answer: distinct nodes have one number each, so that numbered rows are determined.
-use Rattle.std.proofs.Common.{◌≡◌, ℕ, zero, suc, ◌-◌, inl, inr, Bool, true, false, ◌||◌, cond, List, [], ◌∷◌, ◌++◌, map, refl, sym, ap, ◌∙◌, arith, Option, Some, None}
+use Rattle.std.proofs.Common.{length, ◌≡◌, ℕ, zero, suc, ◌-◌, inl, inr, Bool, true, false, ◌||◌, cond, List, [], ◌∷◌, ◌++◌, map, refl, sym, ap, ◌∙◌, arith, Option, Some, None}
 use Rattle.std.proofs.lemmas.Bool.{cases_eq, cases_lt}
 use Rattle.std.proofs.lemmas.Slice.Eq.{bytes_eq-Decides}
 use Rattle.std.specs.List.{slice_get, fold, flat_map}
@@ -9,8 +9,10 @@ use Rattle.spef_net.specs.declared.net.ConnKind.{ConnKind}
 use Rattle.spef_net.specs.declared.net.Direction.{Direction}
 use Rattle.spef_net.specs.declared.net.ParConn.{ParConn}
 use Rattle.spef_net.specs.declared.fault.NetKind.{NetKind}
-use Rattle.spef_net.specs.Names.{same_node, has_node, with_node}
+use Rattle.vg_scan.specs.Nodes.{same_node, has_node}
+use Rattle.spef_net.specs.Names.{with_node}
 use Rattle.spef_net.specs.Rows.{connected_of, named_in}
+use Rattle.vg_scan.proofs.FaultLemmas.{never_both, first_fault-unique}
 use Rattle.spef_net.specs.Faults.{fault_at}
 use Rattle.spef_net.specs.Denoted.{conn_at, cap_at, res_at, all_nodes}
 use Rattle.spef_net.specs.Laws.{OneNet, OneFault, FaultOrNone}
@@ -135,21 +137,8 @@ one_net name reduced lines net other a b =
     let l : net.inductive ≡ other.inductive = a.is_inductive ∙ sym b.is_inductive in
     λ i. record { name = p i; nodes = q i; conns = c i; caps = k i; ress = r i; reduced = u i; inductive = l i }
 
-both_ways : (o : Option NetKind) (k : NetKind) → o ≡ Some k → o ≡ None → ⊥
-both_ways o k e f = absurd (cc)
-
 pub fault_or_none : FaultOrNone
-fault_or_none name lines first fault clear a = both_ways _ fault.kind a.here (clear (fault.line - first) (omega (arith, a.counted, a.within)))
+fault_or_none name lines first fault clear found = never_both (fault_at name lines) (length lines) first fault clear found
 
 pub one_fault : OneFault
-one_fault name lines first fault other a b =
-    let e : fault.line ≡ other.line =
-    elim (cases_eq fault.line other.line) [
-      | inl same ↦ same
-      | inr differ ↦ elim (cases_lt fault.line other.line) [
-        | inl low ↦ absurd (both_ways _ fault.kind a.here (b.before (fault.line - first) (omega (arith, a.counted))))
-        | inr high ↦ absurd (both_ways _ other.kind b.here (a.before (other.line - first) (omega (arith, b.counted))))
-      ]
-    ] in
-    let k : fault.kind ≡ other.kind = some_is fault.kind other.kind (sym a.here ∙ ap (λ n. fault_at name lines (n - first)) e ∙ b.here) in
-    λ i. record { kind = k i; line = e i }
+one_fault name lines first fault other a b = first_fault-unique (fault_at name lines) (length lines) first fault other a b

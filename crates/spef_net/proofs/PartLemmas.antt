@@ -1,8 +1,7 @@
 -- What reading a section's lines says of the file.
 use Rattle.std.proofs.Common.{◌≡◌, ℕ, zero, suc, ◌+◌, Bool, true, false, cond, List, [], ◌∷◌, get_or, refl, sym, ap, ◌∙◌, subst, Some, Result, Ok, Err, ◌⊎◌, inl, inr}
 use Rattle.std.specs.Prelude.{option_map, IfOk, IfErr}
-use Rattle.std.proofs.lemmas.List.Elements.{All-head, All-tail}
-use Rattle.std.specs.List.{All, slice_get}
+use Rattle.std.specs.List.{slice_get}
 use Rattle.std.specs.Str.Lines.{lines}
 use Rattle.spef_file.specs.Indexes.{lines_after}
 use Rattle.spef_file.specs.Files.{File}
@@ -10,11 +9,12 @@ use Rattle.spef_file.specs.Nets.{NetHead}
 use Rattle.spef_file.specs.Views.{head_in, heads_in}
 use Rattle.spef_file.specs.declared.section.Section.{Section}
 use Rattle.spef_file.specs.Tables.{NetRow}
-use Rattle.spef_net.specs.declared.fault.NetFault.{NetFault}
+use Rattle.vg_scan.specs.declared.fault.LineFault.{LineFault}
+use Rattle.spef_net.specs.declared.fault.NetKind.{NetKind}
 use Rattle.spef_net.specs.declared.fault.NetKind.TheVariants.{Memory}
 use Rattle.spef_net.specs.declared.net.ParNet.{ParNet}
 use Rattle.spef_net.specs.Sayings.{Said, sayings, sayings_from}
-use Rattle.spef_net.specs.Faults.{IsFaultless, IsFirstFault}
+use Rattle.spef_net.specs.Faults.{IsFaultless, IsFirstFaultIn}
 use Rattle.spef_net.specs.Denoted.{IsNet}
 use Rattle.spef_net.specs.Sections.{sayings_in, IsNetOf, IsFaultOf}
 
@@ -28,7 +28,7 @@ reduced_sayings text file head e = nothing_said file ∙ sym (ap (λ t. cond t [
 pub read_sayings : (text inner : List ℕ) (file : File) (head : NetHead) → head.reduced ≡ false → lines inner ≡ lines_after text head.line → sayings file (lines inner) ≡ sayings_in text file head
 read_sayings text inner file head e f = ap (sayings file) f ∙ sym (ap (λ t. cond t [] (sayings file (lines_after text head.line))) e)
 
-pub net_of : (text : List ℕ) (file : File) (head : NetHead) (reduced : Bool) (all : List Said) (r : Result ParNet NetFault) → head.reduced ≡ reduced → all ≡ sayings_in text file head
+pub net_of : (text : List ℕ) (file : File) (head : NetHead) (reduced : Bool) (all : List Said) (r : Result ParNet (LineFault NetKind)) → head.reduced ≡ reduced → all ≡ sayings_in text file head
     → IfOk r (λ net. IsFaultless head.name all) → IfOk r (IsNet head.name reduced all) → IfOk r (IsNetOf text file head)
 net_of text file head reduced all (Ok net) e f h k = record {
   faultless = subst (IsFaultless head.name) f h;
@@ -36,9 +36,9 @@ net_of text file head reduced all (Ok net) e f h k = record {
 }
 net_of text file head reduced all (Err fault) e f h k = tt
 
-pub fault_of_part : (text : List ℕ) (file : File) (head : NetHead) (all : List Said) (r : Result ParNet NetFault) → all ≡ sayings_in text file head
-    → IfErr r (λ fault. (fault.kind ≡ Memory) ⊎ IsFirstFault head.name all (head.line + 1) fault) → IfErr r (λ fault. (fault.kind ≡ Memory) ⊎ IsFaultOf text file head fault)
-fault_of_part text file head all r f h = subst (λ ss. IfErr r (λ fault. (fault.kind ≡ Memory) ⊎ IsFirstFault head.name ss (head.line + 1) fault)) f h
+pub fault_of_part : (text : List ℕ) (file : File) (head : NetHead) (all : List Said) (r : Result ParNet (LineFault NetKind)) → all ≡ sayings_in text file head
+    → IfErr r (λ fault. (fault.kind ≡ Memory) ⊎ IsFirstFaultIn head.name all (head.line + 1) fault) → IfErr r (λ fault. (fault.kind ≡ Memory) ⊎ IsFaultOf text file head fault)
+fault_of_part text file head all r f h = subst (λ ss. IfErr r (λ fault. (fault.kind ≡ Memory) ⊎ IsFirstFaultIn head.name ss (head.line + 1) fault)) f h
 
 some_is : {A : Type 0} (a b : A) → Some a ≡ Some b → a ≡ b
 some_is a b e = cc
@@ -53,13 +53,13 @@ head_is (net ∷ nets) zero head name section e f g =
 head_is (net ∷ nets) (suc at) head name section e f g = head_is nets at head name section e f g
 
 module _ (text : List ℕ) (file : File) (nets : List NetRow) (at : ℕ) (name : List ℕ) (section : Section) where
-  pub net_at_place : (r : Result ParNet NetFault)
+  pub net_at_place : (r : Result ParNet (LineFault NetKind))
       → option_map (λ (net : NetRow). net.0) (slice_get nets at) ≡ Some name → option_map (λ (net : NetRow). net.1) (slice_get nets at) ≡ Some section
       → IfOk r (IsNetOf text file (head_in (name, section))) → IfOk r (λ net. (head : NetHead) → slice_get (heads_in nets) at ≡ Some head → IsNetOf text file head net)
   net_at_place (Ok net) f g h = λ head e. subst (λ s. IsNetOf text file s net) (head_is nets at head name section e f g) h
   net_at_place (Err fault) f g h = tt
 
-  pub fault_at_place : (r : Result ParNet NetFault)
+  pub fault_at_place : (r : Result ParNet (LineFault NetKind))
       → option_map (λ (net : NetRow). net.0) (slice_get nets at) ≡ Some name → option_map (λ (net : NetRow). net.1) (slice_get nets at) ≡ Some section
       → IfErr r (λ fault. (fault.kind ≡ Memory) ⊎ IsFaultOf text file (head_in (name, section)) fault)
       → IfErr r (λ fault. (fault.kind ≡ Memory) ⊎ ((head : NetHead) → slice_get (heads_in nets) at ≡ Some head → IsFaultOf text file head fault))
@@ -68,9 +68,3 @@ module _ (text : List ℕ) (file : File) (nets : List NetRow) (at : ℕ) (name :
     | inl memory ↦ inl memory
     | inr first ↦ inr (λ head e. subst (λ s. IsFaultOf text file s fault) (head_is nets at head name section e f g) first)
   ]
-
--- what is so of each net's section is so of this one
-pub span_at : (Q : Section → Type 0) (nets : List NetRow) (at : ℕ) (section : Section) → All (λ (net : NetRow). Q net.1) nets → option_map (λ (net : NetRow). net.1) (slice_get nets at) ≡ Some section → Q section
-span_at Q [] at section h e = absurd (cc)
-span_at Q (net ∷ nets) zero section h e = subst Q (some_is net.1 section e) (All-head (λ (n : NetRow). Q n.1) net nets h)
-span_at Q (net ∷ nets) (suc at) section h e = span_at Q nets at section (All-tail (λ (n : NetRow). Q n.1) net nets h) e

@@ -9,7 +9,8 @@ use Rattle.spef_net.specs.declared.fault.NetKind.{NetKind}
 use Rattle.spef_net.specs.declared.fault.NetKind.TheVariants.{Conn, Foreign, SelfCoupled}
 use Rattle.spef_net.specs.Sayings.{Opens, Nothing, Connects, Star, Ground, Coupling, Resistor}
 use Rattle.std.specs.List.{slice_get}
-use Rattle.spef_net.specs.Names.{has_node, with_node, node_value, is_own, is_inner}
+use Rattle.vg_scan.specs.Nodes.{has_node, node_value}
+use Rattle.spef_net.specs.Names.{with_node, is_own, is_inner}
 use Rattle.spef_net.specs.Nodes.{fresh, joined, starred, note_at, is_joined, is_starred}
 use Rattle.spef_net.specs.Sayings.{Said, ground, coupling, resistor}
 use Rattle.spef_net.specs.Rows.{own_one, is_inductance, joined_of, starred_of}

@@ -8,7 +8,7 @@ use Rattle.spef_net.specs.declared.net.Direction.{Direction}
 use Rattle.spef_net.specs.declared.net.ParConn.{ParConn}
 use Rattle.spef_net.specs.Nodes.{ParNode}
 use Rattle.spef_net.specs.declared.net.ParNet.{ParNet}
-use Rattle.spef_net.specs.Names.{node_value}
+use Rattle.vg_scan.specs.Nodes.{node_value}
 use Rattle.spef_net.specs.Sayings.{Said}
 use Rattle.spef_net.specs.Rows.{joined_of, starred_of, connected_of, conns_of, caps_of, ress_of, nodes_of, is_inductive}
 

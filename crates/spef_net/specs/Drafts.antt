@@ -8,7 +8,8 @@ use Rattle.spef_net.specs.declared.net.ParConn.{ParConn}
 use Rattle.spef_net.specs.declared.net.ParNet.{ParNet}
 use Rattle.spef_net.specs.declared.fault.NetKind.{NetKind}
 use Rattle.spef_net.specs.Sayings.{Connects}
-use Rattle.spef_net.specs.Names.{has_node, with_node, is_inner, is_own, node_value}
+use Rattle.vg_scan.specs.Nodes.{has_node, node_value}
+use Rattle.spef_net.specs.Names.{with_node, is_inner, is_own}
 use Rattle.spef_net.specs.declared.part.Part.{Part}
 use Rattle.spef_net.specs.Sayings.{Said, part_after}
 use Rattle.spef_net.specs.Rows.{joined_of, starred_of, conns_of, caps_of, ress_of, nodes_of, is_inductive}

@@ -4,9 +4,11 @@ use Rattle.vg_num.specs.declared.fault.NumFault.{NumFault}
 use Rattle.vg_scan.specs.declared.name.NodeName.{NodeName}
 use Rattle.spef_net.specs.declared.fault.NetKind.{NetKind}
 use Rattle.spef_net.specs.declared.fault.NetKind.TheVariants.{Conn, Number, Foreign, SelfCoupled}
-use Rattle.spef_net.specs.declared.fault.NetFault.{NetFault}
+use Rattle.vg_scan.specs.declared.fault.LineFault.{LineFault}
+use Rattle.vg_scan.specs.Faults.{IsClear, IsFirstFault}
 use Rattle.spef_net.specs.Sayings.{Opens, Nothing, Connects, Star, Ground, Coupling, Resistor}
-use Rattle.spef_net.specs.Names.{is_own, is_inner, node_value}
+use Rattle.vg_scan.specs.Nodes.{node_value}
+use Rattle.spef_net.specs.Names.{is_own, is_inner}
 use Rattle.spef_net.specs.Sayings.{Said}
 use Rattle.spef_net.specs.Rows.{joined_of, starred_of, connected_of}
 
@@ -35,16 +37,10 @@ fault_of connected net before line = fault_after connected net (joined_of before
 abbrev pub fault_at : List ℕ → List Said → ℕ → Option NetKind
 fault_at net lines i = fault_of (connected_of lines) net (take i lines) (slice_index_or lines i (Ok Nothing))
 
--- none of the first n lines has a fault
-abbrev pub IsClear : List ℕ → List Said → ℕ → Type 0
-IsClear net lines n = (i : ℕ) → i < n → fault_at net lines i ≡ None
-
+-- no line has a fault
 abbrev pub IsFaultless : List ℕ → List Said → Type 0
-IsFaultless net lines = IsClear net lines (length lines)
+IsFaultless net lines = IsClear (fault_at net lines) (length lines)
 
 -- the first faulty line, and its fault; the first line has this number
-pub record IsFirstFault (net : List ℕ) (lines : List Said) (first : ℕ) (fault : NetFault) : Type 0 where
-  pub counted : first ≤ fault.line
-  pub within : fault.line < first + length lines
-  pub before : IsClear net lines (fault.line - first)
-  pub here : fault_at net lines (fault.line - first) ≡ Some fault.kind
+abbrev pub IsFirstFaultIn : List ℕ → List Said → ℕ → LineFault NetKind → Type 0
+IsFirstFaultIn net lines first fault = IsFirstFault (fault_at net lines) (length lines) first fault

@@ -1,9 +1,10 @@
 -- What a user knows of the answers to the lines of a net.
 use Rattle.std.specs.Prelude.{◌≡◌, ℕ, Bool, List}
 use Rattle.spef_net.specs.declared.net.ParNet.{ParNet}
-use Rattle.spef_net.specs.declared.fault.NetFault.{NetFault}
+use Rattle.vg_scan.specs.declared.fault.LineFault.{LineFault}
+use Rattle.spef_net.specs.declared.fault.NetKind.{NetKind}
 use Rattle.spef_net.specs.Sayings.{Said}
-use Rattle.spef_net.specs.Faults.{IsFaultless, IsFirstFault}
+use Rattle.spef_net.specs.Faults.{IsFaultless, IsFirstFaultIn}
 use Rattle.spef_net.specs.Denoted.{IsNet}
 
 -- lines denote at most one net
@@ -13,10 +14,10 @@ OneNet = (name : List ℕ) (reduced : Bool) (lines : List Said) (net other : Par
 
 -- they have at most one first fault
 abbrev pub OneFault : Type 0
-OneFault = (name : List ℕ) (lines : List Said) (first : ℕ) (fault other : NetFault)
-    → IsFirstFault name lines first fault → IsFirstFault name lines first other → fault ≡ other
+OneFault = (name : List ℕ) (lines : List Said) (first : ℕ) (fault other : LineFault NetKind)
+    → IsFirstFaultIn name lines first fault → IsFirstFaultIn name lines first other → fault ≡ other
 
 -- and none where they are faultless
 abbrev pub FaultOrNone : Type 0
-FaultOrNone = (name : List ℕ) (lines : List Said) (first : ℕ) (fault : NetFault)
-    → IsFaultless name lines → IsFirstFault name lines first fault → ⊥
+FaultOrNone = (name : List ℕ) (lines : List Said) (first : ℕ) (fault : LineFault NetKind)
+    → IsFaultless name lines → IsFirstFaultIn name lines first fault → ⊥

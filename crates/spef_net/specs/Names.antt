@@ -5,17 +5,10 @@ use Rattle.std.specs.Map.{lookup}
 use Rattle.std.specs.Str.{bytes_eq}
 use Rattle.vg_num.specs.Number.{are_digits}
 use Rattle.vg_scan.specs.Names.{canonical}
-use Rattle.vg_scan.specs.Nodes.{leaf_at}
+use Rattle.vg_scan.specs.Nodes.{has_node, node_of_parts, leaf_at}
 use Rattle.vg_scan.specs.References.{is_reference, index_of}
 use Rattle.vg_scan.specs.declared.name.NodeName.{NodeName}
 use Rattle.spef_file.specs.Files.{File}
-
--- the same owner, and the same leaf
-abbrev pub same_node : NodeName → NodeName → Bool
-same_node a b = bytes_eq a.owner b.owner && bytes_eq a.leaf b.leaf
-
-abbrev pub has_node : List NodeName → NodeName → Bool
-has_node nodes node = list_any (same_node node) nodes
 
 -- the nodes, with this one last where it is new
 abbrev pub with_node : List NodeName → NodeName → List NodeName
@@ -24,9 +17,6 @@ with_node nodes node = if has_node nodes node then nodes else nodes ++ node ∷ 
 -- each node once, where it comes first
 abbrev pub distinct : List NodeName → List NodeName
 distinct nodes = fold with_node [] nodes
-
-abbrev pub node_value : {V : Type 0} → List (NodeName × V) → NodeName → Option V
-node_value rows node = lookup (same_node node) rows
 
 -- a node inside the net of this name: the net owns it, and its leaf is a number
 abbrev pub is_inner : List ℕ → NodeName → Bool
@@ -44,11 +34,6 @@ indexed names (Some digits) = lookup (bytes_eq digits) names
 -- the name that a text or an index stands for
 unfoldable pub owner_in : File → List ℕ → Option (List ℕ)
 owner_in file text = if is_reference text then indexed file.names (index_of text) else canonical file.chars text
-
-abbrev pub node_of_parts : Option (List ℕ) → Option (List ℕ) → Option NodeName
-node_of_parts (Some owner) (Some leaf) = Some (record { owner = owner; leaf = leaf })
-node_of_parts (Some _) None = None
-node_of_parts None _ = None
 
 abbrev pub node_split : File → List ℕ → Option ℕ → Option NodeName
 node_split file text None = node_of_parts (owner_in file text) (Some [])

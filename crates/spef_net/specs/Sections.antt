@@ -4,10 +4,11 @@ use Rattle.std.specs.List.{All}
 use Rattle.spef_file.specs.Nets.{NetHead}
 use Rattle.spef_file.specs.Files.{File}
 use Rattle.spef_file.specs.Indexes.{lines_after}
-use Rattle.spef_net.specs.declared.fault.NetFault.{NetFault}
+use Rattle.vg_scan.specs.declared.fault.LineFault.{LineFault}
+use Rattle.spef_net.specs.declared.fault.NetKind.{NetKind}
 use Rattle.spef_net.specs.declared.net.ParNet.{ParNet}
 use Rattle.spef_net.specs.Sayings.{Said, sayings}
-use Rattle.spef_net.specs.Faults.{IsFaultless, IsFirstFault}
+use Rattle.spef_net.specs.Faults.{IsFaultless, IsFirstFaultIn}
 use Rattle.spef_net.specs.Denoted.{IsNet}
 
 -- what the lines of a net say whose head is this; those of a reduced net are not read
@@ -20,8 +21,8 @@ pub record IsNetOf (text : List ℕ) (file : File) (head : NetHead) (net : ParNe
   pub denoted : IsNet head.name head.reduced (sayings_in text file head) net
 
 -- or its first fault, with the number of its line in the file
-abbrev pub IsFaultOf : List ℕ → File → NetHead → NetFault → Type 0
-IsFaultOf text file head fault = IsFirstFault head.name (sayings_in text file head) (head.line + 1) fault
+abbrev pub IsFaultOf : List ℕ → File → NetHead → LineFault NetKind → Type 0
+IsFaultOf text file head fault = IsFirstFaultIn head.name (sayings_in text file head) (head.line + 1) fault
 
 -- what a text of at most 2^28 bytes may have: each number is that of a node, and each value is at most 10^15
 pub record IsSized (net : ParNet) : Type 0 where

@@ -1,5 +1,6 @@
 use thiserror::Error;
 use vg_num::NumFault;
+use vg_scan::LineFault;
 
 /// What is wrong with a line of a section.
 #[derive(Clone, Copy, Debug, PartialEq, Eq, Error)]
@@ -29,9 +30,4 @@ pub enum NetKind {
 }
 
 /// A fault of a section, and the number of its line in the file.
-#[derive(Clone, Copy, Debug, PartialEq, Eq, Error)]
-#[error("line {line}: {kind}")]
-pub struct NetFault {
-    pub kind: NetKind,
-    pub line: usize,
-}
+pub type NetFault = LineFault<NetKind>;

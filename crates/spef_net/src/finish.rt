@@ -4,7 +4,7 @@ ghost use Rattle.std.specs.Prelude.{◌≡◌, ◌^◌, ◌≤◌, length, IfOk,
 ghost use Rattle.std.specs.Str.Lines.{lines};
 ghost use Rattle.spef_file.specs.Shown.{shown};
 ghost use Rattle.spef_net.specs.Sayings.{sayings};
-ghost use Rattle.spef_net.specs.Faults.{IsFaultless, IsFirstFault};
+ghost use Rattle.spef_net.specs.Faults.{IsFaultless, IsFirstFaultIn};
 ghost use Rattle.spef_net.specs.Denoted.{IsNet};
 ghost use Rattle.spef_net.specs.Sections.{IsSized};
 ghost use Rattle.spef_net.specs.Drafts.{IsMade};
@@ -58,7 +58,7 @@ pub(crate) fn read_section(
     ensures faultless { IfOk result (λ _. IsFaultless net.now (sayings (shown index.now) (lines bytes.now))) }
     ensures net { IfOk result (λ par. IsNet net.now reduced (sayings (shown index.now) (lines bytes.now)) par) }
     ensures sized { IfOk result IsSized }
-    ensures fault { IfErr result (λ fault. (fault.kind ≡ Memory) ⊎ IsFirstFault net.now (sayings (shown index.now) (lines bytes.now)) first fault) }
+    ensures fault { IfErr result (λ fault. (fault.kind ≡ Memory) ⊎ IsFirstFaultIn net.now (sayings (shown index.now) (lines bytes.now)) first fault) }
 {
     match find_connections(alloc, index, bytes) {
         Err(_) => Err(NetFault {

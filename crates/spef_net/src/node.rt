@@ -4,7 +4,8 @@ ghost use Rattle.std.specs.Prelude.{◌≡◌, ◌==◌, ◌<◌, true, [], leng
 ghost use Rattle.std.specs.List.{list_all};
 ghost use Rattle.vg_scan.specs.Names.{canonical, last_bare};
 ghost use Rattle.spef_file.specs.Shown.{shown};
-ghost use Rattle.spef_net.specs.Names.{owner_in, node_in, node_of_parts, is_inner};
+ghost use Rattle.vg_scan.specs.Nodes.{node_of_parts};
+ghost use Rattle.spef_net.specs.Names.{owner_in, node_in, is_inner};
 ghost use Rattle.spef_net.specs.Spellings.{is_itself, IsUnescaped, bytes_of, named_by, Spells, SpellsNode};
 
 use crate::line::text_from;

@@ -4,7 +4,8 @@ ghost use Rattle.std.specs.Prelude.{◌≡◌, ℕ, ◌+◌, ◌*◌, ◌%◌, �
 ghost use Rattle.std.specs.List.{slice_get, fold};
 ghost use Rattle.vg_scan.specs.declared.name.NodeName.{NodeName};
 ghost use Rattle.vg_scan.specs.Chains.{AreChains};
-ghost use Rattle.spef_net.specs.Names.{has_node, with_node, same_node};
+ghost use Rattle.vg_scan.specs.Nodes.{has_node, same_node};
+ghost use Rattle.spef_net.specs.Names.{with_node};
 ghost use Rattle.spef_net.specs.NodeTables.{hash_with, bucket_of, nodes_in, IsTable};
 
 use std::alloc::Global;

@@ -6,7 +6,7 @@ ghost use Rattle.spef_file.specs.Shown.{shown};
 ghost use Rattle.spef_net.specs.Names.{distinct};
 ghost use Rattle.spef_net.specs.Sayings.{said, said_words, sayings};
 ghost use Rattle.spef_net.specs.Rows.{connected_of};
-ghost use Rattle.spef_net.specs.Faults.{IsFaultless, IsFirstFault};
+ghost use Rattle.spef_net.specs.Faults.{IsFaultless, IsFirstFaultIn};
 ghost use Rattle.spef_net.specs.Drafts.{IsSketch, Follows};
 ghost use Rattle.vg_scan.specs.Spans.{words_at};
 ghost use Rattle.spef_net.specs.declared.fault.NetKind.TheVariants.{Memory};
@@ -80,7 +80,7 @@ pub(crate) fn read_lines(
     requires nodes { nodes ≡ distinct (connected_of (sayings (shown index.now) (lines bytes.now))) }
     ensures faultless { IfOk result (λ _. IsFaultless net.now (sayings (shown index.now) (lines bytes.now))) }
     ensures draft { IfOk result (λ draft. IsSketch (connected_of (sayings (shown index.now) (lines bytes.now))) net.now (sayings (shown index.now) (lines bytes.now)) draft) }
-    ensures fault { IfErr result (λ fault. (fault.kind ≡ Memory) ⊎ IsFirstFault net.now (sayings (shown index.now) (lines bytes.now)) first fault) }
+    ensures fault { IfErr result (λ fault. (fault.kind ≡ Memory) ⊎ IsFirstFaultIn net.now (sayings (shown index.now) (lines bytes.now)) first fault) }
 {
     let mut draft = Draft::new(alloc, nodes);
     let mut found = Vec::new(alloc);

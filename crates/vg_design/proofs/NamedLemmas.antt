@@ -11,7 +11,8 @@ use Rattle.spef_file.specs.Tables.{NetRow, names_of}
 use Rattle.spef_file.specs.Views.{head_in, heads_in}
 use Rattle.spef_file.specs.declared.spef_index.SpefIndex.{SpefIndex}
 use Rattle.spef_net.specs.Sections.{IsNetOf, IsFaultOf}
-use Rattle.spef_net.specs.declared.fault.NetFault.{NetFault}
+use Rattle.vg_scan.specs.declared.fault.LineFault.{LineFault}
+use Rattle.spef_net.specs.declared.fault.NetKind.{NetKind}
 use Rattle.spef_net.specs.declared.fault.NetKind.TheVariants.{Memory}
 use Rattle.spef_net.specs.declared.net.ParNet.{ParNet}
 use Rattle.vg_design.specs.Nets.{IsMissing, IsNetNamed, IsFaultNamed}
@@ -85,7 +86,7 @@ module _ (text : List ℕ) (index : SpefIndex) (name : List ℕ) (of : IsIndexOf
       let f = found at e in
       record { file = shown index; head = f.head; head_of = record { said = of.said; named = f.first }; read = reads f.head f.is }
 
-  pub fault_named : (at : ℕ) (fault : NetFault) → Some at ≡ position (bytes_eq name) (names_of index.sections)
+  pub fault_named : (at : ℕ) (fault : LineFault NetKind) → Some at ≡ position (bytes_eq name) (names_of index.sections)
       → (fault.kind ≡ Memory → ⊥)
       → (fault.kind ≡ Memory) ⊎ ((head : NetHead) → slice_get (shown index).nets at ≡ Some head → IsFaultOf text (shown index) head fault)
       → IsFaultNamed text name fault

@@ -5,7 +5,8 @@ use Rattle.std.specs.Str.{bytes_eq}
 use Rattle.spef_file.specs.Files.{File, IsFileOf}
 use Rattle.spef_file.specs.Nets.{NetHead}
 use Rattle.spef_net.specs.Sections.{IsNetOf, IsFaultOf}
-use Rattle.spef_net.specs.declared.fault.NetFault.{NetFault}
+use Rattle.vg_scan.specs.declared.fault.LineFault.{LineFault}
+use Rattle.spef_net.specs.declared.fault.NetKind.{NetKind}
 use Rattle.spef_net.specs.declared.net.ParNet.{ParNet}
 use Rattle.vg_design.specs.Refusals.{number_of, IsFirstRefusal}
 use Rattle.vg_design.specs.declared.refusal.Refused.{Refused}
@@ -36,7 +37,7 @@ pub record IsNetNamed (text name : List ℕ) (net : ParNet) : Type 0 where
   pub read : IsNetOf text file head net
 
 -- its lines have this first fault
-pub record IsFaultNamed (text name : List ℕ) (fault : NetFault) : Type 0 where
+pub record IsFaultNamed (text name : List ℕ) (fault : LineFault NetKind) : Type 0 where
   pub file : File
   pub head : NetHead
   pub head_of : IsHeadOf text name file head

@@ -5,6 +5,7 @@ use Rattle.vg_scan.specs.Lines.{lines_of}
 use Rattle.vg_scan.specs.Comments.{without_comments}
 use Rattle.vg_scan.specs.declared.comments.Comments.TheVariants.{Spef}
 use Rattle.vg_scan.specs.declared.fault.LineFault.{LineFault}
+use Rattle.spef_net.specs.declared.fault.NetKind.{NetKind}
 use Rattle.spef_file.specs.declared.fault.SpefKind.{SpefKind}
 use Rattle.spef_file.specs.Nets.{NetHead}
 use Rattle.spef_file.specs.Files.{File, IsFileOf, IsFileFault}
@@ -12,10 +13,9 @@ use Rattle.spef_file.proofs.LawLemmas.{file_along, fault_along, lines_along}
 use Rattle.spef_file.specs.Indexes.{lines_after}
 use Rattle.spef_net.specs.Sections.{sayings_in, IsNetOf, IsFaultOf}
 use Rattle.spef_net.specs.Sayings.{sayings}
-use Rattle.spef_net.specs.Faults.{IsFaultless, IsFirstFault}
+use Rattle.spef_net.specs.Faults.{IsFaultless, IsFirstFaultIn}
 use Rattle.spef_net.specs.Denoted.{IsNet}
 use Rattle.spef_net.specs.declared.net.ParNet.{ParNet}
-use Rattle.spef_net.specs.declared.fault.NetFault.{NetFault}
 use Rattle.vg_design.specs.Nets.{IsHeadOf, IsNetNamed, IsNetRefused, IsRefusalOf}
 use Rattle.vg_design.specs.Wires.{IsWireOf}
 use Rattle.vg_design.specs.declared.refusal.Refusal.{Refusal}
@@ -50,8 +50,8 @@ module _ (raw clear : List ℕ) (same : without_comments Spef clear ≡ without_
     denoted = subst (λ said. IsNet head.name head.reduced said net) (says_same file head) h.denoted;
   }
 
-  fault_same : (file : File) (head : NetHead) (fault : NetFault) → IsFaultOf clear file head fault → IsFaultOf raw file head fault
-  fault_same file head fault h = subst (λ said. IsFirstFault head.name said (head.line + 1) fault) (says_same file head) h
+  fault_same : (file : File) (head : NetHead) (fault : LineFault NetKind) → IsFaultOf clear file head fault → IsFaultOf raw file head fault
+  fault_same file head fault h = subst (λ said. IsFirstFaultIn head.name said (head.line + 1) fault) (says_same file head) h
 
   head_same : (name : List ℕ) (file : File) (head : NetHead) → IsHeadOf clear name file head → IsHeadOf raw name file head
   head_same name file head h = record { said = file_same file h.said; named = h.named }

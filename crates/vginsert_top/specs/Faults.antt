@@ -4,10 +4,9 @@ use Rattle.vg_num.specs.declared.fault.NumFault.{NumFault}
 use Rattle.vg_num.specs.declared.fault.NumFault.TheVariants.{Form, Negative, TooLarge}
 use Rattle.spef_file.specs.declared.fault.SpefKind.{SpefKind}
 use Rattle.spef_file.specs.declared.fault.SpefKind.TheVariants.{Header, Unit as UnitKind, MapTwice, MapUnknown, NoEnd, Stray, NetTwice, Unsupported, Memory as SpefMemory}
-use Rattle.spef_net.specs.declared.fault.NetFault.{NetFault}
+use Rattle.vg_scan.specs.declared.fault.LineFault.{LineFault}
 use Rattle.spef_net.specs.declared.fault.NetKind.{NetKind}
 use Rattle.spef_net.specs.declared.fault.NetKind.TheVariants.{Conn, Cap, Res, Number as NetNumber, Foreign, SelfCoupled, Memory as NetMemory}
-use Rattle.vg_scan.specs.declared.fault.LineFault.{LineFault}
 use Rattle.vg_cons.specs.declared.fault.ConsKind.{ConsKind}
 use Rattle.vg_cons.specs.declared.fault.ConsKind.TheVariants.{Version, Word, Number, Twice, Memory}
 
@@ -51,5 +50,5 @@ net_kind Foreign = codes "Foreign"
 net_kind SelfCoupled = codes "SelfCoupled"
 net_kind NetMemory = codes "Memory"
 
-abbrev pub net_fault : NetFault → List ℕ
+abbrev pub net_fault : LineFault NetKind → List ℕ
 net_fault fault = net_kind fault.kind ++ (codes " line " ++ decimal fault.line)

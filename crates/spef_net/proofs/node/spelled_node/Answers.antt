@@ -3,7 +3,8 @@ use Rattle.vg_scan.specs.Names.{canonical}
 use Rattle.vg_scan.specs.declared.name.NodeName.{NodeName}
 use Rattle.vg_scan.proofs.NodeLemmas.{part-owner, part-leaf}
 use Rattle.spef_file.specs.Shown.{shown}
-use Rattle.spef_net.specs.Names.{owner_in, node_in, node_of_parts}
+use Rattle.vg_scan.specs.Nodes.{node_of_parts}
+use Rattle.spef_net.specs.Names.{owner_in, node_in}
 use Rattle.spef_net.specs.Spellings.{SpellsNode}
 use Rattle.spef_net.proofs.NodeLemmas.{node_in-None, node_in-parts}
 use Rattle.spef_net.proofs.node.spelled_node.Goals as goal

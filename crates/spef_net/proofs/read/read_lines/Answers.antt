@@ -5,7 +5,10 @@ use Rattle.spef_net.specs.Sayings.{Nothing}
 use Rattle.spef_net.specs.Sayings.{Said, said, part_after, sayings, sayings_from}
 use Rattle.spef_net.specs.Rows.{connected_of}
 use Rattle.spef_net.specs.Drafts.{Sketch, IsSketch}
-use Rattle.spef_net.proofs.LineLemmas.{left, none_left, next_is, is_counted, no_lines, first_fault, clear_more, all_read, take_whole}
+use Rattle.vg_scan.proofs.FaultLemmas.{clear_more}
+use Rattle.vg_scan.proofs.ItemLemmas.{next_is, all_read, take_whole}
+use Rattle.spef_net.specs.Faults.{fault_of, fault_at}
+use Rattle.spef_net.proofs.LineLemmas.{left, none_left, is_counted, no_lines, first_fault}
 use Rattle.spef_net.proofs.read.read_lines.Goals as goal
 
 pub line-init : goal.line-init
@@ -48,7 +51,7 @@ line-preserved c =
       within = omega (arith, c.in-Some.ensures.place);
       counted = omega (arith, c.in-Some.ensures.place);
       rest = ap (λ p. sayings_from index p (lines (drop c.in-Some.next c.args.bytes.now))) c.in-Ok.ensures.0 ∙ sym x.rest;
-      clear = clear_more c.args.net.now all n line x.here c.line.invariant.clear t.0;
+      clear = clear_more (fault_at c.args.net.now all) n c.line.invariant.clear (ap (fault_of (connected_of all) c.args.net.now (take n all)) x.here ∙ t.0);
       sketch = subst (λ (ls : List Said). IsSketch (connected_of all) c.args.net.now ls c.take_line.new.draft) (sym x.front) t.1;
     }
 

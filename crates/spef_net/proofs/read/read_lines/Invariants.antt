@@ -3,7 +3,8 @@ use Rattle.std.specs.Str.Lines.{lines}
 use Rattle.spef_file.specs.Shown.{shown}
 use Rattle.spef_net.specs.Sayings.{sayings, sayings_from}
 use Rattle.spef_net.specs.Rows.{connected_of}
-use Rattle.spef_net.specs.Faults.{IsClear}
+use Rattle.vg_scan.specs.Faults.{IsClear}
+use Rattle.spef_net.specs.Faults.{fault_at}
 use Rattle.spef_net.specs.Drafts.{IsSketch}
 use Rattle.spef_net.proofs.read.read_lines.Given as goal
 
@@ -12,7 +13,7 @@ invariant-line l = record {
   within : l.at ≤ length l.bytes;
   counted : l.count ≤ l.at;
   rest : sayings_from (shown l.index) l.part (lines (drop l.at l.bytes)) ≡ drop l.count (sayings (shown l.index) (lines l.bytes));
-  clear : IsClear l.net (sayings (shown l.index) (lines l.bytes)) l.count;
+  clear : IsClear (fault_at l.net (sayings (shown l.index) (lines l.bytes))) l.count;
   sketch : IsSketch (connected_of (sayings (shown l.index) (lines l.bytes))) l.net (take l.count (sayings (shown l.index) (lines l.bytes))) l.draft;
 }
 

@@ -1,7 +1,8 @@
 use Rattle.std.proofs.Common.{◌≡◌, ℕ, ◌||◌, true, List, sym, ap, ◌∙◌, Some}
 use Rattle.std.specs.List.{slice_get}
 use Rattle.vg_scan.specs.declared.name.NodeName.{NodeName}
-use Rattle.spef_net.specs.Names.{has_node, is_inner}
+use Rattle.vg_scan.specs.Nodes.{has_node}
+use Rattle.spef_net.specs.Names.{is_inner}
 use Rattle.spef_net.specs.Drafts.{Sketch}
 use Rattle.spef_net.specs.Spellings.{named_by}
 use Rattle.spef_net.proofs.NodeTableLemmas.{with_there, same_refl}

@@ -1,7 +1,7 @@
 use Rattle.std.proofs.Common.{◌≡◌, ℕ, suc, ◌≤◌, false, length, get_or, Some}
 use Rattle.std.specs.List.{slice_get}
 use Rattle.vg_scan.specs.declared.name.NodeName.{NodeName}
-use Rattle.spef_net.specs.Names.{same_node}
+use Rattle.vg_scan.specs.Nodes.{same_node}
 use Rattle.spef_net.specs.NodeTables.{nodes_in}
 use Rattle.spef_net.proofs.node_table.Table.find_in.Given as goal
 

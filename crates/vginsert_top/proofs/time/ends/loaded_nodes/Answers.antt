@@ -11,5 +11,5 @@ loaded-requires-clause-small c =
 pub node-preserved : goal.node-preserved
 node-preserved c =
     let within : c.node.i < length c.args.tree.now = omega (arith, c.node-test.true) in
-    loaded_more c.args.cons.now c.args.net.now c.args.tree.now c.args.order.now c.node.i (record { parent = 0; r = 0; c = 0 }) c.in_ok-loaded.node c.node.nodes.items c.push.new.self.items within
+    loaded_more c.args.cons.now c.args.net.now c.args.tree.now c.args.order.now c.node.i (record { parent = 0; r = 0; c = 0 }) c.in_ok-loaded.field-0 c.node.nodes.items c.push.new.self.items within
     c.node.invariant c.in_ok-loaded.ensures c.in_ok-push.ensures.items
