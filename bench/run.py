@@ -3,9 +3,11 @@
 
 MODE is `wire` (nets of 65,536 nodes, each alone in its file), `time` (the same nets between ports, with 131,072 and with
 1,000,000 rows of constraints) or `design` (mode `wire` on a small and the large net of extracted designs of 1, 16, 64
-and 256 MB, or of the sizes given). Seconds are those of the whole process, peak memory is what GNU time tells, 1 MB is
-2^20 bytes.
+and 256 MB, or of the sizes given, each with its comments and without them). With `--beside OTHER` each row of `wire` and
+`design` also tells the seconds and the memory of another program with the same arguments, run right after. Seconds are
+the least of three runs of the whole process, peak memory is what GNU time tells, 1 MB is 2^20 bytes.
 """
+import argparse
 import os
 import subprocess
 import sys
@@ -38,11 +40,11 @@ def measure(words):
 
 
 def measure_good(words):
-    """The same of a run that ends with status 0."""
-    status, printed, seconds, peak = measure(words)
-    if status != 0:
-        sys.exit(f"run.py: status {status}: {' '.join(words)}")
-    return printed, seconds, peak
+    """What a run printed, and the least seconds and memory of three runs; all end with status 0."""
+    runs = [measure(words) for _ in range(3)]
+    if any(status != 0 for status, _, _, _ in runs):
+        sys.exit(f"run.py: a status that is not 0: {' '.join(words)}")
+    return runs[0][1], min(run[2] for run in runs), min(run[3] for run in runs)
 
 
 def head(*titles):
@@ -58,44 +60,72 @@ def mb(count):
     return f"{count / 2**20:.1f} MB"
 
 
-def run_wire(program):
-    head("net", "file", "sinks", "seconds", "peak memory")
+def measure_each(programs, words):
+    """What the first program printed, and the cells of seconds and memory of each."""
+    runs = [measure_good([program, *words]) for program in programs]
+    return runs[0][0], [cell for _, seconds, peak in runs for cell in (f"{seconds:.3f}", mb(peak))]
+
+
+def titles(programs):
+    """The titles of those cells."""
+    return [name + of for of in ["", " of the other"][: len(programs)] for name in ["seconds", "peak memory"]]
+
+
+def run_wire(programs):
+    head("net", "file", "sinks", *titles(programs))
     for shape, name in SHAPES.items():
         make("one_net.py", ["65536", shape], "net.spef")
-        printed, seconds, peak = measure_good([program, "--mode", "wire", "--spef", "net.spef", "--net", "n"])
-        row(name, mb(os.path.getsize("net.spef")), f"{printed.count(b'sink '):,}", f"{seconds:.2f}", mb(peak))
+        printed, cells = measure_each(programs, ["--mode", "wire", "--spef", "net.spef", "--net", "n"])
+        row(name, mb(os.path.getsize("net.spef")), f"{printed.count(b'sink '):,}", *cells)
 
 
-def run_time(program):
+def run_time(programs):
     head("net", "rows of constraints", "constraints", "seconds", "peak memory")
     for rows in [131072, 1000000]:
         make("constraints.py", [str(rows)], "net.cons")
         for shape, name in SHAPES.items():
             make("one_net.py", ["65536", shape, "ports"], "net.spef")
-            words = [program, "--mode", "time", "--spef", "net.spef", "--cons", "net.cons", "--net", "n"]
+            words = [programs[0], "--mode", "time", "--spef", "net.spef", "--cons", "net.cons", "--net", "n"]
             _, seconds, peak = measure_good(words)
             row(name, f"{rows:,}", mb(os.path.getsize("net.cons")), f"{seconds:.2f}", mb(peak))
 
 
-def run_design(program, *sizes):
-    head("file", "net", "status", "seconds", "peak memory")
+def drop_comments(path, out):
+    """Copies a design without its comments and without lines of blanks alone."""
+    with open(path, "rb") as design, open(out, "wb") as plain:
+        for line in design:
+            kept = line.split(b"//")[0].rstrip()
+            if kept:
+                plain.write(kept + b"\n")
+
+
+def run_design(programs, *sizes):
+    head("file", "comments", "net", *titles(programs))
     for size in sizes or ["1", "16", "64", "256"]:
-        for line in run_script("design.py", [size, "net.spef"], subprocess.PIPE).decode().splitlines():
-            net, name = line.split(" ")
-            status, _, seconds, peak = measure([program, "--mode", "wire", "--spef", "net.spef", "--net", name])
-            row(mb(os.path.getsize("net.spef")), net, str(status), f"{seconds:.2f}", mb(peak))
+        nets = run_script("design.py", [size, "net.spef"], subprocess.PIPE).decode().splitlines()
+        drop_comments("net.spef", "plain.spef")
+        for path, comments in [("net.spef", "yes"), ("plain.spef", "no")]:
+            for net, name in [line.split(" ") for line in nets]:
+                _, cells = measure_each(programs, ["--mode", "wire", "--spef", path, "--net", name])
+                row(mb(os.path.getsize(path)), comments, net, *cells)
 
 
 MODES = {"wire": run_wire, "time": run_time, "design": run_design}
 
 
 def main():
-    if len(sys.argv) < 3 or sys.argv[2] not in MODES or (len(sys.argv) > 3 and sys.argv[2] != "design"):
-        sys.exit("run.py PROGRAM wire|time|design [MB...]")
-    program, mode, sizes = os.path.abspath(sys.argv[1]), sys.argv[2], sys.argv[3:]
+    words = argparse.ArgumentParser(usage="run.py PROGRAM wire|time|design [MB...] [--beside OTHER]")
+    words.add_argument("program")
+    words.add_argument("mode", choices=MODES)
+    words.add_argument("sizes", nargs="*")
+    words.add_argument("--beside")
+    given = words.parse_intermixed_args()
+    if given.sizes and given.mode != "design":
+        words.error("only the mode design has sizes")
+    programs = [os.path.abspath(path) for path in [given.program, given.beside] if path]
     with tempfile.TemporaryDirectory() as work:
         os.chdir(work)
-        MODES[mode](program, *sizes)
+        MODES[given.mode](programs, *given.sizes)
 
 
 main()

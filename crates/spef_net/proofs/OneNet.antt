@@ -1,6 +1,5 @@
 -- Lines have one answer: distinct nodes have one number each, so that numbered rows are determined.
-use Rattle.std.proofs.Common.{length, ◌≡◌, ℕ, zero, suc, ◌-◌, inl, inr, Bool, true, false, ◌||◌, cond, List, [], ◌∷◌, ◌++◌, map, refl, sym, ap, ◌∙◌, arith, Option, Some, None}
-use Rattle.std.proofs.lemmas.Bool.{cases_eq, cases_lt}
+use Rattle.std.proofs.Common.{length, ◌≡◌, ℕ, zero, suc, Bool, true, false, ◌||◌, cond, List, [], ◌∷◌, ◌++◌, map, refl, sym, ap, ◌∙◌, Some}
 use Rattle.std.proofs.lemmas.Slice.Eq.{bytes_eq-Decides}
 use Rattle.std.specs.List.{slice_get, fold, flat_map}
 use Rattle.std.specs.Str.{bytes_eq}
@@ -8,7 +7,6 @@ use Rattle.vg_scan.specs.declared.name.NodeName.{NodeName}
 use Rattle.spef_net.specs.declared.net.ConnKind.{ConnKind}
 use Rattle.spef_net.specs.declared.net.Direction.{Direction}
 use Rattle.spef_net.specs.declared.net.ParConn.{ParConn}
-use Rattle.spef_net.specs.declared.fault.NetKind.{NetKind}
 use Rattle.vg_scan.specs.Nodes.{same_node, has_node}
 use Rattle.spef_net.specs.Names.{with_node}
 use Rattle.spef_net.specs.Rows.{connected_of, named_in}

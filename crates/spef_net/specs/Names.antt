@@ -1,6 +1,6 @@
 -- The names of nodes, and lists of them.
 use Rattle.std.specs.Prelude.{ℕ, ◌+◌, ◌&&◌, ◌||◌, ◌++◌, Bool, List, [], ◌∷◌, take, drop, Option, Some, None, if◌then◌else◌}
-use Rattle.std.specs.List.{list_any, fold}
+use Rattle.std.specs.List.{fold}
 use Rattle.std.specs.Map.{lookup}
 use Rattle.std.specs.Str.{bytes_eq}
 use Rattle.vg_num.specs.Number.{are_digits}

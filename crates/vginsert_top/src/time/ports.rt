@@ -38,12 +38,7 @@ pub fn name_of(alloc: Global, net: &ParNet, v: u32) -> Result<NodeName, Memory>
 }
 
 /// Whether a connection is a sink without a required time.
-fn is_free(
-    alloc: Global,
-    cons: &Constraints,
-    net: &ParNet,
-    conn: ParConn,
-) -> Result<bool, Memory>
+fn is_free(alloc: Global, cons: &Constraints, net: &ParNet, conn: ParConn) -> Result<bool, Memory>
     requires { conn.node < length net.now.nodes }
     ensures { IfOk result (λ free. free ≡ is_free_in cons.now net.now conn) }
 {

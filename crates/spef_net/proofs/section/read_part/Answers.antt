@@ -1,4 +1,4 @@
-use Rattle.std.proofs.Common.{arith, length, [], true, false}
+use Rattle.std.proofs.Common.{arith, [], true, false}
 use Rattle.std.specs.Str.Lines.{lines}
 use Rattle.spef_file.specs.Shown.{shown}
 use Rattle.spef_file.specs.Views.{head_in}

@@ -13,8 +13,7 @@ pub returns-in-Ok : goal.returns-in-Ok
 returns-in-Ok c =
     let net = c.args.net.now in
     let root = c.requires.fault.root in
-    let floating = rw c.in-Floating.is at c.requires.fault.fault_is in
-    (
+    let floating = rw c.in-Floating.is at c.requires.fault.fault_is in (
       record {
         holds = record {
           root = root;
