@@ -3,3 +3,4 @@ pub mod EndLemmas
 pub mod NamedLemmas
 pub mod WireLemmas
 pub mod AnswerLemmas
+pub mod SinkLemmas

@@ -3,3 +3,4 @@ pub mod Nets
 pub mod Wires
 pub mod Steps
 pub mod Laws
+pub mod SinkRows

@@ -7,6 +7,7 @@ mod ends;
 mod laws;
 mod marks;
 mod refusal;
+mod sink_delays;
 mod tree;
 mod wire;
 
@@ -14,6 +15,7 @@ pub use ends::is_sink;
 pub use laws::one_answer;
 pub use marks::sink_marks;
 pub use refusal::{Refusal, Refused};
+pub use sink_delays::SinkDelays;
 pub use tree::{NetTree, net_tree};
 pub use wire::{WireNet, wire_net};
 

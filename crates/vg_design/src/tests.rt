@@ -67,10 +67,11 @@ fn delays_of_sinks(rt: HostRuntime) -> Result<(), Fail> {
     assert_eq!(rt; wire.total, 10_000);
     let sinks: [(&[u8], &[u8], i128); 2] = [(b"u2", b"a", 66_000_000), (b"p", b"", 89_000_000)];
     assert_eq!(rt; wire.sinks.len(), sinks.len());
-    for (row, (owner, leaf, delay)) in wire.sinks.as_slice().iter().zip(sinks.iter()) {
-        assert_eq!(rt; row.0.owner.as_bytes(), *owner);
-        assert_eq!(rt; row.0.leaf.as_bytes(), *leaf);
-        assert_eq!(rt; row.1, *delay);
+    for at in 0..wire.sinks.len() {
+        let (owner, leaf, delay) = sinks.get(at).ok_or("too many sinks")?;
+        assert_eq!(rt; wire.sinks.owner(at), *owner);
+        assert_eq!(rt; wire.sinks.leaf(at), *leaf);
+        assert_eq!(rt; wire.sinks.delay(at), *delay);
     }
     Ok(())
 }

@@ -12,13 +12,14 @@ ghost use Rattle.vg_design.specs.Wires.{AreMarks, sinks_in, IsDelay, IsWire, IsW
 
 use crate::marks::sink_marks;
 use crate::refusal::{Refusal, Refused};
+use crate::sink_delays::SinkDelays;
 use crate::tree::{NetTree, net_tree};
 use elmore::{Scratch, wire_delays};
 use spef_file::{SpefIndex, SpefText};
 use spef_net::ParNet;
 use std::alloc::Global;
-use vg_num::{Memory, Row};
-use vg_scan::{Name, NodeName};
+use vg_num::Memory;
+use vg_scan::Name;
 
 /// The wire delays of a net.
 #[derive(Drop)]
@@ -26,7 +27,7 @@ pub struct WireNet {
     /// All capacitors together (aF).
     pub total: u128,
     /// Each sink and the wire delay to it (zs), in tree order.
-    pub sinks: Row<(NodeName, i128)>,
+    pub sinks: SinkDelays,
 }
 
 const MOST_NODES: usize = 65_536;
@@ -57,19 +58,18 @@ fn total_capacitance(caps: &[(u32, u64)]) -> u128
 
 /// Appends the name of a node and its delay, where it is a sink's.
 fn push_sink(
-    alloc: Global,
     net: &ParNet,
     node: u32,
     is_sink: bool,
     delay: i128,
-    rows: &mut Vec<(NodeName, i128)>,
+    rows: &mut SinkDelays,
 ) -> Result<(), Memory>
     requires { node < length net.now.nodes }
-    ensures { OnOk result (IsSinkPushed net.now node delay is_sink rows.old.items rows.new.items) }
+    ensures { OnOk result (IsSinkPushed net.now node delay is_sink rows.old rows.new) }
 {
     if is_sink {
-        let name = net.nodes.name(alloc, node as usize)?;
-        rows.push((name, delay))?;
+        let at = node as usize;
+        rows.push(net.nodes.owner(at), net.nodes.leaf(at), delay)?;
     }
     Ok(())
 }
@@ -80,19 +80,19 @@ fn sink_delays(
     found: &NetTree,
     marks: &[bool],
     delays: &[i128],
-) -> Result<Vec<(NodeName, i128)>, Memory>
+) -> Result<SinkDelays, Memory>
     requires tree { IsNetTree found.now.net found.now.tree.nodes found.now.order }
     requires marks { AreMarks found.now.net marks.now }
     requires room { length found.now.tree.nodes ≤ length delays.now }
     requires delays { (i : ℕ) → i < length found.now.tree.nodes → slice_index_or delays.now i (pos 0) ≡ pos (delay_in found.now.tree.nodes i) }
-    ensures { IfOk result (λ rows. AllZip (IsDelay found.now.net found.now.tree.nodes found.now.order) (sinks_in found.now.net found.now.order) rows.items) }
+    ensures { IfOk result (λ rows. AllZip (IsDelay found.now.net found.now.tree.nodes found.now.order) (sinks_in found.now.net found.now.order) rows) }
 {
     let order = found.order.as_slice();
-    let mut rows = Vec::new(alloc);
+    let mut rows = SinkDelays::new(alloc);
     'node: for i in 0..order.len() {
         let node = order[i];
         let is_sink = marks[node as usize];
-        push_sink(alloc, &found.net, node, is_sink, delays[i], &mut rows)?;
+        push_sink(&found.net, node, is_sink, delays[i], &mut rows)?;
     }
     Ok(rows)
 }
@@ -112,7 +112,7 @@ fn delays_of(alloc: Global, found: &NetTree) -> Result<WireNet, Memory>
     let sinks = sink_delays(alloc, found, &marks, scratch.delays())?;
     Ok(WireNet {
         total: total_capacitance(net.caps.as_slice()),
-        sinks: Row::from_vec(sinks),
+        sinks,
     })
 }
 

@@ -5,3 +5,4 @@ pub mod AnswerLemmas
 pub mod TimeLemmas
 pub mod TimeAnswers
 pub mod ClearLemmas
+pub mod ReportLemmas

@@ -1,7 +1,7 @@
 //! The lines of reports.
 ghost use Rattle.std.specs.Prelude.{◌≡◌, ◌++◌, OnOk, codes};
 ghost use Rattle.std.specs.Fmt.{signed_decimal};
-ghost use Rattle.vginsert_top.specs.Reports.{printed_node, refused_line};
+ghost use Rattle.vginsert_top.specs.Reports.{printed_node, sink_line, refused_line};
 
 use vg_num::{Memory, print_signed};
 use vg_scan::NodeName;
@@ -14,15 +14,23 @@ pub fn push(bytes: &[u8], to: &mut Vec<u8>) -> Result<(), Memory>
     Ok(())
 }
 
+/// Appends the node of an owner and a leaf: the owner, and after a colon the leaf, where it is not empty.
+fn print_parts(owner: &[u8], leaf: &[u8], to: &mut Vec<u8>) -> Result<(), Memory>
+    ensures { OnOk result (to.new.items ≡ to.old.items ++ printed_node (record { owner = owner.now; leaf = leaf.now })) }
+{
+    push(owner, to)?;
+    if !leaf.is_empty() {
+        push(b":", to)?;
+        push(leaf, to)?;
+    }
+    Ok(())
+}
+
 /// Appends a node: its owner, and after a colon its leaf, where it has one.
 pub fn print_node(node: &NodeName, to: &mut Vec<u8>) -> Result<(), Memory>
     ensures { OnOk result (to.new.items ≡ to.old.items ++ printed_node node.now) }
 {
-    push(node.owner.as_bytes(), to)?;
-    if !node.leaf.as_bytes().is_empty() {
-        push(b":", to)?;
-        push(node.leaf.as_bytes(), to)?;
-    }
+    print_parts(node.owner.as_bytes(), node.leaf.as_bytes(), to)?;
     Ok(())
 }
 
@@ -38,12 +46,12 @@ pub fn print_total(name: &[u8], total: i128, to: &mut Vec<u8>) -> Result<(), Mem
     Ok(())
 }
 
-/// Appends `sink NODE D`, with D in zeptoseconds.
-pub fn print_sink(node: &NodeName, delay: i128, to: &mut Vec<u8>) -> Result<(), Memory>
-    ensures { OnOk result (to.new.items ≡ to.old.items ++ (codes "sink " ++ printed_node node.now ++ codes " " ++ signed_decimal delay ++ codes "\n")) }
+/// Appends `sink NODE D`, with the owner and the leaf of the node, and D in zeptoseconds.
+pub fn print_sink(owner: &[u8], leaf: &[u8], delay: i128, to: &mut Vec<u8>) -> Result<(), Memory>
+    ensures { OnOk result (to.new.items ≡ to.old.items ++ sink_line (record { owner = owner.now; leaf = leaf.now }, delay)) }
 {
     push(b"sink ", to)?;
-    print_node(node, to)?;
+    print_parts(owner, leaf, to)?;
     push(b" ", to)?;
     print_signed(delay, to)?;
     push(b"\n", to)?;

@@ -10,16 +10,16 @@ use crate::faults::print_net_fault;
 use crate::report::{print_node, print_sink, print_total, push};
 use spef_file::SpefText;
 use std::alloc::Global;
-use vg_design::{Refusal, Refused, WireNet, wire_net};
+use vg_design::{Refusal, Refused, SinkDelays, WireNet, wire_net};
 use vg_num::Memory;
-use vg_scan::{Name, NodeName};
+use vg_scan::Name;
 
 /// Appends a line for each sink.
-fn print_sinks(sinks: &[(NodeName, i128)], to: &mut Vec<u8>) -> Result<(), Memory>
+fn print_sinks(sinks: &SinkDelays, to: &mut Vec<u8>) -> Result<(), Memory>
     ensures { OnOk result (to.new.items ≡ to.old.items ++ flat_map sink_line sinks.now) }
 {
-    'sink: for (node, delay) in sinks {
-        print_sink(node, *delay, to)?;
+    'sink: for at in 0..sinks.len() {
+        print_sink(sinks.owner(at), sinks.leaf(at), sinks.delay(at), to)?;
     }
     Ok(())
 }
@@ -31,7 +31,7 @@ fn report_wire(alloc: Global, name: &[u8], wire: &WireNet) -> Result<Vec<u8>, Me
 {
     let mut text = Vec::new(alloc);
     print_total(name, wire.total as i128, &mut text)?;
-    print_sinks(wire.sinks.as_slice(), &mut text)?;
+    print_sinks(&wire.sinks, &mut text)?;
     Ok(text)
 }
 

@@ -15,5 +15,5 @@ node-preserved c =
     let delay : ℤ = get_or c.args.delays.now c.node.i (pos 0) in
     let fits : SFits w128 delay = search rules in
     let pushed = rw (to_z-of_z w128 delay fits) at c.in_ok-push_sink.ensures in
-    read_more found.net found.tree.nodes found.order order c.args.marks.now c.node.i delay c.node.rows.items c.push_sink.new.rows.items
+    read_more found.net found.tree.nodes found.order order c.args.marks.now c.node.i delay c.node.rows c.push_sink.new.rows
     c.as_slice-order.ensures tree c.node-test.true c.requires.marks (c.requires.delays c.node.i within) c.node.invariant pushed
