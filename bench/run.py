@@ -5,7 +5,7 @@ MODE is `wire` (nets of 65,536 nodes, each alone in its file), `time` (the same 
 1,000,000 rows of constraints) or `design` (mode `wire` on a small and the large net of extracted designs of 1, 16, 64
 and 256 MB, or of the sizes given, each with its comments and without them). With `--beside OTHER` each row of `wire` and
 `design` also tells the seconds and the memory of another program with the same arguments, run right after. Seconds are
-the least of three runs of the whole process, peak memory is what GNU time tells, 1 MB is 2^20 bytes.
+the least of five runs of the whole process, peak memory is what GNU time tells, 1 MB is 2^20 bytes.
 """
 import argparse
 import os
@@ -40,8 +40,8 @@ def measure(words):
 
 
 def measure_good(words):
-    """What a run printed, and the least seconds and memory of three runs; all end with status 0."""
-    runs = [measure(words) for _ in range(3)]
+    """What a run printed, and the least seconds and memory of five runs; all end with status 0."""
+    runs = [measure(words) for _ in range(5)]
     if any(status != 0 for status, _, _, _ in runs):
         sys.exit(f"run.py: a status that is not 0: {' '.join(words)}")
     return runs[0][1], min(run[2] for run in runs), min(run[3] for run in runs)
