@@ -52,7 +52,13 @@ AddsRes (Err kind) old ends value new = IsFaultOrMemory (number_fault value) kin
 abbrev pub is_known : List NodeName → List ℕ → NodeName → Bool
 is_known nodes net node = has_node nodes node || is_inner net node
 
--- the number of a node that is the net's, which is put last where it is new, or none
+-- the number of a node that is the net's, which is put last where it is new, or none: of a list of nodes
+abbrev pub OwnsIn : Result (Option ℕ) NoRoom → List ℕ → List NodeName → NodeName → List NodeName → Type 0
+OwnsIn (Ok (Some id)) net old node new = (is_known old net node ≡ true) × (slice_get (with_node old node) id ≡ Some node) × (new ≡ with_node old node)
+OwnsIn (Ok None) net old node new = (is_known old net node ≡ false) × (new ≡ old)
+OwnsIn (Err _) net old node new = Unit {0}
+
+-- and of a draft
 abbrev pub Owns : Result (Option ℕ) NoRoom → List ℕ → Sketch → NodeName → Sketch → Type 0
 Owns (Ok (Some id)) net old node new =
     (is_known old.nodes net node ≡ true) × (slice_get (with_node old.nodes node) id ≡ Some node) × (new ≡ record old { nodes = with_node old.nodes node })

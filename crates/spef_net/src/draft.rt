@@ -61,18 +61,8 @@ impl Draft {
     pub fn own(&mut self, net: &[u8], node: &Node) -> Result<Option<u32>, Memory>
         ensures { Owns result net.now self.old (named_by node.now) self.new }
     {
-        let owner = node.owner.as_bytes();
-        let leaf = node.leaf.as_bytes();
-        match self.nodes.find(owner, leaf) {
-            Some(id) => Ok(Some(id)),
-            None => {
-                if !is_inner(net, owner, leaf) {
-                    return Ok(None);
-                }
-                let id = self.nodes.intern(owner, leaf)?;
-                Ok(Some(id))
-            }
-        }
+        self.nodes
+            .own(net, node.owner.as_bytes(), node.leaf.as_bytes())
     }
 
     /// The number of a node, which is put last where it is new.

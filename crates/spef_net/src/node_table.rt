@@ -6,8 +6,10 @@ ghost use Rattle.vg_scan.specs.declared.name.NodeName.{NodeName};
 ghost use Rattle.vg_scan.specs.Chains.{AreChains};
 ghost use Rattle.vg_scan.specs.Nodes.{has_node, same_node};
 ghost use Rattle.spef_net.specs.Names.{with_node};
+ghost use Rattle.spef_net.specs.Drafts.{OwnsIn};
 ghost use Rattle.spef_net.specs.NodeTables.{hash_with, bucket_of, nodes_in, IsTable};
 
+use crate::node::is_inner;
 use std::alloc::Global;
 use std::marker::Model;
 use vg_num::Memory;
@@ -179,15 +181,6 @@ impl NodeTable {
         })
     }
 
-    /// The number of a node. `None`: it is not there.
-    pub fn find(&self, owner: &[u8], leaf: &[u8]) -> Option<u32>
-        ensures found { IfSome result (λ id. slice_get self.now id ≡ Some (record { owner = owner.now; leaf = leaf.now })) }
-        ensures absent { IfNone result (has_node self.now (record { owner = owner.now; leaf = leaf.now }) ≡ false) }
-    {
-        let bucket = bucket_of(self.table.chains.buckets(), owner, leaf);
-        self.table.find_in(bucket, owner, leaf)
-    }
-
     /// The number of a node, which is put last where it is new.
     ///
     /// Answers `Memory` where there is no room, as where there would be 2^32 nodes or more, and then for each new node.
@@ -199,6 +192,24 @@ impl NodeTable {
         match self.table.find_in(bucket, owner, leaf) {
             Some(id) => Ok(id),
             None => self.table.add(bucket, owner, leaf),
+        }
+    }
+
+    /// The number of a node of the net of this name: one that is there, or one inside the net, which is put last where it is
+    /// new. `None`: it is another net's. Answers `Memory` as `intern` does.
+    pub fn own(&mut self, net: &[u8], owner: &[u8], leaf: &[u8]) -> Result<Option<u32>, Memory>
+        ensures { OwnsIn result net.now self.old (record { owner = owner.now; leaf = leaf.now }) self.new }
+    {
+        let bucket = bucket_of(self.table.chains.buckets(), owner, leaf);
+        match self.table.find_in(bucket, owner, leaf) {
+            Some(id) => Ok(Some(id)),
+            None => {
+                if !is_inner(net, owner, leaf) {
+                    return Ok(None);
+                }
+                let id = self.table.add(bucket, owner, leaf)?;
+                Ok(Some(id))
+            }
         }
     }
 
