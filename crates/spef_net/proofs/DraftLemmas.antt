@@ -11,14 +11,17 @@ use Rattle.spef_net.specs.declared.net.Direction.{Direction}
 use Rattle.spef_net.specs.declared.part.Part.{Part}
 use Rattle.spef_net.specs.Sayings.{Opens, Nothing, Connects, Star, Ground, Coupling, Resistor}
 use Rattle.vg_scan.specs.Nodes.{has_node}
-use Rattle.spef_net.specs.Names.{with_node, distinct}
-use Rattle.spef_net.specs.Nodes.{Note, fresh, joined, starred, note_at, is_starred}
+use Rattle.spef_nodes.specs.Members.{with_node, distinct}
+use Rattle.spef_nodes.specs.Nodes.{Note, fresh, joined, starred, note_at, is_starred}
 use Rattle.spef_net.specs.Sayings.{Said}
 use Rattle.spef_net.specs.Rows.{conn_in, joined_in, starred_in, cap_in, res_in, named_in, own_one, is_inductance, conns_of, joined_of, starred_of, caps_of, ress_of, nodes_of}
 use Rattle.spef_net.specs.Denoted.{AreConns, AreCaps, AreRess}
-use Rattle.spef_net.specs.Drafts.{Sketch, IsSketch, is_known, noted_by, AreNoted}
-use Rattle.spef_net.proofs.NodeLists.{any-last, known-with_node, conns_grow, caps_grow, ress_grow, conns_more, caps_more, ress_more, slice_get-with_node}
-use Rattle.spef_net.proofs.OneNet.{Apart, apart_if, apart_fold}
+use Rattle.spef_net.specs.Drafts.{Sketch, IsSketch, noted_by, AreNoted}
+use Rattle.spef_nodes.specs.Members.{is_known}
+use Rattle.spef_nodes.proofs.NodeLists.{any-last, known-with_node, slice_get-with_node}
+use Rattle.spef_net.proofs.RowLists.{conns_grow, caps_grow, ress_grow, conns_more, caps_more, ress_more}
+use Rattle.spef_nodes.proofs.ApartLemmas.{apart_if, apart_fold}
+use Rattle.spef_nodes.specs.Members.{AreApart}
 use Rattle.spef_net.proofs.NotedLemmas.{noted_kept, noted_grow, noted_conn, noted_star, noted_again}
 
 -- what a draft is after one line more
@@ -101,9 +104,9 @@ pub noted_there : (connected : List NodeName) (net : List ℕ) (before : List Sa
 noted_there connected net before old node id s at = (noted_grow old.nodes node old.notes (joined_of before) (starred_of before) s.noted).here id node at
 
 -- no node of a draft is another one of it
-apart_more : (connected : List NodeName) (net : List ℕ) (before : List Said) (old : Sketch) (node : NodeName) → IsSketch connected net before old → Apart (with_node old.nodes node)
+apart_more : (connected : List NodeName) (net : List ℕ) (before : List Said) (old : Sketch) (node : NodeName) → IsSketch connected net before old → AreApart (with_node old.nodes node)
 apart_more connected net before old node s =
-    apart_if (has_node old.nodes node) old.nodes node refl (subst (λ ns. Apart ns) (sym s.nodes) (apart_fold (connected ++ flat_map (named_in connected net) before) [] tt))
+    apart_if (has_node old.nodes node) old.nodes node refl (subst (λ ns. AreApart ns) (sym s.nodes) (apart_fold (connected ++ flat_map (named_in connected net) before) [] tt))
 
 -- a connection
 pub conn_next : (connected : List NodeName) (net : List ℕ) (before : List Said) (old : Sketch) (kind : ConnKind) (direction : Direction) (node : NodeName) (note : List ℕ) (id : ℕ) (notes : List Note) → IsSketch connected net before old

@@ -4,7 +4,7 @@ use Rattle.std.specs.Option.{option_or, unwrap_or}
 use Rattle.std.specs.List.{slice_get}
 use Rattle.vg_scan.specs.declared.name.NodeName.{NodeName}
 use Rattle.spef_net.specs.declared.net.ParConn.{ParConn}
-use Rattle.spef_net.specs.Nodes.{ParNode, Note, note_at, noted, noted_all}
+use Rattle.spef_nodes.specs.Nodes.{ParNode, Note, note_at, noted, noted_all}
 use Rattle.spef_net.specs.declared.net.ParNet.{ParNet}
 use Rattle.vg_scan.specs.Nodes.{node_value}
 use Rattle.spef_net.specs.Sayings.{Said}

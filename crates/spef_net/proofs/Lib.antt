@@ -1,9 +1,7 @@
 pub mod PlaceLemmas
 pub mod NodeLemmas
-pub mod NodeLists
+pub mod RowLists
 pub mod SpellLemmas
-pub mod NoteLemmas
-pub mod NodeTableLemmas
 pub mod NotedLemmas
 pub mod DraftLemmas
 pub mod TakeLemmas

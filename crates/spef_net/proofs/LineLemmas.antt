@@ -13,7 +13,8 @@ use Rattle.spef_net.specs.declared.fault.NetKind.{NetKind}
 use Rattle.spef_net.specs.declared.fault.NetKind.TheVariants.{Conn, Cap, Res, Number, Foreign, SelfCoupled, Memory}
 use Rattle.spef_net.specs.Sayings.{Opens, Nothing, Connects, Star, Ground, Coupling, Resistor}
 use Rattle.vg_scan.specs.Nodes.{same_node, has_node}
-use Rattle.spef_net.specs.Names.{node_in, with_node, distinct}
+use Rattle.spef_net.specs.Names.{node_in}
+use Rattle.spef_nodes.specs.Members.{with_node, distinct}
 use Rattle.spef_net.specs.Sayings.{Said, ground, coupling, resistor, cap_line, res_line, conn_line, connection, connected, star, starred, is_at, direction_in, said_in, said, part_after, sayings_from}
 use Rattle.spef_net.specs.Lines.{note_after}
 use Rattle.spef_net.specs.declared.net.ConnKind.{ConnKind}
@@ -28,7 +29,7 @@ use Rattle.spef_net.specs.Faults.{fault_of, fault_at, IsFirstFaultIn}
 use Rattle.spef_net.specs.Drafts.{Sketch, IsSketch, IsCounted, Takes}
 use Rattle.spef_net.specs.Surveys.{is_conns, with_joined}
 use Rattle.spef_net.specs.Views.{IsFaultOrMemory, fault_in}
-use Rattle.spef_net.proofs.NodeLists.{has-distinct}
+use Rattle.spef_nodes.proofs.NodeLists.{has-distinct}
 use Rattle.spef_net.proofs.TakeLemmas.{or_right}
 
 -- a line that opens no part and names no connection
@@ -195,7 +196,7 @@ pub no_lines : (connected : List NodeName) (net : List ℕ) (nodes : List NodeNa
     → IsSketch connected net [] (record { nodes = nodes; notes = []; conns = []; caps = []; ress = []; inductive = false })
 no_lines connected net nodes e = record {
   nodes = e ∙ ap distinct (sym (append-nil connected));
-  own = λ node. ap (λ ns. has_node ns node || Rattle.spef_net.specs.Names.is_inner net node) e ∙ ap (λ b. b || Rattle.spef_net.specs.Names.is_inner net node) (has-distinct connected node);
+  own = λ node. ap (λ ns. has_node ns node || Rattle.spef_nodes.specs.Members.is_inner net node) e ∙ ap (λ b. b || Rattle.spef_nodes.specs.Members.is_inner net node) (has-distinct connected node);
   noted = record { here = λ i node at. refl; beyond = λ i low. refl; others = λ node f. refl };
   conns = refl;
   caps = refl;

@@ -8,12 +8,14 @@ use Rattle.std.specs.List.{slice_get}
 use Rattle.std.specs.Option.{option_or}
 use Rattle.vg_scan.specs.declared.name.NodeName.{NodeName}
 use Rattle.vg_scan.specs.Nodes.{same_node, has_node, node_value}
-use Rattle.spef_net.specs.Names.{with_node}
-use Rattle.spef_net.specs.Nodes.{Note, fresh, joined, starred, note_at, is_joined, is_starred}
+use Rattle.spef_nodes.specs.Members.{with_node}
+use Rattle.spef_nodes.specs.Nodes.{Note, fresh, joined, starred, note_at, is_joined, is_starred}
 use Rattle.spef_net.specs.Drafts.{note_from, noted_by, AreNoted}
-use Rattle.spef_net.proofs.NodeLists.{same_is, has-with_node, value-last, value-again}
-use Rattle.spef_net.proofs.NodeTableLemmas.{slice_get_front, slice_get_last}
-use Rattle.spef_net.proofs.OneNet.{Apart, one_number, has_at}
+use Rattle.spef_nodes.proofs.NodeLists.{same_is, has-with_node}
+use Rattle.spef_net.proofs.RowLists.{value-last, value-again}
+use Rattle.spef_nodes.proofs.NodeTableLemmas.{slice_get_front, slice_get_last}
+use Rattle.spef_nodes.proofs.ApartLemmas.{one_number, has_at}
+use Rattle.spef_nodes.specs.Members.{AreApart}
 
 -- notes by what there is
 pub both_none : (j s : Option (List ℕ)) → is_joined (note_from j s) ≡ false → is_starred (note_from j s) ≡ false → (j ≡ None) × (s ≡ None)
@@ -86,7 +88,7 @@ eqb_not i j h = by_test (eqb i j) refl
     by_test true e = absurd (h (eqb_is i j e))
 
 -- another node is noted as before, and this one anew
-put : (nodes : List NodeName) (notes new : List Note) (js ss ks ts : List (NodeName × List ℕ)) (node : NodeName) (note : Note) (id : ℕ) → AreNoted nodes notes js ss → Apart nodes → slice_get nodes id ≡ Some node
+put : (nodes : List NodeName) (notes new : List Note) (js ss ks ts : List (NodeName × List ℕ)) (node : NodeName) (note : Note) (id : ℕ) → AreNoted nodes notes js ss → AreApart nodes → slice_get nodes id ≡ Some node
     → ((i : ℕ) → note_at new i ≡ cond (eqb i id) note (note_at notes i)) → noted_by ks ts node ≡ note → ((q : NodeName) → same_node node q ≡ false → noted_by ks ts q ≡ noted_by js ss q) → AreNoted nodes new ks ts
 put nodes notes new js ss ks ts node note id h apart at is this other = record {
   here = λ i q there. by_place i q there (eqb i id) refl;
@@ -130,20 +132,20 @@ value_other rows node q v e = value-last rows node q v ∙ ap (λ b. option_or (
 value_this : (rows : List (NodeName × List ℕ)) (node : NodeName) (v : List ℕ) → same_node node node ≡ true → node_value rows node ≡ None → node_value (rows ++ (node, v) ∷ []) node ≡ Some v
 value_this rows node v r e = value-last rows node node v ∙ ap (λ b. option_or (node_value rows node) (cond b (Some v) None)) r ∙ ap (λ o. option_or o (Some v)) e
 
-pub noted_conn : (nodes : List NodeName) (notes new : List Note) (js ss : List (NodeName × List ℕ)) (node : NodeName) (note : List ℕ) (id : ℕ) → AreNoted nodes notes js ss → Apart nodes → slice_get nodes id ≡ Some node
+pub noted_conn : (nodes : List NodeName) (notes new : List Note) (js ss : List (NodeName × List ℕ)) (node : NodeName) (note : List ℕ) (id : ℕ) → AreNoted nodes notes js ss → AreApart nodes → slice_get nodes id ≡ Some node
     → noted_by js ss node ≡ fresh → ((i : ℕ) → note_at new i ≡ cond (eqb i id) (joined note) (note_at notes i)) → AreNoted nodes new (js ++ (node, note) ∷ []) ss
 noted_conn nodes notes new js ss node note id h apart at none is =
     let n = none_from (node_value js node) (node_value ss node) none in
     put nodes notes new js ss (js ++ (node, note) ∷ []) ss node (joined note) id h apart at is
-    (ap (λ o. note_from o (node_value ss node)) (value_this js node note (Rattle.spef_net.proofs.NodeTableLemmas.same_refl node) n.0))
+    (ap (λ o. note_from o (node_value ss node)) (value_this js node note (Rattle.spef_nodes.proofs.NodeTableLemmas.same_refl node) n.0))
     (λ q e. ap (λ o. note_from o (node_value ss q)) (value_other js node q note e))
 
-pub noted_star : (nodes : List NodeName) (notes new : List Note) (js ss : List (NodeName × List ℕ)) (node : NodeName) (note : List ℕ) (id : ℕ) → AreNoted nodes notes js ss → Apart nodes → slice_get nodes id ≡ Some node
+pub noted_star : (nodes : List NodeName) (notes new : List Note) (js ss : List (NodeName × List ℕ)) (node : NodeName) (note : List ℕ) (id : ℕ) → AreNoted nodes notes js ss → AreApart nodes → slice_get nodes id ≡ Some node
     → noted_by js ss node ≡ fresh → ((i : ℕ) → note_at new i ≡ cond (eqb i id) (starred note) (note_at notes i)) → AreNoted nodes new js (ss ++ (node, note) ∷ [])
 noted_star nodes notes new js ss node note id h apart at none is =
     let n = none_from (node_value js node) (node_value ss node) none in
     put nodes notes new js ss js (ss ++ (node, note) ∷ []) node (starred note) id h apart at is
-    (ap (λ o. note_from o (node_value (ss ++ (node, note) ∷ []) node)) n.0 ∙ ap (note_from None) (value_this ss node note (Rattle.spef_net.proofs.NodeTableLemmas.same_refl node) n.1))
+    (ap (λ o. note_from o (node_value (ss ++ (node, note) ∷ []) node)) n.0 ∙ ap (note_from None) (value_this ss node note (Rattle.spef_nodes.proofs.NodeTableLemmas.same_refl node) n.1))
     (λ q e. ap (note_from (node_value js q)) (value_other ss node q note e))
 
 pub noted_again : (nodes : List NodeName) (notes : List Note) (js ss : List (NodeName × List ℕ)) (node : NodeName) (note : List ℕ) → AreNoted nodes notes js ss → is_starred (noted_by js ss node) ≡ true → AreNoted nodes notes js (ss ++ (node, note) ∷ [])

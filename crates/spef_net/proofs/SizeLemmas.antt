@@ -22,7 +22,7 @@ use Rattle.spef_net.specs.declared.part.Part.{Part}
 use Rattle.spef_net.specs.declared.part.Part.TheVariants.{Nowhere, Conns, Caps, Ress, Inducs}
 use Rattle.spef_net.specs.Sayings.{Opens, Nothing, Connects, Star, Ground, Coupling, Resistor}
 use Rattle.vg_scan.specs.Nodes.{has_node}
-use Rattle.spef_net.specs.Names.{with_node}
+use Rattle.spef_nodes.specs.Members.{with_node}
 use Rattle.spef_net.specs.Lines.{head_of}
 use Rattle.spef_net.specs.Sayings.{Said, is_colon, middle, value_of_parts, value_in, is_at, ground, coupling, resistor, cap_line, res_line, conn_line, connection, connected, star, starred, said_in, said_or_opens, said_words, said, part_after, sayings_from, sayings}
 use Rattle.spef_net.specs.Rows.{joined_in, joined_of, connected_of, conns_of, cap_in, caps_of, res_in, ress_of, named_in}

@@ -10,14 +10,16 @@ use Rattle.spef_net.specs.declared.fault.NetKind.TheVariants.{Conn, Foreign, Sel
 use Rattle.spef_net.specs.Sayings.{Opens, Nothing, Connects, Star, Ground, Coupling, Resistor}
 use Rattle.std.specs.List.{slice_get}
 use Rattle.vg_scan.specs.Nodes.{has_node, node_value}
-use Rattle.spef_net.specs.Names.{with_node, is_own, is_inner}
-use Rattle.spef_net.specs.Nodes.{fresh, joined, starred, note_at, is_joined, is_starred}
+use Rattle.spef_net.specs.Names.{is_own}
+use Rattle.spef_nodes.specs.Members.{with_node, is_inner}
+use Rattle.spef_nodes.specs.Nodes.{fresh, joined, starred, note_at, is_joined, is_starred}
 use Rattle.spef_net.specs.Sayings.{Said, ground, coupling, resistor}
 use Rattle.spef_net.specs.Rows.{own_one, is_inductance, joined_of, starred_of}
 use Rattle.spef_net.specs.Faults.{number_fault, fault_of}
-use Rattle.spef_net.specs.Drafts.{Sketch, IsSketch, is_known, noted_by, ConnAdded, AddsCap, AddsRes, Taken, Takes}
+use Rattle.spef_net.specs.Drafts.{Sketch, IsSketch, noted_by, ConnAdded, AddsCap, AddsRes, Taken, Takes}
+use Rattle.spef_nodes.specs.Members.{is_known}
 use Rattle.spef_net.specs.Sights.{Sees, SeesTwo}
-use Rattle.spef_net.proofs.NodeLists.{known-with_node}
+use Rattle.spef_nodes.proofs.NodeLists.{known-with_node}
 use Rattle.spef_net.proofs.NotedLemmas.{again_is, joined_is, fresh_is}
 use Rattle.spef_net.specs.Views.{IsFaultOrMemory}
 use Rattle.spef_net.proofs.DraftLemmas.{IsNext, noted_there, sketch_more, head_next, nothing_next, conn_next, star_next, again_next, ground_next, coupling_next, resistor_next}

@@ -1,5 +1,5 @@
 -- What is known of a net after some of its section's lines.
-use Rattle.std.specs.Prelude.{◌≡◌, ℕ, ◌++◌, ◌||◌, ◌==◌, ◌≤◌, Bool, true, false, length, List, [], ◌∷◌, Option, Some, None, if◌then◌else◌, Result, Ok, Err}
+use Rattle.std.specs.Prelude.{◌≡◌, ℕ, ◌++◌, ◌==◌, ◌≤◌, Bool, true, false, length, List, [], ◌∷◌, Option, Some, None, if◌then◌else◌, Result, Ok, Err}
 use Rattle.std.specs.List.{slice_get}
 use Rattle.vg_scan.specs.declared.name.NodeName.{NodeName}
 use Rattle.vg_num.specs.declared.fault.NumFault.{NumFault}
@@ -9,13 +9,14 @@ use Rattle.spef_net.specs.declared.net.ParNet.{ParNet}
 use Rattle.spef_net.specs.declared.fault.NetKind.{NetKind}
 use Rattle.spef_net.specs.Sayings.{Connects}
 use Rattle.vg_scan.specs.Nodes.{has_node, node_value}
-use Rattle.spef_net.specs.Names.{with_node, is_inner, is_own}
+use Rattle.spef_net.specs.Names.{is_own}
+use Rattle.spef_nodes.specs.Members.{with_node, is_known}
 use Rattle.spef_net.specs.declared.part.Part.{Part}
 use Rattle.spef_net.specs.Sayings.{Said, part_after}
 use Rattle.spef_net.specs.Rows.{joined_of, starred_of, conns_of, caps_of, ress_of, nodes_of, is_inductive}
 use Rattle.spef_net.specs.Faults.{number_fault, fault_of}
 use Rattle.spef_net.specs.Denoted.{AreConns, AreCaps, AreRess}
-use Rattle.spef_net.specs.Nodes.{Note, fresh, joined, starred, note_at, noted_all}
+use Rattle.spef_nodes.specs.Nodes.{Note, fresh, joined, starred, note_at, noted_all}
 use Rattle.spef_net.specs.Views.{IsFaultOrMemory}
 
 -- the nodes so far, what is noted of them, and the rows, whose nodes are numbers
@@ -48,17 +49,7 @@ abbrev pub AddsRes : Result (Unit {0}) NetKind → Sketch → ℕ × ℕ → Res
 AddsRes (Ok _) old ends value new = (v : ℕ) × (value ≡ Ok v) × (new ≡ record old { ress = old.ress ++ (ends.0, ends.1, v) ∷ [] })
 AddsRes (Err kind) old ends value new = IsFaultOrMemory (number_fault value) kind
 
--- a node is the net's by what is known
-abbrev pub is_known : List NodeName → List ℕ → NodeName → Bool
-is_known nodes net node = has_node nodes node || is_inner net node
-
--- the number of a node that is the net's, which is put last where it is new, or none: of a list of nodes
-abbrev pub OwnsIn : Result (Option ℕ) NoRoom → List ℕ → List NodeName → NodeName → List NodeName → Type 0
-OwnsIn (Ok (Some id)) net old node new = (is_known old net node ≡ true) × (slice_get (with_node old node) id ≡ Some node) × (new ≡ with_node old node)
-OwnsIn (Ok None) net old node new = (is_known old net node ≡ false) × (new ≡ old)
-OwnsIn (Err _) net old node new = Unit {0}
-
--- and of a draft
+-- the number of a node that is the net's, which is put last where it is new, or none
 abbrev pub Owns : Result (Option ℕ) NoRoom → List ℕ → Sketch → NodeName → Sketch → Type 0
 Owns (Ok (Some id)) net old node new =
     (is_known old.nodes net node ≡ true) × (slice_get (with_node old.nodes node) id ≡ Some node) × (new ≡ record old { nodes = with_node old.nodes node })

@@ -1,8 +1,5 @@
 pub mod Spellings
 pub mod ConnLines
-pub mod Nodes
-pub mod Notes
-pub mod NodeTables
 pub mod Names
 pub mod Lines
 pub mod Sayings

@@ -1,26 +1,13 @@
 -- The names of nodes, and lists of them.
-use Rattle.std.specs.Prelude.{ℕ, ◌+◌, ◌&&◌, ◌||◌, ◌++◌, Bool, List, [], ◌∷◌, take, drop, Option, Some, None, if◌then◌else◌}
-use Rattle.std.specs.List.{fold}
+use Rattle.std.specs.Prelude.{ℕ, ◌+◌, ◌||◌, Bool, List, [], take, drop, Option, Some, None, if◌then◌else◌}
 use Rattle.std.specs.Map.{lookup}
 use Rattle.std.specs.Str.{bytes_eq}
-use Rattle.vg_num.specs.Number.{are_digits}
 use Rattle.vg_scan.specs.Names.{canonical}
 use Rattle.vg_scan.specs.Nodes.{has_node, node_of_parts, leaf_at}
 use Rattle.vg_scan.specs.References.{is_reference, index_of}
 use Rattle.vg_scan.specs.declared.name.NodeName.{NodeName}
 use Rattle.spef_file.specs.Files.{File}
-
--- the nodes, with this one last where it is new
-abbrev pub with_node : List NodeName → NodeName → List NodeName
-with_node nodes node = if has_node nodes node then nodes else nodes ++ node ∷ []
-
--- each node once, where it comes first
-abbrev pub distinct : List NodeName → List NodeName
-distinct nodes = fold with_node [] nodes
-
--- a node inside the net of this name: the net owns it, and its leaf is a number
-abbrev pub is_inner : List ℕ → NodeName → Bool
-is_inner net node = bytes_eq node.owner net && are_digits node.leaf
+use Rattle.spef_nodes.specs.Members.{is_inner}
 
 -- a node is the net's where it is one of its connections or inside it
 abbrev pub is_own : List NodeName → List ℕ → NodeName → Bool

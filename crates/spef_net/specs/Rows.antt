@@ -6,7 +6,8 @@ use Rattle.spef_net.specs.declared.net.ConnKind.{ConnKind}
 use Rattle.spef_net.specs.declared.net.Direction.{Direction}
 use Rattle.spef_net.specs.declared.part.Part.TheVariants.{Inducs}
 use Rattle.spef_net.specs.Sayings.{Opens, Connects, Star, Ground, Coupling, Resistor}
-use Rattle.spef_net.specs.Names.{is_own, distinct}
+use Rattle.spef_net.specs.Names.{is_own}
+use Rattle.spef_nodes.specs.Members.{distinct}
 use Rattle.spef_net.specs.Sayings.{Said}
 
 abbrev pub conn_in : Said → Option (ConnKind × NodeName × Direction)

@@ -6,7 +6,7 @@ use Rattle.spef_net.specs.declared.fault.NetKind.{NetKind}
 use Rattle.spef_net.specs.declared.fault.NetKind.TheVariants.{Memory}
 use Rattle.spef_net.specs.declared.part.Part.{Part}
 use Rattle.spef_net.specs.declared.part.Part.TheVariants.{Conns}
-use Rattle.spef_net.specs.Names.{with_node}
+use Rattle.spef_nodes.specs.Members.{with_node}
 use Rattle.spef_net.specs.Sayings.{Said, part_after}
 use Rattle.spef_net.specs.Rows.{joined_in}
 

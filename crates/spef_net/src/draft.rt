@@ -2,8 +2,8 @@
 
 ghost use Rattle.std.specs.Prelude.{◌≡◌, ◌||◌, [], ℕ, List, false, Ok, Some, IfOk, OnOk};
 ghost use Rattle.std.specs.List.{slice_get};
-ghost use Rattle.spef_net.specs.Nodes.{note_at, is_joined, is_starred};
-ghost use Rattle.spef_net.specs.Names.{with_node};
+ghost use Rattle.spef_nodes.specs.Nodes.{note_at, is_joined, is_starred};
+ghost use Rattle.spef_nodes.specs.Members.{with_node};
 ghost use Rattle.spef_net.specs.Sayings.{Opens, Connects, Star};
 ghost use Rattle.spef_net.specs.Spellings.{named_by};
 ghost use Rattle.spef_net.specs.Rows.{is_inductance};
@@ -11,10 +11,9 @@ ghost use Rattle.spef_net.specs.Drafts.{Sketch, Owns, ConnAdded, StarAdded, Adds
 
 use crate::fault::NetKind;
 use crate::net::{ConnKind, Direction, ParConn};
-use crate::node::{Node, is_inner};
-use crate::node_table::NodeTable;
-use crate::notes::Notes;
+use crate::node::Node;
 use crate::part::Part;
+use spef_nodes::{NodeTable, Notes, is_inner};
 use std::alloc::Global;
 use std::marker::Model;
 use vg_num::{Memory, NumFault};

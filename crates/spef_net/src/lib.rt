@@ -9,9 +9,6 @@ mod laws;
 mod line;
 mod net;
 mod node;
-mod node_table;
-mod nodes;
-mod notes;
 mod part;
 mod read;
 mod section;
@@ -23,8 +20,8 @@ mod value;
 pub use fault::{NetFault, NetKind};
 pub use laws::one_net;
 pub use net::{ConnKind, Direction, ParConn, ParNet};
-pub use nodes::Nodes;
 pub use section::read_net;
+pub use spef_nodes::Nodes;
 
 #[cfg(test)]
 mod tests;

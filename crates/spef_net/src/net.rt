@@ -1,4 +1,4 @@
-use crate::nodes::Nodes;
+use spef_nodes::Nodes;
 use vg_num::Row;
 use vg_scan::Name;
 

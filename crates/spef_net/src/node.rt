@@ -5,15 +5,13 @@ ghost use Rattle.std.specs.List.{list_all};
 ghost use Rattle.vg_scan.specs.Names.{canonical, last_bare};
 ghost use Rattle.spef_file.specs.Shown.{shown};
 ghost use Rattle.vg_scan.specs.Nodes.{node_of_parts};
-ghost use Rattle.spef_net.specs.Names.{owner_in, node_in, is_inner};
+ghost use Rattle.spef_net.specs.Names.{owner_in, node_in};
 ghost use Rattle.spef_net.specs.Spellings.{is_itself, IsUnescaped, bytes_of, named_by, Spells, SpellsNode};
 
 use crate::line::text_from;
 use spef_file::{SpefIndex, mapped};
 use std::alloc::Global;
-use vg_scan::{
-    Chars, Name, NameFault, are_digits, index_of, is_reference, spef_name, split_node, text_at,
-};
+use vg_scan::{Chars, Name, NameFault, index_of, is_reference, spef_name, split_node, text_at};
 
 /// A name, as a text spells it.
 #[derive(Drop)]
@@ -249,13 +247,6 @@ pub(crate) fn read_node<'a>(
     } else {
         spelled_node(alloc, index, text)
     }
-}
-
-/// Whether a node of this owner and leaf is inside the net of this name.
-pub(crate) fn is_inner(net: &[u8], owner: &[u8], leaf: &[u8]) -> bool
-    ensures { result ≡ is_inner net.now (record { owner = owner.now; leaf = leaf.now }) }
-{
-    owner == net && are_digits(leaf)
 }
 
 /// Whether a node has no leaf.

@@ -3,7 +3,7 @@
 ghost use Rattle.std.specs.Prelude.{◌≡◌, ◌^◌, ◌≤◌, length, IfOk, IfErr, ◌⊎◌};
 ghost use Rattle.std.specs.Str.Lines.{lines};
 ghost use Rattle.spef_file.specs.Shown.{shown};
-ghost use Rattle.spef_net.specs.Names.{distinct};
+ghost use Rattle.spef_nodes.specs.Members.{distinct};
 ghost use Rattle.spef_net.specs.Sayings.{said, said_words, sayings};
 ghost use Rattle.spef_net.specs.Rows.{connected_of};
 ghost use Rattle.spef_net.specs.Faults.{IsFaultless, IsFirstFaultIn};
@@ -14,10 +14,10 @@ ghost use Rattle.spef_net.specs.declared.fault.NetKind.TheVariants.{Memory};
 use crate::draft::Draft;
 use crate::fault::{NetFault, NetKind};
 use crate::line::{head_of, line_words};
-use crate::node_table::NodeTable;
 use crate::part::Part;
 use crate::take::take_in;
 use spef_file::SpefIndex;
+use spef_nodes::NodeTable;
 use std::alloc::Global;
 use vg_scan::{Span, next_line, text_at};
 

@@ -3,7 +3,7 @@
 ghost use Rattle.std.specs.Prelude.{◌≡◌, ◌≤◌, ◌^◌, false, None, IfOk, OnOk, length};
 ghost use Rattle.std.specs.Str.Lines.{lines};
 ghost use Rattle.spef_file.specs.Shown.{shown};
-ghost use Rattle.spef_net.specs.Names.{distinct};
+ghost use Rattle.spef_nodes.specs.Members.{distinct};
 ghost use Rattle.spef_net.specs.Sayings.{said, said_words, sayings, conn_line};
 ghost use Rattle.spef_net.specs.Rows.{connected_of, joined_in};
 ghost use Rattle.vg_scan.specs.Lines.{words};
@@ -14,9 +14,9 @@ ghost use Rattle.spef_net.specs.Surveys.{Surveys, is_conns, is_memory, with_join
 use crate::conn_line::{ConnLine, read_conn};
 use crate::fault::NetKind;
 use crate::line::{head_of, line_words};
-use crate::node_table::NodeTable;
 use crate::part::Part;
 use spef_file::SpefIndex;
+use spef_nodes::NodeTable;
 use std::alloc::Global;
 use vg_num::Memory;
 use vg_scan::{Span, next_line, text_at};

@@ -8,7 +8,7 @@ use Rattle.std.proofs.lemmas.Option.{slice_get-get_or}
 use Rattle.elmore.specs.Wire.{delay_in}
 use Rattle.elmore.specs.declared.tree.Node.{Node}
 use Rattle.vg_scan.specs.declared.name.NodeName.{NodeName}
-use Rattle.spef_net.specs.Nodes.{ParNode}
+use Rattle.spef_nodes.specs.Nodes.{ParNode}
 use Rattle.spef_net.specs.declared.net.ParNet.{ParNet}
 use Rattle.vg_design.specs.Refusals.{IsNamed, IsNetTree}
 use Rattle.vg_design.specs.Steps.{IsSinkPushed}

@@ -11,7 +11,7 @@ use Rattle.spef_net.specs.declared.net.ConnKind.TheVariants.{Pin, Port}
 use Rattle.spef_net.specs.declared.net.Direction.{Direction}
 use Rattle.spef_net.specs.declared.net.Direction.TheVariants.{In, Out, Both}
 use Rattle.spef_net.specs.declared.net.ParConn.{ParConn}
-use Rattle.spef_net.specs.Nodes.{ParNode}
+use Rattle.spef_nodes.specs.Nodes.{ParNode}
 use Rattle.spef_net.specs.declared.net.ParNet.{ParNet}
 use Rattle.vg_design.specs.declared.refusal.Refusal.{Refusal}
 use Rattle.vg_design.specs.declared.refusal.Refusal.TheVariants.{UnknownNet, Section, Reduced, Inductive, Bidirectional, NoDriver, ManyDrivers, Floating, Loop, NoSink, TooLarge}

@@ -16,7 +16,7 @@ use Rattle.elmore.specs.declared.problem.Problem.{Problem}
 use Rattle.spef_net.specs.declared.net.ConnKind.{ConnKind}
 use Rattle.spef_net.specs.declared.net.ConnKind.TheVariants.{Pin, Port}
 use Rattle.spef_net.specs.declared.net.ParConn.{ParConn}
-use Rattle.spef_net.specs.Nodes.{ParNode}
+use Rattle.spef_nodes.specs.Nodes.{ParNode}
 use Rattle.spef_net.specs.declared.net.ParNet.{ParNet}
 use Rattle.vg_design.specs.Refusals.{is_sink, number_of}
 use Rattle.vg_design.specs.Nets.{IsRefusalOf}

@@ -2,7 +2,7 @@ use Rattle.std.proofs.Common.{sym, ◌∙◌, ap, drop, ◌∷◌, arith}
 use Rattle.std.specs.List.{fold}
 use Rattle.std.specs.Str.Lines.{lines}
 use Rattle.spef_file.specs.Shown.{shown}
-use Rattle.spef_net.specs.Names.{with_node}
+use Rattle.spef_nodes.specs.Members.{with_node}
 use Rattle.spef_net.specs.Sayings.{sayings_from}
 use Rattle.spef_net.specs.Rows.{connected_of}
 use Rattle.spef_net.proofs.LineLemmas.{survey_more, none_left}

@@ -1,7 +1,8 @@
 use Rattle.std.proofs.Common.{◌≡◌, ℕ, List, subst, ap, Ok, Err, Some, None, Option, Result}
 use Rattle.vg_num.specs.declared.memory.Memory.{Memory}
 use Rattle.vg_scan.specs.declared.name.NodeName.{NodeName}
-use Rattle.spef_net.specs.Drafts.{Sketch, Owns, OwnsIn}
+use Rattle.spef_net.specs.Drafts.{Sketch, Owns}
+use Rattle.spef_nodes.specs.Members.{Owns as OwnsIn}
 use Rattle.spef_net.specs.Spellings.{named_by}
 use Rattle.spef_net.proofs.draft.Draft.own.Goals as goal
 

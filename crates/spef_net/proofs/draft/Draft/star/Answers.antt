@@ -1,7 +1,7 @@
 use Rattle.std.proofs.Common.{◌≡◌, ℕ, Bool, true, false, List, sym, ap, ◌∙◌}
 use Rattle.vg_scan.specs.declared.name.NodeName.{NodeName}
-use Rattle.spef_net.specs.Names.{is_inner}
-use Rattle.spef_net.specs.Nodes.{note_at, is_joined, is_starred}
+use Rattle.spef_nodes.specs.Members.{is_inner}
+use Rattle.spef_nodes.specs.Nodes.{note_at, is_joined, is_starred}
 use Rattle.spef_net.specs.Drafts.{Sketch}
 use Rattle.spef_net.specs.Spellings.{named_by}
 use Rattle.spef_net.proofs.TakeLemmas.{star_outer, star_joined, takes_star, takes_again}

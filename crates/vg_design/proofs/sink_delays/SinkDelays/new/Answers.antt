@@ -1,5 +1,3 @@
-use Rattle.std.proofs.Common.{refl, ap, ◌∙◌, []}
-use Rattle.vg_design.specs.SinkRows.{sink_rows}
 use Rattle.vg_design.proofs.SinkLemmas.{no_rows}
 use Rattle.vg_design.proofs.sink_delays.SinkDelays.new.Goals as goal
 

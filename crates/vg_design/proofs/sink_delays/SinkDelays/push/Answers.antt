@@ -1,9 +1,8 @@
-use Rattle.std.proofs.Common.{ℤ, List, ◌≡◌, [], ◌∷◌, ◌++◌, sym, ap, ◌∙◌, arith, length, rules}
+use Rattle.std.proofs.Common.{ℤ, List, ◌≡◌, [], ◌∷◌, ◌++◌, ap, ◌∙◌, arith, length, rules}
 use Rattle.std.proofs.lemmas.Int.{to_z-of_z}
 use mir.Syntax.{w128}
 use mir.Val.{SFits}
 use Rattle.vg_scan.specs.declared.name.NodeName.{NodeName}
-use Rattle.vg_design.specs.SinkRows.{sink_rows}
 use Rattle.vg_design.proofs.SinkLemmas.{rows_more, rows_are}
 use Rattle.vg_design.proofs.sink_delays.SinkDelays.push.Goals as goal
 

@@ -1,9 +1,0 @@
-use Rattle.std.proofs.Common.{arith}
-use Rattle.spef_net.proofs.NodeTableLemmas.{no_nodes, table_none}
-use Rattle.spef_net.proofs.node_table.NodeTable.new.Goals as goal
-
-pub invariant_of-result : goal.invariant_of-result
-invariant_of-result c = table_none c.new-2.result c.new-3.result c.new-4.result.items c.in_ok-chains.chains c.new-2.ensures c.new-4.ensures.items c.in_ok-chains.ensures.rows (omega (arith, c.in_ok-chains.ensures.buckets, c.requires.some)) (omega (arith, c.in_ok-chains.ensures.buckets, c.requires.fit))
-
-pub returns : goal.returns
-returns c = no_nodes c.new-2.result c.new-3.result c.new-2.ensures

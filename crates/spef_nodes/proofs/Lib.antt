@@ -1,0 +1,4 @@
+pub mod NodeLists
+pub mod ApartLemmas
+pub mod NodeTableLemmas
+pub mod NoteLemmas

@@ -1,0 +1,4 @@
+pub mod Members
+pub mod Nodes
+pub mod NodeTables
+pub mod Notes

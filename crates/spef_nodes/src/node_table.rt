@@ -1,0 +1,229 @@
+//! The nodes of a net, and a table to look them up.
+
+ghost use Rattle.std.specs.Prelude.{◌≡◌, ℕ, ◌+◌, ◌*◌, ◌%◌, ◌^◌, ◌<◌, ◌≤◌, List, [], ◌∷◌, ◌-◌, ◌++◌, if◌then◌else◌, is_ok, slice_index_or, length, true, false, Some, IfOk, IfSome, IfNone, OnOk, OnErr};
+ghost use Rattle.std.specs.List.{slice_get, fold};
+ghost use Rattle.vg_scan.specs.declared.name.NodeName.{NodeName};
+ghost use Rattle.vg_scan.specs.Chains.{AreChains};
+ghost use Rattle.vg_scan.specs.Nodes.{has_node, same_node};
+ghost use Rattle.spef_nodes.specs.Members.{with_node};
+ghost use Rattle.spef_nodes.specs.Members.{Owns};
+ghost use Rattle.spef_nodes.specs.NodeTables.{hash_with, bucket_of, nodes_in, IsTable};
+
+use crate::members::is_inner;
+use std::alloc::Global;
+use std::marker::Model;
+use vg_num::Memory;
+use vg_scan::{Chains, Texts};
+
+/// The names of nodes, the bucket of each, and the chains of the buckets.
+#[derive(Drop)]
+struct Table {
+    pub owners: Texts,
+    pub leaves: Texts,
+    /// One of each node, and more after a failure.
+    pub rows: Vec<u32>,
+    pub chains: Chains,
+}
+
+/// Distinct nodes, numbered from 0 in the order in which they came first, in one buffer. Contracts see the list of nodes.
+#[derive(Drop)]
+pub struct NodeTable {
+    table: Table,
+}
+
+impl Model for NodeTable {
+    ghost use Rattle.std.specs.Prelude.{List};
+    ghost use Rattle.vg_scan.specs.declared.name.NodeName.{NodeName};
+    ghost use Rattle.spef_nodes.specs.NodeTables.{nodes_in, IsTable};
+
+    ghost Value = { List NodeName };
+
+    ghost view = { λ nodes. nodes_in nodes.table.owners nodes.table.leaves };
+
+    ghost invariant = { λ nodes. IsTable (nodes_in nodes.table.owners nodes.table.leaves) nodes.table.rows.items nodes.table.chains };
+}
+
+/// A hash, with some bytes more: nodes of one owner whose leaves are numbers close to each other are in buckets close to each
+/// other.
+fn hash_more(start: u64, text: &[u8]) -> u64
+    requires { start < 2 ^ 32 }
+    ensures hash { result ≡ fold hash_with start text.now }
+    ensures within { result < 2 ^ 32 }
+{
+    let mut hash = start;
+    'byte: for byte in text {
+        hash = (hash * 31 + u64::from(*byte)) % 0x1_0000_0000;
+    }
+    hash
+}
+
+/// The bucket of a node among so many.
+fn bucket_of(buckets: usize, owner: &[u8], leaf: &[u8]) -> usize
+    requires { 0 < buckets }
+    ensures bucket { result ≡ bucket_of buckets (record { owner = owner.now; leaf = leaf.now }) }
+    ensures within { result < buckets }
+{
+    let start = hash_more(0, owner);
+    let hash = hash_more(start, leaf);
+    (hash % buckets as u64) as usize
+}
+
+/// Puts a row last, in this bucket. Answers `Memory` where there is no room; nothing changes then.
+fn add_row(rows: &mut Vec<u32>, chains: &mut Chains, bucket: usize) -> Result<(), Memory>
+    requires chained { AreChains chains.old rows.old.items }
+    requires bucket { bucket < length chains.old.lasts.items }
+    requires fit { length chains.old.lasts.items ≤ 2 ^ 32 }
+    requires few { length rows.old.items < 2 ^ 32 - 1 }
+    ensures chained { AreChains chains.new rows.new.items }
+    ensures rows { rows.new.items ≡ (if is_ok result then rows.old.items ++ bucket ∷ [] else rows.old.items) }
+    ensures buckets { length chains.new.lasts.items ≡ length chains.old.lasts.items }
+{
+    rows.push(bucket as u32)?;
+    match chains.push(bucket) {
+        Ok(()) => Ok(()),
+        Err(_) => {
+            rows.pop();
+            Err(Memory)
+        }
+    }
+}
+
+/// Puts a node's name last. Answers `Memory` where there is no room.
+fn add_name(owners: &mut Texts, leaves: &mut Texts, owner: &[u8], leaf: &[u8]) -> Result<(), Memory>
+    requires { length owners.old ≡ length leaves.old }
+    ensures last { OnOk result (nodes_in owners.new leaves.new ≡ nodes_in owners.old leaves.old ++ record { owner = owner.now; leaf = leaf.now } ∷ []) }
+    ensures unchanged { OnErr result (nodes_in owners.new leaves.new ≡ nodes_in owners.old leaves.old) }
+{
+    owners.push(owner)?;
+    match leaves.push(leaf) {
+        Ok(()) => Ok(()),
+        Err(_) => Err(Memory),
+    }
+}
+
+impl Table {
+    /// Whether the node of a number has this name.
+    fn is_named(&self, at: usize, owner: &[u8], leaf: &[u8]) -> bool
+        requires owner { at < length self.now.owners }
+        requires leaf { at < length self.now.leaves }
+        ensures { result ≡ same_node (record { owner = owner.now; leaf = leaf.now }) (record { owner = slice_index_or self.now.owners at []; leaf = slice_index_or self.now.leaves at [] }) }
+    {
+        owner == self.owners.get(at) && leaf == self.leaves.get(at)
+    }
+
+    /// Whether this node has this number.
+    fn is_at(&self, at: usize, owner: &[u8], leaf: &[u8]) -> bool
+        ensures same { (node : NodeName) → slice_get (nodes_in self.now.owners self.now.leaves) at ≡ Some node → result ≡ same_node (record { owner = owner.now; leaf = leaf.now }) node }
+        ensures there { result ≡ true → slice_get (nodes_in self.now.owners self.now.leaves) at ≡ Some (record { owner = owner.now; leaf = leaf.now }) }
+    {
+        if at >= self.owners.len() {
+            return false;
+        }
+        if at >= self.leaves.len() {
+            return false;
+        }
+        self.is_named(at, owner, leaf)
+    }
+
+    /// The number of a node whose bucket is this one. `None`: it is not there.
+    fn find_in(&self, bucket: usize, owner: &[u8], leaf: &[u8]) -> Option<u32>
+        requires table { IsTable (nodes_in self.now.owners self.now.leaves) self.now.rows.items self.now.chains }
+        requires bucket { bucket ≡ bucket_of (length self.now.chains.lasts.items) (record { owner = owner.now; leaf = leaf.now }) }
+        requires within { bucket < length self.now.chains.lasts.items }
+        ensures found { IfSome result (λ id. slice_get (nodes_in self.now.owners self.now.leaves) id ≡ Some (record { owner = owner.now; leaf = leaf.now })) }
+        ensures absent { IfNone result (has_node (nodes_in self.now.owners self.now.leaves) (record { owner = owner.now; leaf = leaf.now }) ≡ false) }
+    {
+        let mut link = self.chains.last(bucket);
+        'row: while link != 0 {
+            let row = link as usize - 1;
+            if self.is_at(row, owner, leaf) {
+                return Some(link - 1);
+            }
+            link = self.chains.before(row);
+        }
+        None
+    }
+
+    /// Puts a node last whose bucket is this one. Answers `Memory` where there is no room, and from then on.
+    fn add(&mut self, bucket: usize, owner: &[u8], leaf: &[u8]) -> Result<u32, Memory>
+        requires table { IsTable (nodes_in self.old.owners self.old.leaves) self.old.rows.items self.old.chains }
+        requires bucket { bucket ≡ bucket_of (length self.old.chains.lasts.items) (record { owner = owner.now; leaf = leaf.now }) }
+        requires within { bucket < length self.old.chains.lasts.items }
+        ensures table { IsTable (nodes_in self.new.owners self.new.leaves) self.new.rows.items self.new.chains }
+        ensures nodes { OnOk result (nodes_in self.new.owners self.new.leaves ≡ nodes_in self.old.owners self.old.leaves ++ record { owner = owner.now; leaf = leaf.now } ∷ []) }
+        ensures number { IfOk result (λ id. id ≡ length (nodes_in self.old.owners self.old.leaves)) }
+    {
+        let count = self.rows.len();
+        if count >= 0xFFFF_FFFF || self.owners.len() != count || self.leaves.len() != count {
+            return Err(Memory);
+        }
+        add_row(&mut self.rows, &mut self.chains, bucket)?;
+        add_name(&mut self.owners, &mut self.leaves, owner, leaf)?;
+        Ok(count as u32)
+    }
+}
+
+impl NodeTable {
+    /// No nodes, in a table of so many buckets. Answers `Memory` where there is no room.
+    pub fn new(alloc: Global, buckets: usize) -> Result<NodeTable, Memory>
+        requires some { 0 < buckets }
+        requires fit { buckets ≤ 2 ^ 32 }
+        ensures { IfOk result (λ nodes. nodes ≡ []) }
+    {
+        let chains = Chains::new(alloc, buckets)?;
+        Ok(NodeTable {
+            table: Table {
+                owners: Texts::new(alloc),
+                leaves: Texts::new(alloc),
+                rows: Vec::new(alloc),
+                chains,
+            },
+        })
+    }
+
+    /// The number of a node, which is put last where it is new.
+    ///
+    /// Answers `Memory` where there is no room, as where there would be 2^32 nodes or more, and then for each new node.
+    pub fn intern(&mut self, owner: &[u8], leaf: &[u8]) -> Result<u32, Memory>
+        ensures nodes { OnOk result (self.new ≡ with_node self.old (record { owner = owner.now; leaf = leaf.now })) }
+        ensures number { IfOk result (λ id. slice_get self.new id ≡ Some (record { owner = owner.now; leaf = leaf.now })) }
+    {
+        let bucket = bucket_of(self.table.chains.buckets(), owner, leaf);
+        match self.table.find_in(bucket, owner, leaf) {
+            Some(id) => Ok(id),
+            None => self.table.add(bucket, owner, leaf),
+        }
+    }
+
+    /// The number of a node of the net of this name: one that is there, or one inside the net, which is put last where it is
+    /// new. `None`: it is another net's. Answers `Memory` as `intern` does.
+    pub fn own(&mut self, net: &[u8], owner: &[u8], leaf: &[u8]) -> Result<Option<u32>, Memory>
+        ensures { Owns result net.now self.old (record { owner = owner.now; leaf = leaf.now }) self.new }
+    {
+        let bucket = bucket_of(self.table.chains.buckets(), owner, leaf);
+        match self.table.find_in(bucket, owner, leaf) {
+            Some(id) => Ok(Some(id)),
+            None => {
+                if !is_inner(net, owner, leaf) {
+                    return Ok(None);
+                }
+                let id = self.table.add(bucket, owner, leaf)?;
+                Ok(Some(id))
+            }
+        }
+    }
+
+    /// The owners and the leaves of the nodes.
+    pub fn into_names(self) -> (Texts, Texts)
+        ensures { nodes_in result.0 result.1 ≡ self }
+    {
+        let NodeTable { table } = self;
+        let Table {
+            owners,
+            leaves,
+            rows: _,
+            chains: _,
+        } = table;
+        (owners, leaves)
+    }
+}
