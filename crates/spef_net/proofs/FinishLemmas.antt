@@ -7,9 +7,11 @@ use Rattle.spef_net.specs.declared.net.ParConn.{ParConn}
 use Rattle.spef_nodes.specs.Nodes.{ParNode, Note, note_at, noted, noted_all}
 use Rattle.spef_net.specs.declared.net.ParNet.{ParNet}
 use Rattle.vg_scan.specs.Nodes.{node_value}
-use Rattle.spef_net.specs.Sayings.{Said}
+use Rattle.spef_net.specs.Sayings.{Said, sayings}
 use Rattle.spef_net.specs.Rows.{joined_of, starred_of, connected_of, conns_of, caps_of, ress_of}
 use Rattle.spef_net.specs.Denoted.{described, AreConns, AreCaps, AreRess, all_nodes, IsNet}
+use Rattle.std.specs.Str.Lines.{lines}
+use Rattle.spef_net.specs.NodeReaders.{NetNodes}
 use Rattle.spef_net.specs.Drafts.{Sketch, IsSketch, note_from, IsMade}
 
 -- a node with what is noted of it is the node that is described
@@ -45,3 +47,8 @@ made_net name reduced all draft net s m = record {
   is_reduced = m.is_reduced;
   is_inductive = m.is_inductive ∙ s.inductive;
 }
+
+-- the draft of a net whose reader has these nodes
+pub sketch_of : (bytes : List ℕ) (nodes start : NetNodes) {draft : Sketch} → nodes ≡ start → IsSketch (connected_of (sayings nodes.file (lines bytes))) nodes.net (sayings nodes.file (lines bytes)) draft
+    → IsSketch (connected_of (sayings start.file (lines bytes))) start.net (sayings start.file (lines bytes)) draft
+sketch_of bytes nodes start {draft} e h = subst (λ (n : NetNodes). IsSketch (connected_of (sayings n.file (lines bytes))) n.net (sayings n.file (lines bytes)) draft) e h

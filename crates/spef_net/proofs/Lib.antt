@@ -1,5 +1,6 @@
 pub mod PlaceLemmas
 pub mod NodeLemmas
+pub mod NodeReaderLemmas
 pub mod RowLists
 pub mod SpellLemmas
 pub mod NotedLemmas

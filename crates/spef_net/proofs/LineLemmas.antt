@@ -26,7 +26,8 @@ use Rattle.spef_net.specs.Rows.{joined_in, connected_of}
 use Rattle.vg_scan.specs.Faults.{IsClear}
 use Rattle.vg_scan.proofs.FaultLemmas.{first_fault as first_here}
 use Rattle.spef_net.specs.Faults.{fault_of, fault_at, IsFirstFaultIn}
-use Rattle.spef_net.specs.Drafts.{Sketch, IsSketch, IsCounted, Takes}
+use Rattle.spef_net.specs.Drafts.{Sketch, start_of, IsSketch, IsCounted, Takes}
+use Rattle.spef_net.specs.NodeReaders.{NetNodes}
 use Rattle.spef_net.specs.Surveys.{is_conns, with_joined}
 use Rattle.spef_net.specs.Views.{IsFaultOrMemory, fault_in}
 use Rattle.spef_nodes.proofs.NodeLists.{has-distinct}
@@ -192,11 +193,10 @@ is_counted all n (Ok (Coupling a b value)) others e = tt
 is_counted all n (Ok (Resistor a b value)) others e = tt
 
 -- before the first line
-pub no_lines : (connected : List NodeName) (net : List ℕ) (nodes : List NodeName) → nodes ≡ distinct connected
-    → IsSketch connected net [] (record { nodes = nodes; notes = []; conns = []; caps = []; ress = []; inductive = false })
-no_lines connected net nodes e = record {
+pub no_lines : (connected : List NodeName) (start : NetNodes) → start.nodes ≡ distinct connected → IsSketch connected start.net [] (start_of start)
+no_lines connected start e = record {
   nodes = e ∙ ap distinct (sym (append-nil connected));
-  own = λ node. ap (λ ns. has_node ns node || Rattle.spef_nodes.specs.Members.is_inner net node) e ∙ ap (λ b. b || Rattle.spef_nodes.specs.Members.is_inner net node) (has-distinct connected node);
+  own = λ node. ap (λ ns. has_node ns node || Rattle.spef_nodes.specs.Members.is_inner start.net node) e ∙ ap (λ b. b || Rattle.spef_nodes.specs.Members.is_inner start.net node) (has-distinct connected node);
   noted = record { here = λ i node at. refl; beyond = λ i low. refl; others = λ node f. refl };
   conns = refl;
   caps = refl;

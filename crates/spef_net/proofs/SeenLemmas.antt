@@ -1,5 +1,5 @@
 -- Lines taken, by their words.
-use Rattle.std.proofs.Common.{◌≡◌, ◌||◌, Bool, ℕ, true, false, List, [], ◌∷◌, map, length, eqb, arith, refl, sym, ap, subst, Option, None, Result, Ok, Err}
+use Rattle.std.proofs.Common.{◌≡◌, ◌||◌, Bool, ℕ, true, false, List, [], ◌∷◌, map, length, get_or, eqb, arith, refl, sym, ap, subst, Option, None, Result, Ok, Err}
 use Rattle.std.proofs.lemmas.Bool.Decides.{nat_tests}
 use Rattle.vg_num.specs.declared.fault.NumFault.{NumFault}
 use Rattle.vg_scan.specs.Lines.{Line}
@@ -10,7 +10,8 @@ use Rattle.spef_net.specs.declared.part.Part.TheVariants.{Nowhere, Conns, Caps, 
 use Rattle.spef_net.specs.declared.fault.NetKind.{NetKind}
 use Rattle.spef_net.specs.declared.fault.NetKind.TheVariants.{Cap, Res}
 use Rattle.spef_net.specs.Lines.{head_of}
-use Rattle.spef_net.specs.Sayings.{Said, Opens, Nothing, conn_line, cap_line, res_line, ground, coupling, resistor, said_in, said_or_opens, said_words}
+use Rattle.spef_net.specs.Sayings.{Said, Opens, Nothing, conn_line, cap_line, res_line, ground, coupling, resistor, value_in, said_in, said_or_opens, said_words, said}
+use Rattle.spef_net.specs.Sights.{two_in}
 use Rattle.spef_net.specs.Rows.{is_inductance, joined_in}
 use Rattle.spef_net.specs.Drafts.{Sketch, Takes, Follows}
 use Rattle.spef_net.specs.Surveys.{is_conns, with_joined, Surveys}
@@ -94,3 +95,30 @@ surveys_conn file Caps line ws old new s e n h = absurd (cc)
 surveys_conn file Ress line ws old new s e n h = absurd (cc)
 surveys_conn file Inducs line ws old new s e n h = absurd (cc)
 surveys_conn file Conns line ws old new s e n h = subst (λ (s : Said). Surveys (Ok Conns) old new Conns s) (sym e) (same_part file Conns Conns line ws, h)
+
+-- a line of the net and of the file of a draft
+pub follows_of : (r : Result Part NetKind) (file of_draft : File) (net net_of_draft : List ℕ) (part : Part) (line : List ℕ) (old new : Sketch) → of_draft ≡ file → net_of_draft ≡ net
+    → Follows r net_of_draft part old (said of_draft part line) new → Follows r net part old (said file part line) new
+follows_of r file of_draft net net_of_draft part line old new f n h =
+    subst (λ (p : File × List ℕ). Follows r p.1 part old (said p.0 part line) new) (λ i. (f i, n i)) h
+
+-- lines of four words
+pub cap_four : {X : Type 0} (file : File) (view : X → List ℕ) (ws : List X) (other : X) → length ws ≡ 4
+    → cap_line file (map view ws) ≡ coupling (two_in file (view (get_or ws 1 other)) (view (get_or ws 2 other))) (value_in file.c_places (view (get_or ws 3 other)))
+unfolding cap_line
+cap_four file view [] other e = absurd (omega arith)
+cap_four file view (a ∷ []) other e = absurd (omega arith)
+cap_four file view (a ∷ b ∷ []) other e = absurd (omega arith)
+cap_four file view (a ∷ b ∷ c ∷ []) other e = absurd (omega arith)
+cap_four file view (a ∷ b ∷ c ∷ d ∷ []) other e = refl
+cap_four file view (a ∷ b ∷ c ∷ d ∷ x ∷ xs) other e = absurd (omega arith)
+
+pub res_four : {X : Type 0} (file : File) (view : X → List ℕ) (ws : List X) (other : X) → length ws ≡ 4
+    → res_line file (map view ws) ≡ resistor (two_in file (view (get_or ws 1 other)) (view (get_or ws 2 other))) (value_in file.r_places (view (get_or ws 3 other)))
+unfolding res_line
+res_four file view [] other e = absurd (omega arith)
+res_four file view (a ∷ []) other e = absurd (omega arith)
+res_four file view (a ∷ b ∷ []) other e = absurd (omega arith)
+res_four file view (a ∷ b ∷ c ∷ []) other e = absurd (omega arith)
+res_four file view (a ∷ b ∷ c ∷ d ∷ []) other e = refl
+res_four file view (a ∷ b ∷ c ∷ d ∷ x ∷ xs) other e = absurd (omega arith)

@@ -15,18 +15,30 @@ use Rattle.spef_net.specs.declared.part.Part.{Part}
 use Rattle.spef_net.specs.Sayings.{Said, part_after}
 use Rattle.spef_net.specs.Rows.{joined_of, starred_of, conns_of, caps_of, ress_of, nodes_of, is_inductive}
 use Rattle.spef_net.specs.Faults.{number_fault, fault_of}
+use Rattle.spef_file.specs.Files.{File}
+use Rattle.spef_net.specs.NodeReaders.{NetNodes}
 use Rattle.spef_net.specs.Denoted.{AreConns, AreCaps, AreRess}
 use Rattle.spef_nodes.specs.Nodes.{Note, fresh, joined, starred, note_at, noted_all}
 use Rattle.spef_net.specs.Views.{IsFaultOrMemory}
 
--- the nodes so far, what is noted of them, and the rows, whose nodes are numbers
+-- of the net of this name in a file: the nodes so far, what is noted of them, and the rows, whose nodes are numbers
 pub record Sketch : Type 0 where
+  pub file : File
+  pub net : List ℕ
   pub nodes : List NodeName
   pub notes : List Note
   pub conns : List ParConn
   pub caps : List (ℕ × ℕ)
   pub ress : List (ℕ × ℕ × ℕ)
   pub inductive : Bool
+
+-- no line is taken yet
+abbrev pub start_of : NetNodes → Sketch
+start_of net = record { file = net.file; net = net.net; nodes = net.nodes; notes = []; conns = []; caps = []; ress = []; inductive = false }
+
+-- both are of one net of one file
+abbrev pub IsSameSource : Sketch → Sketch → Type 0
+IsSameSource old new = (new.file ≡ old.file) × (new.net ≡ old.net)
 
 -- a connection more, with its note
 abbrev pub ConnAdded : Sketch → ParConn → List ℕ → Sketch → Type 0

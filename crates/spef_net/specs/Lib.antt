@@ -1,6 +1,7 @@
 pub mod Spellings
 pub mod ConnLines
 pub mod Names
+pub mod NodeReaders
 pub mod Lines
 pub mod Sayings
 pub mod Rows

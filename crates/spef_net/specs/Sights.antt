@@ -3,6 +3,9 @@ use Rattle.std.specs.Prelude.{◌≡◌, ℕ, List, Option, Some, None, Result, 
 use Rattle.vg_scan.specs.declared.fault.NameFault.{NameFault}
 use Rattle.vg_scan.specs.declared.fault.NameFault.TheVariants.{Bad, Memory}
 use Rattle.vg_scan.specs.declared.name.NodeName.{NodeName}
+use Rattle.spef_file.specs.Files.{File}
+use Rattle.spef_net.specs.Names.{node_in}
+use Rattle.spef_net.specs.Sayings.{both}
 use Rattle.spef_net.specs.Drafts.{Sketch, Owns}
 
 -- the node's number where it is the net's, or none
@@ -10,6 +13,10 @@ abbrev pub Sees : Result (Option ℕ) NameFault → List ℕ → Sketch → Opti
 Sees (Ok found) net old o new = (node : NodeName) × (o ≡ Some node) × Owns (Ok found) net old node new
 Sees (Err Bad) net old o new = o ≡ None
 Sees (Err Memory) net old o new = Unit {0}
+
+-- the nodes that two texts name, if both name one
+abbrev pub two_in : File → List ℕ → List ℕ → Option (NodeName × NodeName)
+two_in file a b = both (node_in file a) (node_in file b)
 
 -- the numbers of two nodes, one after the other
 abbrev pub SeesTwo : Result (Option ℕ × Option ℕ) NameFault → List ℕ → Sketch → Option (NodeName × NodeName) → Sketch → Type 0

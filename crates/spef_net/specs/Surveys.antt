@@ -6,9 +6,11 @@ use Rattle.spef_net.specs.declared.fault.NetKind.{NetKind}
 use Rattle.spef_net.specs.declared.fault.NetKind.TheVariants.{Memory}
 use Rattle.spef_net.specs.declared.part.Part.{Part}
 use Rattle.spef_net.specs.declared.part.Part.TheVariants.{Conns}
-use Rattle.spef_nodes.specs.Members.{with_node}
-use Rattle.spef_net.specs.Sayings.{Said, part_after}
-use Rattle.spef_net.specs.Rows.{joined_in}
+use Rattle.spef_nodes.specs.Members.{with_node, distinct}
+use Rattle.spef_net.specs.Sayings.{Said, part_after, sayings}
+use Rattle.spef_net.specs.Rows.{joined_in, connected_of}
+use Rattle.spef_net.specs.NodeReaders.{NetNodes}
+use Rattle.spef_file.specs.Files.{File}
 
 abbrev pub is_conns : Part → Bool
 is_conns Conns = true
@@ -22,6 +24,10 @@ with_joined nodes None = nodes
 abbrev pub Surveys : Result Part NoRoom → List NodeName → List NodeName → Part → Said → Type 0
 Surveys (Ok next) old new part line = (next ≡ part_after part line) × (new ≡ with_joined old (joined_in line))
 Surveys (Err _) old new part line = Unit {0}
+
+-- the nodes of the connections of a section's lines
+abbrev pub connections_in : File → List ℕ → List (List ℕ) → NetNodes
+connections_in file net lines = record { file = file; net = net; nodes = distinct (connected_of (sayings file lines)) }
 
 abbrev pub is_memory : NetKind → Bool
 is_memory Memory = true

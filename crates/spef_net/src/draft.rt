@@ -7,21 +7,25 @@ ghost use Rattle.spef_nodes.specs.Members.{with_node};
 ghost use Rattle.spef_net.specs.Sayings.{Opens, Connects, Star};
 ghost use Rattle.spef_net.specs.Spellings.{named_by};
 ghost use Rattle.spef_net.specs.Rows.{is_inductance};
-ghost use Rattle.spef_net.specs.Drafts.{Sketch, Owns, ConnAdded, StarAdded, AddsCap, AddsRes, Takes};
+ghost use Rattle.spef_net.specs.Names.{node_in};
+ghost use Rattle.spef_net.specs.Sights.{Sees, SeesTwo, two_in};
+ghost use Rattle.spef_net.specs.Drafts.{Sketch, start_of, IsSameSource, ConnAdded, StarAdded, AddsCap, AddsRes, Takes};
 
 use crate::fault::NetKind;
 use crate::net::{ConnKind, Direction, ParConn};
 use crate::node::Node;
+use crate::node_reader::NodeReader;
 use crate::part::Part;
-use spef_nodes::{NodeTable, Notes, is_inner};
+use spef_nodes::{Notes, is_inner};
 use std::alloc::Global;
 use std::marker::Model;
 use vg_num::{Memory, NumFault};
+use vg_scan::NameFault;
 
 /// The nodes so far, what is noted of them, and the rows.
 #[derive(Drop)]
-pub(crate) struct Draft {
-    pub nodes: NodeTable,
+pub(crate) struct Draft<'a> {
+    pub nodes: NodeReader<'a>,
     pub notes: Notes,
     pub conns: Vec<ParConn>,
     pub caps: Vec<(u32, u64)>,
@@ -29,10 +33,10 @@ pub(crate) struct Draft {
     pub inductive: bool,
 }
 
-impl Model for Draft {
+impl<'a> Model for Draft<'a> {
     ghost Value = { Sketch };
 
-    ghost view = { λ draft. record { nodes = draft.nodes; notes = draft.notes; conns = draft.conns.items; caps = draft.caps.items; ress = draft.ress.items; inductive = draft.inductive } };
+    ghost view = { λ draft. record { file = draft.nodes.file; net = draft.nodes.net; nodes = draft.nodes.nodes; notes = draft.notes; conns = draft.conns.items; caps = draft.caps.items; ress = draft.ress.items; inductive = draft.inductive } };
 }
 
 fn is_inductance(part: Part) -> bool
@@ -41,10 +45,10 @@ fn is_inductance(part: Part) -> bool
     matches!(part, Part::Inducs)
 }
 
-impl Draft {
+impl<'a> Draft<'a> {
     /// A net of these nodes, before the first line.
-    pub fn new(alloc: Global, nodes: NodeTable) -> Draft
-        ensures { result ≡ record { nodes = nodes; notes = []; conns = []; caps = []; ress = []; inductive = false } }
+    pub fn new(alloc: Global, nodes: NodeReader<'a>) -> Draft<'a>
+        ensures { result ≡ start_of nodes.entry }
     {
         Draft {
             nodes,
@@ -56,12 +60,33 @@ impl Draft {
         }
     }
 
-    /// The number of a node of the net, which is put last where it is new. `None`: it is another net's.
-    pub fn own(&mut self, net: &[u8], node: &Node) -> Result<Option<u32>, Memory>
-        ensures { Owns result net.now self.old (named_by node.now) self.new }
+    /// The number of the node that a text names, if it is the net's; it is put last where it is new.
+    ///
+    /// Answers `Bad` where the text names no node, and `Memory` where there is no room.
+    pub fn see(&mut self, text: &'a [u8]) -> Result<Option<u32>, NameFault>
+        ensures seen { Sees result self.old.net self.old (node_in self.old.file text.now) self.new }
+        ensures source { IsSameSource self.old self.new }
     {
-        self.nodes
-            .own(net, node.owner.as_bytes(), node.leaf.as_bytes())
+        self.nodes.see(text)
+    }
+
+    /// The same of two texts.
+    pub fn see_two(
+        &mut self,
+        texts: (&'a [u8], &'a [u8]),
+    ) -> Result<(Option<u32>, Option<u32>), NameFault>
+        ensures seen { SeesTwo result self.old.net self.old (two_in self.old.file texts.entry.0.now texts.entry.1.now) self.new }
+        ensures source { IsSameSource self.old self.new }
+    {
+        match self.see(texts.0) {
+            Err(NameFault::Bad) => Err(NameFault::Bad),
+            Err(NameFault::Memory) => Err(NameFault::Memory),
+            Ok(first) => match self.see(texts.1) {
+                Err(NameFault::Bad) => Err(NameFault::Bad),
+                Err(NameFault::Memory) => Err(NameFault::Memory),
+                Ok(second) => Ok((first, second)),
+            },
+        }
     }
 
     /// The number of a node, which is put last where it is new.
@@ -69,9 +94,7 @@ impl Draft {
         ensures nodes { OnOk result (self.new ≡ record self.old { nodes = with_node self.old.nodes (named_by node.now) }) }
         ensures number { IfOk result (λ id. slice_get (with_node self.old.nodes (named_by node.now)) id ≡ Some (named_by node.now)) }
     {
-        let id = self
-            .nodes
-            .intern(node.owner.as_bytes(), node.leaf.as_bytes())?;
+        let id = self.nodes.intern(node)?;
         Ok(id)
     }
 
@@ -112,7 +135,8 @@ impl Draft {
         node: &Node,
         note: &[u8],
     ) -> Result<(), NetKind>
-        ensures { (net : List ℕ) → Takes result net self.old (Ok (Connects kind direction (named_by node.now) note.now)) self.new }
+        ensures taken { Takes result self.old.net self.old (Ok (Connects kind direction (named_by node.now) note.now)) self.new }
+        ensures source { OnOk result (IsSameSource self.old self.new) }
     {
         match self.intern(node) {
             Err(_) => Err(NetKind::Memory),
@@ -136,10 +160,15 @@ impl Draft {
     /// Takes a `*N` line: the first note of a node stays.
     ///
     /// Answers `Conn` where its node is no inner one or a connection, and `Memory` where there is no room.
-    pub fn star(&mut self, net: &[u8], node: &Node, note: &[u8]) -> Result<(), NetKind>
-        ensures { Takes result net.now self.old (Ok (Star (named_by node.now) note.now)) self.new }
+    pub fn star(&mut self, node: &Node, note: &[u8]) -> Result<(), NetKind>
+        ensures taken { Takes result self.old.net self.old (Ok (Star (named_by node.now) note.now)) self.new }
+        ensures source { OnOk result (IsSameSource self.old self.new) }
     {
-        if !is_inner(net, node.owner.as_bytes(), node.leaf.as_bytes()) {
+        if !is_inner(
+            self.nodes.net(),
+            node.owner.as_bytes(),
+            node.leaf.as_bytes(),
+        ) {
             return Err(NetKind::Conn);
         }
         match self.intern(node) {

@@ -14,7 +14,7 @@ use crate::draft::Draft;
 use crate::fault::{NetFault, NetKind};
 use crate::net::ParNet;
 use crate::read::read_lines;
-use crate::survey::find_connections;
+use crate::survey::read_connections;
 use spef_file::SpefIndex;
 use spef_nodes::Nodes;
 use std::alloc::Global;
@@ -23,10 +23,10 @@ use vg_scan::Name;
 
 /// The net of a draft.
 fn finish(alloc: Global, net: &[u8], reduced: bool, draft: Draft) -> Result<ParNet, NoRoom>
-    ensures { IfOk result (λ par. IsMade net.now reduced draft par) }
+    ensures { IfOk result (λ par. IsMade net.now reduced draft.entry par) }
 {
     let name = Name::from_bytes(alloc, net)?;
-    let (owners, leaves) = draft.nodes.into_names();
+    let (owners, leaves) = draft.nodes.into_nodes().into_names();
     Ok(ParNet {
         name,
         nodes: Nodes::new(owners, leaves, draft.notes),
@@ -60,12 +60,12 @@ pub(crate) fn read_section(
     ensures sized { IfOk result IsSized }
     ensures fault { IfErr result (λ fault. (fault.kind ≡ Memory) ⊎ IsFirstFaultIn net.now (sayings (shown index.now) (lines bytes.now)) first fault) }
 {
-    match find_connections(alloc, index, bytes) {
+    match read_connections(alloc, index, net, bytes) {
         Err(_) => Err(NetFault {
             kind: NetKind::Memory,
             line: first,
         }),
-        Ok(nodes) => match read_lines(alloc, index, net, bytes, first, nodes) {
+        Ok(nodes) => match read_lines(alloc, nodes, bytes, first) {
             Err(fault) => Err(fault),
             Ok(draft) => match finish(alloc, net, reduced, draft) {
                 Err(_) => Err(NetFault {

@@ -1,19 +1,21 @@
 //! The connections of a section, before its lines are read in order.
 
-ghost use Rattle.std.specs.Prelude.{◌≡◌, ◌≤◌, ◌^◌, false, None, IfOk, OnOk, length};
+ghost use Rattle.std.specs.Prelude.{◌≡◌, ◌<◌, ◌≤◌, ◌^◌, false, None, IfOk, OnOk, length};
 ghost use Rattle.std.specs.Str.Lines.{lines};
 ghost use Rattle.spef_file.specs.Shown.{shown};
-ghost use Rattle.spef_nodes.specs.Members.{distinct};
 ghost use Rattle.spef_net.specs.Sayings.{said, said_words, sayings, conn_line};
 ghost use Rattle.spef_net.specs.Rows.{connected_of, joined_in};
 ghost use Rattle.vg_scan.specs.Lines.{words};
 ghost use Rattle.vg_scan.specs.Spans.{words_at};
 ghost use Rattle.spef_net.specs.Lines.{head_of};
+ghost use Rattle.spef_nodes.specs.Members.{distinct};
+ghost use Rattle.spef_net.specs.Surveys.{connections_in};
 ghost use Rattle.spef_net.specs.Surveys.{Surveys, is_conns, is_memory, with_joined};
 
 use crate::conn_line::{ConnLine, read_conn};
 use crate::fault::NetKind;
 use crate::line::{head_of, line_words};
+use crate::node_reader::NodeReader;
 use crate::part::Part;
 use spef_file::SpefIndex;
 use spef_nodes::NodeTable;
@@ -119,16 +121,30 @@ fn survey_line(
     Ok(next)
 }
 
-/// The nodes of a section's connections, each once. Answers `Memory` where there is no room.
-pub(crate) fn find_connections(
+/// A table for the nodes of a section: so many bytes have at most about so many nodes.
+fn slots_for(bytes: usize) -> usize
+    requires { bytes ≤ 2 ^ 28 }
+    ensures { (0 < result) × (result ≤ 2 ^ 32) }
+{
+    let mut slots = 64usize;
+    'double: while slots < bytes / 64 {
+        slots *= 2;
+    }
+    slots
+}
+
+/// The nodes of a section's connections, each once, in a table of so many slots. Answers `Memory` where there is no room.
+fn find_connections(
     alloc: Global,
     index: &SpefIndex,
     bytes: &[u8],
+    slots: usize,
 ) -> Result<NodeTable, Memory>
-    requires { length bytes.now ≤ 2 ^ 28 }
+    requires length { length bytes.now ≤ 2 ^ 28 }
+    requires slots { (0 < slots) × (slots ≤ 2 ^ 32) }
     ensures { IfOk result (λ nodes. nodes ≡ distinct (connected_of (sayings (shown index.now) (lines bytes.now)))) }
 {
-    let mut nodes = NodeTable::new(alloc, bytes.len() / 32 + 1)?;
+    let mut nodes = NodeTable::new(alloc, slots)?;
     let mut found = Vec::new(alloc);
     let mut part = Part::Nowhere;
     let mut at = 0usize;
@@ -144,4 +160,20 @@ pub(crate) fn find_connections(
         at = next;
     }
     Ok(nodes)
+}
+
+/// The reader of a net's nodes, which has those of its connections. Answers `Memory` where there is no room.
+pub(crate) fn read_connections<'a>(
+    alloc: Global,
+    index: &'a SpefIndex,
+    net: &'a [u8],
+    bytes: &[u8],
+) -> Result<NodeReader<'a>, Memory>
+    requires { length bytes.now ≤ 2 ^ 28 }
+    ensures { IfOk result (λ reader. reader ≡ connections_in (shown index.now) net.now (lines bytes.now)) }
+{
+    let slots = slots_for(bytes.len());
+    let nodes = find_connections(alloc, index, bytes, slots)?;
+    let reader = NodeReader::new(alloc, index, net, nodes, slots)?;
+    Ok(reader)
 }

@@ -1,5 +1,5 @@
 -- The nodes of a table, and the buckets in which they are.
-use Rattle.std.specs.Prelude.{◌≡◌, ℕ, ◌+◌, ◌*◌, ◌%◌, ◌^◌, ◌<◌, ◌≤◌, List, [], ◌∷◌, length, Some}
+use Rattle.std.specs.Prelude.{◌≡◌, ℕ, ◌+◌, ◌-◌, ◌*◌, ◌%◌, ◌^◌, ◌<◌, ◌≤◌, bit_and, List, [], ◌∷◌, length, Some}
 use Rattle.std.specs.List.{slice_get, fold}
 use Rattle.vg_scan.specs.declared.name.NodeName.{NodeName}
 use Rattle.vg_scan.specs.declared.chains.Chains.{Chains}
@@ -9,9 +9,9 @@ use Rattle.vg_scan.specs.Chains.{AreChains}
 abbrev pub hash_with : ℕ → ℕ → ℕ
 hash_with hash byte = (hash * 31 + byte) % 2 ^ 32
 
--- a node's bucket among so many is that of the hash of its owner and its leaf
+-- a node's bucket among so many is that of the low bits of the hash of its owner and its leaf
 unfoldable pub bucket_of : ℕ → NodeName → ℕ
-bucket_of buckets node = fold hash_with (fold hash_with 0 node.owner) node.leaf % buckets
+bucket_of buckets node = bit_and (fold hash_with (fold hash_with 0 node.owner) node.leaf) (buckets - 1)
 
 -- the nodes of these owners and leaves
 unfoldable pub nodes_in : List (List ℕ) → List (List ℕ) → List NodeName

@@ -57,7 +57,7 @@ fn hash_more(start: u64, text: &[u8]) -> u64
     hash
 }
 
-/// The bucket of a node among so many.
+/// The bucket of a node among so many; each of them is used where they are a power of two.
 fn bucket_of(buckets: usize, owner: &[u8], leaf: &[u8]) -> usize
     requires { 0 < buckets }
     ensures bucket { result ≡ bucket_of buckets (record { owner = owner.now; leaf = leaf.now }) }
@@ -65,7 +65,7 @@ fn bucket_of(buckets: usize, owner: &[u8], leaf: &[u8]) -> usize
 {
     let start = hash_more(0, owner);
     let hash = hash_more(start, leaf);
-    (hash % buckets as u64) as usize
+    hash as usize & (buckets - 1)
 }
 
 /// Puts a row last, in this bucket. Answers `Memory` where there is no room; nothing changes then.
@@ -152,13 +152,18 @@ impl Table {
         ensures table { IsTable (nodes_in self.new.owners self.new.leaves) self.new.rows.items self.new.chains }
         ensures nodes { OnOk result (nodes_in self.new.owners self.new.leaves ≡ nodes_in self.old.owners self.old.leaves ++ record { owner = owner.now; leaf = leaf.now } ∷ []) }
         ensures number { IfOk result (λ id. id ≡ length (nodes_in self.old.owners self.old.leaves)) }
+        ensures unchanged { OnErr result (nodes_in self.new.owners self.new.leaves ≡ nodes_in self.old.owners self.old.leaves) }
     {
         let count = self.rows.len();
         if count >= 0xFFFF_FFFF || self.owners.len() != count || self.leaves.len() != count {
             return Err(Memory);
         }
-        add_row(&mut self.rows, &mut self.chains, bucket)?;
-        add_name(&mut self.owners, &mut self.leaves, owner, leaf)?;
+        let Ok(()) = add_row(&mut self.rows, &mut self.chains, bucket) else {
+            return Err(Memory);
+        };
+        let Ok(()) = add_name(&mut self.owners, &mut self.leaves, owner, leaf) else {
+            return Err(Memory);
+        };
         Ok(count as u32)
     }
 }
@@ -187,6 +192,7 @@ impl NodeTable {
     pub fn intern(&mut self, owner: &[u8], leaf: &[u8]) -> Result<u32, Memory>
         ensures nodes { OnOk result (self.new ≡ with_node self.old (record { owner = owner.now; leaf = leaf.now })) }
         ensures number { IfOk result (λ id. slice_get self.new id ≡ Some (record { owner = owner.now; leaf = leaf.now })) }
+        ensures unchanged { OnErr result (self.new ≡ self.old) }
     {
         let bucket = bucket_of(self.table.chains.buckets(), owner, leaf);
         match self.table.find_in(bucket, owner, leaf) {
@@ -198,7 +204,8 @@ impl NodeTable {
     /// The number of a node of the net of this name: one that is there, or one inside the net, which is put last where it is
     /// new. `None`: it is another net's. Answers `Memory` as `intern` does.
     pub fn own(&mut self, net: &[u8], owner: &[u8], leaf: &[u8]) -> Result<Option<u32>, Memory>
-        ensures { Owns result net.now self.old (record { owner = owner.now; leaf = leaf.now }) self.new }
+        ensures owned { Owns result net.now self.old (record { owner = owner.now; leaf = leaf.now }) self.new }
+        ensures unchanged { OnErr result (self.new ≡ self.old) }
     {
         let bucket = bucket_of(self.table.chains.buckets(), owner, leaf);
         match self.table.find_in(bucket, owner, leaf) {
@@ -207,7 +214,9 @@ impl NodeTable {
                 if !is_inner(net, owner, leaf) {
                     return Ok(None);
                 }
-                let id = self.table.add(bucket, owner, leaf)?;
+                let Ok(id) = self.table.add(bucket, owner, leaf) else {
+                    return Err(Memory);
+                };
                 Ok(Some(id))
             }
         }

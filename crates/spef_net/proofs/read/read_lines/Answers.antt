@@ -1,6 +1,5 @@
-use Rattle.std.proofs.Common.{◌≡◌, ◌∷◌, List, [], take, drop, sym, ◌∙◌, ap, refl, arith, subst, Ok}
+use Rattle.std.proofs.Common.{◌≡◌, ◌∷◌, List, [], take, drop, sym, ◌∙◌, ap, refl, arith, subst, Ok, Err}
 use Rattle.std.specs.Str.Lines.{lines}
-use Rattle.spef_file.specs.Shown.{shown}
 use Rattle.spef_net.specs.Sayings.{Nothing}
 use Rattle.spef_net.specs.Sayings.{Said, said, part_after, sayings, sayings_from}
 use Rattle.spef_net.specs.Rows.{connected_of}
@@ -8,6 +7,7 @@ use Rattle.spef_net.specs.Drafts.{Sketch, IsSketch}
 use Rattle.vg_scan.proofs.FaultLemmas.{clear_more}
 use Rattle.vg_scan.proofs.ItemLemmas.{next_is, all_read, take_whole}
 use Rattle.spef_net.specs.Faults.{fault_of, fault_at}
+use Rattle.spef_net.proofs.SeenLemmas.{follows_of}
 use Rattle.spef_net.proofs.LineLemmas.{left, none_left, is_counted, no_lines, first_fault}
 use Rattle.spef_net.proofs.read.read_lines.Goals as goal
 
@@ -17,13 +17,15 @@ line-init c = record {
   counted = omega arith;
   rest = refl;
   clear = λ i h. absurd (omega arith);
-  sketch = subst (λ (d : Sketch). IsSketch (connected_of (sayings (shown c.args.index.now) (lines c.args.bytes.now))) c.args.net.now [] d) (sym c.new-draft.ensures)
-      (no_lines (connected_of (sayings (shown c.args.index.now) (lines c.args.bytes.now))) c.args.net.now c.args.nodes c.requires.nodes);
+  file = ap (λ (d : Sketch). d.file) c.new-draft.ensures;
+  net = ap (λ (d : Sketch). d.net) c.new-draft.ensures;
+  sketch = subst (λ (d : Sketch). IsSketch (connected_of (sayings c.args.nodes.file (lines c.args.bytes.now))) c.args.nodes.net [] d) (sym c.new-draft.ensures)
+      (no_lines (connected_of (sayings c.args.nodes.file (lines c.args.bytes.now))) c.args.nodes c.requires.nodes);
 }
 
 pub returns-in-Err-clause-fault : goal.returns-in-Err-clause-fault
 returns-in-Err-clause-fault c =
-    let index = shown c.args.index.now in
+    let index = c.args.nodes.file in
     let all = sayings index (lines c.args.bytes.now) in
     let n = c.line.count in
     let line = said index c.line.part c.text_at-text.result.now in
@@ -32,12 +34,13 @@ returns-in-Err-clause-fault c =
     sym c.line.invariant.rest ∙ ap (sayings_from index c.line.part) (c.in-Some.ensures.line ∙ ap (λ l. l ∷ lines (drop c.in-Some.next c.args.bytes.now)) (sym c.text_at-text.ensures))
     ∙ left index c.line.part c.text_at-text.result.now (lines (drop c.in-Some.next c.args.bytes.now)) in
     let x = next_is all n (Ok Nothing) line others e in
-    first_fault c.args.net.now all n c.args.first line c.in-Err.kind x.within x.here c.line.invariant.clear
-    (c.in-Err.ensures (connected_of all) (take n all) (is_counted all n line others e) c.line.invariant.sketch)
+    let f = follows_of (Err c.in-Err.kind) index c.line.draft.file c.args.nodes.net c.line.draft.net c.line.part c.text_at-text.result.now c.line.draft c.take_line.new.draft c.line.invariant.file c.line.invariant.net c.in-Err.ensures.taken in
+    first_fault c.args.nodes.net all n c.args.first line c.in-Err.kind x.within x.here c.line.invariant.clear
+    (f (connected_of all) (take n all) (is_counted all n line others e) c.line.invariant.sketch)
 
 pub line-preserved : goal.line-preserved
 line-preserved c =
-    let index = shown c.args.index.now in
+    let index = c.args.nodes.file in
     let all = sayings index (lines c.args.bytes.now) in
     let n = c.line.count in
     let line = said index c.line.part c.text_at-text.result.now in
@@ -46,25 +49,28 @@ line-preserved c =
     sym c.line.invariant.rest ∙ ap (sayings_from index c.line.part) (c.in-Some.ensures.line ∙ ap (λ l. l ∷ lines (drop c.in-Some.next c.args.bytes.now)) (sym c.text_at-text.ensures))
     ∙ left index c.line.part c.text_at-text.result.now (lines (drop c.in-Some.next c.args.bytes.now)) in
     let x = next_is all n (Ok Nothing) line others e in
-    let t = c.in-Ok.ensures.1 (connected_of all) (take n all) (is_counted all n line others e) c.line.invariant.sketch in
+    let f = follows_of (Ok c.in-Ok.opened) index c.line.draft.file c.args.nodes.net c.line.draft.net c.line.part c.text_at-text.result.now c.line.draft c.take_line.new.draft c.line.invariant.file c.line.invariant.net c.in-Ok.ensures.taken in
+    let t = f.1 (connected_of all) (take n all) (is_counted all n line others e) c.line.invariant.sketch in
     record {
       within = omega (arith, c.in-Some.ensures.place);
       counted = omega (arith, c.in-Some.ensures.place);
-      rest = ap (λ p. sayings_from index p (lines (drop c.in-Some.next c.args.bytes.now))) c.in-Ok.ensures.0 ∙ sym x.rest;
-      clear = clear_more (fault_at c.args.net.now all) n c.line.invariant.clear (ap (fault_of (connected_of all) c.args.net.now (take n all)) x.here ∙ t.0);
-      sketch = subst (λ (ls : List Said). IsSketch (connected_of all) c.args.net.now ls c.take_line.new.draft) (sym x.front) t.1;
+      rest = ap (λ p. sayings_from index p (lines (drop c.in-Some.next c.args.bytes.now))) f.0 ∙ sym x.rest;
+      clear = clear_more (fault_at c.args.nodes.net all) n c.line.invariant.clear (ap (fault_of (connected_of all) c.args.nodes.net (take n all)) x.here ∙ t.0);
+      file = c.in-Ok.ensures.source.0 ∙ c.line.invariant.file;
+      net = c.in-Ok.ensures.source.1 ∙ c.line.invariant.net;
+      sketch = subst (λ (ls : List Said). IsSketch (connected_of all) c.args.nodes.net ls c.take_line.new.draft) (sym x.front) t.1;
     }
 
 pub returns-clause-faultless : goal.returns-clause-faultless
 returns-clause-faultless c =
-    let index = shown c.args.index.now in
+    let index = c.args.nodes.file in
     let all = sayings index (lines c.args.bytes.now) in
     let e : drop c.line.count all ≡ [] = sym c.line.invariant.rest ∙ ap (sayings_from index c.line.part) c.in_default.ensures.line ∙ none_left index c.line.part in
     λ i h. c.line.invariant.clear i (omega (arith, all_read all c.line.count e))
 
 pub returns-clause-draft : goal.returns-clause-draft
 returns-clause-draft c =
-    let index = shown c.args.index.now in
+    let index = c.args.nodes.file in
     let all = sayings index (lines c.args.bytes.now) in
     let e : drop c.line.count all ≡ [] = sym c.line.invariant.rest ∙ ap (sayings_from index c.line.part) c.in_default.ensures.line ∙ none_left index c.line.part in
-    subst (λ (ls : List Said). IsSketch (connected_of all) c.args.net.now ls c.line.draft) (take_whole all c.line.count e) c.line.invariant.sketch
+    subst (λ (ls : List Said). IsSketch (connected_of all) c.args.nodes.net ls c.line.draft) (take_whole all c.line.count e) c.line.invariant.sketch

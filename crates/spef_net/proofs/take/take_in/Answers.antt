@@ -1,6 +1,5 @@
 use Rattle.std.proofs.Common.{refl, sym, subst, Ok, Err}
 use Rattle.vg_scan.specs.Spans.{words_at}
-use Rattle.spef_file.specs.Shown.{shown}
 use Rattle.spef_net.specs.Sayings.{said_in}
 use Rattle.spef_net.specs.Drafts.{Takes}
 use Rattle.spef_net.proofs.LineLemmas.{bad_line}
@@ -9,12 +8,12 @@ use Rattle.spef_net.specs.declared.fault.NetKind.TheVariants.{Conn}
 use Rattle.spef_net.proofs.TakeLemmas.{takes_nothing}
 use Rattle.spef_net.proofs.take.take_in.Goals as goal
 
-pub returns-in-Nowhere : goal.returns-in-Nowhere
-returns-in-Nowhere c =
-    subst (λ (p : Part). Takes (Err Conn) c.args.net.now c.args.draft.now (said_in p (shown c.args.index.now) c.args.line.now (words_at c.args.line.now c.args.words.now)) c.args.draft.now) (sym c.in-Nowhere.is)
-    (bad_line c.args.net.now c.args.draft.now c.args.draft.now (Err Conn) Conn refl)
+pub returns-in-Nowhere-clause-taken : goal.returns-in-Nowhere-clause-taken
+returns-in-Nowhere-clause-taken c =
+    subst (λ (p : Part). Takes (Err Conn) c.args.draft.now.net c.args.draft.now (said_in p (c.args.draft.now.file) c.args.line.now (words_at c.args.line.now c.args.words.now)) c.args.draft.now) (sym c.in-Nowhere.is)
+    (bad_line c.args.draft.now.net c.args.draft.now c.args.draft.now (Err Conn) Conn refl)
 
-pub returns-in-Inducs : goal.returns-in-Inducs
-returns-in-Inducs c =
-    subst (λ (p : Part). Takes (Ok tt) c.args.net.now c.args.draft.now (said_in p (shown c.args.index.now) c.args.line.now (words_at c.args.line.now c.args.words.now)) c.args.draft.now) (sym c.in-Inducs.is)
-    (takes_nothing c.args.net.now c.args.draft.now tt)
+pub returns-in-Inducs-clause-taken : goal.returns-in-Inducs-clause-taken
+returns-in-Inducs-clause-taken c =
+    subst (λ (p : Part). Takes (Ok tt) c.args.draft.now.net c.args.draft.now (said_in p (c.args.draft.now.file) c.args.line.now (words_at c.args.line.now c.args.words.now)) c.args.draft.now) (sym c.in-Inducs.is)
+    (takes_nothing c.args.draft.now.net c.args.draft.now tt)

@@ -3,8 +3,8 @@ use Rattle.spef_net.specs.Spellings.{named_by}
 use Rattle.spef_net.proofs.TakeLemmas.{conn_again, takes_conn}
 use Rattle.spef_net.proofs.draft.Draft.join.Goals as goal
 
-pub returns-then-is_noted : goal.returns-then-is_noted
-returns-then-is_noted c = λ net. conn_again net c.args.self.now c.intern.new.self c.intern.new.self c.args.kind c.args.direction (named_by c.args.node.now) c.args.note.now c.in-Ok.id c.in-Ok.ensures.nodes c.in-Ok.ensures.number (sym c.is_noted.ensures ∙ c.if-is_noted.true)
+pub returns-then-is_noted-clause-taken : goal.returns-then-is_noted-clause-taken
+returns-then-is_noted-clause-taken c = conn_again c.args.self.now.net c.args.self.now c.intern.new.self c.intern.new.self c.args.kind c.args.direction (named_by c.args.node.now) c.args.note.now c.in-Ok.id c.in-Ok.ensures.nodes c.in-Ok.ensures.number (sym c.is_noted.ensures ∙ c.if-is_noted.true)
 
-pub returns-in-Ok-add_conn : goal.returns-in-Ok-add_conn
-returns-in-Ok-add_conn c = λ net. takes_conn net c.args.self.now c.intern.new.self c.add_conn.new.self c.args.kind c.args.direction (named_by c.args.node.now) c.args.note.now c.in-Ok.id tt c.in-Ok.ensures.nodes c.in-Ok.ensures.number (sym c.is_noted.ensures ∙ c.if-is_noted.false) c.in-Ok-add_conn.ensures
+pub returns-in-Ok-add_conn-clause-taken : goal.returns-in-Ok-add_conn-clause-taken
+returns-in-Ok-add_conn-clause-taken c = takes_conn c.args.self.now.net c.args.self.now c.intern.new.self c.add_conn.new.self c.args.kind c.args.direction (named_by c.args.node.now) c.args.note.now c.in-Ok.id tt c.in-Ok.ensures.nodes c.in-Ok.ensures.number (sym c.is_noted.ensures ∙ c.if-is_noted.false) c.in-Ok-add_conn.ensures
