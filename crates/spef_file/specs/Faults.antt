@@ -61,6 +61,7 @@ abbrev pub is_unended : List Line → Line → List Line → Bool
 is_unended before line later = is_net_head before line && not (is_some (end_at later))
 
 -- the line stands in no part, is no row of the name map, or is the head of a net without a name
+-- a line of another form in the name map, as `*1 a b`, is stray also where its index is that of a row before
 abbrev pub is_stray : List Line → Line → Bool
 is_stray before line =
     is_lost before line || (is_row before line && not (is_some (map_line (chars_of before) line))) || (is_net_head before line && not (is_some (name_in before line)))
@@ -82,6 +83,7 @@ breaks before line later Unsupported = is_foreign_head before line
 breaks before line later Memory = false
 
 -- the kinds, in their order
+-- of two faults of a head the first is told: `NoEnd` where it has no name either, `MapUnknown` where it has no `*END` either
 abbrev pub kinds : List SpefKind
 kinds = Header ∷ UnitKind ∷ MapTwice ∷ MapUnknown ∷ NoEnd ∷ Stray ∷ NetTwice ∷ Unsupported ∷ []
 

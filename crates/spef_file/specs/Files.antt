@@ -36,6 +36,7 @@ pub record IsFileOf (text : List ℕ) (file : File) : Type 0 where
   pub says : file ≡ said_by (file_lines text)
 
 -- a header line is missing, and no line has a fault: it is told at the last line
+-- so a fault that the last line has by itself comes first
 pub record IsHeaderless (lines : List Line) (fault : LineFault SpefKind) : Type 0 where
   pub clear : IsClear (fault_at lines) (length lines)
   pub short : length (spoken lines) < 14

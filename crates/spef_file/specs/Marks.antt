@@ -51,6 +51,7 @@ bus_bytes (_ ∷ left ∷ right ∷ []) = both (lone left) (lone right)
 bus_bytes _ = None
 
 -- the bytes with that which a line `WORD BYTE` gives, as the divider or the delimiter
+-- a line with a further word gives none: it is a fault of the header
 abbrev pub divider_in : Chars → Line → Option Chars
 divider_in chars (_ ∷ word ∷ []) = option_and_then (with_divider chars) (lone word)
 divider_in chars _ = None
@@ -59,6 +60,6 @@ abbrev pub delimiter_in : Chars → Line → Option Chars
 delimiter_in chars (_ ∷ word ∷ []) = option_and_then (with_delimiter chars) (lone word)
 delimiter_in chars _ = None
 
--- the bytes with the bus delimiters that a line gives
+-- the bytes with the bus delimiters that a line gives, if it has no further word
 abbrev pub bus_in : Chars → Line → Option Chars
 bus_in chars line = option_and_then (with_bus chars) (bus_bytes line)

@@ -57,6 +57,10 @@ KeepsSpans clear next (Err _) old new line = Unit {0}
 abbrev pub GoesOn : List ℕ → ℕ → ℕ → Line → Type 0
 GoesOn clear at next line = (m : ℕ) → next ≤ m → lines_of (part clear at m) ≡ line ∷ lines_of (part clear next m)
 
+-- the text's parts that begin at either place have the same lines
+abbrev pub KeepsLines : List ℕ → ℕ → ℕ → Type 0
+KeepsLines clear from to = (m : ℕ) → to < m → m ≤ length clear → lines_of (part clear to m) ≡ lines_of (part clear from m)
+
 -- a line of a text, and where the next one begins
 pub record IsLine (clear : List ℕ) (span : Span) (next : ℕ) (line : Line) : Type 0 where
   pub here : line ≡ words (part_at clear span)

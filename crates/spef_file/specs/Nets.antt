@@ -12,7 +12,7 @@ pub record NetHead : Type 0 where
   pub reduced : Bool
   pub line : ℕ
 
--- the end of a net
+-- the end of a net, by its first word alone: `*END foo` is one
 abbrev pub is_end : Line → Bool
 is_end line = bytes_eq (first_word line) (codes "*END")
 

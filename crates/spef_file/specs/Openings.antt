@@ -15,6 +15,7 @@ abbrev pub is_foreign : List ℕ → Bool
 is_foreign word =
     bytes_eq word (codes "*DEFINE") || bytes_eq word (codes "*PDEFINE") || bytes_eq word (codes "*D_PNET") || bytes_eq word (codes "*R_PNET")
 
+-- what the first word of a line opens, whatever follows it: `*NAME_MAP foo` opens the name map
 unfoldable pub opening_of : List ℕ → Opening
 opening_of word =
     if bytes_eq word (codes "*NAME_MAP") then Map

@@ -25,6 +25,7 @@ opened place Foreign = place
 opened place Nothing = place
 
 -- the part after a line of this one: lines of a net open nothing, and `*END` closes it
+-- so `*DEFINE`, `*PORTS` and the like are lines of the net in which they stand
 abbrev pub place_after : Place → Line → Place
 place_after in_net line = if is_end line then outside else in_net
 place_after place line = opened place (opening_of (first_word line))

@@ -18,11 +18,13 @@ row_index (index ∷ name ∷ []) = index_of index
 row_index _ = None
 
 -- the row of a line `*digits NAME`
+-- the name is no index: in `*1 *2` it is the two bytes `*2`
 abbrev pub map_line : Chars → Line → Option (List ℕ × List ℕ)
 map_line chars (index ∷ name ∷ []) = row_of (index_of index) (canonical chars name)
 map_line chars _ = None
 
 -- the name of an index
+-- indices are compared as they are written: `*1` and `*01` are two
 abbrev pub mapped : List (List ℕ × List ℕ) → List ℕ → Option (List ℕ)
 mapped names index = lookup (bytes_eq index) names
 

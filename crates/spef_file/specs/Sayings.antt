@@ -27,6 +27,7 @@ unfoldable pub rows_of : List Line → List (List ℕ × List ℕ)
 rows_of lines = gathered row_in [] lines
 
 -- the canonical name of a net's head after these lines
+-- an index in a head needs its row before it; in the other lines of a net its row may stand anywhere
 abbrev pub name_in : List Line → Line → Option (List ℕ)
 name_in before line = head_name (chars_of before) (rows_of before) (second_word line)
 

@@ -31,6 +31,7 @@ places_of small large unit power =
     else (if str_eq_ignore_ascii_case unit large then Some (power + 3) else None)
 
 -- the decimal places that a line `WORD NUMBER UNIT` gives
+-- a line with a further word gives none: it is a fault of the unit
 abbrev pub unit_places : List ℕ → List ℕ → Line → Option ℕ
 unit_places small large (_ ∷ number ∷ unit ∷ []) = option_and_then (places_of small large unit) (unit_power number)
 unit_places small large _ = None

@@ -10,8 +10,8 @@ use Rattle.spef_file.specs.declared.reader.Reader.{Reader}
 use Rattle.spef_file.specs.Headers.{IsSmall}
 use Rattle.spef_file.specs.Machine.{State}
 use Rattle.spef_file.specs.Nets.{NetHead}
-use Rattle.spef_file.specs.Rows.{head_name}
-use Rattle.spef_file.specs.Machine.{read}
+use Rattle.spef_file.specs.Rows.{row_of, map_line, head_name}
+use Rattle.spef_file.specs.Machine.{given_fault, row_fault, read}
 use Rattle.spef_file.specs.Tables.{NetRow}
 
 abbrev pub head_in : NetRow → NetHead
@@ -53,6 +53,14 @@ GoesTo bytes next (Err kind) old new line = Fails kind old line (lines_of (drop 
 abbrev pub AddsRow : Result (Unit {0}) SpefKind → Option SpefKind → Option (List ℕ × List ℕ) → List (List ℕ × List ℕ) → List (List ℕ × List ℕ) → Type 0
 AddsRow (Ok _) fault given old new = (row : List ℕ × List ℕ) × (given ≡ Some row) × (fault ≡ None) × (new ≡ old ++ row ∷ [])
 AddsRow (Err kind) fault given old new = IsFaultOrMemory fault kind
+
+-- the row of an index and a word is added, or its fault is answered
+abbrev pub AddsGiven : Result (Unit {0}) SpefKind → Chars → List ℕ → List ℕ → List (List ℕ × List ℕ) → List (List ℕ × List ℕ) → Type 0
+AddsGiven result chars index word old new = AddsRow result (given_fault old (Some index) (canonical chars word)) (row_of (Some index) (canonical chars word)) old new
+
+-- the row of a line is added, or its fault is answered
+abbrev pub AddsLine : Result (Unit {0}) SpefKind → Chars → Line → List (List ℕ × List ℕ) → List (List ℕ × List ℕ) → Type 0
+AddsLine result chars line old new = AddsRow result (row_fault chars old line) (map_line chars line) old new
 
 -- the name that a head has, none where its text is bad
 abbrev pub IsHead : Chars → List (List ℕ × List ℕ) → List ℕ → Option (List ℕ) → Type 0

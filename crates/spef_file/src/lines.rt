@@ -2,16 +2,15 @@
 
 ghost use Rattle.std.specs.Prelude.{◌≡◌, ◌<◌, ◌≤◌, ◌^◌, ◌+◌, length, OnOk, IfOk, ℕ, true, slice_index, option_map};
 ghost use Rattle.vg_scan.specs.Lines.{lines_of, words, part, is_blank, BeginsLine};
-ghost use Rattle.spef_file.specs.NetSpans.{IsLine, KeepsSpans};
+ghost use Rattle.spef_file.specs.NetSpans.{IsLine, KeepsSpans, KeepsLines};
 ghost use Rattle.vg_scan.specs.Spans.{IsIn, words_at, part_at};
 ghost use Rattle.spef_file.specs.Words.{first_word, second_word, has_words};
 ghost use Rattle.spef_file.specs.Openings.{opening_of};
-ghost use Rattle.spef_file.specs.Views.{seen, IsWhole, Passes, GoesTo, AddsRow, IsHeadName, IsHead, CanonicalName};
+ghost use Rattle.spef_file.specs.Views.{seen, IsWhole, Passes, GoesTo, AddsGiven, AddsLine, IsHeadName, IsHead, CanonicalName};
 ghost use Rattle.spef_file.specs.declared.opening.Opening.TheVariants.{Nothing, Net};
 ghost use Rattle.std.specs.Prelude.{Ok, Some, None};
 ghost use Rattle.vg_scan.specs.Names.{canonical};
-ghost use Rattle.spef_file.specs.Machine.{given_fault, row_fault};
-ghost use Rattle.spef_file.specs.Rows.{row_of, map_line};
+ghost use Rattle.spef_file.specs.Machine.{given_fault};
 
 use crate::edge::find_end;
 use crate::fault::SpefKind;
@@ -83,7 +82,7 @@ fn take_given(
     word: &[u8],
 ) -> Result<(), SpefKind>
     requires { length map.old < 2 ^ 28 }
-    ensures { AddsRow result (given_fault map.old (Some index.now) (canonical chars.now word.now)) (row_of (Some index.now) (canonical chars.now word.now)) map.old map.new }
+    ensures { AddsGiven result chars.now index.now word.now map.old map.new }
 {
     match canonical_name(word, chars, name)? {
         false => Err(unnamed_fault(map, index)),
@@ -104,7 +103,7 @@ fn take_row(
     words: &[Span],
 ) -> Result<(), SpefKind>
     requires { length map.old < 2 ^ 28 }
-    ensures { AddsRow result (row_fault chars.now map.old (words_at bytes.now words.now)) (map_line chars.now (words_at bytes.now words.now)) map.old map.new }
+    ensures { AddsLine result chars.now (words_at bytes.now words.now) map.old map.new }
 {
     let [index, word] = words else {
         return Err(SpefKind::Stray);
@@ -197,7 +196,7 @@ fn second_word<'a>(bytes: &'a [u8], words: &[Span]) -> &'a [u8]
 /// Where the first word of a line begins.
 fn start_of(bytes: &[u8], line: Span) -> usize
     requires { IsIn bytes.now line }
-    ensures starts { (m : ℕ) → result < m → m ≤ length bytes.now → lines_of (part bytes.now result m) ≡ lines_of (part bytes.now line.from m) }
+    ensures starts { KeepsLines bytes.now line.from result }
     ensures blank { (k : ℕ) → line.from ≤ k → k < result → is_blank (slice_index bytes.now k) ≡ true }
     ensures some { has_words (words (part_at bytes.now line)) ≡ true → result < line.to }
     ensures word { has_words (words (part_at bytes.now line)) ≡ true → slice_index bytes.now result ≡ slice_index (first_word (words (part_at bytes.now line))) 0 }

@@ -1,6 +1,6 @@
 //! The name map of a SPEF file.
 
-ghost use Rattle.std.specs.Prelude.{◌≡◌, ◌==◌, ◌-◌, ◌<◌, ◌^◌, ◌++◌, ◌∷◌, [], not, true, length, option_map, IfOk};
+ghost use Rattle.std.specs.Prelude.{◌≡◌, ◌==◌, ◌-◌, ◌<◌, ◌^◌, ◌++◌, ◌∷◌, [], not, true, length, option_map, IfOk, OnErr};
 ghost use Rattle.spef_file.specs.Rows.{mapped, is_mapped};
 
 use std::alloc::Global;
@@ -12,7 +12,6 @@ use vg_scan::{Names, Texts};
 /// the file. All digits stand in one buffer, and all names in another.
 #[derive(Drop)]
 pub struct NameMap {
-    alloc: Global,
     indices: Names,
     names: Texts,
 }
@@ -34,7 +33,6 @@ impl NameMap {
         ensures { result ≡ [] }
     {
         NameMap {
-            alloc,
             indices: Names::new(alloc),
             names: Texts::new(alloc),
         }
@@ -64,20 +62,21 @@ impl NameMap {
         }
     }
 
-    /// Puts a row last where its index is new, and says whether it was. Answers `Memory` where there is no room; the map
-    /// may then have lost its rows.
+    /// Puts a row last where its index is new, and says whether it was. Answers `Memory` where there is no room.
     pub(crate) fn add(&mut self, digits: &[u8], name: &[u8]) -> Result<bool, Memory>
         requires { length self.old < 2 ^ 32 - 1 }
         ensures fresh { IfOk result (λ fresh. fresh ≡ not (is_mapped self.old digits.now)) }
         ensures last { IfOk result (λ fresh. fresh ≡ true → self.new ≡ self.old ++ (digits.now, name.now) ∷ []) }
+        ensures unchanged { OnErr result (self.new ≡ self.old) }
     {
         if self.indices.find(digits).is_some() {
             return Ok(false);
         }
-        self.names.push(name)?;
+        let Ok(()) = self.names.push(name) else {
+            return Err(Memory);
+        };
         let Ok(_) = self.indices.intern(digits) else {
-            self.indices = Names::new(self.alloc);
-            self.names = Texts::new(self.alloc);
+            self.names.pop();
             return Err(Memory);
         };
         Ok(true)

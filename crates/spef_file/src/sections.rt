@@ -1,6 +1,6 @@
 //! The nets of a SPEF file.
 
-ghost use Rattle.std.specs.Prelude.{◌≡◌, ◌==◌, ◌-◌, ◌<◌, ◌^◌, ◌++◌, ◌∷◌, [], not, true, length, option_map, Some, IfOk, IfSome};
+ghost use Rattle.std.specs.Prelude.{◌≡◌, ◌==◌, ◌-◌, ◌<◌, ◌^◌, ◌++◌, ◌∷◌, [], not, true, length, option_map, Some, IfOk, IfSome, OnErr};
 ghost use Rattle.std.specs.List.{position, slice_get};
 ghost use Rattle.std.specs.Str.{bytes_eq};
 ghost use Rattle.spef_file.specs.Tables.{names_of, is_section};
@@ -88,11 +88,14 @@ impl Sections {
         requires { length self.old < 2 ^ 32 - 1 }
         ensures fresh { IfOk result (λ fresh. fresh ≡ not (is_section self.old name.now)) }
         ensures last { IfOk result (λ fresh. fresh ≡ true → self.new ≡ self.old ++ (name.now, section) ∷ []) }
+        ensures unchanged { OnErr result (self.new ≡ self.old) }
     {
         if self.names.find(name).is_some() {
             return Ok(false);
         }
-        self.rows.push(section)?;
+        let Ok(()) = self.rows.push(section) else {
+            return Err(Memory);
+        };
         let Ok(_) = self.names.intern(name) else {
             let _ = self.rows.pop();
             return Err(Memory);

@@ -29,7 +29,8 @@ abbrev pub or_word : {A : Type 0} → Option A → Result A ConsKind
 or_word (Some name) = Ok name
 or_word None = Err Word
 
--- the name that a word is: of a pin (a port or a node), of a port, of a node. No index of names is known
+-- the name that a word is: of a pin (a port or a node), of a port, of a node
+-- no index of names is known: a word that begins with `*` is no name
 unfoldable pub pin_in : List ℕ → Result NodeName ConsKind
 pin_in word = if is_reference word then Err Word else or_word (node_of CHARS word)
 

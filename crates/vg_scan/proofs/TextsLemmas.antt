@@ -1,6 +1,6 @@
 -- Texts that stand one after another.
-use Rattle.std.proofs.Common.{◌≡◌, ℕ, zero, suc, ◌+◌, ◌-◌, ◌<◌, ◌≤◌, List, [], ◌∷◌, ◌++◌, length, take, drop, get_or, arith, refl, ap, ◌∙◌, length-drop}
-use Rattle.std.proofs.lemmas.List.{take-append-le, drop-append-le}
+use Rattle.std.proofs.Common.{◌≡◌, ℕ, zero, suc, ◌+◌, ◌-◌, ◌<◌, ◌≤◌, List, [], ◌∷◌, ◌++◌, length, take, drop, get_or, arith, refl, sym, subst, ap, ◌∙◌, length-drop, length-take}
+use Rattle.std.proofs.lemmas.List.{take-append-le, drop-append-le, take-append-drop}
 use Rattle.std.proofs.Math.Seq.{drop-append_seam, take-length}
 use Rattle.vg_scan.specs.Lines.{part}
 use Rattle.vg_scan.specs.Texts.{texts_of, start_of, AreEnds}
@@ -53,3 +53,42 @@ pub ends_more : (from : ℕ) (ends : List ℕ) (whole more : ℕ) → AreEnds fr
 unfolding AreEnds
 ends_more from [] whole more h = (omega (arith, h), refl)
 ends_more from (end ∷ ends) whole more h = (h.0, ends_more end ends whole more h.1)
+
+-- the first texts, of the bytes up to their end
+
+ends_front : (from : ℕ) (ends : List ℕ) (whole n : ℕ) → AreEnds from ends whole → n ≤ length ends → AreEnds from (take n ends) (start_of from ends n)
+unfolding AreEnds
+ends_front from ends whole zero h l = refl
+ends_front from [] whole (suc n) h l = absurd (omega (arith, l))
+ends_front from (end ∷ ends) whole (suc zero) h l = (h.0, refl)
+ends_front from (end ∷ ends) whole (suc (suc n)) h l = (h.0, ends_front end ends whole (suc n) h.1 (omega (arith, l)))
+
+texts_stay : (bytes more : List ℕ) (from : ℕ) (ends : List ℕ) (whole : ℕ) → AreEnds from ends whole → whole ≤ length bytes → texts_of (bytes ++ more) from ends ≡ texts_of bytes from ends
+unfolding texts_of AreEnds
+texts_stay bytes more from [] whole h l = refl
+texts_stay bytes more from (end ∷ ends) whole h l =
+    ap (λ t. t ∷ texts_of (bytes ++ more) end ends) (part_stays bytes more from end h.0 (let last = first_end end ends whole h.1 in omega (arith, last, l)))
+    ∙ ap (λ ts. part bytes from end ∷ ts) (texts_stay bytes more end ends whole h.1 l)
+
+texts_take : (bytes : List ℕ) (from : ℕ) (ends : List ℕ) (n : ℕ) → texts_of bytes from (take n ends) ≡ take n (texts_of bytes from ends)
+unfolding texts_of
+texts_take bytes from ends zero = refl
+texts_take bytes from [] (suc n) = refl
+texts_take bytes from (end ∷ ends) (suc n) = ap (λ ts. part bytes from end ∷ ts) (texts_take bytes end ends n)
+
+-- where the text of this number begins is within all bytes
+pub start_within : (ends : List ℕ) (whole n : ℕ) → AreEnds 0 ends whole → n < length ends → start_of 0 ends n ≤ whole
+start_within ends whole n h l = (let o = ordered 0 ends whole n h l in omega (arith, o.0, o.1))
+
+pub texts_front : (bytes ends : List ℕ) (n : ℕ) → AreEnds 0 ends (length bytes) → n < length ends
+    → AreEnds 0 (take n ends) (length (take (start_of 0 ends n) bytes)) × (texts_of (take (start_of 0 ends n) bytes) 0 (take n ends) ≡ take n (texts_of bytes 0 ends))
+texts_front bytes ends n h l =
+    let m = start_of 0 ends n in
+    let within : m ≤ length bytes = start_within ends (length bytes) n h l in
+    let count : length (take m bytes) ≡ m = omega (arith, length-take m bytes, within) in
+    let front : AreEnds 0 (take n ends) m = ends_front 0 ends (length bytes) n h (omega (arith, l)) in (
+      subst (λ k. AreEnds 0 (take n ends) k) (sym count) front,
+      sym (texts_stay (take m bytes) (drop m bytes) 0 (take n ends) m front (omega (arith, count)))
+          ∙ ap (λ bs. texts_of bs 0 (take n ends)) (take-append-drop m bytes)
+          ∙ texts_take bytes 0 ends n,
+    )

@@ -29,6 +29,7 @@ through_block (b ∷ []) = 1
 through_block (b ∷ c ∷ bs) = if (b == 42) && (c == 47) then 2 else through_block (c ∷ bs) + 1
 
 -- how many bytes the first piece of a text has, where the text has so many: a backslash hides the byte after it
+-- the end of a comment is sought after its two opening bytes: `/*/` does not close itself
 abbrev pub piece_length : List ℕ → ℕ
 piece_length [] = 1
 piece_length (b ∷ []) = 1

@@ -25,6 +25,7 @@ abbrev pub Line : Type 0
 Line = List (List ℕ)
 
 -- the lines of a text, each as its words
+-- a carriage return ends a line only before a newline: at the end of a text without one it belongs to the last word
 unfoldable pub lines_of : List ℕ → List Line
 lines_of text = map words (lines text)
 

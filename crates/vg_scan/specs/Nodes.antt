@@ -29,6 +29,7 @@ abbrev pub leaf_at : Chars → List ℕ → Option ℕ
 leaf_at chars text = last_bare chars.delimiter text (length text)
 
 -- the node of the text's parts before and after this place
+-- a leaf is no index: one that begins with `*` is kept as its bytes
 abbrev pub parted_at : Chars → List ℕ → ℕ → Option NodeName
 parted_at chars text at = node_of_parts (canonical chars (take at text)) (canonical chars (drop (at + 1) text))
 

@@ -4,6 +4,7 @@ ghost use Rattle.std.specs.Prelude.{◌≡◌, ℕ, true, slice_index, ◌-◌, 
 ghost use Rattle.std.specs.List.{position, AllPass};
 ghost use Rattle.std.specs.Str.Lines.{lines};
 ghost use Rattle.vg_scan.specs.Lines.{is_blank, is_ink, is_newline, line_number, lines_of, words, part, BeginsLine};
+ghost use Rattle.vg_scan.specs.Spans.{part_at, IsFirstLine, AreFirstWords, AreFirstOfParts, IsAloneWhereCut, BeginsAt, IsFirstWord, IsAfterBlanks, FollowsWord};
 
 use memchr::memchr;
 
@@ -64,13 +65,13 @@ fn line_lengths(text: &[u8]) -> (usize, usize)
 #[tactic(auto, unfolding(crate::specs::Lines::lines_of))]
 pub fn next_line(bytes: &[u8], at: usize) -> Option<(Span, usize)>
     requires { at ≤ length bytes.now }
-    ensures line { MatchOption result (lines (drop at bytes.now) ≡ []) (λ found. lines (drop at bytes.now) ≡ part bytes.now found.0.from found.0.to ∷ lines (drop found.1 bytes.now)) }
-    ensures words { MatchOption result (lines_of (drop at bytes.now) ≡ []) (λ found. lines_of (drop at bytes.now) ≡ words (part bytes.now found.0.from found.0.to) ∷ lines_of (drop found.1 bytes.now)) }
+    ensures line { MatchOption result (lines (drop at bytes.now) ≡ []) (IsFirstLine bytes.now at) }
+    ensures words { MatchOption result (lines_of (drop at bytes.now) ≡ []) (AreFirstWords bytes.now at) }
     // The same where the text ends earlier: in a later line, or in this one.
-    ensures cut { MatchOption result ⊤ (λ found. (m : ℕ) → found.1 ≤ m → lines_of (part bytes.now at m) ≡ words (part bytes.now found.0.from found.0.to) ∷ lines_of (part bytes.now found.1 m)) }
-    ensures last { MatchOption result ⊤ (λ found. (m : ℕ) → at < m → m ≤ found.0.to → lines_of (part bytes.now at m) ≡ words (part bytes.now at m) ∷ []) }
+    ensures cut { MatchOption result ⊤ (AreFirstOfParts bytes.now at) }
+    ensures last { MatchOption result ⊤ (IsAloneWhereCut bytes.now at) }
     ensures begins { MatchOption result ⊤ (λ found. BeginsLine bytes.now found.1) }
-    ensures place { MatchOption result (at ≡ length bytes.now) (λ found. (found.0.from ≡ at) × (at ≤ found.0.to) × (found.0.to ≤ found.1) × (at < found.1) × (found.1 ≤ length bytes.now)) }
+    ensures place { MatchOption result (at ≡ length bytes.now) (BeginsAt bytes.now at) }
 {
     if at == bytes.len() {
         return None;
@@ -107,12 +108,12 @@ fn word_in(line: &[u8]) -> Option<(usize, usize)>
 pub fn next_word(bytes: &[u8], within: Span) -> Option<(Span, Span)>
     requires { (within.from ≤ within.to) × (within.to ≤ length bytes.now) }
     ensures blank { IsNone result ↔ AllPass is_blank (part bytes.now within.from within.to) }
-    ensures word { MatchOption result (words (part bytes.now within.from within.to) ≡ []) (λ found. words (part bytes.now within.from within.to) ≡ part bytes.now found.0.from found.0.to ∷ words (part bytes.now found.1.from found.1.to)) }
+    ensures word { MatchOption result (words (part_at bytes.now within) ≡ []) (IsFirstWord bytes.now within) }
     // Only blanks stand before the word, and it is the only word up to its end.
-    ensures before { MatchOption result ⊤ (λ found. (k : ℕ) → within.from ≤ k → k < found.0.from → is_blank (slice_index bytes.now k) ≡ true) }
+    ensures before { MatchOption result ⊤ (IsAfterBlanks bytes.now within) }
     ensures ink { MatchOption result ⊤ (λ found. is_ink (slice_index bytes.now found.0.from) ≡ true) }
     ensures alone { MatchOption result ⊤ (λ found. words (part bytes.now within.from found.0.to) ≡ part bytes.now found.0.from found.0.to ∷ []) }
-    ensures place { MatchOption result ⊤ (λ found. (within.from ≤ found.0.from) × (found.0.from < found.0.to) × (found.1.from ≡ found.0.to) × (found.1.from ≤ found.1.to) × (found.1.to ≡ within.to)) }
+    ensures place { MatchOption result ⊤ (FollowsWord within) }
 {
     let start = within.from;
     match word_in(&bytes[start..within.to]) {

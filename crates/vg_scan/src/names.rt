@@ -78,7 +78,7 @@ fn make_room(alloc: Global, texts: &Texts, chains: &mut Chains) -> Result<(), Me
 {
     let count = texts.len();
     if count == chains.buckets() {
-        *chains = chain(alloc, texts, 2 * count + 64)?;
+        *chains = chain(alloc, texts, 2 * count + 61)?;
     }
     chains.reserve()?;
     Ok(())

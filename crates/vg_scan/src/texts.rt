@@ -1,6 +1,6 @@
 //! Texts in one buffer.
 
-ghost use Rattle.std.specs.Prelude.{◌≡◌, ◌==◌, ◌<◌, ◌++◌, [], ◌∷◌, length, slice_index_or, ◌≤◌, OnOk, OnErr};
+ghost use Rattle.std.specs.Prelude.{◌≡◌, ◌==◌, ◌<◌, ◌-◌, ◌++◌, [], ◌∷◌, length, take, slice_index_or, ◌≤◌, OnOk, OnErr};
 ghost use Rattle.vg_scan.specs.Texts.{start_of, texts_of};
 
 use crate::lines::{Span, text_at};
@@ -100,5 +100,16 @@ impl Texts {
                 Err(Memory)
             }
         }
+    }
+
+    /// Takes the last text away.
+    pub fn pop(&mut self)
+        requires { 0 < length self.old }
+        ensures { self.new ≡ take (length self.old - 1) self.old }
+    {
+        let last = self.ends.len() - 1;
+        let start = start_of(self.ends.as_slice(), last);
+        self.bytes.truncate(start);
+        self.ends.truncate(last);
     }
 }

@@ -12,12 +12,12 @@ returns-then-is_some-clause-fresh c =
 pub intern-requires : goal.intern-requires
 intern-requires c = omega (arith, c.requires, c.self.invariant, length_of c.self.inside.indices c.self.inside.names c.self.invariant, ap length c.self.view_is)
 
-pub invariant_of-self-in-Ok : goal.invariant_of-self-in-Ok
-invariant_of-self-in-Ok c =
+pub invariant_of-self-in-Ok-intern : goal.invariant_of-self-in-Ok-intern
+invariant_of-self-in-Ok-intern c =
     let keys = c.self.inside.indices in
     let new : is_some (number_of keys c.args.digits.now) ≡ false = sym (ap is_some c.find.ensures) ∙ sym c.is_some.ensures ∙ c.if-is_some.false in
-    let more = ap length (c.in-Ok.ensures.names ∙ key_more keys c.args.digits.now new) in
-    let last = ap length c.in_ok-push.ensures.last in
+    let more = ap length (c.in-Ok-intern.ensures.names ∙ key_more keys c.args.digits.now new) in
+    let last = ap length c.in-Ok.ensures.last in
     omega (arith, more, last, c.self.invariant, length-append keys (c.args.digits.now ∷ []), length-append c.self.inside.names (c.args.name.now ∷ []))
 
 pub returns-clause-fresh : goal.returns-clause-fresh
@@ -29,6 +29,6 @@ returns-clause-last c = λ _.
     let keys = c.self.inside.indices in
     let names = c.self.inside.names in
     let new : is_some (number_of keys c.args.digits.now) ≡ false = sym (ap is_some c.find.ensures) ∙ sym c.is_some.ensures ∙ c.if-is_some.false in
-    ap₂ zip (c.in-Ok.ensures.names ∙ key_more keys c.args.digits.now new) c.in_ok-push.ensures.last
+    ap₂ zip (c.in-Ok-intern.ensures.names ∙ key_more keys c.args.digits.now new) c.in-Ok.ensures.last
     ∙ zip_more keys names c.args.digits.now c.args.name.now c.self.invariant
     ∙ ap (λ (rows : List (List ℕ × List ℕ)). rows ++ (c.args.digits.now, c.args.name.now) ∷ []) c.self.view_is

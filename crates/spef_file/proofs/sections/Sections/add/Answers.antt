@@ -15,12 +15,12 @@ returns-then-is_some-clause-fresh c =
 pub intern-requires : goal.intern-requires
 intern-requires c = omega (arith, c.requires, c.self.invariant, length_of c.self.inside.names c.self.inside.rows.items c.self.invariant.0, ap length c.self.view_is)
 
-pub invariant_of-self-in-Ok : goal.invariant_of-self-in-Ok
-invariant_of-self-in-Ok c =
+pub invariant_of-self-in-Ok-intern : goal.invariant_of-self-in-Ok-intern
+invariant_of-self-in-Ok-intern c =
     let keys = c.self.inside.names in
     let new : is_some (number_of keys c.args.name.now) ≡ false = sym (ap is_some c.find.ensures) ∙ sym c.is_some.ensures ∙ c.if-is_some.false in
-    let more = ap length (c.in-Ok.ensures.names ∙ key_more keys c.args.name.now new) in
-    let last = ap length c.in_ok-push.ensures.items in
+    let more = ap length (c.in-Ok-intern.ensures.names ∙ key_more keys c.args.name.now new) in
+    let last = ap length c.in-Ok.ensures.items in
     let all = length_of c.self.inside.names c.self.inside.rows.items c.self.invariant.0 in (
       omega (arith, more, last, c.self.invariant, length-append keys (c.args.name.now ∷ []), length-append c.self.inside.rows.items (c.args.section ∷ [])),
       omega (arith, more, c.requires, c.self.invariant, all, ap length c.self.view_is, length-append keys (c.args.name.now ∷ [])),
@@ -36,6 +36,6 @@ returns-clause-last c = λ _.
     let keys = c.self.inside.names in
     let rows = c.self.inside.rows.items in
     let new : is_some (number_of keys c.args.name.now) ≡ false = sym (ap is_some c.find.ensures) ∙ sym c.is_some.ensures ∙ c.if-is_some.false in
-    ap₂ zip (c.in-Ok.ensures.names ∙ key_more keys c.args.name.now new) c.in_ok-push.ensures.items
+    ap₂ zip (c.in-Ok-intern.ensures.names ∙ key_more keys c.args.name.now new) c.in-Ok.ensures.items
     ∙ zip_more keys rows c.args.name.now c.args.section c.self.invariant.0
     ∙ ap (λ (nets : List NetRow). nets ++ (c.args.name.now, c.args.section) ∷ []) c.self.view_is

@@ -2,8 +2,8 @@ use Rattle.std.proofs.Common.{◌∙◌, sym, ap, get_or}
 use Rattle.std.specs.List.{fold}
 use Rattle.std.proofs.lemmas.List.Sums.{fold_more}
 use Rattle.std.proofs.lemmas.List.{take_all}
-use Rattle.vg_scan.specs.Hashes.{hash_with, hash_of}
-use Rattle.vg_scan.proofs.hash.hash_of.Goals as goal
+use Rattle.vg_scan.specs.Hashes.{hash_with}
+use Rattle.vg_scan.proofs.hash.mixed_hash.Goals as goal
 
 pub byte-preserved : goal.byte-preserved
 byte-preserved c =
@@ -11,5 +11,4 @@ byte-preserved c =
     ap (λ b. hash_with c.byte.hash b) c.from.ensures ∙ ap (λ h. hash_with h (get_or c.args.text.now c.byte.byte-index 0)) c.byte.invariant ∙ sym more
 
 pub returns : goal.returns
-unfolding hash_of
 returns c = c.byte.invariant ∙ ap (fold hash_with 2166136261) (take_all c.byte.byte-index c.args.text.now c.byte-test.false)
