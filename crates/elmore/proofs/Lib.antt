@@ -23,3 +23,5 @@ pub mod Filled
 pub mod PlacedTrees
 pub mod LeastLaws
 pub mod ProblemLaws
+pub mod StageThrough
+pub mod Heads

@@ -69,9 +69,9 @@ upload_small tree reps cells placed v v_n =
       placed.capacitances,
     )
 
-pub delay_small : (tree : List Node) (reps : List Rep) (cells : List (Option ℕ)) → IsPlacedTree tree reps cells
-    → (v : ℕ) → v < length tree → placed_delay tree reps cells 0 v ≤ 10 ^ 25
-delay_small tree reps cells placed v v_n =
+pub delay_smaller : (tree : List Node) (reps : List Rep) (cells : List (Option ℕ)) → IsPlacedTree tree reps cells
+    → (v : ℕ) → v < length tree → placed_delay tree reps cells 0 v ≤ 9 * 10 ^ 24
+delay_smaller tree reps cells placed v v_n =
     omega (
       arith,
       delay_bound (parent_of tree) (length tree) (tree_of tree placed.a_tree) (resistance tree) (capacitance tree) (cell_at reps cells) (10 ^ 11) (101 * 10 ^ 18)
@@ -81,6 +81,10 @@ delay_small tree reps cells placed v v_n =
       placed.resistances,
       placed.nodes,
     )
+
+pub delay_small : (tree : List Node) (reps : List Rep) (cells : List (Option ℕ)) → IsPlacedTree tree reps cells
+    → (v : ℕ) → v < length tree → placed_delay tree reps cells 0 v ≤ 10 ^ 25
+delay_small tree reps cells placed v v_n = omega (arith, delay_smaller tree reps cells placed v v_n)
 
 -- so it is whole in a machine's integer
 pub delay_whole : (tree : List Node) (reps : List Rep) (cells : List (Option ℕ)) → IsPlacedTree tree reps cells

@@ -1,5 +1,4 @@
 pub mod Path
-pub mod Cut
 pub mod Trees
 pub mod Wire
 pub mod Room

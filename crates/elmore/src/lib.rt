@@ -34,8 +34,8 @@ pub use frontier_laws::{
     best_is_last, frontier_is_whole, frontier_rises, one_frontier, one_slack, undominated_is_exact,
 };
 pub use laws::{
-    bare_loads, below_decides, delay_steps, downstream_steps, load_steps, placed_delay_steps,
-    root_drives_all,
+    bare_loads, below_decides, delay_steps, downstream_steps, load_steps, one_stage,
+    placed_delay_steps, root_drives_all,
 };
 pub use loads::load_of;
 pub use pair::Pair;
