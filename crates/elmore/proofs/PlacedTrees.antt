@@ -12,7 +12,8 @@ use Rattle.elmore.specs.Path.{nodes as node_numbers}
 use Rattle.elmore.specs.Cells.{rep_at, rep_of, cell_at, input_capacitance, cell_delay}
 use Rattle.elmore.specs.Problems.{IsRepWithin}
 use Rattle.elmore.specs.Trees.{IsTree, parent_of, resistance, capacitance}
-use Rattle.elmore.specs.Placed.{IsPlacedTree, placed_load, placed_upload, placed_delay, placed_inverters, placed_capacitance}
+use Rattle.elmore.specs.Placed.{placed_load, placed_upload, placed_delay, placed_inverters}
+use Rattle.elmore.specs.Steps.{IsPlacedTree, placed_capacitance}
 use Rattle.elmore.specs.declared.tree.Node.{Node}
 use Rattle.elmore.specs.declared.rep.Rep.{Rep}
 use Rattle.elmore.proofs.SumLaws.{sum_of_items}

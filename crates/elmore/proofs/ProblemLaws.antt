@@ -2,7 +2,8 @@
 use Rattle.std.proofs.Common.{◌≡◌, ℕ, ◌*◌, ◌<◌, List, length, slice_index_or, Option, ℤ, pos, ◌+ℤ◌, ◌-ℤ◌, ◌∙◌, sym, arith, Bool, false, Some, None, MatchOption}
 use Rattle.std.proofs.lemmas.Int.{ints}
 use Rattle.elmore.specs.Problems.{sink_of}
-use Rattle.elmore.specs.Placed.{IsPlacedTree, IsLeast, IsSinkAlike, IsFirstUnlike}
+use Rattle.elmore.specs.Placed.{IsLeast, IsWanted, IsFirstUnwanted}
+use Rattle.elmore.specs.Steps.{IsPlacedTree}
 use Rattle.elmore.specs.Placements.{IsPlacement, IsLegal, IsSlack, IsSinkAt, slack_at, load_of, delay_between, is_inverted, HasPolarity, IsFirstWrong}
 use Rattle.elmore.specs.declared.parts.Sink.{Sink}
 use Rattle.elmore.specs.declared.problem.Problem.{Problem}
@@ -39,20 +40,20 @@ slack_is p cells delays start x start_is delays_are least = record {
 -- a sink is unlike its mark where its polarity is wrong
 pub wrong_is : (p : Problem) (cells : List (Option ℕ)) (inverted : List Bool) (found : Option ℕ)
     → ((v : ℕ) → v < length p.tree.nodes → slice_index_or inverted v false ≡ is_inverted p cells v)
-    → MatchOption found ((w : ℕ) → IsSinkAlike (sink_of p.sinks w) (slice_index_or inverted w false)) (λ w. IsFirstUnlike p.sinks inverted w)
+    → MatchOption found ((w : ℕ) → IsWanted (sink_of p.sinks w) (slice_index_or inverted w false)) (λ w. IsFirstUnwanted p.sinks (λ v. slice_index_or inverted v false) w)
     → MatchOption found ((w : ℕ) → HasPolarity p cells w) (λ w. IsFirstWrong p cells w)
 wrong_is p cells inverted found marks = go found
   where
     marked : (w : ℕ) (sink : Sink) → IsSinkAt p w sink → slice_index_or inverted w false ≡ is_inverted p cells w
     marked w sink here = marks w (omega (arith, within_sinks p.sinks w sink here, p.sinks_each))
 
-    alike : (w : ℕ) → IsSinkAlike (sink_of p.sinks w) (slice_index_or inverted w false) → HasPolarity p cells w
+    alike : (w : ℕ) → IsWanted (sink_of p.sinks w) (slice_index_or inverted w false) → HasPolarity p cells w
     alike w same sink here = sym (marked w sink here) ∙ same sink here
 
-    go : (found : Option ℕ) → MatchOption found ((w : ℕ) → IsSinkAlike (sink_of p.sinks w) (slice_index_or inverted w false)) (λ w. IsFirstUnlike p.sinks inverted w)
+    go : (found : Option ℕ) → MatchOption found ((w : ℕ) → IsWanted (sink_of p.sinks w) (slice_index_or inverted w false)) (λ w. IsFirstUnwanted p.sinks (λ v. slice_index_or inverted v false) w)
         → MatchOption found ((w : ℕ) → HasPolarity p cells w) (λ w. IsFirstWrong p cells w)
     go None all = λ w. alike w (all w)
     go (Some w) first = record {
-      wrong = let (sink, here, other) = first.unlike in (sink, here, λ same. other (marked w sink here ∙ same));
+      wrong = let (sink, here, other) = first.wrong in (sink, here, λ same. other (marked w sink here ∙ same));
       before = λ v v_w. alike v (first.before v v_w);
     }

@@ -24,13 +24,13 @@ pub record Outdoes (a b : Point) : Type 0 where
   pub costs : a.cost ≤ b.cost
   pub slacks : b.slack ≤ℤ a.slack
 
--- attained, and outdone by no other point that is attained
-pub record IsOnFrontier (p : Problem) (cap : Option ℕ) (point : Point) : Type 0 where
-  pub attained : IsAttained p cap point
-  pub alone : (other : Point) → IsAttained p cap other → Outdoes other point → other ≡ point
+-- a point of a set that no other point of it outdoes
+pub record IsOnFrontier (In : Point → Type 0) (point : Point) : Type 0 where
+  pub attained : In point
+  pub alone : (other : Point) → In other → Outdoes other point → other ≡ point
 
--- the points that no other point outdoes, by rising cost
-pub record IsFrontier (p : Problem) (cap : Option ℕ) (points : List Point) : Type 0 where
+-- the points of a set that no other point of it outdoes, by rising cost
+pub record IsFrontier (In : Point → Type 0) (points : List Point) : Type 0 where
   pub rising : AllPairs (λ a b. a.cost < b.cost) points
-  pub taken : All (IsOnFrontier p cap) points
-  pub covers : (point : Point) → IsAttained p cap point → (other : Point) × Contains points other × Outdoes other point
+  pub taken : All (IsOnFrontier In) points
+  pub covers : (point : Point) → In point → (other : Point) × Contains points other × Outdoes other point

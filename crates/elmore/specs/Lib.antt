@@ -6,8 +6,9 @@ pub mod Cells
 pub mod Stage
 pub mod Delay
 pub mod Problems
-pub mod Placements
 pub mod Placed
+pub mod Steps
+pub mod Placements
 pub mod Pairs
 pub mod Frontier
 pub mod FrontierLaws

@@ -2,7 +2,7 @@
 
 ghost use Rattle.std.specs.Prelude.{◌≡◌, ℕ, ◌<◌, true, false, Some, None, is_some, length, slice_index_or, IfOk};
 ghost use Rattle.std.specs.List.{list_any};
-ghost use Rattle.elmore.specs.Placements.{IsPlacementOf};
+ghost use Rattle.elmore.specs.Placed.{IsPlacementOf};
 ghost use Rattle.elmore.specs.Problems.{is_sink, AreRising};
 
 use crate::{Driver, Node, Placement, Problem, Rep, Sink, Tree};

@@ -3,7 +3,8 @@
 ghost use Rattle.std.specs.Prelude.{◌≡◌, ℕ, ◌<◌, ◌≤◌, length, slice_index, Option, Some};
 ghost use Rattle.elmore.specs.Cells.{rep_of};
 ghost use Rattle.elmore.specs.Stage.{seen};
-ghost use Rattle.elmore.specs.Placed.{placed_load, IsPlacedTree};
+ghost use Rattle.elmore.specs.Placed.{placed_load};
+ghost use Rattle.elmore.specs.Steps.{IsPlacedTree};
 ghost use Rattle.elmore.specs.Placements.{IsPlacement, IsLegal, load_of as load_at};
 ghost use Rattle.elmore.specs.Room.{room_of};
 

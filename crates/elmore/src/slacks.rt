@@ -4,7 +4,8 @@ ghost use Rattle.std.specs.Prelude.{◌≡◌, ℕ, ◌+◌, ◌*◌, ◌^◌, �
 ghost use Rattle.std.specs.List.{All, list_any};
 ghost use Rattle.elmore.specs.Cells.{rep_of, cell_delay as delay_of};
 ghost use Rattle.elmore.specs.Stage.{seen};
-ghost use Rattle.elmore.specs.Placed.{placed_load, placed_delay, IsPlacedTree, IsLeast};
+ghost use Rattle.elmore.specs.Placed.{placed_load, placed_delay, IsLeast};
+ghost use Rattle.elmore.specs.Steps.{IsPlacedTree};
 ghost use Rattle.elmore.specs.Problems.{IsRepWithin, IsDriverWithin, IsSmall, sink_of};
 ghost use Rattle.elmore.specs.Placements.{IsPlacement, IsLegal, IsSlack};
 ghost use Rattle.elmore.specs.Room.{room_of};
