@@ -5,7 +5,8 @@ use Rattle.std.proofs.lemmas.Int.{ints, by_lt_z}
 use Rattle.std.proofs.lemmas.List.{take_more, take_all, get_or_default}
 use Rattle.std.proofs.lemmas.List.Elements.{All-contains}
 use Rattle.std.specs.List.{Contains, All, AllPairs}
-use Rattle.elmore.specs.Placements.{IsBest, cost_of}
+use Rattle.elmore.specs.Placements.{cost_of}
+use Rattle.elmore.specs.Best.{IsBest}
 use Rattle.elmore.specs.Pairs.{Dominates, IsBelow, IsUndominated}
 use Rattle.elmore.specs.Frontier.{Point, Outdoes, IsAttained, IsOnFrontier, IsFrontier}
 use Rattle.elmore.specs.FrontierLaws.{Exceeds}

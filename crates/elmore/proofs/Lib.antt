@@ -25,3 +25,4 @@ pub mod LeastLaws
 pub mod ProblemLaws
 pub mod StageThrough
 pub mod Heads
+pub mod LegalLaws

@@ -1,7 +1,9 @@
 -- The frontier of cost and slack (Lillis, Cheng and Lin 1996).
-use Rattle.std.specs.Prelude.{◌≡◌, ℕ, ◌<◌, ◌≤◌, List, ℤ, ◌≤ℤ◌, Option, IfSome}
+use Rattle.std.specs.Prelude.{◌≡◌, ℕ, ◌<◌, ◌≤◌, List, ℤ, ◌≤ℤ◌, Option}
 use Rattle.std.specs.List.{Contains, All, AllPairs}
-use Rattle.elmore.specs.Placements.{IsGood, IsSlack, cost_of}
+use Rattle.elmore.specs.Placements.{IsSlack, cost_of}
+use Rattle.elmore.specs.Legal.{IsWithin}
+use Rattle.elmore.specs.Best.{IsGood}
 use Rattle.elmore.specs.declared.problem.Problem.{Problem}
 
 -- a cost and a slack
@@ -12,7 +14,7 @@ pub record Point : Type 0 where
 -- a good placement within the cap has this cost and this slack
 pub record IsPointOf (p : Problem) (cap : Option ℕ) (cells : List (Option ℕ)) (point : Point) : Type 0 where
   pub good : IsGood p cells
-  pub within : IfSome cap (λ most. cost_of p cells ≤ most)
+  pub within : IsWithin cap (cost_of p cells)
   pub costs : point.cost ≡ cost_of p cells
   pub slacks : IsSlack p cells point.slack
 

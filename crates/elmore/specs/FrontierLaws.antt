@@ -1,7 +1,8 @@
 -- What a user knows of slacks, of frontiers and of undominated lists.
 use Rattle.std.specs.Prelude.{◌≡◌, ℕ, ◌<◌, Bool, List, [], ◌∷◌, ◌++◌, ℤ, ◌<ℤ◌, Option, None}
 use Rattle.std.specs.List.{Contains, All, AllPairs}
-use Rattle.elmore.specs.Placements.{IsSlack, IsBest}
+use Rattle.elmore.specs.Placements.{IsSlack}
+use Rattle.elmore.specs.Best.{IsBest}
 use Rattle.elmore.specs.Pairs.{Dominates, IsPairAt, IsUndominated}
 use Rattle.elmore.specs.Frontier.{Point, IsAttained, IsOnFrontier, IsFrontier}
 use Rattle.elmore.specs.declared.pair.Pair.{Pair}

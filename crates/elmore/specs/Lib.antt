@@ -5,10 +5,13 @@ pub mod Room
 pub mod Cells
 pub mod Stage
 pub mod Delay
+pub mod Allowances
 pub mod Problems
 pub mod Placed
 pub mod Steps
 pub mod Placements
+pub mod Legal
+pub mod Best
 pub mod Pairs
 pub mod Frontier
 pub mod FrontierLaws

@@ -1,8 +1,8 @@
--- Placements of a problem: their delays and slack, and which of them are legal, good and best.
+-- Placements of a problem: their loads, delays, slack, polarity and cost.
 -- L. P. P. P. van Ginneken, "Buffer placement in distributed RC-tree networks for minimal Elmore delay", ISCAS 1990;
 -- J. Lillis, C.-K. Cheng, T.-T. Y. Lin, "Optimal wire sizing and buffer insertion for low power and a generalized
 -- delay model", IEEE Journal of Solid-State Circuits 31, 1996.
-use Rattle.std.specs.Prelude.{◌≡◌, ℕ, ◌<◌, Bool, true, false, List, length, slice_index_or, ℤ, ◌≤ℤ◌, Option, Some, None}
+use Rattle.std.specs.Prelude.{◌≡◌, ℕ, Bool, List, length, ℤ, Option, Some}
 use Rattle.std.specs.List.{sum_by}
 use Rattle.elmore.specs.Cells.{rep_of, cell_cost}
 use Rattle.elmore.specs.Placed.{IsPlacementOf, placed_load, placed_upload, placed_delay, placed_inverters, driven_delay, slack_left, IsLeast, placed_inverted, IsWanted, IsFirstUnwanted}
@@ -58,27 +58,3 @@ HasPolarity p cells w = IsWanted (sink_of p.sinks w) (is_inverted p cells w)
 -- w is the first sink, in tree order, of the wrong polarity
 abbrev pub IsFirstWrong : Problem → List (Option ℕ) → ℕ → Type 0
 IsFirstWrong p cells w = IsFirstUnwanted p.sinks (is_inverted p cells) w
-
--- only places have a cell
-abbrev pub IsLegalAt : List Bool → List (Option ℕ) → ℕ → Type 0
-IsLegalAt places cells v = (b : ℕ) → slice_index_or cells v None ≡ Some b → slice_index_or places v false ≡ true
-
-abbrev pub IsLegal : Problem → List (Option ℕ) → Type 0
-IsLegal p cells = (v : ℕ) → IsLegalAt p.places cells v
-
--- v is the first node, in tree order, with a cell where none may be
-pub record IsFirstIllegal (p : Problem) (cells : List (Option ℕ)) (v : ℕ) : Type 0 where
-  pub illegal : IsLegalAt p.places cells v → ⊥
-  pub before : (u : ℕ) → u < v → IsLegalAt p.places cells u
-
--- legal, and every sink has its wanted polarity
-pub record IsGood (p : Problem) (cells : List (Option ℕ)) : Type 0 where
-  pub placement : IsPlacement p cells
-  pub legal : IsLegal p cells
-  pub wanted : (w : ℕ) → HasPolarity p cells w
-
--- good with slack x, and no good placement has more
-pub record IsBest (p : Problem) (cells : List (Option ℕ)) (x : ℤ) : Type 0 where
-  pub good : IsGood p cells
-  pub slack : IsSlack p cells x
-  pub most : (others : List (Option ℕ)) (y : ℤ) → IsGood p others → IsSlack p others y → y ≤ℤ x

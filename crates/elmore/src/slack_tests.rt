@@ -111,10 +111,10 @@ fn tells_loads_slack_and_polarity(rt: HostRuntime) -> Result<(), Fail> {
         let (n, reps) = (problem.tree.nodes.len(), problem.reps.len());
         assert!(rt; n > 1 && n <= 4);
         let at = worked_placement(rt.alloc(), n, reps, &cells[..n])?;
-        if let Some(_) = first_illegal(&problem, &at) {
+        let mut scratch = Scratch::new(rt.alloc(), n)?;
+        if let Some(_) = first_illegal(&problem, &at, &mut scratch) {
             return Err("illegal".into());
         }
-        let mut scratch = Scratch::new(rt.alloc(), n)?;
         assert_eq!(rt; load_of(&problem, &at, 0, &mut scratch), loads[0]);
         assert_eq!(rt; load_of(&problem, &at, 1, &mut scratch), loads[1]);
         assert_eq!(rt; slack(&problem, &at, &mut scratch), left);
