@@ -103,6 +103,9 @@ pub(crate) fn problem_with(
     if sinks.len() != tree.nodes.len() || free.len() != tree.nodes.len() {
         return Err("not one element for each node".into());
     }
+    if allowed.len() != tree.nodes.len() {
+        return Err("not one element for each node".into());
+    }
     if free[0] || has_free_sink(sinks.as_slice(), free) {
         return Err("no place to be".into());
     }
