@@ -28,32 +28,31 @@ fn allowed(alloc: Global, open: bool) -> Result<Row<Allowed>, Memory>
 
 #[test]
 fn finds_what_limits_forbid(rt: HostRuntime) -> Result<(), Fail> {
-    let bare = [None, None, None];
-    let middle = [None, Some(0), None];
-    let both = [None, Some(0), Some(0)];
-    // The limits of the buffer and of the driver, whether the middle allows the buffer, the cells, the first illegal node.
+    // The limits of the buffer and of the driver, whether the middle allows the buffer, whether it stands there and at the
+    // sink, the first illegal node.
     let cases = [
-        (None, None, true, bare, None),
-        (None, None, true, middle, None),
-        (Some(202_000), None, true, middle, None),
-        (Some(201_999), None, true, middle, Some(1)),
-        (Some(201_999), None, true, bare, None),
-        (None, Some(202_000), true, bare, None),
-        (None, Some(201_999), true, bare, Some(0)),
-        (None, Some(201_999), true, middle, None),
-        (None, Some(2_000), true, middle, None),
-        (None, Some(1_999), true, middle, Some(0)),
-        (Some(201_999), Some(201_999), true, bare, Some(0)),
-        (Some(201_999), Some(201_999), true, middle, Some(1)),
-        (None, None, false, bare, None),
-        (None, None, false, middle, Some(1)),
-        (Some(102_000), None, true, both, Some(2)),
-        (Some(101_999), None, true, both, Some(1)),
+        (None, None, true, None, None, None),
+        (None, None, true, Some(0), None, None),
+        (Some(202_000), None, true, Some(0), None, None),
+        (Some(201_999), None, true, Some(0), None, Some(1)),
+        (Some(201_999), None, true, None, None, None),
+        (None, Some(202_000), true, None, None, None),
+        (None, Some(201_999), true, None, None, Some(0)),
+        (None, Some(201_999), true, Some(0), None, None),
+        (None, Some(2_000), true, Some(0), None, None),
+        (None, Some(1_999), true, Some(0), None, Some(0)),
+        (Some(201_999), Some(201_999), true, None, None, Some(0)),
+        (Some(201_999), Some(201_999), true, Some(0), None, Some(1)),
+        (None, None, false, None, None, None),
+        (None, None, false, Some(0), None, Some(1)),
+        (Some(102_000), None, true, Some(0), Some(0), Some(2)),
+        (Some(101_999), None, true, Some(0), Some(0), Some(1)),
     ];
     let nodes = [ROOT, TRUNK, LEAF];
     let sinks = [None, None, SINK];
     let free = [false, true, false];
-    for (most, driven, open, cells, illegal) in cases {
+    for (most, driven, open, middle, last, illegal) in cases {
+        let cells = [None, middle, last];
         let driver = Driver {
             limit: driven,
             ..DRIVER
