@@ -1,10 +1,13 @@
 -- The forest that keeps only the edges of the nodes from i on, and what one more edge changes.
-use Rattle.std.proofs.Common.{◌≡◌, ℕ, ◌+◌, ◌<◌, ◌≤◌, refl, sym, ap, ◌∙◌, arith, inl, inr}
+use Rattle.std.proofs.Common.{◌≡◌, ℕ, ◌+◌, ◌<◌, ◌≤◌, refl, sym, ap, ◌∙◌, arith, inl, inr, cond, ltb}
 use Rattle.std.proofs.lemmas.Bool.{cases_lt, lt-ltb, le-ltb}
 use mathlib.Core.Path.{fun_ext}
 use Rattle.elmore.specs.Path.{Falls}
-use Rattle.elmore.specs.Cut.{cut}
 use Rattle.elmore.proofs.HangLaws.{Hung}
+
+-- the forest that keeps only the edges of the nodes from i on
+abbrev pub cut : ℕ → (ℕ → ℕ) → ℕ → ℕ
+cut i parent u = cond (ltb u i) u (parent u)
 
 pub cut_below : (i : ℕ) (parent : ℕ → ℕ) (u : ℕ) → u < i → cut i parent u ≡ u
 cut_below i parent u h = rw (lt-ltb u i h) refl

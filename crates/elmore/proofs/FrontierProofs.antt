@@ -5,15 +5,16 @@ use Rattle.std.proofs.lemmas.Int.{ints, by_lt_z}
 use Rattle.std.proofs.lemmas.List.{take_more, take_all, get_or_default}
 use Rattle.std.proofs.lemmas.List.Elements.{All-contains}
 use Rattle.std.specs.List.{Contains, All, AllPairs}
-use Rattle.elmore.specs.Placements.{IsBest, cost_of}
+use Rattle.elmore.specs.Placements.{cost_of}
+use Rattle.elmore.specs.Best.{IsBest}
 use Rattle.elmore.specs.Pairs.{Dominates, IsBelow, IsUndominated}
 use Rattle.elmore.specs.Frontier.{Point, Outdoes, IsAttained, IsOnFrontier, IsFrontier}
 use Rattle.elmore.specs.FrontierLaws.{Exceeds}
 use Rattle.elmore.specs.declared.pair.Pair.{Pair}
 use Rattle.elmore.specs.declared.problem.Problem.{Problem}
 
-pub rises : (p : Problem) (cap : Option ℕ) (points : List Point) → IsFrontier p cap points → AllPairs Exceeds points
-rises p cap points frontier i j d i_j j_n =
+pub rises : (In : Point → Type 0) (points : List Point) → IsFrontier In points → AllPairs Exceeds points
+rises In points frontier i j d i_j j_n =
     let costs : (get_or points i d).cost < (get_or points j d).cost = frontier.rising i j d i_j j_n in
     record {
       costs = costs;
@@ -25,16 +26,16 @@ rises p cap points frontier i j d i_j j_n =
           absurd (omega (arith, ap (λ (x : Point). x.cost) same)));
     }
 
-pub is_whole : (p : Problem) (cap : Option ℕ) (points : List Point) (point : Point) → IsFrontier p cap points → IsOnFrontier p cap point → Contains points point
-is_whole p cap points point frontier on =
+pub is_whole : (In : Point → Type 0) (points : List Point) (point : Point) → IsFrontier In points → IsOnFrontier In point → Contains points point
+is_whole In points point frontier on =
     let (other, other_in, outdoes) = frontier.covers point on.attained in
-    subst (Contains points) (on.alone other (All-contains (IsOnFrontier p cap) points other frontier.taken other_in).attained outdoes) other_in
+    subst (Contains points) (on.alone other (All-contains (IsOnFrontier In) points other frontier.taken other_in).attained outdoes) other_in
 
 -- a list that is not empty ends
 ends : {X : Type 0} (xs : List X) (n : ℕ) (d : X) → length xs ≡ n + 1 → xs ≡ take n xs ++ get_or xs n d ∷ []
 ends xs n d e = sym (take_all (n + 1) xs (omega arith)) ∙ take_more xs n d (omega arith)
 
-pub last_is_best : (p : Problem) (cells : List (Option ℕ)) (x : ℤ) (points : List Point) → IsBest p cells x → IsFrontier p None points
+pub last_is_best : (p : Problem) (cells : List (Option ℕ)) (x : ℤ) (points : List Point) → IsBest p cells x → IsFrontier (IsAttained p None) points
     → (front : List Point) × (last : Point) × (points ≡ front ++ last ∷ []) × (last.slack ≡ x)
 last_is_best p cells x points best frontier =
     let point : Point = record { cost = cost_of p cells; slack = x } in
@@ -46,7 +47,7 @@ last_is_best p cells x points best frontier =
     let at_least : x ≤ℤ last.slack =
     elim (cases_lt k (length points - 1)) [
       | inl before ↦
-          let less : (get_or points k other).slack <ℤ last.slack = (rises p None points frontier k (length points - 1) other before (omega arith)).slacks in
+          let less : (get_or points k other).slack <ℤ last.slack = (rises (IsAttained p None) points frontier k (length points - 1) other before (omega arith)).slacks in
           omega (arith, ints, ap (λ (z : Point). z.slack) is)
       | inr at_end ↦
           let same : last ≡ get_or points k other = ap (λ (i : ℕ). get_or points i other) (end_of k k_n at_end) in
@@ -99,11 +100,11 @@ one_list {X} f (x ∷ xs) (y ∷ ys) rising_x rising_y in_y in_x =
           | inr below ↦ below.0
         ]
 
-pub one_of_each : (p : Problem) (cap : Option ℕ) (points others : List Point) → IsFrontier p cap points → IsFrontier p cap others → points ≡ others
-one_of_each p cap points others frontier other =
+pub one_of_each : (In : Point → Type 0) (points others : List Point) → IsFrontier In points → IsFrontier In others → points ≡ others
+one_of_each In points others frontier other =
     one_list (λ (point : Point). point.cost) points others frontier.rising other.rising
-    (λ k d h. is_whole p cap others (get_or points k d) other (frontier.taken k d h))
-    (λ k d h. is_whole p cap points (get_or others k d) frontier (other.taken k d h))
+    (λ k d h. is_whole In others (get_or points k d) other (frontier.taken k d h))
+    (λ k d h. is_whole In points (get_or others k d) frontier (other.taken k d h))
 
 -- two pairs of a strictly rising list, one of which dominates the other, are one
 no_other : (xs : List Pair) (i j : ℕ) (d : Pair) → AllPairs IsBelow xs → i < length xs → j < length xs

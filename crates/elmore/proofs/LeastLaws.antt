@@ -57,7 +57,7 @@ within_sinks sinks w sink here =
       | inr high ↦ absurd (cc (get_or_past sinks w None high, here))
     ]
 
-some_sink : (sinks : List (Option Sink)) → list_any is_some sinks ≡ true → (w : ℕ) × (sink : Sink) × (sink_of sinks w ≡ Some sink)
+pub some_sink : (sinks : List (Option Sink)) → list_any is_some sinks ≡ true → (w : ℕ) × (sink : Sink) × (sink_of sinks w ≡ Some sink)
 some_sink [] e = absurd (false≢true e)
 some_sink (Some sink ∷ sinks) e = (0, sink, refl)
 some_sink (None ∷ sinks) e = let (w, sink, here) = some_sink sinks e in (suc w, sink, here)

@@ -23,3 +23,6 @@ pub mod Filled
 pub mod PlacedTrees
 pub mod LeastLaws
 pub mod ProblemLaws
+pub mod StageThrough
+pub mod Heads
+pub mod LegalLaws

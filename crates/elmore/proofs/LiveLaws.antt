@@ -7,14 +7,13 @@ use Rattle.std.proofs.lemmas.List.FromFn.{length-range_with_len, get_or-range_wi
 use mathlib.Core.Path.{fun_ext}
 use Rattle.std.specs.List.{list_any}
 use Rattle.elmore.specs.Path.{Falls, is_over, nodes as node_numbers}
-use Rattle.elmore.specs.Cut.{cut}
 use Rattle.elmore.specs.Trees.{IsTree, parent_of}
 use Rattle.elmore.specs.Problems.{ArePlaces, is_sink, is_live, is_above_sink, is_place, live_nodes, places as places_of}
 use Rattle.elmore.specs.declared.tree.Node.{Node}
 use Rattle.elmore.specs.declared.parts.Sink.{Sink}
 use Rattle.elmore.proofs.PathLaws.{over_self, over_at_root}
 use Rattle.elmore.proofs.HangLaws.{Hung, over_other, over_hung}
-use Rattle.elmore.proofs.CutLaws.{cut_none, cut_hung}
+use Rattle.elmore.proofs.CutLaws.{cut, cut_none, cut_hung}
 use Rattle.elmore.proofs.TreeLaws.{tree_falls, cut_past}
 
 any_of_same : {X : Type 0} (f g : X → Bool) (xs : List X) → ((x : X) → f x ≡ g x) → list_any f xs ≡ list_any g xs

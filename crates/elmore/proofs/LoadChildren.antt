@@ -3,13 +3,12 @@ use Rattle.std.proofs.Common.{◌≡◌, ℕ, zero, suc, ◌+◌, ◌<◌, Bool,
 use Rattle.std.proofs.lemmas.Bool.{eq-eqb, ne_eqb, cases_eq, cases_lt}
 use Rattle.std.specs.List.{sum_by, filter}
 use Rattle.elmore.specs.Path.{is_child, nodes}
-use Rattle.elmore.specs.Cut.{cut}
 use Rattle.elmore.specs.Stage.{load, upload}
 use Rattle.elmore.specs.declared.rep.Rep.{Rep}
 use Rattle.elmore.proofs.SumLaws.{sum_of_filter, sum_of_both, sum_of_same, sum_of_none, sum_at}
-use Rattle.elmore.proofs.RootLaws.{IsTreeOf}
+use Rattle.elmore.proofs.RootLaws.{IsRooted}
 use Rattle.elmore.proofs.HangLaws.{Hung, after_root}
-use Rattle.elmore.proofs.CutLaws.{cut_hung, cut_none, cut_below, cut_from}
+use Rattle.elmore.proofs.CutLaws.{cut, cut_hung, cut_none, cut_below, cut_from}
 use Rattle.elmore.proofs.HungLoads.{load_hung, load_other, upload_other}
 use Rattle.elmore.proofs.LoadLaws.{load_alone}
 
@@ -62,7 +61,7 @@ children_grow before after i p h c cell n i_n v =
     ∙ ap (λ (k : ℕ). sum_by (seen_child before c cell n v) (nodes n) + k)
     (sum_at (λ u. cond (eqb p v) (upload before c cell n u) 0) i 0 n (omega arith) (omega arith))
 
-pub load_children : (parent : ℕ → ℕ) (n : ℕ) → IsTreeOf parent n → (c : ℕ → ℕ) (cell : ℕ → Option Rep) (v : ℕ) → v < n
+pub load_children : (parent : ℕ → ℕ) (n : ℕ) → IsRooted parent n → (c : ℕ → ℕ) (cell : ℕ → Option Rep) (v : ℕ) → v < n
     → load parent c cell n v ≡ c v + sum_by (upload parent c cell n) (filter (is_child parent v) (nodes n))
 load_children parent n t c cell v v_n =
     omega (

@@ -4,13 +4,12 @@ use Rattle.std.proofs.lemmas.Bool.{eq-eqb, ne_eqb, cases_eq}
 use Rattle.std.proofs.lemmas.List.{get_or-set_same, get_or-set_other}
 use Rattle.std.specs.List.{sum_by}
 use Rattle.elmore.specs.Path.{Falls, nodes}
-use Rattle.elmore.specs.Cut.{cut}
 use Rattle.elmore.specs.Cells.{input_capacitance}
 use Rattle.elmore.specs.Stage.{in_stage, ends_stage, load, upload, seen}
 use Rattle.elmore.specs.declared.rep.Rep.{Rep}
 use Rattle.elmore.proofs.StageLaws.{stage_self, stage_at_root, end_self, end_at_root}
 use Rattle.elmore.proofs.SumLaws.{sum_of_same, sum_at, sum_of_none, sum_of_filter_le}
-use Rattle.elmore.proofs.CutLaws.{cut_hung}
+use Rattle.elmore.proofs.CutLaws.{cut, cut_hung}
 use Rattle.elmore.proofs.HungLoads.{load_hung, load_other, load_parts, stage_part, ends_part}
 
 -- without edges the load of a node is its own capacitance

@@ -25,11 +25,11 @@ agree_below parent falls v u a b v_u agree = record {
       (λ e. w_u (omega (arith, over_le parent falls v u v_u, over_le parent falls u w u_w)));
 }
 
-stage_outside : (parent : ℕ → ℕ) (cell : ℕ → Option Rep) (v w : ℕ) → is_over parent v w ≡ false → in_stage parent cell v w ≡ false
+pub stage_outside : (parent : ℕ → ℕ) (cell : ℕ → Option Rep) (v w : ℕ) → is_over parent v w ≡ false → in_stage parent cell v w ≡ false
 unfolding in_stage
 stage_outside parent cell v w out = rw out refl
 
-end_outside : (parent : ℕ → ℕ) (cell : ℕ → Option Rep) (v w : ℕ) → is_over parent v w ≡ false → ends_stage parent cell v w ≡ false
+pub end_outside : (parent : ℕ → ℕ) (cell : ℕ → Option Rep) (v w : ℕ) → is_over parent v w ≡ false → ends_stage parent cell v w ≡ false
 unfolding ends_stage
 end_outside parent cell v w out = rw out refl
 

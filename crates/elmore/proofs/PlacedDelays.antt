@@ -10,7 +10,7 @@ use Rattle.elmore.specs.Delay.{delay_from}
 use Rattle.elmore.specs.declared.rep.Rep.{Rep}
 use Rattle.elmore.proofs.WayLaws.{way_sum_self, way_sum_below, way_sum_through}
 use Rattle.elmore.proofs.SumLaws.{sum_of_both, sum_of_more, sum_of_fewer, summand_le}
-use Rattle.elmore.proofs.RootLaws.{IsTreeOf, from_root}
+use Rattle.elmore.proofs.RootLaws.{IsRooted, from_root}
 use Rattle.elmore.proofs.LoadLaws.{load_bound}
 
 -- what a node adds to the delays of the nodes at and below it, seen from above: its wire and its cell
@@ -70,7 +70,7 @@ upload_bound parent c cell n v v_n = either (cell v) (summand_le (λ w. input_ca
     either (Some rep) small = omega arith
 
 -- a delay from the root, where no wire has to charge more than a, and no cell takes longer than b
-pub delay_bound : (parent : ℕ → ℕ) (n : ℕ) → IsTreeOf parent n → (r c : ℕ → ℕ) (cell : ℕ → Option Rep) (a b : ℕ)
+pub delay_bound : (parent : ℕ → ℕ) (n : ℕ) → IsRooted parent n → (r c : ℕ → ℕ) (cell : ℕ → Option Rep) (a b : ℕ)
     → ((u : ℕ) → u < n → upload parent c cell n u ≤ a)
     → ((u : ℕ) → u < n → cell_delay (cell u) (load parent c cell n u) ≤ b)
     → (w : ℕ) → w < n → delay_from parent r c cell n 0 w ≤ a * sum_by r (nodes n) + n * b

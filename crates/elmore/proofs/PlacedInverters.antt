@@ -4,11 +4,11 @@ use Rattle.std.proofs.lemmas.Bool.{cases_eq, eq-eqb, ne_eqb}
 use Rattle.std.proofs.lemmas.List.Sums.{sum_by_push}
 use Rattle.std.specs.Bool.{beq}
 use Rattle.std.specs.List.{sum_by}
-use Rattle.elmore.specs.Path.{Falls, way}
+use Rattle.elmore.specs.Path.{Falls, is_over, way}
 use Rattle.elmore.specs.Cells.{is_inverter}
 use Rattle.elmore.specs.Delay.{inverters_from, is_odd}
 use Rattle.elmore.specs.declared.rep.Rep.{Rep}
-use Rattle.elmore.proofs.WayLaws.{way_sum_self, way_sum_below}
+use Rattle.elmore.proofs.WayLaws.{way_sum_self, way_sum_below, way_sum_through}
 
 -- what a node adds to them
 abbrev pub step_inverters : (ℕ → Option Rep) → ℕ → ℕ
@@ -31,6 +31,18 @@ inverters_below parent falls cell v w below other =
       inverters_parts parent cell v w,
       inverters_parts parent cell v (parent w),
       way_sum_below parent falls (step_inverters cell) v w below other,
+    )
+
+-- by way of a node between, whose own cell counts once
+pub inverters_through : (parent : ℕ → ℕ) → Falls parent → (cell : ℕ → Option Rep) (v u w : ℕ) → is_over parent v u ≡ true → is_over parent u w ≡ true
+    → inverters_from parent cell v w + step_inverters cell u ≡ inverters_from parent cell v u + inverters_from parent cell u w
+inverters_through parent falls cell v u w v_u u_w =
+    omega (
+      arith,
+      inverters_parts parent cell v w,
+      inverters_parts parent cell v u,
+      inverters_parts parent cell u w,
+      way_sum_through parent falls (step_inverters cell) v u w v_u u_w,
     )
 
 -- one more cell turns the polarity where it inverts

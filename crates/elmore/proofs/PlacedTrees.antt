@@ -12,7 +12,8 @@ use Rattle.elmore.specs.Path.{nodes as node_numbers}
 use Rattle.elmore.specs.Cells.{rep_at, rep_of, cell_at, input_capacitance, cell_delay}
 use Rattle.elmore.specs.Problems.{IsRepWithin}
 use Rattle.elmore.specs.Trees.{IsTree, parent_of, resistance, capacitance}
-use Rattle.elmore.specs.Placed.{IsPlacedTree, placed_load, placed_upload, placed_delay, placed_inverters, placed_capacitance}
+use Rattle.elmore.specs.Placed.{IsPlacementOf, placed_load, placed_upload, placed_delay, placed_inverters}
+use Rattle.elmore.specs.Steps.{IsPlacedTree, placed_capacitance}
 use Rattle.elmore.specs.declared.tree.Node.{Node}
 use Rattle.elmore.specs.declared.rep.Rep.{Rep}
 use Rattle.elmore.proofs.SumLaws.{sum_of_items}
@@ -22,24 +23,24 @@ use Rattle.elmore.proofs.PlacedInverters.{step_inverters, inverters_self, invert
 use Rattle.elmore.proofs.TreeLaws.{sum_of_nodes, tree_falls, tree_of}
 
 -- the capacitances by the numbers of the nodes
-pub capacitance_sum : (tree : List Node) (reps : List Rep) (cells : List (Option ℕ)) → IsPlacedTree tree reps cells
+pub capacitance_sum : (tree : List Node) (reps : List Rep) (cells : List (Option ℕ)) → IsPlacementOf (length tree) (length reps) cells
     → sum_by (capacitance tree) (node_numbers (length tree)) + sum_by (λ w. input_capacitance (cell_at reps cells w)) (node_numbers (length tree))
     ≡ placed_capacitance tree reps cells
-capacitance_sum tree reps cells placed =
+capacitance_sum tree reps cells placement =
     omega (
       arith,
       sum_of_nodes (λ n. n.c) tree,
-      ap (λ (k : ℕ). sum_by (λ w. input_capacitance (cell_at reps cells w)) (node_numbers k)) placed.placement.one_each,
+      ap (λ (k : ℕ). sum_by (λ w. input_capacitance (cell_at reps cells w)) (node_numbers k)) placement.one_each,
       sum_of_items (λ cell. input_capacitance (rep_of reps cell)) (λ _. None) cells,
     )
 
-rep_within : (reps : List Rep) → All IsRepWithin reps → (b : ℕ) → IsRepWithin (rep_at reps b)
+pub rep_within : (reps : List Rep) → All IsRepWithin reps → (b : ℕ) → IsRepWithin (rep_at reps b)
 rep_within reps each b =
     elim (cases_lt b (length reps)) [
-      | inl low ↦ All-get_or IsRepWithin reps b (record { inverts = false; cin = 0; k = 0; r = 0; cost = 0 }) low each
+      | inl low ↦ All-get_or IsRepWithin reps b (record { inverts = false; cin = 0; k = 0; r = 0; cost = 0; limit = None }) low each
       | inr high ↦
-          subst IsRepWithin (sym (get_or_past reps b (record { inverts = false; cin = 0; k = 0; r = 0; cost = 0 }) high))
-          (record { r = omega arith; k = omega arith; cost = omega arith })
+          subst IsRepWithin (sym (get_or_past reps b (record { inverts = false; cin = 0; k = 0; r = 0; cost = 0; limit = None }) high))
+          (record { r = omega arith; k = omega arith; cost = omega arith; cin = omega arith })
     ]
 
 pub cell_delay_small : (reps : List Rep) → All IsRepWithin reps → (cell : Option ℕ) (load : ℕ) → load ≤ 10 ^ 11
@@ -55,7 +56,7 @@ load_small tree reps cells placed v =
     omega (
       arith,
       load_bound (parent_of tree) (capacitance tree) (cell_at reps cells) (length tree) v,
-      capacitance_sum tree reps cells placed,
+      capacitance_sum tree reps cells placed.placement,
       placed.capacitances,
     )
 
@@ -65,13 +66,13 @@ upload_small tree reps cells placed v v_n =
     omega (
       arith,
       upload_bound (parent_of tree) (capacitance tree) (cell_at reps cells) (length tree) v v_n,
-      capacitance_sum tree reps cells placed,
+      capacitance_sum tree reps cells placed.placement,
       placed.capacitances,
     )
 
-pub delay_small : (tree : List Node) (reps : List Rep) (cells : List (Option ℕ)) → IsPlacedTree tree reps cells
-    → (v : ℕ) → v < length tree → placed_delay tree reps cells 0 v ≤ 10 ^ 25
-delay_small tree reps cells placed v v_n =
+pub delay_smaller : (tree : List Node) (reps : List Rep) (cells : List (Option ℕ)) → IsPlacedTree tree reps cells
+    → (v : ℕ) → v < length tree → placed_delay tree reps cells 0 v ≤ 9 * 10 ^ 24
+delay_smaller tree reps cells placed v v_n =
     omega (
       arith,
       delay_bound (parent_of tree) (length tree) (tree_of tree placed.a_tree) (resistance tree) (capacitance tree) (cell_at reps cells) (10 ^ 11) (101 * 10 ^ 18)
@@ -81,6 +82,10 @@ delay_small tree reps cells placed v v_n =
       placed.resistances,
       placed.nodes,
     )
+
+pub delay_small : (tree : List Node) (reps : List Rep) (cells : List (Option ℕ)) → IsPlacedTree tree reps cells
+    → (v : ℕ) → v < length tree → placed_delay tree reps cells 0 v ≤ 10 ^ 25
+delay_small tree reps cells placed v v_n = omega (arith, delay_smaller tree reps cells placed v v_n)
 
 -- so it is whole in a machine's integer
 pub delay_whole : (tree : List Node) (reps : List Rep) (cells : List (Option ℕ)) → IsPlacedTree tree reps cells

@@ -1,24 +1,44 @@
 -- What a problem says of its placements.
-use Rattle.std.proofs.Common.{◌≡◌, ℕ, ◌*◌, ◌<◌, List, length, slice_index_or, Option, ℤ, pos, ◌+ℤ◌, ◌-ℤ◌, ◌∙◌, sym, arith, Bool, false, Some, None, MatchOption}
+use Rattle.std.proofs.Common.{◌≡◌, ℕ, ◌*◌, ◌<◌, ◌≤◌, ◌^◌, List, length, get_or, slice_index_or, Option, ℤ, pos, ◌+ℤ◌, ◌-ℤ◌, ◌∙◌, sym, arith, Bool, false, Some, None, MatchOption}
 use Rattle.std.proofs.lemmas.Int.{ints}
-use Rattle.elmore.specs.Problems.{sink_of}
-use Rattle.elmore.specs.Placed.{IsPlacedTree, IsLeast, IsSinkAlike, IsFirstUnlike}
-use Rattle.elmore.specs.Placements.{IsPlacement, IsLegal, IsSlack, IsSinkAt, slack_at, load_of, delay_between, is_inverted, HasPolarity, IsFirstWrong}
+use Rattle.std.proofs.lemmas.List.Sums.{sum_by-le}
+use Rattle.elmore.specs.Cells.{rep_at, rep_of, input_capacitance}
+use Rattle.elmore.specs.Problems.{sink_of, IsRepWithin}
+use Rattle.elmore.specs.Placed.{IsLeast, IsWanted, IsFirstUnwanted}
+use Rattle.elmore.specs.Steps.{IsPlacedTree, placed_capacitance}
+use Rattle.elmore.specs.Legal.{IsPlaced}
+use Rattle.elmore.specs.Placements.{IsPlacement, IsSlack, IsSinkAt, slack_at, load_of, delay_between, is_inverted, HasPolarity, IsFirstWrong}
 use Rattle.elmore.specs.declared.parts.Sink.{Sink}
 use Rattle.elmore.specs.declared.problem.Problem.{Problem}
 use Rattle.elmore.proofs.CellLaws.{inputs_le}
 use Rattle.elmore.proofs.LeastLaws.{within_sinks}
+use Rattle.elmore.proofs.PlacedTrees.{rep_within}
 
--- a legal placement is within the limits of its problem
-pub placed_tree : (p : Problem) (cells : List (Option ℕ)) → IsPlacement p cells → IsLegal p cells → IsPlacedTree p.tree.nodes p.reps cells
-placed_tree p cells placement legal = record {
+-- a placement with cells only at places is within the limits of its problem
+pub placed_tree : (p : Problem) (cells : List (Option ℕ)) → IsPlacement p cells → IsPlaced p cells → IsPlacedTree p.tree.nodes p.reps cells
+placed_tree p cells placement placed = record {
   a_tree = p.tree.a_tree;
   placement = placement;
   nodes = p.within.nodes;
   resistances = p.within.resistances;
-  capacitances = omega (arith, p.within.capacitances, inputs_le p.reps cells p.places legal);
+  capacitances = omega (arith, p.within.capacitances, inputs_le p.reps cells p.places placed);
   each_repeater = p.within.each_repeater;
 }
+
+-- the loads of a placement can be computed, wherever it has cells
+pub sum_fits : (p : Problem) (cells : List (Option ℕ)) → IsPlacement p cells → placed_capacitance p.tree.nodes p.reps cells < 2 ^ 128
+sum_fits p cells placement =
+    omega (
+      arith,
+      p.within.nodes,
+      p.within.capacitances,
+      placement.one_each,
+      sum_by-le (λ cell. input_capacitance (rep_of p.reps cell)) (2 ^ 64) cells (λ v d v_n. input_small (get_or cells v d)),
+    )
+  where
+    input_small : (cell : Option ℕ) → input_capacitance (rep_of p.reps cell) ≤ 2 ^ 64
+    input_small None = omega arith
+    input_small (Some b) = let within : IsRepWithin (rep_at p.reps b) = rep_within p.reps p.within.each_repeater b in omega (arith, within.cin)
 
 -- the least that the sinks have left, by the delays from the root, is the slack
 pub slack_is : (p : Problem) (cells : List (Option ℕ)) (delays : List ℤ) (start x : ℤ)
@@ -39,20 +59,20 @@ slack_is p cells delays start x start_is delays_are least = record {
 -- a sink is unlike its mark where its polarity is wrong
 pub wrong_is : (p : Problem) (cells : List (Option ℕ)) (inverted : List Bool) (found : Option ℕ)
     → ((v : ℕ) → v < length p.tree.nodes → slice_index_or inverted v false ≡ is_inverted p cells v)
-    → MatchOption found ((w : ℕ) → IsSinkAlike (sink_of p.sinks w) (slice_index_or inverted w false)) (λ w. IsFirstUnlike p.sinks inverted w)
+    → MatchOption found ((w : ℕ) → IsWanted (sink_of p.sinks w) (slice_index_or inverted w false)) (λ w. IsFirstUnwanted p.sinks (λ v. slice_index_or inverted v false) w)
     → MatchOption found ((w : ℕ) → HasPolarity p cells w) (λ w. IsFirstWrong p cells w)
 wrong_is p cells inverted found marks = go found
   where
     marked : (w : ℕ) (sink : Sink) → IsSinkAt p w sink → slice_index_or inverted w false ≡ is_inverted p cells w
     marked w sink here = marks w (omega (arith, within_sinks p.sinks w sink here, p.sinks_each))
 
-    alike : (w : ℕ) → IsSinkAlike (sink_of p.sinks w) (slice_index_or inverted w false) → HasPolarity p cells w
+    alike : (w : ℕ) → IsWanted (sink_of p.sinks w) (slice_index_or inverted w false) → HasPolarity p cells w
     alike w same sink here = sym (marked w sink here) ∙ same sink here
 
-    go : (found : Option ℕ) → MatchOption found ((w : ℕ) → IsSinkAlike (sink_of p.sinks w) (slice_index_or inverted w false)) (λ w. IsFirstUnlike p.sinks inverted w)
+    go : (found : Option ℕ) → MatchOption found ((w : ℕ) → IsWanted (sink_of p.sinks w) (slice_index_or inverted w false)) (λ w. IsFirstUnwanted p.sinks (λ v. slice_index_or inverted v false) w)
         → MatchOption found ((w : ℕ) → HasPolarity p cells w) (λ w. IsFirstWrong p cells w)
     go None all = λ w. alike w (all w)
     go (Some w) first = record {
-      wrong = let (sink, here, other) = first.unlike in (sink, here, λ same. other (marked w sink here ∙ same));
+      wrong = let (sink, here, other) = first.wrong in (sink, here, λ same. other (marked w sink here ∙ same));
       before = λ v v_w. alike v (first.before v v_w);
     }

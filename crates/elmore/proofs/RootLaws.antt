@@ -5,14 +5,14 @@ use Rattle.elmore.specs.Path.{Falls, is_over}
 use Rattle.elmore.proofs.PathLaws.{upward, over_self, over_below}
 
 -- node 0 is the only root among the first n nodes, and every other number is a root of its own
-pub record IsTreeOf (parent : ℕ → ℕ) (n : ℕ) : Type 0 where
+pub record IsRooted (parent : ℕ → ℕ) (n : ℕ) : Type 0 where
   pub falls : Falls parent
   pub root : parent 0 ≡ 0
   pub above : (w : ℕ) → 0 < w → w < n → parent w < w
   pub past : (w : ℕ) → n ≤ w → parent w ≡ w
 
 -- induction on the path from the root down to a node
-pub from_root : (parent : ℕ → ℕ) (n : ℕ) → IsTreeOf parent n → (P : ℕ → Type 0)
+pub from_root : (parent : ℕ → ℕ) (n : ℕ) → IsRooted parent n → (P : ℕ → Type 0)
     → P 0
     → ((w : ℕ) → 0 < w → w < n → P (parent w) → P w)
     → (w : ℕ) → w < n → P w
@@ -25,7 +25,7 @@ from_root parent n rooted P root below =
           below w (omega arith) w_n (more (λ e. omega arith) (omega arith))
     ])
 
-pub root_over : (parent : ℕ → ℕ) (n : ℕ) → IsTreeOf parent n → (w : ℕ) → w < n → is_over parent 0 w ≡ true
+pub root_over : (parent : ℕ → ℕ) (n : ℕ) → IsRooted parent n → (w : ℕ) → w < n → is_over parent 0 w ≡ true
 root_over parent n rooted w w_n =
     from_root parent n rooted (λ u. is_over parent 0 u ≡ true)
     (over_self parent rooted.falls 0)

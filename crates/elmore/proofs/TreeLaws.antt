@@ -10,10 +10,9 @@ use Rattle.elmore.specs.Path.{Falls, nodes as node_numbers}
 use Rattle.elmore.specs.Trees.{IsTree, IsWithinLimits, node_at, parent_of, resistance, capacitance, total_resistance, total_capacitance}
 use Rattle.elmore.specs.Wire.{delay_in, downstream_in}
 use Rattle.elmore.specs.declared.tree.Node.{Node}
-use Rattle.elmore.specs.Cut.{cut}
 use Rattle.elmore.proofs.SumLaws.{sum_of_items}
-use Rattle.elmore.proofs.CutLaws.{cut_below, cut_from}
-use Rattle.elmore.proofs.RootLaws.{IsTreeOf}
+use Rattle.elmore.proofs.CutLaws.{cut, cut_below, cut_from}
+use Rattle.elmore.proofs.RootLaws.{IsRooted}
 use Rattle.elmore.proofs.WireLaws.{downstream_bound, downstream_root, wire_delay_root, wire_delay_step, wire_delay_bound}
 
 pub parent_past : (nodes : List Node) (v : ℕ) → length nodes ≤ v → parent_of nodes v ≡ v
@@ -29,7 +28,7 @@ tree_falls nodes t v =
       | inr high ↦ omega (arith, parent_past nodes v high)
     ]
 
-pub tree_of : (nodes : List Node) → IsTree nodes → IsTreeOf (parent_of nodes) (length nodes)
+pub tree_of : (nodes : List Node) → IsTree nodes → IsRooted (parent_of nodes) (length nodes)
 tree_of nodes t = record { falls = tree_falls nodes t; root = t.root; above = t.smaller; past = parent_past nodes }
 
 pub cut_past : (nodes : List Node) (v : ℕ) → cut (length nodes) (parent_of nodes) v ≡ v

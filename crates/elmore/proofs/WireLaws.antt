@@ -8,7 +8,7 @@ use Rattle.elmore.specs.Delay.{delay_from}
 use Rattle.elmore.specs.Wire.{downstream, wire_delay}
 use Rattle.elmore.specs.declared.rep.Rep.{Rep}
 use Rattle.elmore.proofs.SumLaws.{sum_of_same, sum_of_none, sum_of_filter, sum_of_filter_le, sum_of_alike}
-use Rattle.elmore.proofs.RootLaws.{IsTreeOf, root_over}
+use Rattle.elmore.proofs.RootLaws.{IsRooted, root_over}
 use Rattle.elmore.proofs.WayLaws.{way_sum_self, way_sum_below}
 use Rattle.elmore.proofs.HungLoads.{load_parts, stage_part, ends_part}
 use Rattle.elmore.proofs.LoadChildren.{load_children}
@@ -74,10 +74,10 @@ unfolding downstream
 downstream_bound parent c n v = sum_of_filter_le c (is_over parent v) (nodes n)
 
 -- the root has everything below it
-pub downstream_root : (parent : ℕ → ℕ) (n : ℕ) → IsTreeOf parent n → (c : ℕ → ℕ) → downstream parent c n 0 ≡ sum_by c (nodes n)
+pub downstream_root : (parent : ℕ → ℕ) (n : ℕ) → IsRooted parent n → (c : ℕ → ℕ) → downstream parent c n 0 ≡ sum_by c (nodes n)
 downstream_root parent n t c = downstream_sum parent c n 0 ∙ sum_of_alike _ _ n (λ w w_n. rw (root_over parent n t w w_n) refl)
 
-pub downstream_children : (parent : ℕ → ℕ) (n : ℕ) → IsTreeOf parent n → (c : ℕ → ℕ) (v : ℕ) → v < n
+pub downstream_children : (parent : ℕ → ℕ) (n : ℕ) → IsRooted parent n → (c : ℕ → ℕ) (v : ℕ) → v < n
     → downstream parent c n v ≡ c v + sum_by (downstream parent c n) (filter (is_child parent v) (nodes n))
 downstream_children parent n t c v v_n =
     sym (bare_load parent c no_cell (λ _. refl) n v)
@@ -97,7 +97,7 @@ wire_delay_step parent falls r c n w above =
     omega (arith, way_sum_below parent falls (λ u. r u * downstream parent c n u) 0 w (λ e. omega arith) (λ e. omega arith))
 
 -- a delay is at most all resistances times all capacitances
-pub wire_delay_bound : (parent : ℕ → ℕ) (n : ℕ) → IsTreeOf parent n → (r c : ℕ → ℕ) (w : ℕ) → w < n
+pub wire_delay_bound : (parent : ℕ → ℕ) (n : ℕ) → IsRooted parent n → (r c : ℕ → ℕ) (w : ℕ) → w < n
     → wire_delay parent r c n w ≤ sum_by c (nodes n) * sum_by r (nodes n)
 wire_delay_bound parent n t r c w w_n =
     omega (

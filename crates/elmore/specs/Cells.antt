@@ -4,7 +4,7 @@ use Rattle.elmore.specs.declared.rep.Rep.{Rep}
 
 -- past the end of the list a number is that of a repeater without delay
 abbrev pub rep_at : List Rep → ℕ → Rep
-rep_at reps b = slice_index_or reps b (record { inverts = false; cin = 0; k = 0; r = 0; cost = 0 })
+rep_at reps b = slice_index_or reps b (record { inverts = false; cin = 0; k = 0; r = 0; cost = 0; limit = None })
 
 abbrev pub rep_of : List Rep → Option ℕ → Option Rep
 rep_of reps None = None

@@ -1,9 +1,10 @@
 -- What a user knows of slacks, of frontiers and of undominated lists.
 use Rattle.std.specs.Prelude.{◌≡◌, ℕ, ◌<◌, Bool, List, [], ◌∷◌, ◌++◌, ℤ, ◌<ℤ◌, Option, None}
 use Rattle.std.specs.List.{Contains, All, AllPairs}
-use Rattle.elmore.specs.Placements.{IsSlack, IsBest}
+use Rattle.elmore.specs.Placements.{IsSlack}
+use Rattle.elmore.specs.Best.{IsBest}
 use Rattle.elmore.specs.Pairs.{Dominates, IsPairAt, IsUndominated}
-use Rattle.elmore.specs.Frontier.{Point, IsOnFrontier, IsFrontier}
+use Rattle.elmore.specs.Frontier.{Point, IsAttained, IsOnFrontier, IsFrontier}
 use Rattle.elmore.specs.declared.pair.Pair.{Pair}
 use Rattle.elmore.specs.declared.problem.Problem.{Problem}
 
@@ -18,21 +19,21 @@ pub record Exceeds (a b : Point) : Type 0 where
 
 -- along a frontier both cost and slack rise strictly
 abbrev pub FrontierRises : Type 0
-FrontierRises = (p : Problem) (cap : Option ℕ) (points : List Point) → IsFrontier p cap points → AllPairs Exceeds points
+FrontierRises = (p : Problem) (cap : Option ℕ) (points : List Point) → IsFrontier (IsAttained p cap) points → AllPairs Exceeds points
 
 -- an attained point that no other attained point outdoes stands in the frontier
 abbrev pub FrontierIsWhole : Type 0
-FrontierIsWhole = (p : Problem) (cap : Option ℕ) (points : List Point) (point : Point) → IsFrontier p cap points → IsOnFrontier p cap point
+FrontierIsWhole = (p : Problem) (cap : Option ℕ) (points : List Point) (point : Point) → IsFrontier (IsAttained p cap) points → IsOnFrontier (IsAttained p cap) point
     → Contains points point
 
 -- a frontier without a cap ends at the best slack
 abbrev pub BestIsLast : Type 0
-BestIsLast = (p : Problem) (cells : List (Option ℕ)) (x : ℤ) (points : List Point) → IsBest p cells x → IsFrontier p None points
+BestIsLast = (p : Problem) (cells : List (Option ℕ)) (x : ℤ) (points : List Point) → IsBest p cells x → IsFrontier (IsAttained p None) points
     → (front : List Point) × (last : Point) × (points ≡ front ++ last ∷ []) × (last.slack ≡ x)
 
 -- a problem has at most one frontier under a cap
 abbrev pub OneFrontier : Type 0
-OneFrontier = (p : Problem) (cap : Option ℕ) (points others : List Point) → IsFrontier p cap points → IsFrontier p cap others → points ≡ others
+OneFrontier = (p : Problem) (cap : Option ℕ) (points others : List Point) → IsFrontier (IsAttained p cap) points → IsFrontier (IsAttained p cap) others → points ≡ others
 
 -- no other pair at the node dominates it
 abbrev pub IsAlone : Problem → ℕ → Bool → Pair → Type 0

@@ -1,10 +1,11 @@
 -- Pairs of required time and load at a node, and undominated lists of them (van Ginneken 1990; a list for each
 -- polarity: Lillis, Cheng and Lin 1996).
-use Rattle.std.specs.Prelude.{◌≡◌, ℕ, ◌+◌, ◌<◌, ◌≤◌, Bool, true, cond, List, ℤ, pos, ◌-ℤ◌, ◌≤ℤ◌, ◌<ℤ◌, Option}
+use Rattle.std.specs.Prelude.{◌≡◌, ℕ, ◌+◌, ◌<◌, ◌≤◌, Bool, true, cond, List, slice_index_or, ℤ, pos, ◌-ℤ◌, ◌≤ℤ◌, ◌<ℤ◌, Option, None}
 use Rattle.std.specs.List.{Contains, All, AllPairs}
 use Rattle.elmore.specs.Path.{is_over}
 use Rattle.elmore.specs.Delay.{is_odd}
-use Rattle.elmore.specs.Placements.{IsPlacement, IsLegal, IsSinkAt, delay_between, inverters_between, upload_of}
+use Rattle.elmore.specs.Legal.{IsPlaced, MayHave}
+use Rattle.elmore.specs.Placements.{IsPlacement, IsSinkAt, load_of, delay_between, inverters_between, upload_of}
 use Rattle.elmore.specs.Trees.{parent_of}
 use Rattle.elmore.specs.declared.parts.Sink.{Sink}
 use Rattle.elmore.specs.declared.pair.Pair.{Pair}
@@ -23,11 +24,13 @@ required_from p cells v w sink = sink.required -ℤ pos (delay_between p cells v
 abbrev pub class_of : Bool → ℕ
 class_of odd = cond odd 1 0
 
--- the placement is legal, gives the sinks at or below v their polarity when the signal reaches v in the class,
--- and x is its pair: the latest time at which the signal may reach v, and the load that v is seen as
+-- the placement has cells only at places, and those at or below v are legal there; it gives the sinks at or below v their
+-- polarity when the signal reaches v in the class; and x is its pair: the latest time at which the signal may reach v, and
+-- the load that v is seen as
 pub record IsPairOf (p : Problem) (v : ℕ) (odd : Bool) (cells : List (Option ℕ)) (x : Pair) : Type 0 where
   pub placement : IsPlacement p cells
-  pub legal : IsLegal p cells
+  pub placed : IsPlaced p cells
+  pub fits : (u : ℕ) → is_over (parent_of p.tree.nodes) v u ≡ true → MayHave p u (slice_index_or cells u None) (load_of p cells u)
   pub wanted : (w : ℕ) (sink : Sink) → IsSinkUnder p v w sink → is_odd (class_of odd + inverters_between p cells v w) ≡ sink.inverted
   pub least : (w : ℕ) (sink : Sink) → IsSinkUnder p v w sink → x.q ≤ℤ required_from p cells v w sink
   pub met : (w : ℕ) × (sink : Sink) × IsSinkUnder p v w sink × (x.q ≡ required_from p cells v w sink)

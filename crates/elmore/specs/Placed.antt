@@ -1,22 +1,29 @@
--- Loads, delays and inverters of a tree with cells.
-use Rattle.std.specs.Prelude.{ℕ, ◌+◌, ◌≤◌, ◌^◌, List, length, Option, Some, ◌≡◌, ℤ, ◌≤ℤ◌, Bool, false, slice_index_or, ◌<◌}
-use Rattle.std.specs.List.{sum_by, All}
-use Rattle.elmore.specs.Cells.{cell_at, rep_of, input_capacitance}
+-- Trees with cells: their loads, delays, slack and polarity, by their parts: a driver, nodes, repeaters, sinks and cells.
+use Rattle.std.specs.Prelude.{◌≡◌, ℕ, ◌+◌, ◌*◌, ◌<◌, Bool, List, length, slice_index_or, ℤ, pos, ◌+ℤ◌, ◌-ℤ◌, ◌≤ℤ◌, Option, Some, None}
+use Rattle.elmore.specs.Cells.{cell_at}
 use Rattle.elmore.specs.Stage.{load, upload}
-use Rattle.elmore.specs.Delay.{delay_from, inverters_from}
-use Rattle.elmore.specs.Placements.{IsPlacementOf}
-use Rattle.elmore.specs.Trees.{IsTree, parent_of, resistance, capacitance, total_resistance, total_capacitance}
-use Rattle.elmore.specs.Problems.{IsRepWithin, sink_of}
+use Rattle.elmore.specs.Delay.{delay_from, inverters_from, is_odd}
+use Rattle.elmore.specs.Problems.{sink_of}
+use Rattle.elmore.specs.Trees.{parent_of, resistance, capacitance}
+use Rattle.elmore.specs.declared.parts.Driver.{Driver}
 use Rattle.elmore.specs.declared.parts.Sink.{Sink}
 use Rattle.elmore.specs.declared.tree.Node.{Node}
 use Rattle.elmore.specs.declared.rep.Rep.{Rep}
 
+-- one element for each of n nodes, each of them nothing or the number of one of the repeaters
+pub record IsPlacementOf (n reps : ℕ) (cells : List (Option ℕ)) : Type 0 where
+  pub one_each : length cells ≡ n
+  pub named : (v b : ℕ) → slice_index_or cells v None ≡ Some b → b < reps
+
+-- what the cell at v, or the driver at the root, has to charge
 abbrev pub placed_load : List Node → List Rep → List (Option ℕ) → ℕ → ℕ
 placed_load tree reps cells v = load (parent_of tree) (capacitance tree) (cell_at reps cells) (length tree) v
 
+-- what is seen of v from above
 abbrev pub placed_upload : List Node → List Rep → List (Option ℕ) → ℕ → ℕ
 placed_upload tree reps cells v = upload (parent_of tree) (capacitance tree) (cell_at reps cells) (length tree) v
 
+-- the delay from v to w
 abbrev pub placed_delay : List Node → List Rep → List (Option ℕ) → ℕ → ℕ → ℕ
 placed_delay tree reps cells v w =
     delay_from (parent_of tree) (resistance tree) (capacitance tree) (cell_at reps cells) (length tree) v w
@@ -24,32 +31,32 @@ placed_delay tree reps cells v w =
 abbrev pub placed_inverters : List Node → List Rep → List (Option ℕ) → ℕ → ℕ → ℕ
 placed_inverters tree reps cells v w = inverters_from (parent_of tree) (cell_at reps cells) v w
 
--- the capacitances of the nodes, and the input capacitances of the cells
-abbrev pub placed_capacitance : List Node → List Rep → List (Option ℕ) → ℕ
-placed_capacitance tree reps cells = total_capacitance tree + sum_by (λ cell. input_capacitance (rep_of reps cell)) cells
+-- the delay from the driver's input to the node w
+abbrev pub driven_delay : Driver → List Node → List Rep → List (Option ℕ) → ℕ → ℤ
+driven_delay driver tree reps cells w = driver.k +ℤ pos (driver.r * placed_load tree reps cells 0 + placed_delay tree reps cells 0 w)
 
--- a tree with cells, and limits within which no load and no delay is too large to be computed
-pub record IsPlacedTree (tree : List Node) (reps : List Rep) (cells : List (Option ℕ)) : Type 0 where
-  pub a_tree : IsTree tree
-  pub placement : IsPlacementOf (length tree) (length reps) cells
-  pub nodes : length tree ≤ 65536
-  pub resistances : total_resistance tree ≤ 10 ^ 12
-  pub capacitances : placed_capacitance tree reps cells ≤ 10 ^ 11
-  pub each_repeater : All IsRepWithin reps
+-- what a sink at w has left: its required time, less the arrival at the driver and the delay
+abbrev pub slack_left : Driver → List Node → List Rep → List (Option ℕ) → ℕ → Sink → ℤ
+slack_left driver tree reps cells w sink = sink.required -ℤ driver.arrival -ℤ driven_delay driver tree reps cells w
 
 -- x is the least of what the sinks have left
 pub record IsLeast (sinks : List (Option Sink)) (left : ℕ → Sink → ℤ) (x : ℤ) : Type 0 where
   pub least : (w : ℕ) (sink : Sink) → sink_of sinks w ≡ Some sink → x ≤ℤ left w sink
   pub met : (w : ℕ) × (sink : Sink) × (sink_of sinks w ≡ Some sink) × (x ≡ left w sink)
 
--- the sink, if there is one, is to be inverted just where it is
-abbrev pub IsSinkAlike : Option Sink → Bool → Type 0
-IsSinkAlike at inverted = (sink : Sink) → at ≡ Some sink → inverted ≡ sink.inverted
+-- a sink at w is inverted where an odd number of inverters is on its path
+abbrev pub placed_inverted : List Node → List Rep → List (Option ℕ) → ℕ → Bool
+placed_inverted tree reps cells w = is_odd (placed_inverters tree reps cells 0 w)
 
-abbrev pub HasSinkUnlike : Option Sink → Bool → Type 0
-HasSinkUnlike at inverted = (sink : Sink) × (at ≡ Some sink) × (inverted ≡ sink.inverted → ⊥)
+-- the sink, if there is one, is inverted just where it wants to be
+abbrev pub IsWanted : Option Sink → Bool → Type 0
+IsWanted at inverted = (sink : Sink) → at ≡ Some sink → inverted ≡ sink.inverted
 
--- the first node with a sink that is not inverted as it is to be
-pub record IsFirstUnlike (sinks : List (Option Sink)) (inverted : List Bool) (w : ℕ) : Type 0 where
-  pub unlike : HasSinkUnlike (sink_of sinks w) (slice_index_or inverted w false)
-  pub before : (v : ℕ) → v < w → IsSinkAlike (sink_of sinks v) (slice_index_or inverted v false)
+-- the sink is there, and has the other polarity
+abbrev pub IsUnwanted : Option Sink → Bool → Type 0
+IsUnwanted at inverted = (sink : Sink) × (at ≡ Some sink) × (inverted ≡ sink.inverted → ⊥)
+
+-- w is the first node, in tree order, whose sink has the wrong polarity
+pub record IsFirstUnwanted (sinks : List (Option Sink)) (inverted : ℕ → Bool) (w : ℕ) : Type 0 where
+  pub wrong : IsUnwanted (sink_of sinks w) (inverted w)
+  pub before : (v : ℕ) → v < w → IsWanted (sink_of sinks v) (inverted v)

@@ -3,6 +3,7 @@ use Rattle.std.specs.Prelude.{◌≡◌, ◌≢◌, ℕ, ◌+◌, ◌*◌, ◌<�
 use Rattle.std.specs.List.{sum_by}
 use Rattle.elmore.specs.Path.{is_over}
 use Rattle.elmore.specs.Cells.{cell_at, cell_delay}
+use Rattle.elmore.specs.Stage.{in_stage, is_head}
 use Rattle.elmore.specs.Trees.{IsTree, parent_of, resistance, capacitance}
 use Rattle.elmore.specs.Wire.{downstream_in, delay_in}
 use Rattle.elmore.specs.Laws.{children_of}
@@ -57,3 +58,14 @@ pub record ActAlikeFrom (tree : List Node) (reps : List Rep) (v : ℕ) (a b : Li
 abbrev pub BelowDecides : Type 0
 BelowDecides = (tree : List Node) (reps : List Rep) (v : ℕ) (a b : List (Option ℕ)) → IsTree tree
     → AreAlikeFrom tree v a b → ActAlikeFrom tree reps v a b
+
+-- the node w is in the stage that begins at v
+pub record IsHeadOf (tree : List Node) (reps : List Rep) (cells : List (Option ℕ)) (w v : ℕ) : Type 0 where
+  pub node : v < length tree
+  pub head : is_head (cell_at reps cells) v ≡ true
+  pub inside : in_stage (parent_of tree) (cell_at reps cells) v w ≡ true
+
+-- each node is in one stage, and in no other
+abbrev pub OneStage : Type 0
+OneStage = (tree : List Node) (reps : List Rep) (cells : List (Option ℕ)) → IsTree tree → (w : ℕ) → w < length tree
+    → (v : ℕ) × IsHeadOf tree reps cells w v × ((u : ℕ) → IsHeadOf tree reps cells w u → u ≡ v)

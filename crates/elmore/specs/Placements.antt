@@ -1,31 +1,17 @@
--- Placements of a problem: their delays and slack, and which of them are legal, good and best.
+-- Placements of a problem: their loads, delays, slack, polarity and cost.
 -- L. P. P. P. van Ginneken, "Buffer placement in distributed RC-tree networks for minimal Elmore delay", ISCAS 1990;
 -- J. Lillis, C.-K. Cheng, T.-T. Y. Lin, "Optimal wire sizing and buffer insertion for low power and a generalized
 -- delay model", IEEE Journal of Solid-State Circuits 31, 1996.
-use Rattle.std.specs.Prelude.{◌≡◌, ℕ, ◌+◌, ◌*◌, ◌<◌, Bool, true, false, List, length, slice_index_or, ℤ, pos, ◌+ℤ◌, ◌-ℤ◌, ◌≤ℤ◌, Option, Some, None}
+use Rattle.std.specs.Prelude.{◌≡◌, ℕ, Bool, List, length, ℤ, Option, Some}
 use Rattle.std.specs.List.{sum_by}
-use Rattle.elmore.specs.Cells.{cell_at, rep_of, cell_cost}
-use Rattle.elmore.specs.Stage.{load, upload}
-use Rattle.elmore.specs.Delay.{delay_from, inverters_from, is_odd}
+use Rattle.elmore.specs.Cells.{rep_of, cell_cost}
+use Rattle.elmore.specs.Placed.{IsPlacementOf, placed_load, placed_upload, placed_delay, placed_inverters, driven_delay, slack_left, IsLeast, placed_inverted, IsWanted, IsFirstUnwanted}
 use Rattle.elmore.specs.Problems.{sink_of}
-use Rattle.elmore.specs.Trees.{parent_of, resistance, capacitance}
 use Rattle.elmore.specs.declared.parts.Sink.{Sink}
 use Rattle.elmore.specs.declared.problem.Problem.{Problem}
 
--- one element for each of n nodes, each of them nothing or the number of one of the repeaters
-pub record IsPlacementOf (n reps : ℕ) (cells : List (Option ℕ)) : Type 0 where
-  pub one_each : length cells ≡ n
-  pub named : (v b : ℕ) → slice_index_or cells v None ≡ Some b → b < reps
-
 abbrev pub IsPlacement : Problem → List (Option ℕ) → Type 0
 IsPlacement p cells = IsPlacementOf (length p.tree.nodes) (length p.reps) cells
-
--- only places have a cell
-abbrev pub IsLegalAt : List Bool → List (Option ℕ) → ℕ → Type 0
-IsLegalAt places cells v = (b : ℕ) → slice_index_or cells v None ≡ Some b → slice_index_or places v false ≡ true
-
-abbrev pub IsLegal : Problem → List (Option ℕ) → Type 0
-IsLegal p cells = (v : ℕ) → IsLegalAt p.places cells v
 
 -- the costs of all cells together
 unfoldable pub cost_of : Problem → List (Option ℕ) → ℕ
@@ -33,61 +19,42 @@ cost_of p cells = sum_by (λ cell. cell_cost (rep_of p.reps cell)) cells
 
 -- what the cell at v, or the driver at the root, has to charge
 abbrev pub load_of : Problem → List (Option ℕ) → ℕ → ℕ
-load_of p cells v = load (parent_of p.tree.nodes) (capacitance p.tree.nodes) (cell_at p.reps cells) (length p.tree.nodes) v
+load_of p cells v = placed_load p.tree.nodes p.reps cells v
 
 -- what is seen of v from above
 abbrev pub upload_of : Problem → List (Option ℕ) → ℕ → ℕ
-upload_of p cells v = upload (parent_of p.tree.nodes) (capacitance p.tree.nodes) (cell_at p.reps cells) (length p.tree.nodes) v
+upload_of p cells v = placed_upload p.tree.nodes p.reps cells v
 
 -- the delay from v to w
 abbrev pub delay_between : Problem → List (Option ℕ) → ℕ → ℕ → ℕ
-delay_between p cells v w =
-    delay_from (parent_of p.tree.nodes) (resistance p.tree.nodes) (capacitance p.tree.nodes) (cell_at p.reps cells) (length p.tree.nodes) v w
+delay_between p cells v w = placed_delay p.tree.nodes p.reps cells v w
 
 abbrev pub inverters_between : Problem → List (Option ℕ) → ℕ → ℕ → ℕ
-inverters_between p cells v w = inverters_from (parent_of p.tree.nodes) (cell_at p.reps cells) v w
+inverters_between p cells v w = placed_inverters p.tree.nodes p.reps cells v w
 
 -- the delay from the driver's input to the node w
 abbrev pub delay_to : Problem → List (Option ℕ) → ℕ → ℤ
-delay_to p cells w = p.driver.k +ℤ pos (p.driver.r * load_of p cells 0 + delay_between p cells 0 w)
+delay_to p cells w = driven_delay p.driver p.tree.nodes p.reps cells w
 
 abbrev pub slack_at : Problem → List (Option ℕ) → ℕ → Sink → ℤ
-slack_at p cells w sink = sink.required -ℤ p.driver.arrival -ℤ delay_to p cells w
+slack_at p cells w sink = slack_left p.driver p.tree.nodes p.reps cells w sink
 
 -- there is this sink at the node w
 abbrev pub IsSinkAt : Problem → ℕ → Sink → Type 0
 IsSinkAt p w sink = sink_of p.sinks w ≡ Some sink
 
 -- x is the least slack of all sinks
-pub record IsSlack (p : Problem) (cells : List (Option ℕ)) (x : ℤ) : Type 0 where
-  pub least : (w : ℕ) (sink : Sink) → IsSinkAt p w sink → x ≤ℤ slack_at p cells w sink
-  pub met : (w : ℕ) × (sink : Sink) × IsSinkAt p w sink × (x ≡ slack_at p cells w sink)
+abbrev pub IsSlack : Problem → List (Option ℕ) → ℤ → Type 0
+IsSlack p cells x = IsLeast p.sinks (slack_at p cells) x
 
 -- a sink is inverted where an odd number of inverters is on its path
 abbrev pub is_inverted : Problem → List (Option ℕ) → ℕ → Bool
-is_inverted p cells w = is_odd (inverters_between p cells 0 w)
+is_inverted p cells w = placed_inverted p.tree.nodes p.reps cells w
 
+-- the sink at w, if there is one, has the polarity that it wants
 abbrev pub HasPolarity : Problem → List (Option ℕ) → ℕ → Type 0
-HasPolarity p cells w = (sink : Sink) → IsSinkAt p w sink → is_inverted p cells w ≡ sink.inverted
+HasPolarity p cells w = IsWanted (sink_of p.sinks w) (is_inverted p cells w)
 
 -- w is the first sink, in tree order, of the wrong polarity
-pub record IsFirstWrong (p : Problem) (cells : List (Option ℕ)) (w : ℕ) : Type 0 where
-  pub wrong : (sink : Sink) × IsSinkAt p w sink × (is_inverted p cells w ≡ sink.inverted → ⊥)
-  pub before : (v : ℕ) → v < w → HasPolarity p cells v
-
--- v is the first node, in tree order, with a cell where none may be
-pub record IsFirstIllegal (p : Problem) (cells : List (Option ℕ)) (v : ℕ) : Type 0 where
-  pub illegal : IsLegalAt p.places cells v → ⊥
-  pub before : (u : ℕ) → u < v → IsLegalAt p.places cells u
-
--- legal, and every sink has its wanted polarity
-pub record IsGood (p : Problem) (cells : List (Option ℕ)) : Type 0 where
-  pub placement : IsPlacement p cells
-  pub legal : IsLegal p cells
-  pub wanted : (w : ℕ) → HasPolarity p cells w
-
--- good with slack x, and no good placement has more
-pub record IsBest (p : Problem) (cells : List (Option ℕ)) (x : ℤ) : Type 0 where
-  pub good : IsGood p cells
-  pub slack : IsSlack p cells x
-  pub most : (others : List (Option ℕ)) (y : ℤ) → IsGood p others → IsSlack p others y → y ≤ℤ x
+abbrev pub IsFirstWrong : Problem → List (Option ℕ) → ℕ → Type 0
+IsFirstWrong p cells w = IsFirstUnwanted p.sinks (is_inverted p cells) w

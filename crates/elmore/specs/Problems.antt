@@ -1,5 +1,5 @@
 -- What makes a net, with its driver, sinks, places and repeaters, a problem.
-use Rattle.std.specs.Prelude.{◌≡◌, ℕ, ◌+◌, ◌*◌, ◌^◌, ◌≤◌, ◌==◌, Bool, true, false, not, ◌&&◌, List, length, map, max, slice_index_or, ℤ, pos, ◌-ℤ◌, ◌≤ℤ◌, Option, Some, None, is_some, [], ◌∷◌}
+use Rattle.std.specs.Prelude.{◌≡◌, ℕ, ◌+◌, ◌*◌, ◌^◌, ◌<◌, ◌≤◌, ◌==◌, Bool, true, false, not, ◌&&◌, List, length, map, max, slice_index_or, ℤ, pos, ◌-ℤ◌, ◌≤ℤ◌, Option, Some, None, is_some, [], ◌∷◌}
 use Rattle.std.specs.List.{list_any, AllPairs, All, count_by}
 use Rattle.elmore.specs.Path.{is_over, nodes as node_numbers}
 use Rattle.elmore.specs.Trees.{parent_of, total_resistance, total_capacitance}
@@ -42,11 +42,12 @@ pub record IsSmall (z : ℤ) : Type 0 where
   pub low : (pos 0 -ℤ pos (10 ^ 23)) ≤ℤ z
   pub high : z ≤ℤ pos (10 ^ 23)
 
--- a repeater's resistance (mΩ), delay (zs) and cost (thousandths)
+-- a repeater's resistance (mΩ), delay (zs) and cost (thousandths); its input capacitance has a number's size
 pub record IsRepWithin (rep : Rep) : Type 0 where
   pub r : rep.r ≤ 10 ^ 9
   pub k : rep.k ≤ 10 ^ 18
   pub cost : rep.cost ≤ 10 ^ 12
+  pub cin : rep.cin < 2 ^ 64
 
 pub record IsDriverWithin (driver : Driver) : Type 0 where
   pub k : IsSmall driver.k

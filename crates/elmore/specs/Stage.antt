@@ -1,6 +1,6 @@
 -- Stages and loads of a forest whose nodes have capacitances c and at most one cell each.
 -- A stage is what one cell, or the driver, has to charge: the wire down to the next cells.
-use Rattle.std.specs.Prelude.{ℕ, ◌+◌, Bool, not, ◌&&◌, ◌==◌, Option, Some, None, drop}
+use Rattle.std.specs.Prelude.{ℕ, ◌+◌, Bool, not, ◌&&◌, ◌||◌, ◌==◌, Option, Some, None, drop}
 use Rattle.std.specs.List.{list_all, filter, sum_by}
 use Rattle.elmore.specs.Path.{is_over, way, nodes}
 use Rattle.elmore.specs.Cells.{has_cell, input_capacitance}
@@ -15,6 +15,10 @@ unfoldable pub ends_stage : (ℕ → ℕ) → (ℕ → Option Rep) → ℕ → �
 ends_stage parent cell v w =
     is_over parent v w && not (w == v) && has_cell cell w
     && list_all (λ u. not (has_cell cell u)) (drop 1 (way parent v w))
+
+-- a stage begins at the root and at each cell
+abbrev pub is_head : (ℕ → Option Rep) → ℕ → Bool
+is_head cell v = (v == 0) || has_cell cell v
 
 -- the capacitances of the stage of v, and the input capacitances of the cells that end it
 unfoldable pub load : (ℕ → ℕ) → (ℕ → ℕ) → (ℕ → Option Rep) → ℕ → ℕ → ℕ

@@ -2,10 +2,11 @@
 
 ghost use Rattle.std.specs.Prelude.{◌≡◌, ℕ, ◌<◌, true, false, Some, None, is_some, length, slice_index_or, IfOk};
 ghost use Rattle.std.specs.List.{list_any};
-ghost use Rattle.elmore.specs.Placements.{IsPlacementOf};
+ghost use Rattle.elmore.specs.Allowances.{AreAllowances};
+ghost use Rattle.elmore.specs.Placed.{IsPlacementOf};
 ghost use Rattle.elmore.specs.Problems.{is_sink, AreRising};
 
-use crate::{Driver, Node, Placement, Problem, Rep, Sink, Tree};
+use crate::{Allowed, Driver, Node, Placement, Problem, Rep, Sink, Tree};
 use std::alloc::Global;
 use std::test::Fail;
 use vg_num::Row;
@@ -51,6 +52,7 @@ pub(crate) const BUF: Rep = Rep {
     k: 20_000_000_000,
     r: 500_000,
     cost: 2_000,
+    limit: None,
 };
 
 pub(crate) const INV: Rep = Rep {
@@ -59,15 +61,17 @@ pub(crate) const INV: Rep = Rep {
     k: 10_000_000_000,
     r: 500_000,
     cost: 1_000,
+    limit: None,
 };
 
 pub(crate) const DRIVER: Driver = Driver {
     k: 10_000_000_000,
     r: 1_000_000,
     arrival: 0,
+    limit: None,
 };
 
-/// The problem of these parts, or none beyond the limits.
+/// The problem of these parts, each node of which allows all repeaters, or none beyond the limits.
 pub(crate) fn worked_problem(
     alloc: Global,
     nodes: &[Node],
@@ -76,10 +80,30 @@ pub(crate) fn worked_problem(
     free: &[bool],
     reps: &[Rep],
 ) -> Result<Option<Problem>, Fail> {
+    let allowed = Allowed::everywhere(alloc, nodes.len())?;
+    let problem = problem_with(alloc, nodes, driver, sinks, free, reps, allowed)?;
+    Ok(problem)
+}
+
+/// The problem of these parts, or none beyond the limits.
+pub(crate) fn problem_with(
+    alloc: Global,
+    nodes: &[Node],
+    driver: Driver,
+    sinks: &[Option<Sink>],
+    free: &[bool],
+    reps: &[Rep],
+    allowed: Row<Allowed>,
+) -> Result<Option<Problem>, Fail>
+    requires { (reps : ℕ) → AreAllowances (length nodes.now) reps allowed }
+{
     let tree = Tree::new(Row::from_vec(nodes.to_vec(alloc)?)).ok_or("no tree")?;
     let sinks = Row::from_vec(sinks.to_vec(alloc)?);
     let reps = Row::from_vec(reps.to_vec(alloc)?);
     if sinks.len() != tree.nodes.len() || free.len() != tree.nodes.len() {
+        return Err("not one element for each node".into());
+    }
+    if allowed.len() != tree.nodes.len() {
         return Err("not one element for each node".into());
     }
     if free[0] || has_free_sink(sinks.as_slice(), free) {
@@ -88,7 +112,7 @@ pub(crate) fn worked_problem(
     if !has_sink(sinks.as_slice()) || !is_rising(reps.as_slice()) {
         return Err("no sink, or repeaters that fall".into());
     }
-    let problem = Problem::new(alloc, tree, driver, sinks, free, reps)?;
+    let problem = Problem::new(alloc, tree, driver, sinks, free, reps, allowed)?;
     Ok(problem)
 }
 

@@ -1,7 +1,7 @@
 //! Laws of Elmore's model. Their functions do nothing: each one's contract is the law, which a proof may cite.
 
 ghost use Rattle.elmore.specs.Laws.{DelaySteps, DownstreamSteps, RootDrivesAll};
-ghost use Rattle.elmore.specs.PlacedLaws.{LoadSteps, PlacedDelaySteps, BareLoads, BelowDecides};
+ghost use Rattle.elmore.specs.PlacedLaws.{LoadSteps, PlacedDelaySteps, BareLoads, BelowDecides, OneStage};
 
 /// The root has no delay, and every other node has its parent's delay and its own resistance times the capacitance
 /// downstream.
@@ -39,4 +39,9 @@ pub fn bare_loads()
 /// to the nodes below.
 pub fn below_decides()
     ensures { BelowDecides }
+{}
+
+/// Each node is in the stage of the root or of one cell, and in no other.
+pub fn one_stage()
+    ensures { OneStage }
 {}

@@ -4,11 +4,15 @@
 //! one mΩ times one aF is one zs.
 #![tactic(auto)]
 
+mod allowed;
 mod costs;
 #[cfg(test)]
 mod fixtures;
 mod frontier_laws;
 mod laws;
+mod legal;
+#[cfg(test)]
+mod legal_tests;
 mod limits;
 mod live;
 mod loads;
@@ -29,18 +33,20 @@ mod tests;
 mod tree;
 mod wire;
 
+pub use allowed::Allowed;
 pub use costs::cost;
 pub use frontier_laws::{
     best_is_last, frontier_is_whole, frontier_rises, one_frontier, one_slack, undominated_is_exact,
 };
 pub use laws::{
-    bare_loads, below_decides, delay_steps, downstream_steps, load_steps, placed_delay_steps,
-    root_drives_all,
+    bare_loads, below_decides, delay_steps, downstream_steps, load_steps, one_stage,
+    placed_delay_steps, root_drives_all,
 };
+pub use legal::first_illegal;
 pub use loads::load_of;
 pub use pair::Pair;
 pub use parts::{Driver, Sink};
-pub use placement::{Placement, first_illegal};
+pub use placement::Placement;
 pub use polarity::first_wrong;
 pub use problem::Problem;
 pub use rep::Rep;

@@ -81,6 +81,7 @@ fn are_reps_within(reps: &[Rep]) -> bool
 fn is_rep_within(rep: &Rep) -> bool
     ensures { IsTrue result ↔ IsRepWithin rep.now }
 {
+    let rep = *rep;
     rep.r <= MOST_CELL_RESISTANCE && rep.k <= MOST_CELL_DELAY && rep.cost <= MOST_CELL_COST
 }
 

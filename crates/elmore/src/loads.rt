@@ -1,10 +1,13 @@
 //! Loads of a placement, by one pass from the last node to the root.
 
-ghost use Rattle.std.specs.Prelude.{◌≡◌, ℕ, ◌<◌, ◌≤◌, length, slice_index, Option, Some};
+ghost use Rattle.std.specs.Prelude.{◌≡◌, ℕ, ◌^◌, ◌<◌, ◌≤◌, length, slice_index, Option, Some};
 ghost use Rattle.elmore.specs.Cells.{rep_of};
 ghost use Rattle.elmore.specs.Stage.{seen};
-ghost use Rattle.elmore.specs.Placed.{placed_load, IsPlacedTree};
-ghost use Rattle.elmore.specs.Placements.{IsPlacement, IsLegal, load_of as load_at};
+ghost use Rattle.elmore.specs.Placed.{IsPlacementOf, placed_load};
+ghost use Rattle.elmore.specs.Steps.{placed_capacitance};
+ghost use Rattle.elmore.specs.Legal.{IsPlaced};
+ghost use Rattle.elmore.specs.Placements.{IsPlacement, load_of as load_at};
+ghost use Rattle.elmore.specs.Trees.{IsTree};
 ghost use Rattle.elmore.specs.Room.{room_of};
 
 use crate::placement::Placement;
@@ -27,7 +30,9 @@ pub(crate) fn seen_above(cell: Option<u32>, reps: &[Rep], load: u128) -> u128
 
 /// Each node's load: from the last node on, what is seen of each adds to its parent's.
 pub(crate) fn sum_loads(nodes: &[Node], cells: &[Option<u32>], reps: &[Rep], loads: &mut [u128])
-    requires placed { IsPlacedTree nodes.now reps.now cells.now }
+    requires tree { IsTree nodes.now }
+    requires placement { IsPlacementOf (length nodes.now) (length reps.now) cells.now }
+    requires sum { placed_capacitance nodes.now reps.now cells.now < 2 ^ 128 }
     requires room { length nodes.now ≤ length loads.old }
     ensures { (v : ℕ) → v < length nodes.now → slice_index loads.new v ≡ placed_load nodes.now reps.now cells.now v }
 {
@@ -39,13 +44,13 @@ pub(crate) fn sum_loads(nodes: &[Node], cells: &[Option<u32>], reps: &[Rep], loa
     }
 }
 
-/// The load (aF) of a node under a legal placement: the capacitances of the wire from it down to the next cells, and
+/// The load (aF) of a node under a placement whose cells stand only at places: the capacitances of the wire from it down to the next cells, and
 /// the input capacitances of these. It is what a cell at the node, or the driver at the root, has to charge. It walks
 /// the whole net, and the scratch has room for its nodes.
 #[tactic(auto, using(crate::proofs::ProblemLaws::placed_tree))]
 pub fn load_of(p: &Problem, at: &Placement, node: u32, scratch: &mut Scratch) -> u128
     requires placement { IsPlacement p.now at.now.cells }
-    requires legal { IsLegal p.now at.now.cells }
+    requires placed { IsPlaced p.now at.now.cells }
     requires node { node < length p.now.tree.nodes }
     requires room { length p.now.tree.nodes ≤ room_of scratch.old }
     ensures load { result ≡ load_at p.now at.now.cells node }

@@ -7,6 +7,8 @@ pub struct Driver {
     pub r: u64,
     /// When the signal reaches it (zs).
     pub arrival: i128,
+    /// The greatest load that it may charge (aF), if there is one.
+    pub limit: Option<u64>,
 }
 
 /// What a net ends at.

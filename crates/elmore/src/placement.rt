@@ -1,7 +1,5 @@
-ghost use Rattle.std.specs.Prelude.{◌≡◌, ℕ, None, length, slice_index_or, IfOk, MatchOption};
-ghost use Rattle.elmore.specs.Placements.{IsPlacement, IsLegal, IsFirstIllegal};
+ghost use Rattle.std.specs.Prelude.{◌≡◌, ℕ, None, length, slice_index_or, IfOk};
 
-use crate::problem::Problem;
 use std::alloc::Global;
 use vg_num::{Memory, Row};
 
@@ -22,19 +20,4 @@ impl Placement {
             cells: Row::from_vec(cells),
         })
     }
-}
-
-/// The first node, in tree order, that has a cell and is no place. None where the placement is legal.
-pub fn first_illegal(p: &Problem, at: &Placement) -> Option<u32>
-    requires { IsPlacement p.now at.now.cells }
-    ensures { MatchOption result (IsLegal p.now at.now.cells) (λ v. IsFirstIllegal p.now at.now.cells v) }
-{
-    let cells = at.cells.as_slice();
-    let places = p.places.as_slice();
-    'cells: for v in 0..cells.len() {
-        if cells[v].is_some() && !places[v] {
-            return Some(v as u32);
-        }
-    }
-    None
 }

@@ -3,9 +3,8 @@
 ghost use Rattle.std.specs.Prelude.{◌≡◌, ℕ, ◌<◌, ◌≤◌, false, length, slice_index_or, Option, Some, None, MatchBool, MatchOption};
 ghost use Rattle.elmore.specs.Trees.{IsTree};
 ghost use Rattle.elmore.specs.Cells.{rep_of, is_inverter};
-ghost use Rattle.elmore.specs.Delay.{is_odd};
-ghost use Rattle.elmore.specs.Placed.{placed_inverters, HasSinkUnlike, IsSinkAlike, IsFirstUnlike};
-ghost use Rattle.elmore.specs.Placements.{IsPlacementOf, IsPlacement, HasPolarity, IsFirstWrong};
+ghost use Rattle.elmore.specs.Placed.{IsPlacementOf, placed_inverted, IsUnwanted, IsWanted, IsFirstUnwanted};
+ghost use Rattle.elmore.specs.Placements.{IsPlacement, HasPolarity, IsFirstWrong};
 ghost use Rattle.elmore.specs.Room.{room_of};
 
 use crate::parts::Sink;
@@ -31,7 +30,7 @@ fn mark_inverted(nodes: &[Node], cells: &[Option<u32>], reps: &[Rep], inverted: 
     requires tree { IsTree nodes.now }
     requires placement { IsPlacementOf (length nodes.now) (length reps.now) cells.now }
     requires room { length nodes.now ≤ length inverted.old }
-    ensures { (v : ℕ) → v < length nodes.now → slice_index_or inverted.new v false ≡ is_odd (placed_inverters nodes.now reps.now cells.now 0 v) }
+    ensures { (v : ℕ) → v < length nodes.now → slice_index_or inverted.new v false ≡ placed_inverted nodes.now reps.now cells.now v }
 {
     inverted[0] = inverts(cells[0], reps);
     'down: for v in 1..nodes.len() {
@@ -42,7 +41,7 @@ fn mark_inverted(nodes: &[Node], cells: &[Option<u32>], reps: &[Rep], inverted: 
 
 /// Whether there is a sink that is to be inverted where it is not, or the other way round.
 fn is_wrong(sink: Option<Sink>, inverted: bool) -> bool
-    ensures { MatchBool result (HasSinkUnlike sink inverted) (IsSinkAlike sink inverted) }
+    ensures { MatchBool result (IsUnwanted sink inverted) (IsWanted sink inverted) }
 {
     match sink {
         Some(sink) => sink.inverted != inverted,
@@ -54,7 +53,7 @@ fn is_wrong(sink: Option<Sink>, inverted: bool) -> bool
 fn first_unlike(sinks: &[Option<Sink>], inverted: &[bool]) -> Option<u32>
     requires nodes { length sinks.now ≤ 65536 }
     requires room { length sinks.now ≤ length inverted.now }
-    ensures { MatchOption result ((w : ℕ) → IsSinkAlike (slice_index_or sinks.now w None) (slice_index_or inverted.now w false)) (λ w. IsFirstUnlike sinks.now inverted.now w) }
+    ensures { MatchOption result ((w : ℕ) → IsWanted (slice_index_or sinks.now w None) (slice_index_or inverted.now w false)) (λ w. IsFirstUnwanted sinks.now (λ v. slice_index_or inverted.now v false) w) }
 {
     'sinks: for w in 0..sinks.len() {
         if is_wrong(sinks[w], inverted[w]) {

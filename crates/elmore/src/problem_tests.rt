@@ -3,7 +3,7 @@
 use crate::fixtures::{
     BUF, DEAD_BRANCH, DRIVER, INV, LEAF, LIGHT_LEAF, ROOT, TRUNK, worked_placement, worked_problem,
 };
-use crate::{Driver, Node, Placement, Rep, Sink, cost, first_illegal};
+use crate::{Driver, Node, Placement, Rep, Scratch, Sink, cost, first_illegal};
 use std::test::Fail;
 
 const SINK: Option<Sink> = Some(Sink {
@@ -145,8 +145,9 @@ fn finds_what_is_illegal_and_what_it_costs(rt: HostRuntime) -> Result<(), Fail> 
     let made = worked_problem(rt.alloc(), &NODES, DRIVER, &SINKS, &FREE, &[BUF, INV])?;
     let problem = made.ok_or("beyond the limits")?;
     let (nodes, reps) = (problem.tree.nodes.len(), problem.reps.len());
+    let mut scratch = Scratch::new(rt.alloc(), nodes)?;
     let empty = Placement::empty(rt.alloc(), nodes)?;
-    assert_eq!(rt; first_illegal(&problem, &empty), None);
+    assert_eq!(rt; first_illegal(&problem, &empty, &mut scratch), None);
     assert_eq!(rt; cost(&problem, &empty), 0);
     let cases = [
         ([None, Some(0), None], None, 2_000),
@@ -156,7 +157,7 @@ fn finds_what_is_illegal_and_what_it_costs(rt: HostRuntime) -> Result<(), Fail> 
     ];
     for (cells, illegal, costs) in cases {
         let at = worked_placement(rt.alloc(), nodes, reps, &cells)?;
-        assert_eq!(rt; first_illegal(&problem, &at), illegal);
+        assert_eq!(rt; first_illegal(&problem, &at, &mut scratch), illegal);
         assert_eq!(rt; cost(&problem, &at), costs);
     }
     Ok(())

@@ -11,4 +11,6 @@ pub struct Rep {
     pub r: u64,
     /// What it costs (thousandths).
     pub cost: u64,
+    /// The greatest load that it may charge (aF), if there is one.
+    pub limit: Option<u64>,
 }

@@ -1,9 +1,14 @@
 //! Loads, slacks and polarities of worked nets, in mΩ, aF and zs.
 
+ghost use Rattle.std.specs.Prelude.{◌≡◌, ◌≤◌, length, IfOk};
+ghost use Rattle.elmore.specs.Legal.{IsPlaced};
+ghost use Rattle.elmore.specs.Placements.{IsPlacement};
+ghost use Rattle.elmore.specs.Room.{room_of};
+
 use crate::fixtures::{
     BUF, DEAD_BRANCH, DRIVER, INV, LEAF, LIGHT_LEAF, ROOT, TRUNK, worked_placement, worked_problem,
 };
-use crate::{Node, Scratch, Sink, first_illegal, first_wrong, load_of, slack};
+use crate::{Node, Placement, Problem, Scratch, Sink, first_illegal, first_wrong, load_of, slack};
 use std::test::Fail;
 
 const SINK: Option<Sink> = Some(Sink {
@@ -20,6 +25,19 @@ const LATE: Option<Sink> = Some(Sink {
     required: 1_000_000_000_000,
     inverted: false,
 });
+
+/// Fails where the placement is not legal.
+fn expect_legal(p: &Problem, at: &Placement, scratch: &mut Scratch) -> Result<(), Fail>
+    requires placement { IsPlacement p.now at.now.cells }
+    requires room { length p.now.tree.nodes ≤ room_of scratch.old }
+    ensures placed { IfOk result (λ _. IsPlaced p.now at.now.cells) }
+    ensures room { room_of scratch.new ≡ room_of scratch.old }
+{
+    match first_illegal(p, at, scratch) {
+        Some(_) => Err("illegal".into()),
+        None => Ok(()),
+    }
+}
 
 #[test]
 fn tells_loads_slack_and_polarity(rt: HostRuntime) -> Result<(), Fail> {
@@ -111,10 +129,8 @@ fn tells_loads_slack_and_polarity(rt: HostRuntime) -> Result<(), Fail> {
         let (n, reps) = (problem.tree.nodes.len(), problem.reps.len());
         assert!(rt; n > 1 && n <= 4);
         let at = worked_placement(rt.alloc(), n, reps, &cells[..n])?;
-        if let Some(_) = first_illegal(&problem, &at) {
-            return Err("illegal".into());
-        }
         let mut scratch = Scratch::new(rt.alloc(), n)?;
+        expect_legal(&problem, &at, &mut scratch)?;
         assert_eq!(rt; load_of(&problem, &at, 0, &mut scratch), loads[0]);
         assert_eq!(rt; load_of(&problem, &at, 1, &mut scratch), loads[1]);
         assert_eq!(rt; slack(&problem, &at, &mut scratch), left);

@@ -4,9 +4,11 @@ ghost use Rattle.std.specs.Prelude.{◌≡◌, ℕ, ◌+◌, ◌*◌, ◌^◌, �
 ghost use Rattle.std.specs.List.{All, list_any};
 ghost use Rattle.elmore.specs.Cells.{rep_of, cell_delay as delay_of};
 ghost use Rattle.elmore.specs.Stage.{seen};
-ghost use Rattle.elmore.specs.Placed.{placed_load, placed_delay, IsPlacedTree, IsLeast};
+ghost use Rattle.elmore.specs.Placed.{placed_load, placed_delay, IsLeast};
+ghost use Rattle.elmore.specs.Steps.{IsPlacedTree};
 ghost use Rattle.elmore.specs.Problems.{IsRepWithin, IsDriverWithin, IsSmall, sink_of};
-ghost use Rattle.elmore.specs.Placements.{IsPlacement, IsLegal, IsSlack};
+ghost use Rattle.elmore.specs.Legal.{IsPlaced};
+ghost use Rattle.elmore.specs.Placements.{IsPlacement, IsSlack};
 ghost use Rattle.elmore.specs.Room.{room_of};
 
 use crate::loads::{seen_above, sum_loads};
@@ -113,11 +115,11 @@ fn departure(driver: Driver, load: u128) -> i128
     delay_behind(driver.arrival + driver.k, driver.r, load)
 }
 
-/// The slack of a legal placement, which leaves the loads and the delays of its nodes.
+/// The slack of a placement whose cells stand only at places. It leaves the loads and the delays of its nodes.
 #[tactic(auto, using(crate::proofs::ProblemLaws::placed_tree))]
 fn slack_by(p: &Problem, cells: &[Option<u32>], loads: &mut [u128], delays: &mut [i128]) -> i128
     requires placement { IsPlacement p.now cells.now }
-    requires legal { IsLegal p.now cells.now }
+    requires placed { IsPlaced p.now cells.now }
     requires loads_room { length p.now.tree.nodes ≤ length loads.old }
     requires delays_room { length p.now.tree.nodes ≤ length delays.old }
     ensures { IsSlack p.now cells.now result }
@@ -130,14 +132,14 @@ fn slack_by(p: &Problem, cells: &[Option<u32>], loads: &mut [u128], delays: &mut
     least_slack(p.sinks.as_slice(), delays, start)
 }
 
-/// The slack (zs) of a legal placement: the least, over the sinks, of the time at which the signal has to be there
+/// The slack (zs) of a placement whose cells stand only at places: the least, over the sinks, of the time at which the signal has to be there
 /// less the time at which it is there by Elmore's delay. It walks the whole net, and the scratch has room for its
 /// nodes.
 ///
 /// L. P. P. P. van Ginneken, "Buffer placement in distributed RC-tree networks for minimal Elmore delay", ISCAS 1990.
 pub fn slack(p: &Problem, at: &Placement, scratch: &mut Scratch) -> i128
     requires placement { IsPlacement p.now at.now.cells }
-    requires legal { IsLegal p.now at.now.cells }
+    requires placed { IsPlaced p.now at.now.cells }
     requires room { length p.now.tree.nodes ≤ room_of scratch.old }
     ensures slack { IsSlack p.now at.now.cells result }
     ensures room { room_of scratch.new ≡ room_of scratch.old }

@@ -62,7 +62,7 @@ timed_tree rows net tree order = map (λ i. loaded rows net (tree_node tree i) (
 
 -- what the constraints say of the port that drives the net
 abbrev pub driver_at : Rows → NodeName → Driver
-driver_at rows name = record { k = (drive_of rows name.owner).1; r = (drive_of rows name.owner).0; arrival = arrival_of rows name }
+driver_at rows name = record { k = (drive_of rows name.owner).1; r = (drive_of rows name.owner).0; arrival = arrival_of rows name; limit = None }
 
 abbrev pub driver_of : Rows → ParNet → List ℕ → Driver
 driver_of rows net order = driver_at rows (name_of net (slice_index order 0))

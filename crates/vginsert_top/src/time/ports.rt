@@ -83,5 +83,10 @@ pub fn driver_at(cons: &Constraints, name: &NodeName) -> Driver
 {
     let (r, k) = port_drive(cons, &name.owner);
     let arrival = arrival(cons, name);
-    Driver { k, r, arrival }
+    Driver {
+        k,
+        r,
+        arrival,
+        limit: None,
+    }
 }

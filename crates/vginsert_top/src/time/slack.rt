@@ -6,7 +6,7 @@ ghost use Rattle.vginsert_top.specs.Timing.{first_free, IsBareTiming, timed_tree
 
 use crate::time::ends::{loaded_nodes, sinks_of};
 use crate::time::ports::{driver_at, name_of};
-use elmore::{Placement, Problem, Scratch, Tree, first_wrong, slack};
+use elmore::{Allowed, Placement, Problem, Scratch, Tree, first_wrong, slack};
 use std::alloc::Global;
 use vg_cons::Constraints;
 use vg_design::{NetTree, sink_marks};
@@ -57,7 +57,9 @@ fn problem_of(alloc: Global, cons: &Constraints, found: &NetTree) -> Result<Opti
     let driver = driver_at(cons, &name);
     let free = vec![in alloc; false; sinks.len()]?;
     let reps = Row::from_vec(Vec::new(alloc));
-    let made = Problem::new(alloc, tree, driver, Row::from_vec(sinks), &free, reps)?;
+    let allowed = Allowed::everywhere(alloc, sinks.len())?;
+    let sinks = Row::from_vec(sinks);
+    let made = Problem::new(alloc, tree, driver, sinks, &free, reps, allowed)?;
     Ok(made)
 }
 

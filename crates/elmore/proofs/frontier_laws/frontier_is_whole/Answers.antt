@@ -1,5 +1,6 @@
+use Rattle.elmore.specs.Frontier.{IsAttained}
 use Rattle.elmore.proofs.FrontierProofs.{is_whole}
 use Rattle.elmore.proofs.frontier_laws.frontier_is_whole.Goals as goal
 
 pub returns : goal.returns
-returns c = is_whole
+returns c = λ p cap. is_whole (IsAttained p cap)

@@ -1,5 +1,6 @@
+use Rattle.elmore.specs.Frontier.{IsAttained}
 use Rattle.elmore.proofs.FrontierProofs.{rises}
 use Rattle.elmore.proofs.frontier_laws.frontier_rises.Goals as goal
 
 pub returns : goal.returns
-returns c = rises
+returns c = λ p cap. rises (IsAttained p cap)

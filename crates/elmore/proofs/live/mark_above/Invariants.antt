@@ -1,5 +1,5 @@
 use Rattle.std.proofs.Common.{length}
-use Rattle.elmore.specs.Cut.{cut}
+use Rattle.elmore.proofs.CutLaws.{cut}
 use Rattle.elmore.specs.Trees.{parent_of}
 use Rattle.elmore.specs.Problems.{is_sink}
 use Rattle.elmore.proofs.LiveLaws.{AreMarks}

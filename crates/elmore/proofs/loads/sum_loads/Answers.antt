@@ -17,7 +17,7 @@ up-init c = record {
 
 pub bounds-loads-parent : goal.bounds-loads-parent
 bounds-loads-parent c =
-    omega (arith, parent_read c.args.nodes.now (c.up.v - 1) (record { parent = 0; r = 0; c = 0 }), c.requires.placed.a_tree.smaller (c.up.v - 1))
+    omega (arith, parent_read c.args.nodes.now (c.up.v - 1) (record { parent = 0; r = 0; c = 0 }), c.requires.tree.smaller (c.up.v - 1))
 
 pub overflow_add-loads : goal.overflow_add-loads
 overflow_add-loads c =
@@ -26,26 +26,26 @@ overflow_add-loads c =
     (omega (
       arith,
       step_bound (parent_of c.args.nodes.now) (capacitance c.args.nodes.now) (cell_at c.args.reps.now c.args.cells.now) (length c.args.nodes.now) c.up.loads
-          (c.up.v - 1) c.up.v c.seen_above-seen.result (omega arith) (tree_falls c.args.nodes.now c.requires.placed.a_tree) (c.requires.placed.a_tree.smaller (c.up.v - 1) (omega arith) i_n) i_n
+          (c.up.v - 1) c.up.v c.seen_above-seen.result (omega arith) (tree_falls c.args.nodes.now c.requires.tree) (c.requires.tree.smaller (c.up.v - 1) (omega arith) i_n) i_n
           c.up.invariant c.seen_above-seen.ensures,
-      capacitance_sum c.args.nodes.now c.args.reps.now c.args.cells.now c.requires.placed,
-      c.requires.placed.capacitances,
+      capacitance_sum c.args.nodes.now c.args.reps.now c.args.cells.now c.requires.placement,
+      c.requires.sum,
     ))
 
 pub bounds-loads-parent-in-up : goal.bounds-loads-parent-in-up
 bounds-loads-parent-in-up c =
-    omega (arith, parent_read c.args.nodes.now (c.up.v - 1) (record { parent = 0; r = 0; c = 0 }), c.requires.placed.a_tree.smaller (c.up.v - 1))
+    omega (arith, parent_read c.args.nodes.now (c.up.v - 1) (record { parent = 0; r = 0; c = 0 }), c.requires.tree.smaller (c.up.v - 1))
 
 pub up-preserved : goal.up-preserved
 up-preserved c =
     let i_n : c.up.v - 1 < length c.args.nodes.now = omega arith in
     rw (parent_read c.args.nodes.now (c.up.v - 1) (record { parent = 0; r = 0; c = 0 }) i_n)
     (loads_more (parent_of c.args.nodes.now) (capacitance c.args.nodes.now) (cell_at c.args.reps.now c.args.cells.now) (length c.args.nodes.now) c.up.loads
-    (c.up.v - 1) c.up.v c.seen_above-seen.result (omega arith) (tree_falls c.args.nodes.now c.requires.placed.a_tree) (c.requires.placed.a_tree.smaller (c.up.v - 1) (omega arith) i_n) i_n
+    (c.up.v - 1) c.up.v c.seen_above-seen.result (omega arith) (tree_falls c.args.nodes.now c.requires.tree) (c.requires.tree.smaller (c.up.v - 1) (omega arith) i_n) i_n
     (omega arith) c.up.invariant c.seen_above-seen.ensures)
 
 pub returns : goal.returns
 returns c = λ v v_n.
     c.up.invariant.each v v_n
     ∙ ap (λ (parent : ℕ → ℕ). load parent (capacitance c.args.nodes.now) (cell_at c.args.reps.now c.args.cells.now) (length c.args.nodes.now) v)
-    (cut_none (parent_of c.args.nodes.now) c.up.v (omega arith) c.requires.placed.a_tree.root)
+    (cut_none (parent_of c.args.nodes.now) c.up.v (omega arith) c.requires.tree.root)

@@ -13,7 +13,7 @@ departure-start-requires-clause-load c =
       arith,
       loads 0 c.args.p.now.tree.a_tree.some_node,
       load_small c.args.p.now.tree.nodes c.args.p.now.reps c.args.cells.now
-          (placed_tree c.args.p.now c.args.cells.now c.requires.placement c.requires.legal) 0,
+          (placed_tree c.args.p.now c.args.cells.now c.requires.placement c.requires.placed) 0,
     )
 
 pub least_slack-requires-clause-times : goal.least_slack-requires-clause-times
@@ -29,7 +29,7 @@ least_slack-requires-clause-delays_high c =
       arith,
       ints,
       delay_small c.args.p.now.tree.nodes c.args.p.now.reps c.args.cells.now
-          (placed_tree c.args.p.now c.args.cells.now c.requires.placement c.requires.legal) v v_n,
+          (placed_tree c.args.p.now c.args.cells.now c.requires.placement c.requires.placed) v v_n,
     )))
 
 pub returns : goal.returns

@@ -3,7 +3,8 @@ use Rattle.std.proofs.lemmas.Int.{ints}
 use Rattle.std.proofs.Math.ListN.{length-set}
 use mir.Syntax.{w128}
 use Rattle.elmore.specs.Stage.{upload}
-use Rattle.elmore.specs.Placed.{placed_delay, IsPlacedTree}
+use Rattle.elmore.specs.Placed.{placed_delay}
+use Rattle.elmore.specs.Steps.{IsPlacedTree}
 use Rattle.elmore.specs.Trees.{parent_of}
 use Rattle.elmore.specs.declared.tree.Node.{Node}
 use Rattle.elmore.specs.declared.rep.Rep.{Rep}

@@ -1,5 +1,5 @@
 use Rattle.std.proofs.Common.{length}
-use Rattle.elmore.specs.Cut.{cut}
+use Rattle.elmore.proofs.CutLaws.{cut}
 use Rattle.elmore.specs.Trees.{parent_of, capacitance}
 use Rattle.elmore.proofs.LoadLaws.{AreLoads}
 use Rattle.elmore.proofs.WireLaws.{no_cell}

@@ -1,0 +1,22 @@
+-- What the functions between are told of a tree with cells.
+use Rattle.std.specs.Prelude.{ℕ, ◌+◌, ◌≤◌, ◌^◌, List, length, Option}
+use Rattle.std.specs.List.{sum_by, All}
+use Rattle.elmore.specs.Cells.{rep_of, input_capacitance}
+use Rattle.elmore.specs.Placed.{IsPlacementOf}
+use Rattle.elmore.specs.Trees.{IsTree, total_resistance, total_capacitance}
+use Rattle.elmore.specs.Problems.{IsRepWithin}
+use Rattle.elmore.specs.declared.tree.Node.{Node}
+use Rattle.elmore.specs.declared.rep.Rep.{Rep}
+
+-- the capacitances of the nodes, and the input capacitances of the cells: no load is greater
+abbrev pub placed_capacitance : List Node → List Rep → List (Option ℕ) → ℕ
+placed_capacitance tree reps cells = total_capacitance tree + sum_by (λ cell. input_capacitance (rep_of reps cell)) cells
+
+-- a tree with cells, and limits within which no load and no delay is too large to be computed
+pub record IsPlacedTree (tree : List Node) (reps : List Rep) (cells : List (Option ℕ)) : Type 0 where
+  pub a_tree : IsTree tree
+  pub placement : IsPlacementOf (length tree) (length reps) cells
+  pub nodes : length tree ≤ 65536
+  pub resistances : total_resistance tree ≤ 10 ^ 12
+  pub capacitances : placed_capacitance tree reps cells ≤ 10 ^ 11
+  pub each_repeater : All IsRepWithin reps
