@@ -9,6 +9,7 @@ use Rattle.spef_net.specs.declared.net.ParNet.{ParNet}
 use Rattle.vg_scan.specs.Nodes.{node_value}
 use Rattle.spef_net.specs.Sayings.{Said, sayings}
 use Rattle.spef_net.specs.Rows.{joined_of, starred_of, connected_of, conns_of, caps_of, ress_of}
+use Rattle.spef_net.specs.Nets.{IsSound}
 use Rattle.spef_net.specs.Denoted.{described, AreConns, AreCaps, AreRess, all_nodes, IsNet}
 use Rattle.std.specs.Str.Lines.{lines}
 use Rattle.spef_net.specs.NodeReaders.{NetNodes}
@@ -52,3 +53,12 @@ made_net name reduced all draft net s m = record {
 pub sketch_of : (bytes : List ℕ) (nodes start : NetNodes) {draft : Sketch} → nodes ≡ start → IsSketch (connected_of (sayings nodes.file (lines bytes))) nodes.net (sayings nodes.file (lines bytes)) draft
     → IsSketch (connected_of (sayings start.file (lines bytes))) start.net (sayings start.file (lines bytes)) draft
 sketch_of bytes nodes start {draft} e h = subst (λ (n : NetNodes). IsSketch (connected_of (sayings n.file (lines bytes))) n.net (sayings n.file (lines bytes)) draft) e h
+
+abbrev Parts : Type 0
+Parts = List ℕ × List ParNode × List ParConn × List (ℕ × ℕ) × List (ℕ × ℕ × ℕ)
+
+-- what is sound stays so for the same parts
+pub sound_as : (name net : List ℕ) (nodes ns : List ParNode) (conns cs : List ParConn) (caps ks : List (ℕ × ℕ)) (ress rs : List (ℕ × ℕ × ℕ))
+    → net ≡ name → ns ≡ nodes → cs ≡ conns → ks ≡ caps → rs ≡ ress → IsSound net ns cs ks rs → IsSound name nodes conns caps ress
+sound_as name net nodes ns conns cs caps ks ress rs p q c k r h =
+    subst (λ (parts : Parts). IsSound parts.0 parts.1 parts.2 parts.3 parts.4) (λ i. (p i, q i, c i, k i, r i)) h

@@ -12,5 +12,7 @@ pub mod HeadLemmas
 pub mod FinishLemmas
 pub mod OneNet
 pub mod SizeLemmas
+pub mod SoundLemmas
+pub mod NetLemmas
 pub mod InnerLemmas
 pub mod PartLemmas

@@ -1,4 +1,8 @@
 -- Lines have one answer: distinct nodes have one number each, so that numbered rows are determined.
+use mathlib.Core.HLevel.{is_prop→PathP}
+use Rattle.std.proofs.Props.{props}
+use Rattle.spef_nodes.specs.Nodes.{ParNode}
+use Rattle.spef_net.specs.Nets.{IsSound}
 use Rattle.std.proofs.Common.{length, ◌≡◌, ℕ, List, [], ◌∷◌, ◌++◌, map, refl, sym, ap, ◌∙◌, Some}
 use Rattle.std.specs.List.{flat_map}
 use Rattle.vg_scan.specs.declared.name.NodeName.{NodeName}
@@ -54,6 +58,10 @@ one_res nodes h a b s e f =
     let v : a.2 ≡ b.2 = ap (λ t. t.2) e ∙ sym (ap (λ t. t.2) f) in
     λ i. (m i, n i, v i)
 
+-- a net is sound in one way
+sound_once : (name : List ℕ) (nodes : List ParNode) (conns : List ParConn) (caps : List (ℕ × ℕ)) (ress : List (ℕ × ℕ × ℕ)) → IsProp (IsSound name nodes conns caps ress)
+sound_once name nodes conns caps ress = hlevel props
+
 pub one_net : OneNet
 one_net name reduced lines net other a b =
     let nodes = all_nodes name lines in
@@ -65,7 +73,16 @@ one_net name reduced lines net other a b =
     let r : net.ress ≡ other.ress = one_list (res_at nodes) _ (one_res nodes h) net.ress other.ress _ a.ress b.ress in
     let u : net.reduced ≡ other.reduced = a.is_reduced ∙ sym b.is_reduced in
     let l : net.inductive ≡ other.inductive = a.is_inductive ∙ sym b.is_inductive in
-    λ i. record { name = p i; nodes = q i; conns = c i; caps = k i; ress = r i; reduced = u i; inductive = l i }
+    λ i. record {
+      name = p i;
+      nodes = q i;
+      conns = c i;
+      caps = k i;
+      ress = r i;
+      reduced = u i;
+      inductive = l i;
+      sound = is_prop→PathP (λ j. IsSound (p j) (q j) (c j) (k j) (r j)) (λ j. sound_once (p j) (q j) (c j) (k j) (r j)) net.sound other.sound i;
+    }
 
 pub fault_or_none : FaultOrNone
 fault_or_none name lines first fault clear found = never_both (fault_at name lines) (length lines) first fault clear found

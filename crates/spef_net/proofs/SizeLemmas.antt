@@ -1,5 +1,5 @@
 -- How many rows lines have, and how large their values are.
-use Rattle.std.proofs.Common.{◌≡◌, ℕ, ℤ, zero, suc, ◌+◌, ◌*◌, ◌<◌, ◌≤◌, ◌^◌, Bool, true, false, cond, not, List, [], ◌∷◌, ◌++◌, map, length, refl, sym, ap, ◌∙◌, arith, subst, Option, Some, None, Result, Ok, Err, ltb}
+use Rattle.std.proofs.Common.{◌≡◌, ℕ, ℤ, zero, suc, ◌+◌, ◌*◌, ◌<◌, ◌≤◌, ◌^◌, Bool, true, false, cond, not, List, [], ◌∷◌, ◌++◌, map, length, refl, sym, ap, ◌∙◌, arith, Option, Some, None, Result, Ok, Err, ltb}
 use Rattle.std.proofs.lemmas.Bool.{ltb-false}
 use Rattle.std.proofs.lemmas.List.{length-map, length-append}
 use Rattle.std.specs.List.{slice_get, slice_split, fold, filter_map, cons_option, flat_map, All}
@@ -25,8 +25,9 @@ use Rattle.vg_scan.specs.Nodes.{has_node}
 use Rattle.spef_nodes.specs.Members.{with_node}
 use Rattle.spef_net.specs.Lines.{head_of}
 use Rattle.spef_net.specs.Sayings.{Said, is_colon, middle, value_of_parts, value_in, is_at, ground, coupling, resistor, cap_line, res_line, conn_line, connection, connected, star, starred, said_in, said_or_opens, said_words, said, part_after, sayings_from, sayings}
-use Rattle.spef_net.specs.Rows.{joined_in, joined_of, connected_of, conns_of, cap_in, caps_of, res_in, ress_of, named_in}
+use Rattle.spef_net.specs.Rows.{joined_in, joined_of, connected_of, cap_in, caps_of, res_in, ress_of, named_in}
 use Rattle.spef_net.specs.Denoted.{cap_at, res_at, AreConns, AreCaps, AreRess, all_nodes, IsNet}
+use Rattle.spef_net.specs.Nets.{IsConnOf, IsCapOf, IsResOf}
 use Rattle.spef_net.specs.Sections.{IsSized}
 
 -- values
@@ -315,74 +316,55 @@ list_eq : {A : Type 0} (x y : A) (xs ys : List A) → x ∷ xs ≡ y ∷ ys → 
 list_eq x y xs ys e = (cc, cc)
 
 -- numbered rows are in the list of nodes, and have the values of their rows
-record CapsFit (n : ℕ) (caps : List (ℕ × ℕ)) : Type 0 where
-  nodes : All (λ cap. cap.0 < n) caps
-  values : All (λ cap. cap.1 ≤ 10 ^ 15) caps
+pub conns_fit : (nodes : List NodeName) (conns : List ParConn) (rows : List (ConnKind × NodeName × Direction)) → AreConns nodes conns rows → All (IsConnOf (length nodes)) conns
+conns_fit nodes [] rows e = all_nil _
+conns_fit nodes (conn ∷ conns) [] e = absurd (cc)
+conns_fit nodes (conn ∷ conns) (row ∷ rows) e =
+    let p = list_eq _ _ _ _ e in
+    let a : slice_get nodes conn.node ≡ Some row.1 = ap (λ x. x.1) p.0 in
+    all_cons (IsConnOf (length nodes)) conn conns (got_within nodes conn.node row.1 a) (conns_fit nodes conns rows p.1)
 
-caps_fit : (nodes : List NodeName) (caps : List (ℕ × ℕ)) (rows : List (NodeName × ℕ)) → AreCaps nodes caps rows → All (λ row. row.1 ≤ 10 ^ 15) rows → CapsFit (length nodes) caps
-caps_fit nodes [] rows e h = record { nodes = all_nil _; values = all_nil _ }
+pub caps_fit : (nodes : List NodeName) (caps : List (ℕ × ℕ)) (rows : List (NodeName × ℕ)) → AreCaps nodes caps rows → All (λ row. row.1 ≤ 10 ^ 15) rows → All (IsCapOf (length nodes)) caps
+caps_fit nodes [] rows e h = all_nil _
 caps_fit nodes (cap ∷ caps) [] e h = absurd (cc)
 caps_fit nodes (cap ∷ caps) (row ∷ rows) e h =
     let p = list_eq _ _ _ _ e in
     let q = pair_eq _ _ _ _ p.0 in
-    let more = caps_fit nodes caps rows p.1 (all_tail (λ r. r.1 ≤ 10 ^ 15) row rows h) in
     let low : cap.1 ≤ 10 ^ 15 = omega (arith, q.1, all_head (λ r. r.1 ≤ 10 ^ 15) row rows h) in
-    record {
-      nodes = all_cons (λ c. c.0 < length nodes) cap caps (got_within nodes cap.0 row.0 q.0) more.nodes;
-      values = all_cons (λ c. c.1 ≤ 10 ^ 15) cap caps low more.values;
-    }
+    all_cons (IsCapOf (length nodes)) cap caps (got_within nodes cap.0 row.0 q.0, low) (caps_fit nodes caps rows p.1 (all_tail (λ r. r.1 ≤ 10 ^ 15) row rows h))
 
-record RessFit (n : ℕ) (ress : List (ℕ × ℕ × ℕ)) : Type 0 where
-  nodes : All (λ res. (res.0 < n) × (res.1 < n)) ress
-  values : All (λ res. res.2 ≤ 10 ^ 15) ress
-
-ress_fit : (nodes : List NodeName) (ress : List (ℕ × ℕ × ℕ)) (rows : List (NodeName × NodeName × ℕ)) → AreRess nodes ress rows → All (λ row. row.2 ≤ 10 ^ 15) rows → RessFit (length nodes) ress
-ress_fit nodes [] rows e h = record { nodes = all_nil _; values = all_nil _ }
+pub ress_fit : (nodes : List NodeName) (ress : List (ℕ × ℕ × ℕ)) (rows : List (NodeName × NodeName × ℕ)) → AreRess nodes ress rows → All (λ row. row.2 ≤ 10 ^ 15) rows → All (IsResOf (length nodes)) ress
+ress_fit nodes [] rows e h = all_nil _
 ress_fit nodes (res ∷ ress) [] e h = absurd (cc)
 ress_fit nodes (res ∷ ress) (row ∷ rows) e h =
     let p = list_eq _ _ _ _ e in
     let a : slice_get nodes res.0 ≡ Some row.0 = ap (λ x. x.0) p.0 in
     let b : slice_get nodes res.1 ≡ Some row.1 = ap (λ x. x.1) p.0 in
     let v : res.2 ≡ row.2 = ap (λ x. x.2) p.0 in
-    let more = ress_fit nodes ress rows p.1 (all_tail (λ r. r.2 ≤ 10 ^ 15) row rows h) in
     let low : res.2 ≤ 10 ^ 15 = omega (arith, v, all_head (λ r. r.2 ≤ 10 ^ 15) row rows h) in
-    record {
-      nodes = all_cons (λ r. (r.0 < length nodes) × (r.1 < length nodes)) res ress (got_within nodes res.0 row.0 a, got_within nodes res.1 row.1 b) more.nodes;
-      values = all_cons (λ r. r.2 ≤ 10 ^ 15) res ress low more.values;
-    }
-
-record ConnsFit (n : ℕ) (conns : List ParConn) : Type 0 where
-  nodes : All (λ conn. conn.node < n) conns
-
-conns_fit : (nodes : List NodeName) (conns : List ParConn) (rows : List (ConnKind × NodeName × Direction)) → AreConns nodes conns rows → ConnsFit (length nodes) conns
-conns_fit nodes [] rows e = record { nodes = all_nil _ }
-conns_fit nodes (conn ∷ conns) [] e = absurd (cc)
-conns_fit nodes (conn ∷ conns) (row ∷ rows) e =
-    let p = list_eq _ _ _ _ e in
-    let a : slice_get nodes conn.node ≡ Some row.1 = ap (λ x. x.1) p.0 in
-    record { nodes = all_cons (λ c. c.node < length nodes) conn conns (got_within nodes conn.node row.1 a) (conns_fit nodes conns rows p.1).nodes }
+    all_cons (IsResOf (length nodes)) res ress (got_within nodes res.0 row.0 a, got_within nodes res.1 row.1 b, low) (ress_fit nodes ress rows p.1 (all_tail (λ r. r.2 ≤ 10 ^ 15) row rows h))
 
 -- as many as their rows
 length-as : {A B C : Type 0} (f : A → C) (g : B → C) (xs : List A) (ys : List B) → map f xs ≡ map g ys → length xs ≡ length ys
 length-as f g xs ys e = sym (length-map xs f) ∙ ap length e ∙ length-map ys g
 
--- the net of few lines that are small is sized
-sized_net : (name : List ℕ) (reduced : Bool) (all : List Said) (net : ParNet) → AreSmall all → length all ≤ 2 ^ 28 → IsNet name reduced all net → IsSized net
-sized_net name reduced all net small few is =
+-- the values of lines
+pub cap_values : (connected : List NodeName) (net : List ℕ) (file : File) (ls : List (List ℕ)) → All (λ row. row.1 ≤ 10 ^ 15) (caps_of connected net (sayings file ls))
+cap_values connected net file ls = all_filter_map (λ row. row.1 ≤ 10 ^ 15) IsSmall (cap_in connected net) (sayings file ls) (cap_small_in connected net) (sayings_small file Nowhere ls).lines
+
+pub res_values : (file : File) (ls : List (List ℕ)) → All (λ row. row.2 ≤ 10 ^ 15) (ress_of (sayings file ls))
+res_values file ls = all_filter_map (λ row. row.2 ≤ 10 ^ 15) IsSmall res_in (sayings file ls) res_small_in (sayings_small file Nowhere ls).lines
+
+-- the net of few lines is sized
+sized_net : (name : List ℕ) (reduced : Bool) (all : List Said) (net : ParNet) → length all ≤ 2 ^ 28 → IsNet name reduced all net → IsSized net
+sized_net name reduced all net few is =
     let nodes = all_nodes name all in
     let n : length net.nodes ≡ length nodes = ap length is.nodes ∙ length-map nodes _ in
-    let caps = caps_fit nodes net.caps (caps_of (connected_of all) name all) is.caps (all_filter_map (λ row. row.1 ≤ 10 ^ 15) IsSmall (cap_in (connected_of all) name) all (cap_small_in (connected_of all) name) small.lines) in
-    let ress = ress_fit nodes net.ress (ress_of all) is.ress (all_filter_map (λ row. row.2 ≤ 10 ^ 15) IsSmall res_in all res_small_in small.lines) in
     record {
       node_count = omega (arith, n, length-all_nodes name all);
       cap_count = omega (arith, length-as (cap_at nodes) (λ row. (Some row.0, row.1)) net.caps (caps_of (connected_of all) name all) is.caps, length-filter_map-le (cap_in (connected_of all) name) all);
       res_count = omega (arith, length-as (res_at nodes) (λ row. (Some row.0, Some row.1, row.2)) net.ress (ress_of all) is.ress, length-filter_map-le res_in all);
-      conn_nodes = subst (λ m. All (λ conn. conn.node < m) net.conns) (sym n) (conns_fit nodes net.conns (conns_of all) is.conns).nodes;
-      cap_nodes = subst (λ m. All (λ cap. cap.0 < m) net.caps) (sym n) caps.nodes;
-      cap_values = caps.values;
-      res_nodes = subst (λ m. All (λ res. (res.0 < m) × (res.1 < m)) net.ress) (sym n) ress.nodes;
-      res_values = ress.values;
     }
 
 pub section_sized : (name : List ℕ) (reduced : Bool) (file : File) (ls : List (List ℕ)) (net : ParNet) → length ls ≤ 2 ^ 28 → IsNet name reduced (sayings file ls) net → IsSized net
-section_sized name reduced file ls net few is = sized_net name reduced (sayings file ls) net (sayings_small file Nowhere ls) (omega (arith, length-sayings file Nowhere ls)) is
+section_sized name reduced file ls net few is = sized_net name reduced (sayings file ls) net (omega (arith, length-sayings file Nowhere ls)) is

@@ -1,3 +1,4 @@
+pub mod Nets
 pub mod Spellings
 pub mod ConnLines
 pub mod Names

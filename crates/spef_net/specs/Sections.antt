@@ -1,6 +1,5 @@
 -- The nets of a file: what the lines after a head say, and the net that they denote.
-use Rattle.std.specs.Prelude.{ℕ, ◌+◌, ◌<◌, ◌≤◌, ◌^◌, List, [], length, if◌then◌else◌}
-use Rattle.std.specs.List.{All}
+use Rattle.std.specs.Prelude.{ℕ, ◌+◌, ◌≤◌, ◌^◌, List, [], length, if◌then◌else◌}
 use Rattle.spef_file.specs.Nets.{NetHead}
 use Rattle.spef_file.specs.Files.{File}
 use Rattle.spef_file.specs.Indexes.{lines_after}
@@ -24,13 +23,8 @@ pub record IsNetOf (text : List ℕ) (file : File) (head : NetHead) (net : ParNe
 abbrev pub IsFaultOf : List ℕ → File → NetHead → LineFault NetKind → Type 0
 IsFaultOf text file head fault = IsFirstFaultIn head.name (sayings_in text file head) (head.line + 1) fault
 
--- what a text of at most 2^28 bytes may have: each number is that of a node, and each value is at most 10^15
+-- a text of at most 2^28 bytes has at most so many nodes, capacitors and resistors
 pub record IsSized (net : ParNet) : Type 0 where
   pub node_count : length net.nodes ≤ 2 ^ 30
   pub cap_count : length net.caps ≤ 2 ^ 28
   pub res_count : length net.ress ≤ 2 ^ 28
-  pub conn_nodes : All (λ conn. conn.node < length net.nodes) net.conns
-  pub cap_nodes : All (λ cap. cap.0 < length net.nodes) net.caps
-  pub cap_values : All (λ cap. cap.1 ≤ 10 ^ 15) net.caps
-  pub res_nodes : All (λ res. (res.0 < length net.nodes) × (res.1 < length net.nodes)) net.ress
-  pub res_values : All (λ res. res.2 ≤ 10 ^ 15) net.ress

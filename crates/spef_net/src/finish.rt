@@ -8,6 +8,8 @@ ghost use Rattle.spef_net.specs.Faults.{IsFaultless, IsFirstFaultIn};
 ghost use Rattle.spef_net.specs.Denoted.{IsNet};
 ghost use Rattle.spef_net.specs.Sections.{IsSized};
 ghost use Rattle.spef_net.specs.Drafts.{IsMade};
+ghost use Rattle.spef_net.specs.Nets.{IsSound};
+ghost use Rattle.spef_nodes.specs.Nodes.{noted_all};
 ghost use Rattle.spef_net.specs.declared.fault.NetKind.TheVariants.{Memory};
 
 use crate::draft::Draft;
@@ -23,6 +25,7 @@ use vg_scan::Name;
 
 /// The net of a draft.
 fn finish(alloc: Global, net: &[u8], reduced: bool, draft: Draft) -> Result<ParNet, NoRoom>
+    requires { IsSound net.now (noted_all draft.nodes draft.notes) draft.conns draft.caps draft.ress }
     ensures { IfOk result (λ par. IsMade net.now reduced draft.entry par) }
 {
     let name = Name::from_bytes(alloc, net)?;

@@ -1,3 +1,5 @@
+ghost use Rattle.spef_net.specs.Nets.{IsSound};
+
 use spef_nodes::Nodes;
 use vg_num::Row;
 use vg_scan::Name;
@@ -45,4 +47,5 @@ pub struct ParNet {
     pub reduced: bool,
     /// Whether its section has a part of inductances, which is not read.
     pub inductive: bool,
+    pub ghost sound: { IsSound name nodes conns caps ress },
 }

@@ -5,6 +5,7 @@ use Rattle.elmore.specs.declared.tree.Node.{Node}
 use Rattle.rc_tree.specs.Answers.{IsTreeOf}
 use Rattle.rc_tree.specs.Nets.{IsNet}
 use Rattle.spef_net.specs.Sections.{IsSized}
+use Rattle.spef_net.proofs.NetLemmas.{conns_within}
 use Rattle.spef_net.specs.declared.net.ParConn.{ParConn}
 use Rattle.spef_net.specs.declared.net.ParNet.{ParNet}
 use Rattle.vg_design.specs.declared.ends.Drivers.{Drivers}
@@ -20,26 +21,26 @@ drivers_more conns i d before after h are step =
     subst (λ (list : List ParConn). AreDrivers list after) (sym (filter_more drives conns i d h)) (step (filter drives (take i conns)) are)
 
 -- the driver's node is a node
-root_within : (net : ParNet) (root : ℕ) → IsSized net → IsDrivenAt net root → root < length net.nodes
-root_within net root sized driven =
+root_within : (net : ParNet) (root : ℕ) → IsDrivenAt net root → root < length net.nodes
+root_within net root driven =
     subst (λ (v : ℕ). v < length net.nodes) driven.at
     (All-head (λ (conn : ParConn). conn.node < length net.nodes) driven.driver []
     (All-same (λ (conn : ParConn). conn.node < length net.nodes) (driven.driver ∷ []) (filter drives net.conns) (sym driven.alone)
-    (All-filter drives (λ (conn : ParConn). conn.node < length net.nodes) net.conns sized.conn_nodes)))
+    (All-filter drives (λ (conn : ParConn). conn.node < length net.nodes) net.conns (conns_within net))))
 
 own_net : (net : ParNet) (root : ℕ) → IsSized net → IsDrivenAt net root → IsNet (length net.nodes) root net.caps net.ress
 own_net net root sized driven =
-    let within = root_within net root sized driven in
+    let within = root_within net root driven in
     record {
       some = omega arith;
       most = sized.node_count;
       root_node = within;
       cap_count = sized.cap_count;
-      cap_nodes = λ k h. sized.cap_nodes k (0, 0) h;
-      cap_values = λ k h. sized.cap_values k (0, 0) h;
+      cap_nodes = λ k h. (net.sound.caps_at k (0, 0) h).0;
+      cap_values = λ k h. (net.sound.caps_at k (0, 0) h).1;
       edge_count = sized.res_count;
-      from_nodes = λ j h. (sized.res_nodes j (0, 0, 0) h).0;
-      to_nodes = λ j h. (sized.res_nodes j (0, 0, 0) h).1;
+      from_nodes = λ j h. (net.sound.ress_at j (0, 0, 0) h).0;
+      to_nodes = λ j h. (net.sound.ress_at j (0, 0, 0) h).1;
     }
 
 pub net_is : (net : ParNet) (root n : ℕ) (caps : List (ℕ × ℕ)) (ress : List (ℕ × ℕ × ℕ)) → IsSized net → IsDrivenAt net root

@@ -4,3 +4,4 @@ pub mod NamedLemmas
 pub mod WireLemmas
 pub mod AnswerLemmas
 pub mod SinkLemmas
+pub mod RefusedLemmas

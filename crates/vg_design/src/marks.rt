@@ -1,7 +1,6 @@
 //! The nodes of a net that are those of sinks.
 
 ghost use Rattle.std.specs.Prelude.{◌≡◌, ◌<◌, ◌==◌, ◌&&◌, ◌||◌, ℕ, false, length, slice_index_or, IfOk};
-ghost use Rattle.std.specs.List.{All};
 ghost use Rattle.vg_design.specs.Refusals.{is_sink};
 ghost use Rattle.vg_design.specs.Wires.{AreMarks};
 
@@ -23,7 +22,6 @@ fn mark(conn: ParConn, marks: &mut [bool])
 
 /// For each node of a net whether a sink is there; in one walk over the connections. Answers `Memory` where there is no room.
 pub fn sink_marks(alloc: Global, net: &ParNet) -> Result<Vec<bool>, Memory>
-    requires { All (λ conn. conn.node < length net.now.nodes) net.now.conns }
     ensures { IfOk result (λ marks. AreMarks net.now marks.items) }
 {
     let mut marks = vec![in alloc; false; net.nodes.len()]?;

@@ -4,7 +4,6 @@ ghost use Rattle.std.specs.Prelude.{◌≡◌, ◌↔◌, ◌≤◌, ◌<◌, �
 ghost use Rattle.std.specs.List.{sum_by, AllZip};
 ghost use Rattle.elmore.specs.Wire.{delay_in};
 ghost use Rattle.spef_file.specs.Indexes.{IsIndexOf};
-ghost use Rattle.spef_net.specs.Sections.{IsSized};
 ghost use Rattle.vg_design.specs.Nets.{IsRefusedBelow};
 ghost use Rattle.vg_design.specs.Refusals.{IsNetTree, IsWithinNetLimits, PassesUpTo};
 ghost use Rattle.vg_design.specs.Steps.{IsRefusedFirst, IsSinkPushed};
@@ -100,7 +99,6 @@ fn sink_delays(
 /// The wire delays of a net with its tree, within the limits.
 fn delays_of(alloc: Global, found: &NetTree) -> Result<WireNet, Memory>
     requires tree { IsNetTree found.now.net found.now.tree.nodes found.now.order }
-    requires sized { IsSized found.now.net }
     requires within { IsWithinNetLimits found.now.net found.now.tree.nodes }
     ensures wire { IfOk result (IsWire found.now.net) }
     ensures small { IfOk result (λ wire. wire.total < 2 ^ 127) }
@@ -119,7 +117,6 @@ fn delays_of(alloc: Global, found: &NetTree) -> Result<WireNet, Memory>
 /// The wire delays of a net with its tree.
 fn wire_of(alloc: Global, found: &NetTree) -> Result<WireNet, Refused>
     requires tree { IsNetTree found.now.net found.now.tree.nodes found.now.order }
-    requires sized { IsSized found.now.net }
     requires accepted { PassesUpTo 15 found.now.net }
     ensures wire { IfOk result (IsWire found.now.net) }
     ensures small { IfOk result (λ wire. wire.total < 2 ^ 127) }

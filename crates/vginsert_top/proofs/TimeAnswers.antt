@@ -4,6 +4,7 @@ use Rattle.std.specs.List.{All, find, list_any}
 use Rattle.std.specs.Result.{IsErrAnd}
 use Rattle.std.proofs.lemmas.List.Elements.{All-tail}
 use Rattle.elmore.specs.declared.tree.Node.{Node}
+use Rattle.spef_net.proofs.NetLemmas.{conns_within}
 use Rattle.spef_net.specs.Sections.{IsSized}
 use Rattle.spef_net.specs.declared.net.ParConn.{ParConn}
 use Rattle.spef_net.specs.declared.net.ParNet.{ParNet}
@@ -41,8 +42,8 @@ found_within : {X : Type 0} (P : X → Type 0) (p : X → Bool) (x : X) (xs : Li
 found_within P p x [] all f = absurd (cc)
 found_within P p x (y ∷ xs) all f = found_first P p x y xs (p y) refl (all 0 y (omega arith)) (found_within P p x xs (All-tail P y xs all)) f
 
-pub free_within : (rows : Rows) (net : ParNet) (sink : ParConn) → IsSized net → first_free rows net ≡ Some sink → sink.node < length net.nodes
-free_within rows net sink sized f = found_within (λ (conn : ParConn). conn.node < length net.nodes) (is_free rows net) sink net.conns sized.conn_nodes f
+pub free_within : (rows : Rows) (net : ParNet) (sink : ParConn) → first_free rows net ≡ Some sink → sink.node < length net.nodes
+free_within rows net sink f = found_within (λ (conn : ParConn). conn.node < length net.nodes) (is_free rows net) sink net.conns (conns_within net) f
 
 module _ (spef name : List ℕ) where
   -- the net is timed, or refused under constraints

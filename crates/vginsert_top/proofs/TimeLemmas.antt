@@ -15,6 +15,7 @@ use Rattle.elmore.specs.declared.parts.Sink.{Sink}
 use Rattle.elmore.specs.declared.rep.Rep.{Rep}
 use Rattle.elmore.specs.declared.problem.Problem.{Problem}
 use Rattle.spef_net.specs.declared.net.ParConn.{ParConn}
+use Rattle.spef_net.proofs.NetLemmas.{conns_within}
 use Rattle.spef_net.specs.declared.net.ParNet.{ParNet}
 use Rattle.vg_cons.specs.Rows.{Rows, required_of, wants_inverted_of}
 use Rattle.vg_design.specs.Refusals.{is_sink}
@@ -63,7 +64,7 @@ module _ (net : ParNet) (tree : List Node) (order : List ℕ) (ready : IsReady n
 
       small_at : (v : ℕ) → sum_by (λ (cap : ℕ × ℕ). cond (cap.0 == v) cap.1 0) net.caps < 2 ^ 127
       small_at v =
-          let each : All (λ (cap : ℕ × ℕ). cond (cap.0 == v) cap.1 0 ≤ 10 ^ 15) net.caps = λ k d h. cond_most ((get_or net.caps k d).0 == v) (get_or net.caps k d).1 (10 ^ 15) (ready.sized.cap_values k d h) in
+          let each : All (λ (cap : ℕ × ℕ). cond (cap.0 == v) cap.1 0 ≤ 10 ^ 15) net.caps = λ k d h. cond_most ((get_or net.caps k d).0 == v) (get_or net.caps k d).1 (10 ^ 15) (net.sound.caps_at k d h).1 in
           let most : sum_by (λ (cap : ℕ × ℕ). cond (cap.0 == v) cap.1 0) net.caps ≤ length net.caps * 10 ^ 15 = sum_by-le (λ (cap : ℕ × ℕ). cond (cap.0 == v) cap.1 0) (10 ^ 15) net.caps each in
           omega (arith, most, ready.sized.cap_count)
 
@@ -155,7 +156,7 @@ some_sink rows net tree order ready none =
     let marked : is_sink_node net node ≡ true =
     list_any_at (λ (c : ParConn). is_sink c && (c.node == node)) net.conns k conn low
     (subst (λ (c : ParConn). (is_sink c && (c.node == node)) ≡ true) (sym is) (ap (λ b. b && (node == node)) sink ∙ eq-eqb node node refl)) in
-    let within : node < length net.nodes = subst (λ (c : ParConn). c.node < length net.nodes) is (ready.sized.conn_nodes k conn low) in
+    let within : node < length net.nodes = subst (λ (c : ParConn). c.node < length net.nodes) is (conns_within net k conn low) in
     let (i, below, at) = ready.a_tree.a_tree.lists.each node within in
     let size = order_size net tree order ready in
     let there : get_or (sinks_of rows net order) i None ≡ sink_at rows net node = get_or-map (sink_at rows net) order i 0 None (omega (arith, below, size)) ∙ ap (sink_at rows net) at in

@@ -3,6 +3,7 @@ use Rattle.spef_file.specs.Shown.{shown}
 use Rattle.spef_net.specs.Sayings.{sayings}
 use Rattle.spef_net.proofs.FinishLemmas.{made_net, sketch_of}
 use Rattle.spef_net.proofs.SizeLemmas.{section_sized}
+use Rattle.spef_net.proofs.SoundLemmas.{sound}
 use Rattle.spef_net.proofs.finish.read_section.Goals as goal
 
 pub returns-in-Ok-finish-clause-net : goal.returns-in-Ok-finish-clause-net
@@ -13,3 +14,6 @@ pub returns-in-Ok-finish-clause-sized : goal.returns-in-Ok-finish-clause-sized
 returns-in-Ok-finish-clause-sized c =
     section_sized c.args.net.now c.args.reduced (shown c.args.index.now) (lines c.args.bytes.now) c.in-Ok-finish.par c.requires.count
     (made_net c.args.net.now c.args.reduced (sayings (shown c.args.index.now) (lines c.args.bytes.now)) c.in-Ok-read_lines.draft c.in-Ok-finish.par (sketch_of c.args.bytes.now _ _ c.in-Ok.ensures c.in-Ok-read_lines.ensures.draft) c.in-Ok-finish.ensures)
+
+pub finish-requires : goal.finish-requires
+finish-requires c = sound c.args.net.now (shown c.args.index.now) (lines c.args.bytes.now) c.in-Ok-read_lines.draft (sketch_of c.args.bytes.now _ _ c.in-Ok.ensures c.in-Ok-read_lines.ensures.draft)
