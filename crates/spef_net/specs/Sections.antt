@@ -1,5 +1,6 @@
 -- The nets of a file: what the lines after a head say, and the net that they denote.
-use Rattle.std.specs.Prelude.{ℕ, ◌+◌, ◌≤◌, ◌^◌, List, [], length, if◌then◌else◌}
+use Rattle.std.specs.Prelude.{◌≡◌, Some, ℕ, ◌+◌, ◌≤◌, ◌^◌, List, [], length, if◌then◌else◌}
+use Rattle.std.specs.List.{slice_get}
 use Rattle.spef_file.specs.Nets.{NetHead}
 use Rattle.spef_file.specs.Files.{File}
 use Rattle.spef_file.specs.Indexes.{lines_after}
@@ -22,6 +23,13 @@ pub record IsNetOf (text : List ℕ) (file : File) (head : NetHead) (net : ParNe
 -- or its first fault, with the number of its line in the file
 abbrev pub IsFaultOf : List ℕ → File → NetHead → LineFault NetKind → Type 0
 IsFaultOf text file head fault = IsFirstFaultIn head.name (sayings_in text file head) (head.line + 1) fault
+
+-- the same of the head at a place of the file's nets
+abbrev pub IsNetAt : List ℕ → File → ℕ → ParNet → Type 0
+IsNetAt text file at net = (head : NetHead) → slice_get file.nets at ≡ Some head → IsNetOf text file head net
+
+abbrev pub IsFaultAt : List ℕ → File → ℕ → LineFault NetKind → Type 0
+IsFaultAt text file at fault = (head : NetHead) → slice_get file.nets at ≡ Some head → IsFaultOf text file head fault
 
 -- a text of at most 2^28 bytes has at most so many nodes, capacitors and resistors
 pub record IsSized (net : ParNet) : Type 0 where

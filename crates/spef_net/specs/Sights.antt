@@ -5,7 +5,7 @@ use Rattle.vg_scan.specs.declared.fault.NameFault.TheVariants.{Bad, Memory}
 use Rattle.vg_scan.specs.declared.name.NodeName.{NodeName}
 use Rattle.spef_file.specs.Files.{File}
 use Rattle.spef_net.specs.Names.{node_in}
-use Rattle.spef_net.specs.Sayings.{both}
+use Rattle.spef_net.specs.Sayings.{Said, both, ground, coupling, resistor, value_in}
 use Rattle.spef_net.specs.Drafts.{Sketch, Owns}
 
 -- the node's number where it is the net's, or none
@@ -17,6 +17,16 @@ Sees (Err Memory) net old o new = Unit {0}
 -- the nodes that two texts name, if both name one
 abbrev pub two_in : File → List ℕ → List ℕ → Option (NodeName × NodeName)
 two_in file a b = both (node_in file a) (node_in file b)
+
+-- what lines of a capacitor to the ground, of one between two nodes and of a resistor say, by their texts
+abbrev pub ground_in : File → List ℕ → List ℕ → Said
+ground_in file node value = ground (node_in file node) (value_in file.c_places value)
+
+abbrev pub coupling_in : File → List ℕ → List ℕ → List ℕ → Said
+coupling_in file a b value = coupling (two_in file a b) (value_in file.c_places value)
+
+abbrev pub resistor_in : File → List ℕ → List ℕ → List ℕ → Said
+resistor_in file a b value = resistor (two_in file a b) (value_in file.r_places value)
 
 -- the numbers of two nodes, one after the other
 abbrev pub SeesTwo : Result (Option ℕ × Option ℕ) NameFault → List ℕ → Sketch → Option (NodeName × NodeName) → Sketch → Type 0

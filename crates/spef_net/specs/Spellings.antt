@@ -1,5 +1,8 @@
 -- Names as texts spell them.
-use Rattle.std.specs.Prelude.{◌≡◌, ℕ, ◌==◌, ◌||◌, not, Bool, true, false, slice_index, List, Option, Some, None, Result, Ok, Err, if◌then◌else◌}
+use Rattle.std.specs.List.{slice_split}
+use Rattle.vg_num.specs.declared.fault.NumFault.TheVariants.{Form}
+use Rattle.spef_net.specs.Sayings.{is_colon, value_of_parts}
+use Rattle.std.specs.Prelude.{◌≡◌, ℕ, ℤ, [], ◌∷◌, ◌==◌, ◌||◌, not, Bool, true, false, slice_index, List, Option, Some, None, Result, Ok, Err, if◌then◌else◌}
 use Rattle.vg_scan.specs.declared.chars.Chars.{Chars}
 use Rattle.vg_scan.specs.declared.fault.NameFault.{NameFault}
 use Rattle.vg_scan.specs.declared.fault.NameFault.TheVariants.{Bad, Memory}
@@ -39,3 +42,10 @@ abbrev pub SpellsNode : Result Node NameFault → Option NodeName → Type 0
 SpellsNode (Ok node) o = o ≡ Some (named_by node)
 SpellsNode (Err Bad) o = o ≡ None
 SpellsNode (Err Memory) o = Unit {0}
+
+-- a text with colons is no value, at any unit; or its three parts are these
+abbrev pub IsNoValue : List ℕ → Type 0
+IsNoValue text = (places : ℤ) → value_of_parts places (slice_split is_colon text) ≡ Err Form
+
+abbrev pub AreParts : List ℕ → List ℕ → List ℕ → List ℕ → Type 0
+AreParts text low typical high = slice_split is_colon text ≡ low ∷ typical ∷ high ∷ []

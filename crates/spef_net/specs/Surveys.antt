@@ -1,5 +1,6 @@
 -- What one line adds to the connections of a section.
 use Rattle.std.specs.Prelude.{◌≡◌, ℕ, Bool, true, false, List, Option, Some, None, Result, Ok, Err}
+use Rattle.std.specs.Str.Lines.{lines}
 use Rattle.vg_num.specs.declared.memory.Memory.{Memory as NoRoom}
 use Rattle.vg_scan.specs.declared.name.NodeName.{NodeName}
 use Rattle.spef_net.specs.declared.fault.NetKind.{NetKind}
@@ -24,6 +25,10 @@ with_joined nodes None = nodes
 abbrev pub Surveys : Result Part NoRoom → List NodeName → List NodeName → Part → Said → Type 0
 Surveys (Ok next) old new part line = (next ≡ part_after part line) × (new ≡ with_joined old (joined_in line))
 Surveys (Err _) old new part line = Unit {0}
+
+-- what the lines of a net's section say
+abbrev pub said_of : NetNodes → List ℕ → List Said
+said_of net bytes = sayings net.file (lines bytes)
 
 -- the nodes of the connections of a section's lines
 abbrev pub connections_in : File → List ℕ → List (List ℕ) → NetNodes

@@ -50,7 +50,7 @@ fn slot_of(slots: usize, text: &[u8]) -> usize
     requires { 0 < slots }
     ensures { result < slots }
 {
-    let end = &text[text.len().saturating_sub(8)..];
+    let end = &text[text.len().saturating_sub(6)..];
     let mut hash = 0u64;
     'byte: for byte in end {
         hash = (hash * 10 + u64::from(*byte & 15)) % 0x1_0000_0000;
@@ -162,9 +162,18 @@ impl<'a> NodeReader<'a> {
         ensures seen { SeesNode result self.old.net self.old.nodes (node_in self.old.file text.now) self.new.nodes }
         ensures rest { self.new ≡ record self.old { nodes = self.new.nodes } }
     {
-        if let Some(id) = self.find(text) {
-            return Ok(Some(id));
+        match self.find(text) {
+            Some(id) => Ok(Some(id)),
+            None => self.read(text),
         }
+    }
+
+    /// The same of a text that is not known.
+    #[inline(never)]
+    fn read(&mut self, text: &'a [u8]) -> Result<Option<u32>, NameFault>
+        ensures seen { SeesNode result self.old.net self.old.nodes (node_in self.old.file text.now) self.new.nodes }
+        ensures rest { self.new ≡ record self.old { nodes = self.new.nodes } }
+    {
         match read_node(self.alloc, self.index, text) {
             Err(NameFault::Bad) => Err(NameFault::Bad),
             Err(NameFault::Memory) => Err(NameFault::Memory),

@@ -1,11 +1,11 @@
 //! The lines of a section in order.
 
 ghost use Rattle.std.specs.Prelude.{◌≡◌, ◌^◌, ◌≤◌, length, OnOk, IfOk, IfErr, ◌⊎◌};
-ghost use Rattle.std.specs.Str.Lines.{lines};
 ghost use Rattle.spef_nodes.specs.Members.{distinct};
-ghost use Rattle.spef_net.specs.Sayings.{said, said_words, sayings};
+ghost use Rattle.spef_net.specs.Sayings.{said, said_words};
 ghost use Rattle.spef_net.specs.Rows.{connected_of};
 ghost use Rattle.spef_net.specs.Faults.{IsFaultless, IsFirstFaultIn};
+ghost use Rattle.spef_net.specs.Surveys.{said_of};
 ghost use Rattle.spef_net.specs.Drafts.{IsSketch, IsSameSource, Follows};
 ghost use Rattle.vg_scan.specs.Spans.{words_at};
 ghost use Rattle.spef_net.specs.declared.fault.NetKind.TheVariants.{Memory};
@@ -69,10 +69,10 @@ pub(crate) fn read_lines<'a>(
 ) -> Result<Draft<'a>, NetFault>
     requires length { length bytes.now ≤ 2 ^ 28 }
     requires first { first ≤ 2 ^ 62 }
-    requires nodes { nodes.nodes ≡ distinct (connected_of (sayings nodes.file (lines bytes.now))) }
-    ensures faultless { IfOk result (λ _. IsFaultless nodes.entry.net (sayings nodes.entry.file (lines bytes.now))) }
-    ensures draft { IfOk result (λ draft. IsSketch (connected_of (sayings nodes.entry.file (lines bytes.now))) nodes.entry.net (sayings nodes.entry.file (lines bytes.now)) draft) }
-    ensures fault { IfErr result (λ fault. (fault.kind ≡ Memory) ⊎ IsFirstFaultIn nodes.entry.net (sayings nodes.entry.file (lines bytes.now)) first fault) }
+    requires nodes { nodes.nodes ≡ distinct (connected_of (said_of nodes bytes.now)) }
+    ensures faultless { IfOk result (λ _. IsFaultless nodes.entry.net (said_of nodes.entry bytes.now)) }
+    ensures draft { IfOk result (λ draft. IsSketch (connected_of (said_of nodes.entry bytes.now)) nodes.entry.net (said_of nodes.entry bytes.now) draft) }
+    ensures fault { IfErr result (λ fault. (fault.kind ≡ Memory) ⊎ IsFirstFaultIn nodes.entry.net (said_of nodes.entry bytes.now) first fault) }
 {
     let mut draft = Draft::new(alloc, nodes);
     let mut found = Vec::new(alloc);

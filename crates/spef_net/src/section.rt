@@ -1,12 +1,10 @@
 //! The nets of a file.
 
-ghost use Rattle.std.specs.Prelude.{◌≡◌, ◌<◌, length, Some, IfOk, IfErr, ◌⊎◌};
-ghost use Rattle.std.specs.List.{slice_get};
-ghost use Rattle.spef_file.specs.Nets.{NetHead};
+ghost use Rattle.std.specs.Prelude.{◌≡◌, ◌<◌, length, IfOk, IfErr, ◌⊎◌};
 ghost use Rattle.spef_file.specs.Views.{head_in};
 ghost use Rattle.spef_file.specs.Indexes.{IsIndexOf, IsSectionOf};
 ghost use Rattle.spef_file.specs.Shown.{shown};
-ghost use Rattle.spef_net.specs.Sections.{IsNetOf, IsFaultOf, IsSized};
+ghost use Rattle.spef_net.specs.Sections.{IsNetOf, IsFaultOf, IsNetAt, IsFaultAt, IsSized};
 ghost use Rattle.spef_net.specs.declared.fault.NetKind.TheVariants.{Memory};
 
 use crate::fault::NetFault;
@@ -50,9 +48,9 @@ pub fn read_net(
 ) -> Result<ParNet, NetFault>
     requires index { IsIndexOf text.now index.now }
     requires at { at < length index.now.sections }
-    ensures net { IfOk result (λ net. (head : NetHead) → slice_get (shown index.now).nets at ≡ Some head → IsNetOf text.now (shown index.now) head net) }
+    ensures net { IfOk result (IsNetAt text.now (shown index.now) at) }
     ensures sized { IfOk result IsSized }
-    ensures fault { IfErr result (λ fault. (fault.kind ≡ Memory) ⊎ ((head : NetHead) → slice_get (shown index.now).nets at ≡ Some head → IsFaultOf text.now (shown index.now) head fault)) }
+    ensures fault { IfErr result (λ fault. (fault.kind ≡ Memory) ⊎ IsFaultAt text.now (shown index.now) at fault) }
 {
     let name = index.sections.name(at);
     let section = index.sections.get(at);

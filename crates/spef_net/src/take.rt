@@ -1,9 +1,8 @@
 //! A line of a part, taken into the draft of a net.
 
 ghost use Rattle.std.specs.Prelude.{◌≡◌, Ok, OnOk};
-ghost use Rattle.spef_net.specs.Names.{node_in};
-ghost use Rattle.spef_net.specs.Sights.{two_in};
-ghost use Rattle.spef_net.specs.Sayings.{ground, coupling, resistor, value_in, conn_line, cap_line, res_line, said_in};
+ghost use Rattle.spef_net.specs.Sights.{ground_in, coupling_in, resistor_in};
+ghost use Rattle.spef_net.specs.Sayings.{conn_line, cap_line, res_line, said_in};
 ghost use Rattle.spef_net.specs.Drafts.{Takes, IsSameSource};
 ghost use Rattle.vg_scan.specs.Spans.{words_at};
 
@@ -32,7 +31,7 @@ fn take_conn<'a>(draft: &mut Draft<'a>, line: &'a [u8], words: &[Span]) -> Resul
 
 /// A capacitor to the ground, by the texts of its node and its value.
 fn take_ground<'a>(draft: &mut Draft<'a>, node: &'a [u8], value: &[u8]) -> Result<(), NetKind>
-    ensures taken { Takes result draft.old.net draft.old (ground (node_in draft.old.file node.now) (value_in draft.old.file.c_places value.now)) draft.new }
+    ensures taken { Takes result draft.old.net draft.old (ground_in draft.old.file node.now value.now) draft.new }
     ensures source { OnOk result (IsSameSource draft.old draft.new) }
 {
     let places = draft.nodes.index().header.c_places;
@@ -50,7 +49,7 @@ fn take_coupling<'a>(
     nodes: (&'a [u8], &'a [u8]),
     value: &[u8],
 ) -> Result<(), NetKind>
-    ensures taken { Takes result draft.old.net draft.old (coupling (two_in draft.old.file nodes.entry.0.now nodes.entry.1.now) (value_in draft.old.file.c_places value.now)) draft.new }
+    ensures taken { Takes result draft.old.net draft.old (coupling_in draft.old.file nodes.entry.0.now nodes.entry.1.now value.now) draft.new }
     ensures source { OnOk result (IsSameSource draft.old draft.new) }
 {
     let places = draft.nodes.index().header.c_places;
@@ -70,7 +69,7 @@ fn take_resistor<'a>(
     nodes: (&'a [u8], &'a [u8]),
     value: &[u8],
 ) -> Result<(), NetKind>
-    ensures taken { Takes result draft.old.net draft.old (resistor (two_in draft.old.file nodes.entry.0.now nodes.entry.1.now) (value_in draft.old.file.r_places value.now)) draft.new }
+    ensures taken { Takes result draft.old.net draft.old (resistor_in draft.old.file nodes.entry.0.now nodes.entry.1.now value.now) draft.new }
     ensures source { OnOk result (IsSameSource draft.old draft.new) }
 {
     let places = draft.nodes.index().header.r_places;

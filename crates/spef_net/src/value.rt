@@ -1,10 +1,10 @@
 //! Values: one number, or three of which the middle one is taken.
 
-ghost use Rattle.std.specs.Prelude.{◌≡◌, ◌^◌, ◌≤ℤ◌, ◌∷◌, [], ℤ, pos, Some, Err, MatchOption, IfSome, ◌<◌, length};
-ghost use Rattle.std.specs.List.{position, slice_split};
+ghost use Rattle.std.specs.Prelude.{◌≡◌, ◌^◌, ◌≤ℤ◌, ℤ, pos, Some, MatchOption, IfSome, ◌<◌, length};
+ghost use Rattle.std.specs.List.{position};
 ghost use Rattle.vg_num.specs.Number.{scaled};
-ghost use Rattle.vg_num.specs.declared.fault.NumFault.TheVariants.{Form};
-ghost use Rattle.spef_net.specs.Sayings.{is_colon, middle, value_in, value_of_parts};
+ghost use Rattle.spef_net.specs.Sayings.{is_colon, middle, value_in};
+ghost use Rattle.spef_net.specs.Spellings.{IsNoValue, AreParts};
 
 use crate::line::text_from;
 use vg_num::{NumFault, read_scaled};
@@ -20,7 +20,7 @@ fn colon_at(text: &[u8]) -> Option<usize>
 fn three_parts<'a>(text: &'a [u8], at: usize) -> Option<(&'a [u8], &'a [u8], &'a [u8])>
     requires first { position is_colon text.now ≡ Some at }
     requires within { at < length text.now }
-    ensures { MatchOption result ((places : ℤ) → value_of_parts places (slice_split is_colon text.now) ≡ Err Form) (λ parts. slice_split is_colon text.now ≡ parts.0.now ∷ parts.1.now ∷ parts.2.now ∷ []) }
+    ensures { MatchOption result (IsNoValue text.now) (λ parts. AreParts text.now parts.0.now parts.1.now parts.2.now) }
 {
     let low = &text[..at];
     let rest = text_from(text, at + 1);

@@ -7,6 +7,10 @@ use Rattle.vg_num.specs.declared.memory.Memory.{Memory}
 use Rattle.vg_scan.specs.Nodes.{has_node}
 use Rattle.vg_scan.specs.declared.name.NodeName.{NodeName}
 
+-- the node of an owner and a leaf
+abbrev pub node_named : List ℕ → List ℕ → NodeName
+node_named owner leaf = record { owner = owner; leaf = leaf }
+
 -- the nodes, with this one last where it is new
 abbrev pub with_node : List NodeName → NodeName → List NodeName
 with_node nodes node = if has_node nodes node then nodes else nodes ++ node ∷ []

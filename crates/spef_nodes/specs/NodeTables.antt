@@ -1,9 +1,10 @@
 -- The nodes of a table, and the buckets in which they are.
-use Rattle.std.specs.Prelude.{◌≡◌, ℕ, ◌+◌, ◌-◌, ◌*◌, ◌%◌, ◌^◌, ◌<◌, ◌≤◌, bit_and, List, [], ◌∷◌, length, Some}
+use Rattle.std.specs.Prelude.{◌≡◌, ℕ, ◌+◌, ◌-◌, ◌*◌, ◌%◌, ◌^◌, ◌<◌, ◌≤◌, bit_and, List, [], ◌∷◌, length, slice_index_or, Some}
 use Rattle.std.specs.List.{slice_get, fold}
 use Rattle.vg_scan.specs.declared.name.NodeName.{NodeName}
 use Rattle.vg_scan.specs.declared.chains.Chains.{Chains}
 use Rattle.vg_scan.specs.Chains.{AreChains}
+use Rattle.spef_nodes.specs.Members.{node_named}
 
 -- a hash, with one byte more
 abbrev pub hash_with : ℕ → ℕ → ℕ
@@ -17,6 +18,10 @@ bucket_of buckets node = bit_and (fold hash_with (fold hash_with 0 node.owner) n
 unfoldable pub nodes_in : List (List ℕ) → List (List ℕ) → List NodeName
 nodes_in (owner ∷ owners) (leaf ∷ leaves) = record { owner = owner; leaf = leaf } ∷ nodes_in owners leaves
 nodes_in _ _ = []
+
+-- the node of a number, by its owner and its leaf
+abbrev pub node_at : List (List ℕ) → List (List ℕ) → ℕ → NodeName
+node_at owners leaves at = node_named (slice_index_or owners at []) (slice_index_or leaves at [])
 
 -- each node is in its bucket, and the buckets have chains
 pub record IsTable (nodes : List NodeName) (rows : List ℕ) (chains : Chains) : Type 0 where

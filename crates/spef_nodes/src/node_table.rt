@@ -5,9 +5,9 @@ ghost use Rattle.std.specs.List.{slice_get, fold};
 ghost use Rattle.vg_scan.specs.declared.name.NodeName.{NodeName};
 ghost use Rattle.vg_scan.specs.Chains.{AreChains};
 ghost use Rattle.vg_scan.specs.Nodes.{has_node, same_node};
-ghost use Rattle.spef_nodes.specs.Members.{with_node};
-ghost use Rattle.spef_nodes.specs.Members.{Owns};
-ghost use Rattle.spef_nodes.specs.NodeTables.{hash_with, bucket_of, nodes_in, IsTable};
+ghost use Rattle.spef_nodes.specs.Members.{node_named, with_node};
+ghost use Rattle.spef_nodes.specs.Members.{node_named, Owns};
+ghost use Rattle.spef_nodes.specs.NodeTables.{node_at, hash_with, bucket_of, nodes_in, IsTable};
 
 use crate::members::is_inner;
 use std::alloc::Global;
@@ -60,7 +60,7 @@ fn hash_more(start: u64, text: &[u8]) -> u64
 /// The bucket of a node among so many; each of them is used where they are a power of two.
 fn bucket_of(buckets: usize, owner: &[u8], leaf: &[u8]) -> usize
     requires { 0 < buckets }
-    ensures bucket { result ≡ bucket_of buckets (record { owner = owner.now; leaf = leaf.now }) }
+    ensures bucket { result ≡ bucket_of buckets (node_named owner.now leaf.now) }
     ensures within { result < buckets }
 {
     let start = hash_more(0, owner);
@@ -91,7 +91,7 @@ fn add_row(rows: &mut Vec<u32>, chains: &mut Chains, bucket: usize) -> Result<()
 /// Puts a node's name last. Answers `Memory` where there is no room.
 fn add_name(owners: &mut Texts, leaves: &mut Texts, owner: &[u8], leaf: &[u8]) -> Result<(), Memory>
     requires { length owners.old ≡ length leaves.old }
-    ensures last { OnOk result (nodes_in owners.new leaves.new ≡ nodes_in owners.old leaves.old ++ record { owner = owner.now; leaf = leaf.now } ∷ []) }
+    ensures last { OnOk result (nodes_in owners.new leaves.new ≡ nodes_in owners.old leaves.old ++ node_named owner.now leaf.now ∷ []) }
     ensures unchanged { OnErr result (nodes_in owners.new leaves.new ≡ nodes_in owners.old leaves.old) }
 {
     owners.push(owner)?;
@@ -106,15 +106,15 @@ impl Table {
     fn is_named(&self, at: usize, owner: &[u8], leaf: &[u8]) -> bool
         requires owner { at < length self.now.owners }
         requires leaf { at < length self.now.leaves }
-        ensures { result ≡ same_node (record { owner = owner.now; leaf = leaf.now }) (record { owner = slice_index_or self.now.owners at []; leaf = slice_index_or self.now.leaves at [] }) }
+        ensures { result ≡ same_node (node_named owner.now leaf.now) (node_at self.now.owners self.now.leaves at) }
     {
         owner == self.owners.get(at) && leaf == self.leaves.get(at)
     }
 
     /// Whether this node has this number.
     fn is_at(&self, at: usize, owner: &[u8], leaf: &[u8]) -> bool
-        ensures same { (node : NodeName) → slice_get (nodes_in self.now.owners self.now.leaves) at ≡ Some node → result ≡ same_node (record { owner = owner.now; leaf = leaf.now }) node }
-        ensures there { result ≡ true → slice_get (nodes_in self.now.owners self.now.leaves) at ≡ Some (record { owner = owner.now; leaf = leaf.now }) }
+        ensures same { (node : NodeName) → slice_get (nodes_in self.now.owners self.now.leaves) at ≡ Some node → result ≡ same_node (node_named owner.now leaf.now) node }
+        ensures there { result ≡ true → slice_get (nodes_in self.now.owners self.now.leaves) at ≡ Some (node_named owner.now leaf.now) }
     {
         if at >= self.owners.len() {
             return false;
@@ -128,10 +128,10 @@ impl Table {
     /// The number of a node whose bucket is this one. `None`: it is not there.
     fn find_in(&self, bucket: usize, owner: &[u8], leaf: &[u8]) -> Option<u32>
         requires table { IsTable (nodes_in self.now.owners self.now.leaves) self.now.rows.items self.now.chains }
-        requires bucket { bucket ≡ bucket_of (length self.now.chains.lasts.items) (record { owner = owner.now; leaf = leaf.now }) }
+        requires bucket { bucket ≡ bucket_of (length self.now.chains.lasts.items) (node_named owner.now leaf.now) }
         requires within { bucket < length self.now.chains.lasts.items }
-        ensures found { IfSome result (λ id. slice_get (nodes_in self.now.owners self.now.leaves) id ≡ Some (record { owner = owner.now; leaf = leaf.now })) }
-        ensures absent { IfNone result (has_node (nodes_in self.now.owners self.now.leaves) (record { owner = owner.now; leaf = leaf.now }) ≡ false) }
+        ensures found { IfSome result (λ id. slice_get (nodes_in self.now.owners self.now.leaves) id ≡ Some (node_named owner.now leaf.now)) }
+        ensures absent { IfNone result (has_node (nodes_in self.now.owners self.now.leaves) (node_named owner.now leaf.now) ≡ false) }
     {
         let mut link = self.chains.last(bucket);
         'row: while link != 0 {
@@ -147,10 +147,10 @@ impl Table {
     /// Puts a node last whose bucket is this one. Answers `Memory` where there is no room, and from then on.
     fn add(&mut self, bucket: usize, owner: &[u8], leaf: &[u8]) -> Result<u32, Memory>
         requires table { IsTable (nodes_in self.old.owners self.old.leaves) self.old.rows.items self.old.chains }
-        requires bucket { bucket ≡ bucket_of (length self.old.chains.lasts.items) (record { owner = owner.now; leaf = leaf.now }) }
+        requires bucket { bucket ≡ bucket_of (length self.old.chains.lasts.items) (node_named owner.now leaf.now) }
         requires within { bucket < length self.old.chains.lasts.items }
         ensures table { IsTable (nodes_in self.new.owners self.new.leaves) self.new.rows.items self.new.chains }
-        ensures nodes { OnOk result (nodes_in self.new.owners self.new.leaves ≡ nodes_in self.old.owners self.old.leaves ++ record { owner = owner.now; leaf = leaf.now } ∷ []) }
+        ensures nodes { OnOk result (nodes_in self.new.owners self.new.leaves ≡ nodes_in self.old.owners self.old.leaves ++ node_named owner.now leaf.now ∷ []) }
         ensures number { IfOk result (λ id. id ≡ length (nodes_in self.old.owners self.old.leaves)) }
         ensures unchanged { OnErr result (nodes_in self.new.owners self.new.leaves ≡ nodes_in self.old.owners self.old.leaves) }
     {
@@ -190,8 +190,8 @@ impl NodeTable {
     ///
     /// Answers `Memory` where there is no room, as where there would be 2^32 nodes or more, and then for each new node.
     pub fn intern(&mut self, owner: &[u8], leaf: &[u8]) -> Result<u32, Memory>
-        ensures nodes { OnOk result (self.new ≡ with_node self.old (record { owner = owner.now; leaf = leaf.now })) }
-        ensures number { IfOk result (λ id. slice_get self.new id ≡ Some (record { owner = owner.now; leaf = leaf.now })) }
+        ensures nodes { OnOk result (self.new ≡ with_node self.old (node_named owner.now leaf.now)) }
+        ensures number { IfOk result (λ id. slice_get self.new id ≡ Some (node_named owner.now leaf.now)) }
         ensures unchanged { OnErr result (self.new ≡ self.old) }
     {
         let bucket = bucket_of(self.table.chains.buckets(), owner, leaf);
@@ -204,7 +204,7 @@ impl NodeTable {
     /// The number of a node of the net of this name: one that is there, or one inside the net, which is put last where it is
     /// new. `None`: it is another net's. Answers `Memory` as `intern` does.
     pub fn own(&mut self, net: &[u8], owner: &[u8], leaf: &[u8]) -> Result<Option<u32>, Memory>
-        ensures owned { Owns result net.now self.old (record { owner = owner.now; leaf = leaf.now }) self.new }
+        ensures owned { Owns result net.now self.old (node_named owner.now leaf.now) self.new }
         ensures unchanged { OnErr result (self.new ≡ self.old) }
     {
         let bucket = bucket_of(self.table.chains.buckets(), owner, leaf);
