@@ -3,6 +3,7 @@ pub mod ClearedLemmas
 pub mod LineLemmas
 pub mod Spelled
 pub mod WordLemmas
+pub mod FoundLemmas
 pub mod NodeLemmas
 pub mod PrintedLemmas
 pub mod CutLemmas

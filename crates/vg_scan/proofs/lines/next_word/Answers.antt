@@ -2,18 +2,13 @@ use Rattle.std.proofs.Common.{◌≡◌, ℕ, ◌+◌, ◌-◌, ◌≤◌, List,
 use Rattle.std.proofs.lemmas.List.{drop-take}
 use Rattle.vg_scan.specs.Lines.{words, part, is_ink}
 use Rattle.vg_scan.proofs.CutLemmas.{get_part, blank_in, part_take}
+use Rattle.vg_scan.proofs.FoundLemmas.{part_inner}
 use Rattle.vg_scan.proofs.lines.next_word.Goals as goal
 
 part_drop : (bytes : List ℕ) (a b t : ℕ) → t ≤ b - a → drop t (part bytes a b) ≡ part bytes (a + t) b
 part_drop bytes a b t h =
     let m : b - a ≡ t + (b - (a + t)) = omega arith in
     ap (λ n. drop t (take n (drop a bytes))) m ∙ drop-take t (b - (a + t)) (drop a bytes) ∙ ap (take (b - (a + t))) (drop-drop t a bytes)
-
-part_part : (bytes : List ℕ) (a b f t : ℕ) → f ≤ t → t ≤ b - a → part (part bytes a b) f t ≡ part bytes (a + f) (a + t)
-part_part bytes a b f t h k =
-    ap (take (t - f)) (part_drop bytes a b f (omega arith))
-    ∙ take-take (t - f) (b - (a + f)) (drop (a + f) bytes) (omega arith)
-    ∙ ap (λ n. take n (drop (a + f) bytes)) (omega arith)
 
 pub returns-in-Some-clause-word : goal.returns-in-Some-clause-word
 returns-in-Some-clause-word c =
@@ -25,7 +20,7 @@ returns-in-Some-clause-word c =
     let len : length (part bytes a b) ≡ b - a = simp (length-take, length-drop) (omega arith) in
     let h : to ≤ b - a = omega (arith, len, c.in-Some.ensures.place) in
     c.in-Some.ensures.word
-    ∙ ap (λ x. x ∷ words (drop to (part bytes a b))) (part_part bytes a b from to (omega (arith, c.in-Some.ensures.place)) h)
+    ∙ ap (λ x. x ∷ words (drop to (part bytes a b))) (part_inner bytes a b from to (omega (arith, c.in-Some.ensures.place)) h)
     ∙ ap (λ x. part bytes (a + from) (a + to) ∷ words x) (part_drop bytes a b to h)
 
 pub returns-in-Some-clause-before : goal.returns-in-Some-clause-before
@@ -47,7 +42,7 @@ returns-in-Some-clause-alone c =
     let h : to ≤ b - a = omega (arith, len, c.in-Some.ensures.place) in
     ap words (sym (part_take bytes a b to h))
     ∙ c.in-Some.ensures.alone
-    ∙ ap (λ x. x ∷ []) (part_part bytes a b from to (omega (arith, c.in-Some.ensures.place)) h)
+    ∙ ap (λ x. x ∷ []) (part_inner bytes a b from to (omega (arith, c.in-Some.ensures.place)) h)
 
 pub returns-in-Some-clause-ink : goal.returns-in-Some-clause-ink
 returns-in-Some-clause-ink c =
