@@ -1,4 +1,4 @@
-use Rattle.std.proofs.Common.{◌≡◌, ℕ, ◌+◌, ◌-◌, ◌≤◌, List, ◌∷◌, [], sym, length, take, drop, arith, ◌∙◌, ap, take-take, drop-drop, length-take, length-drop}
+use Rattle.std.proofs.Common.{◌≡◌, ℕ, ◌+◌, ◌-◌, ◌≤◌, List, ◌∷◌, [], sym, length, take, drop, arith, ◌∙◌, ap, drop-drop, length-take, length-drop}
 use Rattle.std.proofs.lemmas.List.{drop-take}
 use Rattle.vg_scan.specs.Lines.{words, part, is_ink}
 use Rattle.vg_scan.proofs.CutLemmas.{get_part, blank_in, part_take}
