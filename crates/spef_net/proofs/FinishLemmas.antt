@@ -20,7 +20,7 @@ described_is None None node = refl
 described_is None (Some text) node = refl
 described_is (Some text) t node = refl
 
-note_later : (notes : List Note) (i : ℕ) → note_at (drop 1 notes) i ≡ note_at notes (suc i)
+pub note_later : (notes : List Note) (i : ℕ) → note_at (drop 1 notes) i ≡ note_at notes (suc i)
 note_later [] i = refl
 note_later (n ∷ ns) i = refl
 

@@ -16,4 +16,4 @@ returns-in-Ok-finish-clause-sized c =
     (made_net c.args.net.now c.args.reduced (sayings (shown c.args.index.now) (lines c.args.bytes.now)) c.in-Ok-read_lines.draft c.in-Ok-finish.par c.in-Ok-read_lines.ensures.draft c.in-Ok-finish.ensures)
 
 pub finish-requires : goal.finish-requires
-finish-requires c = sound c.args.net.now (shown c.args.index.now) (lines c.args.bytes.now) c.in-Ok-read_lines.draft c.in-Ok-read_lines.ensures.draft
+finish-requires c = sound c.args.net.now (shown c.args.index.now) (lines c.args.bytes.now) c.in-Ok-read_lines.draft c.in-Ok-read_lines.ensures.draft c.in-Ok-read_lines.ensures.faultless
