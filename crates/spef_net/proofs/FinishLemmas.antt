@@ -9,6 +9,7 @@ use Rattle.spef_net.specs.declared.net.ParNet.{ParNet}
 use Rattle.vg_scan.specs.Nodes.{node_value}
 use Rattle.spef_net.specs.Sayings.{Said, sayings}
 use Rattle.spef_net.specs.Rows.{joined_of, starred_of, connected_of, conns_of, caps_of, ress_of}
+use Rattle.spef_net.specs.Faults.{IsFaultless}
 use Rattle.spef_net.specs.Nets.{IsSound}
 use Rattle.spef_net.specs.Denoted.{described, AreConns, AreCaps, AreRess, all_nodes, IsNet}
 use Rattle.std.specs.Str.Lines.{lines}
@@ -22,7 +23,7 @@ described_is None None node = refl
 described_is None (Some text) node = refl
 described_is (Some text) t node = refl
 
-note_later : (notes : List Note) (i : ℕ) → note_at (drop 1 notes) i ≡ note_at notes (suc i)
+pub note_later : (notes : List Note) (i : ℕ) → note_at (drop 1 notes) i ≡ note_at notes (suc i)
 note_later [] i = refl
 note_later (n ∷ ns) i = refl
 
@@ -53,6 +54,9 @@ made_net name reduced all draft net s m = record {
 pub sketch_of : (bytes : List ℕ) (nodes start : NetNodes) {draft : Sketch} → nodes ≡ start → IsSketch (connected_of (sayings nodes.file (lines bytes))) nodes.net (sayings nodes.file (lines bytes)) draft
     → IsSketch (connected_of (sayings start.file (lines bytes))) start.net (sayings start.file (lines bytes)) draft
 sketch_of bytes nodes start {draft} e h = subst (λ (n : NetNodes). IsSketch (connected_of (sayings n.file (lines bytes))) n.net (sayings n.file (lines bytes)) draft) e h
+
+pub faultless_of : (bytes : List ℕ) (nodes start : NetNodes) → nodes ≡ start → IsFaultless nodes.net (sayings nodes.file (lines bytes)) → IsFaultless start.net (sayings start.file (lines bytes))
+faultless_of bytes nodes start e h = subst (λ (n : NetNodes). IsFaultless n.net (sayings n.file (lines bytes))) e h
 
 abbrev Parts : Type 0
 Parts = List ℕ × List ParNode × List ParConn × List (ℕ × ℕ) × List (ℕ × ℕ × ℕ)

@@ -12,6 +12,8 @@ pub mod HeadLemmas
 pub mod FinishLemmas
 pub mod OneNet
 pub mod SizeLemmas
+pub mod SaidLemmas
+pub mod JoinedLemmas
 pub mod SoundLemmas
 pub mod NetLemmas
 pub mod InnerLemmas

@@ -16,7 +16,6 @@ use Rattle.spef_net.specs.declared.fault.NetKind.TheVariants.{Conn, Cap, Res}
 use Rattle.spef_net.specs.declared.net.ConnKind.{ConnKind}
 use Rattle.spef_net.specs.declared.net.ConnKind.TheVariants.{Pin, Port}
 use Rattle.spef_net.specs.declared.net.Direction.{Direction}
-use Rattle.spef_net.specs.declared.net.ParConn.{ParConn}
 use Rattle.spef_net.specs.declared.net.ParNet.{ParNet}
 use Rattle.spef_net.specs.declared.part.Part.{Part}
 use Rattle.spef_net.specs.declared.part.Part.TheVariants.{Nowhere, Conns, Caps, Ress, Inducs}
@@ -26,8 +25,8 @@ use Rattle.spef_nodes.specs.Members.{with_node}
 use Rattle.spef_net.specs.Lines.{head_of}
 use Rattle.spef_net.specs.Sayings.{Said, is_colon, middle, value_of_parts, value_in, is_at, ground, coupling, resistor, cap_line, res_line, conn_line, connection, connected, star, starred, said_in, said_or_opens, said_words, said, part_after, sayings_from, sayings}
 use Rattle.spef_net.specs.Rows.{joined_in, joined_of, connected_of, cap_in, caps_of, res_in, ress_of, named_in}
-use Rattle.spef_net.specs.Denoted.{cap_at, res_at, AreConns, AreCaps, AreRess, all_nodes, IsNet}
-use Rattle.spef_net.specs.Nets.{IsConnOf, IsCapOf, IsResOf}
+use Rattle.spef_net.specs.Denoted.{cap_at, res_at, AreCaps, AreRess, all_nodes, IsNet}
+use Rattle.spef_net.specs.Nets.{IsCapOf, IsResOf}
 use Rattle.spef_net.specs.Sections.{IsSized}
 
 -- values
@@ -208,17 +207,17 @@ words_small file part line (word ∷ rest) = opens_small (head_of (word ∷ rest
 
 -- lists
 
-all_nil : {X : Type 0} (P : X → Type 0) → All P []
+pub all_nil : {X : Type 0} (P : X → Type 0) → All P []
 all_nil P k d l = absurd (omega arith)
 
-all_cons : {X : Type 0} (P : X → Type 0) (x : X) (xs : List X) → P x → All P xs → All P (x ∷ xs)
+pub all_cons : {X : Type 0} (P : X → Type 0) (x : X) (xs : List X) → P x → All P xs → All P (x ∷ xs)
 all_cons P x xs p h zero d l = p
 all_cons P x xs p h (suc k) d l = h k d (omega arith)
 
-all_head : {X : Type 0} (P : X → Type 0) (x : X) (xs : List X) → All P (x ∷ xs) → P x
+pub all_head : {X : Type 0} (P : X → Type 0) (x : X) (xs : List X) → All P (x ∷ xs) → P x
 all_head P x xs h = h 0 x (omega arith)
 
-all_tail : {X : Type 0} (P : X → Type 0) (x : X) (xs : List X) → All P (x ∷ xs) → All P xs
+pub all_tail : {X : Type 0} (P : X → Type 0) (x : X) (xs : List X) → All P (x ∷ xs) → All P xs
 all_tail P x xs h = λ k d l. h (suc k) d (omega arith)
 
 -- all lines of a section are small
@@ -300,7 +299,7 @@ all_option : {X : Type 0} (P : X → Type 0) (o : Option X) (xs : List X) → ((
 all_option P None xs p h = h
 all_option P (Some x) xs p h = all_cons P x xs (p x refl) h
 
-all_filter_map : {X Y : Type 0} (P : Y → Type 0) (Q : X → Type 0) (f : X → Option Y) (xs : List X) → ((x : X) (y : Y) → Q x → f x ≡ Some y → P y) → All Q xs → All P (filter_map f xs)
+pub all_filter_map : {X Y : Type 0} (P : Y → Type 0) (Q : X → Type 0) (f : X → Option Y) (xs : List X) → ((x : X) (y : Y) → Q x → f x ≡ Some y → P y) → All Q xs → All P (filter_map f xs)
 all_filter_map P Q f [] g h = all_nil P
 all_filter_map P Q f (x ∷ xs) g h = all_option P (f x) (filter_map f xs) (λ y e. g x y (all_head Q x xs h) e) (all_filter_map P Q f xs g (all_tail Q x xs h))
 
@@ -309,21 +308,13 @@ got_within [] i x e = absurd (cc)
 got_within (y ∷ xs) zero x e = omega arith
 got_within (y ∷ xs) (suc i) x e = omega (arith, got_within xs i x e)
 
-pair_eq : {A B : Type 0} (a c : A) (b d : B) → ◌≡◌ {A = A × B} (a, b) (c, d) → (a ≡ c) × (b ≡ d)
+pub pair_eq : {A B : Type 0} (a c : A) (b d : B) → ◌≡◌ {A = A × B} (a, b) (c, d) → (a ≡ c) × (b ≡ d)
 pair_eq a c b d e = (ap (λ p. p.0) e, ap (λ p. p.1) e)
 
-list_eq : {A : Type 0} (x y : A) (xs ys : List A) → x ∷ xs ≡ y ∷ ys → (x ≡ y) × (xs ≡ ys)
+pub list_eq : {A : Type 0} (x y : A) (xs ys : List A) → x ∷ xs ≡ y ∷ ys → (x ≡ y) × (xs ≡ ys)
 list_eq x y xs ys e = (cc, cc)
 
 -- numbered rows are in the list of nodes, and have the values of their rows
-pub conns_fit : (nodes : List NodeName) (conns : List ParConn) (rows : List (ConnKind × NodeName × Direction)) → AreConns nodes conns rows → All (IsConnOf (length nodes)) conns
-conns_fit nodes [] rows e = all_nil _
-conns_fit nodes (conn ∷ conns) [] e = absurd (cc)
-conns_fit nodes (conn ∷ conns) (row ∷ rows) e =
-    let p = list_eq _ _ _ _ e in
-    let a : slice_get nodes conn.node ≡ Some row.1 = ap (λ x. x.1) p.0 in
-    all_cons (IsConnOf (length nodes)) conn conns (got_within nodes conn.node row.1 a) (conns_fit nodes conns rows p.1)
-
 pub caps_fit : (nodes : List NodeName) (caps : List (ℕ × ℕ)) (rows : List (NodeName × ℕ)) → AreCaps nodes caps rows → All (λ row. row.1 ≤ 10 ^ 15) rows → All (IsCapOf (length nodes)) caps
 caps_fit nodes [] rows e h = all_nil _
 caps_fit nodes (cap ∷ caps) [] e h = absurd (cc)

@@ -1,12 +1,29 @@
 -- What the type of a net keeps.
-use Rattle.std.specs.Prelude.{ℕ, ◌<◌, ◌≤◌, ◌^◌, List, length}
-use Rattle.std.specs.List.{All}
+use Rattle.std.specs.Prelude.{◌≡◌, ◌≢◌, ℕ, ◌<◌, ◌≤◌, ◌^◌, true, false, List, length, Some}
+use Rattle.std.specs.List.{All, AllPairs, slice_get}
+use Rattle.spef_nodes.specs.Members.{is_inner}
 use Rattle.spef_nodes.specs.Nodes.{ParNode}
 use Rattle.spef_net.specs.declared.net.ParConn.{ParConn}
+use Rattle.spef_net.specs.Sayings.{is_at}
 
--- a connection is at one of so many nodes
-abbrev pub IsConnOf : ℕ → ParConn → Type 0
-IsConnOf count conn = conn.node < count
+-- no two nodes have the same name
+abbrev pub AreDistinct : List ParNode → Type 0
+AreDistinct nodes = AllPairs (λ node other. node.name ≢ other.name) nodes
+
+-- a node that is no connection has the net's name as owner, and a leaf of digits
+abbrev pub IsInside : List ℕ → ParNode → Type 0
+IsInside net node = node.inner ≡ true → is_inner net node.name ≡ true
+
+-- the node of a connection has a leaf at a pin, and none at a port
+abbrev pub IsEnd : ParConn → ParNode → Type 0
+IsEnd conn node = (node.inner ≡ false) × (is_at conn.kind node.name ≡ true)
+
+-- the nodes of the connections stand first, in order, and the others are no connections
+pub record AreJoined (conns : List ParConn) (nodes : List ParNode) : Type 0 where
+  pub few : length conns ≤ length nodes
+  pub numbers : (i : ℕ) (conn : ParConn) → slice_get conns i ≡ Some conn → conn.node ≡ i
+  pub ends : (i : ℕ) (conn : ParConn) (node : ParNode) → slice_get conns i ≡ Some conn → slice_get nodes i ≡ Some node → IsEnd conn node
+  pub inner : (i : ℕ) (node : ParNode) → length conns ≤ i → slice_get nodes i ≡ Some node → node.inner ≡ true
 
 -- a capacitor is at one of so many nodes, and has at most 10^15
 abbrev pub IsCapOf : ℕ → ℕ × ℕ → Type 0
@@ -18,6 +35,8 @@ IsResOf count res = (res.0 < count) × (res.1 < count) × (res.2 ≤ 10 ^ 15)
 
 -- a net of this name may have these nodes, connections, capacitors and resistors
 pub record IsSound (name : List ℕ) (nodes : List ParNode) (conns : List ParConn) (caps : List (ℕ × ℕ)) (ress : List (ℕ × ℕ × ℕ)) : Type 0 where
-  pub conns_at : All (IsConnOf (length nodes)) conns
+  pub distinct : AreDistinct nodes
+  pub joined : AreJoined conns nodes
+  pub inside : All (IsInside name) nodes
   pub caps_at : All (IsCapOf (length nodes)) caps
   pub ress_at : All (IsResOf (length nodes)) ress

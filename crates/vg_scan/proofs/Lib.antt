@@ -20,3 +20,4 @@ pub mod PlainLemmas
 pub mod BlankLemmas
 pub mod FaultLemmas
 pub mod ItemLemmas
+pub mod SolidLemmas

@@ -1,7 +1,7 @@
 use Rattle.std.specs.Str.Lines.{lines}
 use Rattle.spef_file.specs.Shown.{shown}
 use Rattle.spef_net.specs.Sayings.{sayings}
-use Rattle.spef_net.proofs.FinishLemmas.{made_net, sketch_of}
+use Rattle.spef_net.proofs.FinishLemmas.{made_net, sketch_of, faultless_of}
 use Rattle.spef_net.proofs.SizeLemmas.{section_sized}
 use Rattle.spef_net.proofs.SoundLemmas.{sound}
 use Rattle.spef_net.proofs.finish.read_section.Goals as goal
@@ -16,4 +16,6 @@ returns-in-Ok-finish-clause-sized c =
     (made_net c.args.net.now c.args.reduced (sayings (shown c.args.index.now) (lines c.args.bytes.now)) c.in-Ok-read_lines.draft c.in-Ok-finish.par (sketch_of c.args.bytes.now _ _ c.in-Ok.ensures c.in-Ok-read_lines.ensures.draft) c.in-Ok-finish.ensures)
 
 pub finish-requires : goal.finish-requires
-finish-requires c = sound c.args.net.now (shown c.args.index.now) (lines c.args.bytes.now) c.in-Ok-read_lines.draft (sketch_of c.args.bytes.now _ _ c.in-Ok.ensures c.in-Ok-read_lines.ensures.draft)
+finish-requires c =
+    sound c.args.net.now (shown c.args.index.now) (lines c.args.bytes.now) c.in-Ok-read_lines.draft (sketch_of c.args.bytes.now _ _ c.in-Ok.ensures c.in-Ok-read_lines.ensures.draft)
+    (faultless_of c.args.bytes.now _ _ c.in-Ok.ensures c.in-Ok-read_lines.ensures.faultless)
