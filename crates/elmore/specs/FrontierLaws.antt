@@ -23,8 +23,8 @@ FrontierRises = (p : Problem) (cap : Option ℕ) (points : List Point) → IsFro
 
 -- an attained point that no other attained point outdoes stands in the frontier
 abbrev pub FrontierIsWhole : Type 0
-FrontierIsWhole = (p : Problem) (cap : Option ℕ) (points : List Point) (point : Point) → IsFrontier (IsAttained p cap) points → IsOnFrontier (IsAttained p cap) point
-    → Contains points point
+FrontierIsWhole = (p : Problem) (cap : Option ℕ) (points : List Point) (point : Point) → IsFrontier (IsAttained p cap) points
+    → IsOnFrontier (IsAttained p cap) point → Contains points point
 
 -- a frontier without a cap ends at the best slack
 abbrev pub BestIsLast : Type 0
@@ -33,7 +33,8 @@ BestIsLast = (p : Problem) (cells : List (Option ℕ)) (x : ℤ) (points : List 
 
 -- a problem has at most one frontier under a cap
 abbrev pub OneFrontier : Type 0
-OneFrontier = (p : Problem) (cap : Option ℕ) (points others : List Point) → IsFrontier (IsAttained p cap) points → IsFrontier (IsAttained p cap) others → points ≡ others
+OneFrontier = (p : Problem) (cap : Option ℕ) (points others : List Point) → IsFrontier (IsAttained p cap) points
+    → IsFrontier (IsAttained p cap) others → points ≡ others
 
 -- no other pair at the node dominates it
 abbrev pub IsAlone : Problem → ℕ → Bool → Pair → Type 0

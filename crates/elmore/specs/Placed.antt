@@ -52,6 +52,10 @@ placed_inverted tree reps cells w = is_odd (placed_inverters tree reps cells 0 w
 abbrev pub IsWanted : Option Sink → Bool → Type 0
 IsWanted at inverted = (sink : Sink) → at ≡ Some sink → inverted ≡ sink.inverted
 
+-- each sink is
+abbrev pub AreWanted : List (Option Sink) → (ℕ → Bool) → Type 0
+AreWanted sinks inverted = (w : ℕ) → IsWanted (sink_of sinks w) (inverted w)
+
 -- the sink is there, and has the other polarity
 abbrev pub IsUnwanted : Option Sink → Bool → Type 0
 IsUnwanted at inverted = (sink : Sink) × (at ≡ Some sink) × (inverted ≡ sink.inverted → ⊥)

@@ -1,5 +1,5 @@
 -- What the functions between are told of a tree with cells.
-use Rattle.std.specs.Prelude.{ℕ, ◌+◌, ◌≤◌, ◌^◌, List, length, Option}
+use Rattle.std.specs.Prelude.{ℕ, ◌+◌, ◌≤◌, ◌^◌, Bool, false, List, length, slice_index_or, Option}
 use Rattle.std.specs.List.{sum_by, All}
 use Rattle.elmore.specs.Cells.{rep_of, input_capacitance}
 use Rattle.elmore.specs.Placed.{IsPlacementOf}
@@ -7,6 +7,10 @@ use Rattle.elmore.specs.Trees.{IsTree, total_resistance, total_capacitance}
 use Rattle.elmore.specs.Problems.{IsRepWithin}
 use Rattle.elmore.specs.declared.tree.Node.{Node}
 use Rattle.elmore.specs.declared.rep.Rep.{Rep}
+
+-- whether a node is marked
+abbrev pub marked : List Bool → ℕ → Bool
+marked marks v = slice_index_or marks v false
 
 -- the capacitances of the nodes, and the input capacitances of the cells: no load is greater
 abbrev pub placed_capacitance : List Node → List Rep → List (Option ℕ) → ℕ

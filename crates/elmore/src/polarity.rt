@@ -3,7 +3,8 @@
 ghost use Rattle.std.specs.Prelude.{◌≡◌, ℕ, ◌<◌, ◌≤◌, false, length, slice_index_or, Option, Some, None, MatchBool, MatchOption};
 ghost use Rattle.elmore.specs.Trees.{IsTree};
 ghost use Rattle.elmore.specs.Cells.{rep_of, is_inverter};
-ghost use Rattle.elmore.specs.Placed.{IsPlacementOf, placed_inverted, IsUnwanted, IsWanted, IsFirstUnwanted};
+ghost use Rattle.elmore.specs.Placed.{IsPlacementOf, placed_inverted, IsUnwanted, IsWanted, IsFirstUnwanted, AreWanted};
+ghost use Rattle.elmore.specs.Steps.{marked};
 ghost use Rattle.elmore.specs.Placements.{IsPlacement, HasPolarity, IsFirstWrong};
 ghost use Rattle.elmore.specs.Room.{room_of};
 
@@ -53,7 +54,7 @@ fn is_wrong(sink: Option<Sink>, inverted: bool) -> bool
 fn first_unlike(sinks: &[Option<Sink>], inverted: &[bool]) -> Option<u32>
     requires nodes { length sinks.now ≤ 65536 }
     requires room { length sinks.now ≤ length inverted.now }
-    ensures { MatchOption result ((w : ℕ) → IsWanted (slice_index_or sinks.now w None) (slice_index_or inverted.now w false)) (λ w. IsFirstUnwanted sinks.now (λ v. slice_index_or inverted.now v false) w) }
+    ensures { MatchOption result (AreWanted sinks.now (marked inverted.now)) (λ w. IsFirstUnwanted sinks.now (marked inverted.now) w) }
 {
     'sinks: for w in 0..sinks.len() {
         if is_wrong(sinks[w], inverted[w]) {
