@@ -50,10 +50,10 @@ fn slot_of(slots: usize, text: &[u8]) -> usize
     requires { 0 < slots }
     ensures { result < slots }
 {
-    let end = &text[text.len().saturating_sub(6)..];
+    let end = &text[text.len().saturating_sub(8)..];
     let mut hash = 0u64;
     'byte: for byte in end {
-        hash = (hash * 10 + u64::from(*byte & 15)) % 0x1_0000_0000;
+        hash = (hash * 11 + u64::from(*byte & 15)) % 0x1_0000_0000;
     }
     hash as usize & (slots - 1)
 }
