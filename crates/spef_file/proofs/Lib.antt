@@ -14,3 +14,4 @@ pub mod GoLemmas
 pub mod ReadLemmas
 pub mod LawLemmas
 pub mod ZipLemmas
+pub mod NamesOfLemmas

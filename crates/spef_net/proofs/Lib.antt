@@ -14,6 +14,8 @@ pub mod OneNet
 pub mod SizeLemmas
 pub mod SaidLemmas
 pub mod JoinedLemmas
+pub mod NamedLemmas
+pub mod NoteLemmas
 pub mod SoundLemmas
 pub mod NetLemmas
 pub mod InnerLemmas

@@ -1,7 +1,8 @@
 -- What reading a section's lines says of the file.
-use Rattle.std.proofs.Common.{◌≡◌, ℕ, zero, suc, ◌+◌, Bool, true, false, cond, List, [], ◌∷◌, refl, sym, ap, ◌∙◌, subst, Some, Result, Ok, Err, ◌⊎◌, inl, inr}
+use Rattle.std.proofs.Common.{◌≡◌, ℕ, zero, suc, ◌+◌, Bool, true, false, cond, List, [], ◌∷◌, refl, sym, ap, ◌∙◌, subst, Some, Result, Ok, Err, ◌⊎◌, inl, inr, arith}
 use Rattle.std.specs.Prelude.{option_map, IfOk, IfErr}
-use Rattle.std.specs.List.{slice_get}
+use Rattle.std.specs.List.{All, slice_get}
+use Rattle.vg_scan.specs.Printed.{IsPrintable}
 use Rattle.std.specs.Str.Lines.{lines}
 use Rattle.spef_file.specs.Indexes.{lines_after}
 use Rattle.spef_file.specs.Files.{File}
@@ -68,3 +69,9 @@ module _ (text : List ℕ) (file : File) (nets : List NetRow) (at : ℕ) (name :
     | inl memory ↦ inl memory
     | inr first ↦ inr (λ head e. subst (λ s. IsFaultOf text file s fault) (head_is nets at head name section e f g) first)
   ]
+
+-- the name at a net's place can be a word, where each net's can
+pub name_printable : (nets : List NetRow) (at : ℕ) (name : List ℕ) → All (λ head. IsPrintable head.name) (heads_in nets) → option_map (λ (net : NetRow). net.0) (slice_get nets at) ≡ Some name → IsPrintable name
+name_printable [] at name h e = absurd (cc)
+name_printable (net ∷ nets) zero name h e = subst IsPrintable (some_is net.0 name e) (h 0 (head_in net) (omega arith))
+name_printable (net ∷ nets) (suc at) name h e = name_printable nets at name (λ k d l. h (suc k) d (omega arith)) e

@@ -1,7 +1,9 @@
 //! A section as a net.
 
 ghost use Rattle.std.specs.Prelude.{◌≡◌, ◌^◌, ◌≤◌, length, IfOk, IfErr, ◌⊎◌};
+ghost use Rattle.std.specs.List.{All};
 ghost use Rattle.std.specs.Str.Lines.{lines};
+ghost use Rattle.vg_scan.specs.Printed.{IsPrintable};
 ghost use Rattle.spef_file.specs.Shown.{shown};
 ghost use Rattle.spef_net.specs.Sayings.{sayings};
 ghost use Rattle.spef_net.specs.Faults.{IsFaultless, IsFirstFaultIn};
@@ -58,6 +60,8 @@ pub(crate) fn read_section(
     requires length { length bytes.now ≤ 2 ^ 28 }
     requires first { first ≤ 2 ^ 62 }
     requires count { length (lines bytes.now) ≤ 2 ^ 28 }
+    requires named { IsPrintable net.now }
+    requires mapped { All (λ row. IsPrintable row.1) index.now.map }
     ensures faultless { IfOk result (λ _. IsFaultless net.now (sayings (shown index.now) (lines bytes.now))) }
     ensures net { IfOk result (λ par. IsNet net.now reduced (sayings (shown index.now) (lines bytes.now)) par) }
     ensures sized { IfOk result IsSized }

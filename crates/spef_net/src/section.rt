@@ -1,6 +1,8 @@
 //! The nets of a file.
 
 ghost use Rattle.std.specs.Prelude.{◌≡◌, ◌<◌, length, IfOk, IfErr, ◌⊎◌};
+ghost use Rattle.std.specs.List.{All};
+ghost use Rattle.vg_scan.specs.Printed.{IsPrintable};
 ghost use Rattle.spef_file.specs.Views.{head_in};
 ghost use Rattle.spef_file.specs.Indexes.{IsIndexOf, IsSectionOf};
 ghost use Rattle.spef_file.specs.Shown.{shown};
@@ -21,7 +23,9 @@ fn read_part(
     name: &[u8],
     section: Section,
 ) -> Result<ParNet, NetFault>
-    requires { IsSectionOf text.now section }
+    requires section { IsSectionOf text.now section }
+    requires named { IsPrintable name.now }
+    requires mapped { All (λ row. IsPrintable row.1) index.now.map }
     ensures net { IfOk result (IsNetOf text.now (shown index.now) (head_in (name.now, section))) }
     ensures sized { IfOk result IsSized }
     ensures fault { IfErr result (λ fault. (fault.kind ≡ Memory) ⊎ IsFaultOf text.now (shown index.now) (head_in (name.now, section)) fault) }

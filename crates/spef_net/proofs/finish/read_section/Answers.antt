@@ -1,4 +1,5 @@
 use Rattle.std.specs.Str.Lines.{lines}
+use Rattle.vg_scan.proofs.SolidLemmas.{lines_are_inside}
 use Rattle.spef_file.specs.Shown.{shown}
 use Rattle.spef_net.specs.Sayings.{sayings}
 use Rattle.spef_net.proofs.FinishLemmas.{made_net, sketch_of, faultless_of}
@@ -18,4 +19,4 @@ returns-in-Ok-finish-clause-sized c =
 pub finish-requires : goal.finish-requires
 finish-requires c =
     sound c.args.net.now (shown c.args.index.now) (lines c.args.bytes.now) c.in-Ok-read_lines.draft (sketch_of c.args.bytes.now _ _ c.in-Ok.ensures c.in-Ok-read_lines.ensures.draft)
-    (faultless_of c.args.bytes.now _ _ c.in-Ok.ensures c.in-Ok-read_lines.ensures.faultless)
+    (faultless_of c.args.bytes.now _ _ c.in-Ok.ensures c.in-Ok-read_lines.ensures.faultless) c.requires.named c.requires.mapped (lines_are_inside c.args.bytes.now)
