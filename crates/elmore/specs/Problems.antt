@@ -1,5 +1,5 @@
 -- What makes a net, with its driver, sinks, places and repeaters, a problem.
-use Rattle.std.specs.Prelude.{◌≡◌, ℕ, ◌+◌, ◌*◌, ◌^◌, ◌<◌, ◌≤◌, ◌==◌, Bool, true, false, not, ◌&&◌, List, length, map, max, slice_index_or, ℤ, pos, ◌-ℤ◌, ◌≤ℤ◌, Option, Some, None, is_some, [], ◌∷◌}
+use Rattle.std.specs.Prelude.{◌≡◌, ℕ, ◌+◌, ◌*◌, ◌^◌, ◌<◌, ◌≤◌, ◌==◌, Bool, true, false, not, ◌&&◌, List, length, map, max, slice_index_or, ℤ, pos, ◌-ℤ◌, ◌≤ℤ◌, Option, Some, None, is_some, [], ◌∷◌, MatchOption}
 use Rattle.std.specs.List.{list_any, AllPairs, All, count_by}
 use Rattle.elmore.specs.Path.{is_over, nodes as node_numbers}
 use Rattle.elmore.specs.Trees.{parent_of, total_resistance, total_capacitance}
@@ -76,6 +76,10 @@ pub record IsProblemWithin (tree : List Node) (driver : Driver) (sinks : List (O
   pub each_repeater : All IsRepWithin reps
   pub drives : IsDriverWithin driver
   pub times : (v : ℕ) (sink : Sink) → sink_of sinks v ≡ Some sink → IsSmall sink.required
+
+-- something was made, exactly where the fact holds
+abbrev pub IsMadeWhere : {A : Type 0} → Option A → Type 0 → Type 0
+IsMadeWhere made fact = MatchOption made (fact → ⊥) (λ _. fact)
 
 -- only nodes that are neither the root nor a sink, and that have a sink strictly below, are places
 pub record ArePlaces (tree : List Node) (sinks : List (Option Sink)) (places : List Bool) : Type 0 where

@@ -1,7 +1,7 @@
-ghost use Rattle.std.specs.Prelude.{◌≡◌, ℕ, true, false, length, is_some, slice_index_or, IfOk, IfSome, MatchOption};
+ghost use Rattle.std.specs.Prelude.{◌≡◌, ℕ, true, false, length, is_some, slice_index_or, IfOk, IfSome};
 ghost use Rattle.std.specs.List.{list_any};
 ghost use Rattle.elmore.specs.Allowances.{AreAllowances};
-ghost use Rattle.elmore.specs.Problems.{live_nodes as live_nodes_of, is_sink, AreRising, ArePlaces, IsProblemWithin};
+ghost use Rattle.elmore.specs.Problems.{live_nodes as live_nodes_of, is_sink, AreRising, ArePlaces, IsProblemWithin, IsMadeWhere};
 
 use crate::allowed::Allowed;
 use crate::limits::is_within;
@@ -66,7 +66,7 @@ impl Problem {
         requires no_sink { (v : ℕ) → is_sink sinks v ≡ true → slice_index_or free.now v false ≡ false }
         requires rising { AreRising reps }
         requires allowed { AreAllowances (length tree.nodes) (length reps) allowed }
-        ensures within { IfOk result (λ made. MatchOption made (IsProblemWithin tree.nodes driver sinks (places_of tree.nodes sinks free.now) reps → ⊥) (λ problem. IsProblemWithin tree.nodes driver sinks (places_of tree.nodes sinks free.now) reps)) }
+        ensures within { IfOk result (λ made. IsMadeWhere made (IsProblemWithin tree.nodes driver sinks (places_of tree.nodes sinks free.now) reps)) }
         ensures nodes { IfOk result (λ made. IfSome made (λ problem. problem.tree.nodes ≡ tree.nodes)) }
         ensures driver { IfOk result (λ made. IfSome made (λ problem. problem.driver ≡ driver)) }
         ensures sinks { IfOk result (λ made. IfSome made (λ problem. problem.sinks ≡ sinks)) }
