@@ -9,6 +9,6 @@ pub invariant_of-result : goal.invariant_of-result
 invariant_of-result c =
     let d = c.draft.inside in
     record {
-      sound = sound_as _ _ _ _ _ _ _ _ _ _ (sym c.in_ok-name.ensures) (ap (λ nodes. noted_all nodes d.notes) (sym c.into_names-owners.ensures) ∙ sym c.new.ensures) (sym c.from_vec.ensures) (sym c.from_vec-2.ensures) (sym c.from_vec-3.ensures)
+      sound = sound_as _ _ _ _ _ _ _ _ _ _ (sym c.in_ok-name.ensures) (ap (λ nodes. noted_all nodes d.notes) (sym c.into_nodes.ensures ∙ sym c.into_names-owners.ensures) ∙ sym c.new.ensures) (sym c.from_vec.ensures) (sym c.from_vec-2.ensures) (sym c.from_vec-3.ensures)
           (subst (λ (draft : Sketch). IsSound c.args.net.now (noted_all draft.nodes draft.notes) draft.conns draft.caps draft.ress) (sym c.draft.view_is) c.requires);
     }
