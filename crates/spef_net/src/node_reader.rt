@@ -1,6 +1,6 @@
 //! The nodes of a net, by the texts that name them.
 
-ghost use Rattle.std.specs.Prelude.{◌≡◌, ◌<◌, ◌-◌, [], length, Some, IfOk, IfSome, OnOk, OnErr};
+ghost use Rattle.std.specs.Prelude.{◌≡◌, ◌^◌, ◌<◌, length, Some, IfOk, IfSome, OnOk, OnErr};
 ghost use Rattle.std.specs.List.{slice_get};
 ghost use Rattle.spef_file.specs.Shown.{shown};
 ghost use Rattle.spef_nodes.specs.Members.{Owns, with_node};
@@ -45,17 +45,24 @@ impl<'a> Model for NodeReader<'a> {
     ghost invariant = { λ reader. AreKnown (shown reader.index.now) reader.nodes reader.known.items };
 }
 
-/// The slot of a text among so many. Texts that end with numbers close to each other are in slots close to each other.
+/// The slot of a text among so many. Texts that differ in one number have slots as far apart as their numbers, or an odd
+/// multiple of that.
 fn slot_of(slots: usize, text: &[u8]) -> usize
     requires { 0 < slots }
     ensures { result < slots }
 {
     let end = &text[text.len().saturating_sub(8)..];
     let mut hash = 0u64;
+    let mut number = 0u64;
     'byte: for byte in end {
-        hash = (hash * 11 + u64::from(*byte & 15)) % 0x1_0000_0000;
+        if byte.is_ascii_digit() {
+            number = (number * 10 + u64::from(*byte - b'0')) % 0x1_0000_0000;
+        } else {
+            hash = ((hash + number) * 9 + u64::from(*byte)) % 0x1_0000_0000;
+            number = 0;
+        }
     }
-    hash as usize & (slots - 1)
+    (hash + number) as usize & (slots - 1)
 }
 
 impl<'a> NodeReader<'a> {
