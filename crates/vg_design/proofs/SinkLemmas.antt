@@ -1,5 +1,5 @@
 -- Sinks with their wire delays, one after another.
-use Rattle.std.proofs.Common.{◌≡◌, ℕ, zero, suc, ◌<◌, ◌≤◌, List, [], ◌∷◌, ◌++◌, length, get_or, refl, ap, ◌∙◌, arith}
+use Rattle.std.proofs.Common.{◌≡◌, ℕ, zero, suc, ◌<◌, ◌≤◌, List, [], ◌∷◌, ◌++◌, length, get_or, refl, sym, ap, ◌∙◌, arith}
 use Rattle.std.specs.Prelude.{ℤ, pos}
 use Rattle.vg_scan.specs.declared.name.NodeName.{NodeName}
 use Rattle.vg_design.specs.SinkRows.{sink_rows}
@@ -49,3 +49,18 @@ no_rows owners leaves delays e = ap (sink_rows owners leaves) e ∙ rows_none ow
 -- the same of the same lists
 pub rows_are : (owners leaves os ls : List (List ℕ)) (delays ds : List ℤ) → owners ≡ os → leaves ≡ ls → delays ≡ ds → sink_rows owners leaves delays ≡ sink_rows os ls ds
 rows_are owners leaves os ls delays ds e f g = λ i. sink_rows (e i) (f i) (g i)
+
+-- an owner, or an owner and a leaf, without a delay are no sink
+pub owner_more : (owners leaves : List (List ℕ)) (delays : List ℤ) (owner : List ℕ) → length delays ≤ length owners → sink_rows (owners ++ owner ∷ []) leaves delays ≡ sink_rows owners leaves delays
+unfolding sink_rows
+owner_more owners leaves [] owner h = rows_none (owners ++ owner ∷ []) leaves ∙ sym (rows_none owners leaves)
+owner_more [] leaves (d ∷ delays) owner h = absurd (omega (arith, h))
+owner_more (o ∷ owners) [] (d ∷ delays) owner h = refl
+owner_more (o ∷ owners) (l ∷ leaves) (d ∷ delays) owner h = ap (λ (rows : List (NodeName × ℤ)). (record { owner = o; leaf = l }, d) ∷ rows) (owner_more owners leaves delays owner (omega (arith, h)))
+
+pub leaf_more : (owners leaves : List (List ℕ)) (delays : List ℤ) (leaf : List ℕ) → length delays ≤ length leaves → sink_rows owners (leaves ++ leaf ∷ []) delays ≡ sink_rows owners leaves delays
+unfolding sink_rows
+leaf_more owners leaves [] leaf h = rows_none owners (leaves ++ leaf ∷ []) ∙ sym (rows_none owners leaves)
+leaf_more owners [] (d ∷ delays) leaf h = absurd (omega (arith, h))
+leaf_more [] (l ∷ leaves) (d ∷ delays) leaf h = refl
+leaf_more (o ∷ owners) (l ∷ leaves) (d ∷ delays) leaf h = ap (λ (rows : List (NodeName × ℤ)). (record { owner = o; leaf = l }, d) ∷ rows) (leaf_more owners leaves delays leaf (omega (arith, h)))

@@ -1,6 +1,6 @@
 //! The wire delays of sinks.
 
-ghost use Rattle.std.specs.Prelude.{◌≡◌, ◌<◌, ◌++◌, ◌∷◌, [], ℤ, pos, length, slice_index_or, OnOk};
+ghost use Rattle.std.specs.Prelude.{◌≡◌, ◌<◌, ◌++◌, ◌∷◌, [], ℤ, pos, length, slice_index_or, OnOk, OnErr};
 ghost use Rattle.vg_scan.specs.declared.name.NodeName.{NodeName};
 
 use std::alloc::Global;
@@ -72,17 +72,24 @@ impl SinkDelays {
         self.delays.as_slice()[at]
     }
 
-    /// Puts a sink last. Answers `Memory` where there is no room, and from then on.
+    /// Puts a sink last. Answers `Memory` where there is no room, and from then on; the sinks stay as they were.
     pub(crate) fn push(&mut self, owner: &[u8], leaf: &[u8], delay: i128) -> Result<(), Memory>
-        ensures { OnOk result (self.new ≡ self.old ++ (record { owner = owner.now; leaf = leaf.now }, delay) ∷ []) }
+        ensures last { OnOk result (self.new ≡ self.old ++ (record { owner = owner.now; leaf = leaf.now }, delay) ∷ []) }
+        ensures unchanged { OnErr result (self.new ≡ self.old) }
     {
         let count = self.delays.len();
         if self.owners.len() != count || self.leaves.len() != count {
             return Err(Memory);
         }
-        self.owners.push(owner)?;
-        self.leaves.push(leaf)?;
-        self.delays.push(delay)?;
+        let Ok(()) = self.owners.push(owner) else {
+            return Err(Memory);
+        };
+        let Ok(()) = self.leaves.push(leaf) else {
+            return Err(Memory);
+        };
+        let Ok(()) = self.delays.push(delay) else {
+            return Err(Memory);
+        };
         Ok(())
     }
 }

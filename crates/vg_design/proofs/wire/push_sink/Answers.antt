@@ -11,4 +11,4 @@ returns-in_ok-push c =
     let fits : SFits w128 c.args.delay = search rules in
     let name : NodeName = record { owner = c.owner.result.now; leaf = c.leaf.result.now } in
     is_pushed c.args.net.now c.args.node c.args.delay c.args.is_sink name c.args.rows.now c.push.new.self
-    c.if-is_sink.true c.requires (λ other. λ i. record { owner = c.owner.ensures other i; leaf = c.leaf.ensures other i }) (rw (to_z-of_z w128 c.args.delay fits) at c.in_ok-push.ensures)
+    c.if-is_sink.true c.requires (λ other. λ i. record { owner = c.owner.ensures other i; leaf = c.leaf.ensures other i }) (rw (to_z-of_z w128 c.args.delay fits) at c.in_ok-push.ensures.last)
