@@ -1,9 +1,10 @@
 -- Numbers of digits, or of digits, a point and digits.
-use Rattle.std.proofs.Common.{◌≡◌, ℕ, suc, ◌+◌, ◌-◌, ◌*◌, ◌^◌, ◌<◌, ◌≤◌, true, false, List, [], ◌∷◌, ◌++◌, length, take, drop, get_or, arith, refl, sym, ap, ◌∙◌, subst, Option, Some, None, ℤ, pos, negsuc, drop-cons, length-take, length-drop}
+use Rattle.std.proofs.Common.{◌≡◌, ℕ, suc, ◌+◌, ◌-◌, ◌*◌, ◌^◌, ◌<◌, ◌≤◌, true, false, List, [], ◌∷◌, ◌++◌, length, take, drop, get_or, arith, refl, sym, ap, ◌∙◌, subst, Option, Some, None, ℤ, pos, negsuc, add-one, drop-cons, length-take, length-drop}
 use Rattle.std.specs.Prelude.{IfSome}
 use Rattle.std.specs.List.{list_all}
 use Rattle.std.proofs.lemmas.List.{append-nil, take_all, take-append-drop}
 use Rattle.std.proofs.lemmas.List.Folds.{list_all-append}
+use Rattle.std.proofs.Math.Nat.{pow-suc}
 use lib.Signed.{lt_z}
 use lib.IntN.{nat_abs}
 use Rattle.vg_num.specs.Number.{is_digit, value_of, value_after, IsScaled}
@@ -43,3 +44,8 @@ point_scaled text rest f b w v p most (Some n) some within point rest_is w_is fr
     let value : value_of (take f text ++ rest) ≡ v = value_after-append (take f text) rest 0 ∙ ap (λ m. value_after m rest) (sym w_is) ∙ ap (value_after w) (sym all) ∙ sym v_is in
     subst (λ (t : List ℕ). IsScaled (pos p) most t n) split
     (split_scaled (take f text) (46 ∷ rest) rest p (p - b) n most refl (no_letters rest digits) refl (omega (arith, count)) front whole (omega arith) (ap (λ m. m * 10 ^ (p - b)) value ∙ h.0) h.1)
+
+pub times_ten : (value turn : ℕ) → value * 10 ^ turn * 10 ≡ value * 10 ^ (turn + 1)
+times_ten value turn =
+    let p : 10 ^ (turn + 1) ≡ 10 ^ turn * 10 = rw add-one (pow-suc 10 turn) in
+    rw p (omega arith)

@@ -4,8 +4,6 @@ ghost use Rattle.std.specs.Prelude.{◌≡◌, ◌*◌, ◌^◌, ◌≤◌, true
 ghost use Rattle.std.specs.List.{list_all};
 ghost use Rattle.vg_num.specs.Number.{is_digit, value_after, IsScaled};
 
-use crate::read::grown;
-
 /// The number that a text's first digits write after those of `front`, and how many digits they are. Digits that would pass
 /// eighteen are left.
 fn leading_digits(front: u64, text: &[u8]) -> (u64, usize)
@@ -29,15 +27,21 @@ fn leading_digits(front: u64, text: &[u8]) -> (u64, usize)
 }
 
 /// A value times ten to a power, where that is at most 10^15.
-fn raised(value: u64, power: usize) -> Option<u64>
+fn small_product(value: u64, power: usize) -> Option<u64>
     requires { value ≤ 10 ^ 18 }
     ensures { IfSome result (λ n. (value * 10 ^ power ≡ n) × (n ≤ 10 ^ 15)) }
 {
-    let product = grown(u128::from(value), power as u128);
+    let mut product = value;
+    'ten: for _turn in 0..power {
+        if product > 100_000_000_000_000 {
+            return None;
+        }
+        product *= 10;
+    }
     if product > 1_000_000_000_000_000 {
         return None;
     }
-    Some(product as u64)
+    Some(product)
 }
 
 /// The text's value times ten to the places, where the text is digits, or digits, a point and no more digits than places,
@@ -54,7 +58,7 @@ pub(crate) fn plain_value(text: &[u8], places: i32) -> Option<u64>
         return None;
     }
     if front == text.len() {
-        return raised(whole, places);
+        return small_product(whole, places);
     }
     if text[front] != b'.' {
         return None;
@@ -64,5 +68,5 @@ pub(crate) fn plain_value(text: &[u8], places: i32) -> Option<u64>
     if back < rest.len() || back > places {
         return None;
     }
-    raised(value, places - back)
+    small_product(value, places - back)
 }

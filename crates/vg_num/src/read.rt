@@ -115,7 +115,7 @@ fn exponent_value(text: &[u8]) -> i128
 }
 
 /// The value times ten to the power, or the cap where it is less.
-pub(crate) fn grown(front: u128, power: u128) -> u128
+fn times_power(front: u128, power: u128) -> u128
     requires { front ≤ CAP }
     ensures { result ≡ min (front * 10 ^ power) CAP }
 {
@@ -152,18 +152,18 @@ fn byte_at(whole: &[u8], fraction: &[u8], at: usize) -> u8
 }
 
 /// The digits times ten to the power, or the cap where it is less.
-fn raised(whole: &[u8], fraction: &[u8], power: u128) -> u128
+fn digits_times_power(whole: &[u8], fraction: &[u8], power: u128) -> u128
     requires few { length whole.now + length fraction.now < 2 ^ 64 }
     ensures { result ≡ min (value_of (whole.now ++ fraction.now) * 10 ^ power) CAP }
 {
-    grown(
+    times_power(
         front_value(whole, fraction, whole.len() + fraction.len()),
         power,
     )
 }
 
 /// The nearest whole number to the digits divided by ten to the power, or the cap where it is less.
-fn lowered(whole: &[u8], fraction: &[u8], power: u128) -> u128
+fn digits_over_power(whole: &[u8], fraction: &[u8], power: u128) -> u128
     requires digits { list_all is_digit (whole.now ++ fraction.now) ≡ true }
     requires few { length whole.now + length fraction.now < 2 ^ 64 }
     requires down { 0 < power }
@@ -192,9 +192,9 @@ fn nearest(whole: &[u8], fraction: &[u8], power: i128) -> u128
     ensures { (n : ℕ) × IsNearest n (numerator power (value_of (whole.now ++ fraction.now))) (denominator power) × (result ≡ min n CAP) }
 {
     if power >= 0 {
-        raised(whole, fraction, power as u128)
+        digits_times_power(whole, fraction, power as u128)
     } else {
-        lowered(whole, fraction, (-power) as u128)
+        digits_over_power(whole, fraction, (-power) as u128)
     }
 }
 

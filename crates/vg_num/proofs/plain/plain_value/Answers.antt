@@ -13,8 +13,8 @@ returns-then-front-text c =
     let z = to_z w32 (of_z w32 c.args.places) in
     let same : pos (nat_abs z) ≡ c.args.places = not_below z c.if-places-lt0.false ∙ to_z-of_z w32 c.args.places c.ranges.places in
     let w = c.leading_digits-whole.ensures in
-    subst (λ (p : ℤ). IfSome c.raised.result (IsScaled p 1000000000000000 c.args.text.now)) same
-    (whole_scaled c.args.text.now c.leading_digits-whole.result.1 c.leading_digits-whole.result.0 (nat_abs z) 1000000000000000 c.raised.result (omega arith) c.if-front-text.true w.value w.digits c.raised.ensures)
+    subst (λ (p : ℤ). IfSome c.small_product.result (IsScaled p 1000000000000000 c.args.text.now)) same
+    (whole_scaled c.args.text.now c.leading_digits-whole.result.1 c.leading_digits-whole.result.0 (nat_abs z) 1000000000000000 c.small_product.result (omega arith) c.if-front-text.true w.value w.digits c.small_product.ensures)
 
 pub returns : goal.returns
 returns c =
@@ -22,6 +22,6 @@ returns c =
     let same : pos (nat_abs z) ≡ c.args.places = not_below z c.if-places-lt0.false ∙ to_z-of_z w32 c.args.places c.ranges.places in
     let w = c.leading_digits-whole.ensures in
     let v = c.leading_digits-value.ensures in
-    subst (λ (p : ℤ). IfSome c.raised-2.result (IsScaled p 1000000000000000 c.args.text.now)) same
-    (point_scaled c.args.text.now (take (length c.args.text.now - (c.leading_digits-whole.result.1 + 1)) (drop (c.leading_digits-whole.result.1 + 1) c.args.text.now)) c.leading_digits-whole.result.1 c.leading_digits-value.result.1 c.leading_digits-whole.result.0 c.leading_digits-value.result.0 (nat_abs z) 1000000000000000 c.raised-2.result
-    (omega arith) (omega (arith, w.within)) c.if-text-front-ne46.false refl w.value w.digits v.value v.digits c.if-back-rest.false v.within c.if-back-places.false c.raised-2.ensures)
+    subst (λ (p : ℤ). IfSome c.small_product-2.result (IsScaled p 1000000000000000 c.args.text.now)) same
+    (point_scaled c.args.text.now (take (length c.args.text.now - (c.leading_digits-whole.result.1 + 1)) (drop (c.leading_digits-whole.result.1 + 1) c.args.text.now)) c.leading_digits-whole.result.1 c.leading_digits-value.result.1 c.leading_digits-whole.result.0 c.leading_digits-value.result.0 (nat_abs z) 1000000000000000 c.small_product-2.result
+    (omega arith) (omega (arith, w.within)) c.if-text-front-ne46.false refl w.value w.digits v.value v.digits c.if-back-rest.false v.within c.if-back-places.false c.small_product-2.ensures)

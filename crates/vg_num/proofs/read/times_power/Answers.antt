@@ -1,7 +1,7 @@
 use Rattle.std.proofs.Common.{◌≡◌, ◌*◌, ◌^◌, min, arith, ◌∙◌}
 use Rattle.vg_num.proofs.Caps.{grow_step, grow_past}
-use Rattle.vg_num.proofs.read.grown.Goals as goal
-use Rattle.vg_num.proofs.read.grown.Goals.{then-more-lt-CAP, else-more-lt-CAP, then-power-lt30, else-power-lt30}
+use Rattle.vg_num.proofs.read.times_power.Goals as goal
+use Rattle.vg_num.proofs.read.times_power.Goals.{then-more-lt-CAP, else-more-lt-CAP, then-power-lt30, else-power-lt30}
 
 pub loop-i-preserved : goal.loop-i-preserved
 loop-i-preserved c =

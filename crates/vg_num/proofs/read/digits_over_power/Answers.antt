@@ -2,8 +2,8 @@ use Rattle.std.proofs.Common.{◌≡◌, ◌+◌, ◌-◌, ◌^◌, ◌<◌, ◌
 use Rattle.std.proofs.lemmas.Bool.{cases_lt}
 use Rattle.vg_num.specs.Number.{value_of}
 use Rattle.vg_num.proofs.Caps.{rounds, below_half, near_zero}
-use Rattle.vg_num.proofs.read.lowered.Goals as goal
-use Rattle.vg_num.proofs.read.lowered.Goals.{else-value-lt-CAP-via-then-value-lt-CAP+else-next-ge53, else-value-lt-CAP-via-else-value-lt-CAP}
+use Rattle.vg_num.proofs.read.digits_over_power.Goals as goal
+use Rattle.vg_num.proofs.read.digits_over_power.Goals.{else-value-lt-CAP-via-then-value-lt-CAP+else-next-ge53, else-value-lt-CAP-via-else-value-lt-CAP}
 
 pub returns-then-power-count : goal.returns-then-power-count
 returns-then-power-count c =
