@@ -6,13 +6,9 @@
 
 mod allowed;
 mod costs;
-#[cfg(test)]
-mod fixtures;
 mod frontier_laws;
 mod laws;
 mod legal;
-#[cfg(test)]
-mod legal_tests;
 mod limits;
 mod live;
 mod loads;
@@ -21,15 +17,9 @@ mod parts;
 mod placement;
 mod polarity;
 mod problem;
-#[cfg(test)]
-mod problem_tests;
 mod rep;
 mod scratch;
-#[cfg(test)]
-mod slack_tests;
 mod slacks;
-#[cfg(test)]
-mod tests;
 mod tree;
 mod wire;
 

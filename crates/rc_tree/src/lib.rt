@@ -5,14 +5,10 @@
 
 mod caps;
 mod fault;
-#[cfg(test)]
-mod fixtures;
 mod laws;
 mod links;
 mod net;
 mod search;
-#[cfg(test)]
-mod tests;
 
 pub use fault::TreeFault;
 pub use laws::one_tree;

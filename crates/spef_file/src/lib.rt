@@ -32,6 +32,3 @@ pub use sections::Sections;
 pub use spef_index::SpefIndex;
 pub use spef_text::SpefText;
 pub use text::net_lines;
-
-#[cfg(test)]
-mod tests;

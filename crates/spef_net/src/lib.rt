@@ -22,6 +22,3 @@ pub use laws::one_net;
 pub use net::{ConnKind, Direction, ParConn, ParNet};
 pub use section::read_net;
 pub use spef_nodes::Nodes;
-
-#[cfg(test)]
-mod tests;

@@ -29,6 +29,3 @@ pub use constraints::{
 };
 pub use fault::{ConsFault, ConsKind};
 pub use read::read_constraints;
-
-#[cfg(test)]
-mod tests;

@@ -18,6 +18,3 @@ pub use refusal::{Refusal, Refused};
 pub use sink_delays::SinkDelays;
 pub use tree::{NetTree, net_tree};
 pub use wire::{WireNet, wire_net};
-
-#[cfg(test)]
-mod tests;

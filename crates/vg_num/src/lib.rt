@@ -23,6 +23,3 @@ pub use row::Row;
 pub use signed::read_signed;
 pub use text::Text;
 pub use whole::read_whole;
-
-#[cfg(test)]
-mod tests;

@@ -37,6 +37,3 @@ pub use reference::{are_digits, index_of, is_reference};
 pub use spef::{spef_name, spell_name, split_node};
 pub use texts::Texts;
 pub use words::words_of;
-
-#[cfg(test)]
-mod tests;

@@ -18,6 +18,3 @@ pub use output::{Out, put_all};
 pub use read::{ReadAll, read_all};
 pub use real_files::RealFiles;
 pub use real_out::RealOut;
-
-#[cfg(test)]
-mod tests;

@@ -12,6 +12,3 @@ pub use ask::{Ask, Mode, WordFault};
 pub use judge::read_words;
 pub use laws::one_request;
 pub use option::Opt;
-
-#[cfg(test)]
-mod tests;

@@ -11,6 +11,3 @@ mod wire;
 
 pub use input::Input;
 pub use program::run;
-
-#[cfg(test)]
-mod tests;

@@ -1,0 +1,15 @@
+//! Tests of the public calls that read and write texts, a module for each crate below.
+#![tactic(auto)]
+
+#[cfg(test)]
+mod cons;
+#[cfg(test)]
+mod file;
+#[cfg(test)]
+mod net;
+#[cfg(test)]
+mod num;
+#[cfg(test)]
+mod scan;
+#[cfg(test)]
+mod store;
