@@ -1,8 +1,8 @@
-pub mod CapLaws
-pub mod LinkLaws
-pub mod PlaceLaws
-pub mod SearchLaws
-pub mod JoinLaws
-pub mod Pigeons
-pub mod TreeLaws
-pub mod OneTree
+pub mod CapLemmas
+pub mod LinkLemmas
+pub mod PlaceLemmas
+pub mod SearchLemmas
+pub mod JoinLemmas
+pub mod PigeonholeLemmas
+pub mod TreeLemmas
+pub mod OneTreeLemmas

@@ -2,7 +2,7 @@
 use Rattle.std.proofs.Common.{◌≡◌, ℕ, true, false, List, [], refl, Ok}
 use Rattle.std.proofs.Math.Bool.{Bool-set}
 use Rattle.vg_scan.specs.Separators.{is_separator, is_bus_pair}
-use Rattle.spef_file.specs.declared.opening.Region.TheVariants.{Outside}
+use Rattle.spef_file.specs.declared.keyword.Region.TheVariants.{Outside}
 use Rattle.spef_file.specs.Machine.{State, START, NO_HEADING}
 use Rattle.spef_file.specs.Nets.{NetHead}
 use Rattle.spef_file.specs.Machine.{read}

@@ -9,21 +9,21 @@ use Rattle.vg_scan.specs.declared.chars.Chars.{Chars}
 use Rattle.spef_file.specs.declared.fault.SpefKind.{SpefKind}
 use Rattle.spef_file.specs.declared.fault.SpefKind.TheVariants.{Header, Unit as UnitKind, MapTwice, MapUnknown, NoEnd, Stray, NetTwice, Unsupported}
 use Rattle.spef_file.specs.declared.heading.Heading.{Heading}
-use Rattle.spef_file.specs.declared.opening.Opening.{Opening}
-use Rattle.spef_file.specs.declared.opening.Opening.TheVariants.{Map, Passed, Net, Foreign, Nothing}
-use Rattle.spef_file.specs.declared.opening.Region.{Region}
-use Rattle.spef_file.specs.declared.opening.Region.TheVariants.{Outside, InMap, InPassed}
+use Rattle.spef_file.specs.declared.keyword.Keyword.{Keyword}
+use Rattle.spef_file.specs.declared.keyword.Keyword.TheVariants.{Map, Passed, Net, Foreign, Nothing}
+use Rattle.spef_file.specs.declared.keyword.Region.{Region}
+use Rattle.spef_file.specs.declared.keyword.Region.TheVariants.{Outside, InMap, InPassed}
 use Rattle.spef_file.specs.Words.{first_word, second_word, has_words}
-use Rattle.spef_file.specs.Openings.{opening_of}
-use Rattle.spef_file.specs.Marks.{divider_in, delimiter_in, bus_in}
+use Rattle.spef_file.specs.Keywords.{keyword_of}
+use Rattle.spef_file.specs.HeaderChars.{divider_in, delimiter_in, bus_in}
 use Rattle.spef_file.specs.Units.{unit_places}
 use Rattle.spef_file.specs.Headers.{is_header_word, header_line, value_line, is_idle, with_chars, with_c_places, with_r_places}
 use Rattle.spef_file.specs.HeaderLines.{spoken, in_header, chars_of, c_places_of, r_places_of}
 use Rattle.spef_file.specs.Regions.{Place, outside, in_map, in_passed, in_net, place_of, is_net}
 use Rattle.spef_file.specs.Rows.{row_of, map_line, row_index, is_mapped, head_name}
 use Rattle.spef_file.specs.Nets.{NetHead, end_at, is_taken}
-use Rattle.spef_file.specs.Sayings.{rows_of, nets_of}
-use Rattle.spef_file.specs.Faults.{is_some_and, gives_marks, gives_unit, is_header_line, fault_of}
+use Rattle.spef_file.specs.Statements.{rows_of, nets_of}
+use Rattle.spef_file.specs.Faults.{is_some_and, gives_chars, gives_unit, is_header_line, fault_of}
 use Rattle.spef_file.specs.Machine.{State, state_fault, body_fault, nothing_fault, name_fault, row_fault, given_fault, fault_in}
 use Rattle.spef_file.proofs.StepLemmas.{header_says, body_says}
 use Rattle.spef_file.proofs.MoreLemmas.{truth, decide}
@@ -69,9 +69,9 @@ due_fault : (before : List Line) (line : Line) (later : List Line) → in_header
 unfolding fault_of
 due_fault before line later h i = rw (h, i) refl
 
-marks_fault : (heading : Heading) (o : Option Chars) → cond (not (is_some o)) (Some Header) None ≡ fault_in (with_chars heading o)
-marks_fault heading None = refl
-marks_fault heading (Some chars) = refl
+chars_fault : (heading : Heading) (o : Option Chars) → cond (not (is_some o)) (Some Header) None ≡ fault_in (with_chars heading o)
+chars_fault heading None = refl
+chars_fault heading (Some chars) = refl
 
 c_fault : (heading : Heading) (o : Option ℕ) → cond (not (is_some o)) (Some UnitKind) None ≡ fault_in (with_c_places heading o)
 c_fault heading None = refl
@@ -82,7 +82,7 @@ r_fault heading None = refl
 r_fault heading (Some n) = refl
 
 abbrev value_kind : ℕ → Heading → Line → Option SpefKind
-value_kind n heading line = cond (not (gives_marks n heading.chars line)) (Some Header) (cond (not (gives_unit n line)) (Some UnitKind) None)
+value_kind n heading line = cond (not (gives_chars n heading.chars line)) (Some Header) (cond (not (gives_unit n line)) (Some UnitKind) None)
 
 other_value : (n : ℕ) (heading : Heading) (line : Line) → eqb n 7 ≡ false → eqb n 8 ≡ false → eqb n 9 ≡ false → value_kind n heading line ≡ fault_in (value_line n heading line)
 other_value n heading line a b c =
@@ -94,25 +94,25 @@ other_value n heading line a b c =
       ]
     ]
 
-marks_value : (heading : Heading) (o : Option Chars) → cond (not (is_some o)) (Some Header) (cond (not true) (Some UnitKind) None) ≡ fault_in (with_chars heading o)
-marks_value heading o = marks_fault heading o
+chars_value : (heading : Heading) (o : Option Chars) → cond (not (is_some o)) (Some Header) (cond (not true) (Some UnitKind) None) ≡ fault_in (with_chars heading o)
+chars_value heading o = chars_fault heading o
 
 value_fault : (n : ℕ) (heading : Heading) (line : Line) → value_kind n heading line ≡ fault_in (value_line n heading line)
 value_fault n heading line =
     let P : ℕ → Type 0 = λ m. value_kind m heading line ≡ fault_in (value_line m heading line) in
     elim (decide n 7) [
-      | inl e ↦ subst P (sym e) (marks_fault heading (divider_in heading.chars line))
+      | inl e ↦ subst P (sym e) (chars_fault heading (divider_in heading.chars line))
       | inr a ↦ elim (decide n 8) [
-        | inl e ↦ subst P (sym e) (marks_fault heading (delimiter_in heading.chars line))
+        | inl e ↦ subst P (sym e) (chars_fault heading (delimiter_in heading.chars line))
         | inr b ↦ elim (decide n 9) [
-          | inl e ↦ subst P (sym e) (marks_fault heading (bus_in heading.chars line))
+          | inl e ↦ subst P (sym e) (chars_fault heading (bus_in heading.chars line))
           | inr c ↦ other_value n heading line a b c
         ]
       ]
     ]
 
 line_fault : (t : Bool) (n : ℕ) (heading : Heading) (line : Line)
-    → cond (not (t && gives_marks n heading.chars line)) (Some Header) (cond (not (gives_unit n line)) (Some UnitKind) None) ≡ fault_in (cond t (value_line n heading line) (Err Header))
+    → cond (not (t && gives_chars n heading.chars line)) (Some Header) (cond (not (gives_unit n line)) (Some UnitKind) None) ≡ fault_in (cond t (value_line n heading line) (Err Header))
 line_fault true n heading line = value_fault n heading line
 line_fault false n heading line = refl
 
@@ -137,7 +137,7 @@ or_false : (b : Bool) → (b || false) ≡ b
 or_false true = refl
 or_false false = refl
 
-plain_is : (place : Place) (words : Bool) (before : List Line) (line : Line) (later : List Line) → is_net place ≡ false → in_header before ≡ false → place_of before ≡ place → has_words line ≡ words → opening_of (first_word line) ≡ Nothing
+plain_is : (place : Place) (words : Bool) (before : List Line) (line : Line) (later : List Line) → is_net place ≡ false → in_header before ≡ false → place_of before ≡ place → has_words line ≡ words → keyword_of (first_word line) ≡ Nothing
     → fault_of before line later ≡ plain_kind place words (chars_of before) (rows_of before) line
 unfolding fault_of
 plain_is outside true before line later out h p w o = rw (h, p, w, o) refl
@@ -149,20 +149,20 @@ plain_is in_passed true before line later out h p w o = rw (h, p, w, o) refl
 plain_is in_passed false before line later out h p w o = rw (h, p, w, o) refl
 plain_is in_net words before line later out h p w o = absurd (cc)
 
-map_is : (before : List Line) (line : Line) (later : List Line) → in_header before ≡ false → is_net (place_of before) ≡ false → opening_of (first_word line) ≡ Map → fault_of before line later ≡ None
+map_is : (before : List Line) (line : Line) (later : List Line) → in_header before ≡ false → is_net (place_of before) ≡ false → keyword_of (first_word line) ≡ Map → fault_of before line later ≡ None
 unfolding fault_of
 map_is before line later h p o = rw (h, p, o) refl
 
-passed_is : (before : List Line) (line : Line) (later : List Line) → in_header before ≡ false → is_net (place_of before) ≡ false → opening_of (first_word line) ≡ Passed → fault_of before line later ≡ None
+passed_is : (before : List Line) (line : Line) (later : List Line) → in_header before ≡ false → is_net (place_of before) ≡ false → keyword_of (first_word line) ≡ Passed → fault_of before line later ≡ None
 unfolding fault_of
 passed_is before line later h p o = rw (h, p, o) refl
 
-net_is : (before : List Line) (line : Line) (later : List Line) → in_header before ≡ false → is_net (place_of before) ≡ false → opening_of (first_word line) ≡ Net
+net_is : (before : List Line) (line : Line) (later : List Line) → in_header before ≡ false → is_net (place_of before) ≡ false → keyword_of (first_word line) ≡ Net
     → fault_of before line later ≡ head_kind (chars_of before) (rows_of before) (nets_of before) line later
 unfolding fault_of
 net_is before line later h p o = rw (h, p, o) refl
 
-foreign_is : (before : List Line) (line : Line) (later : List Line) → in_header before ≡ false → is_net (place_of before) ≡ false → opening_of (first_word line) ≡ Foreign → fault_of before line later ≡ Some Unsupported
+foreign_is : (before : List Line) (line : Line) (later : List Line) → in_header before ≡ false → is_net (place_of before) ≡ false → keyword_of (first_word line) ≡ Foreign → fault_of before line later ≡ Some Unsupported
 unfolding fault_of
 foreign_is before line later h p o = rw (h, p, o) refl
 
@@ -200,7 +200,7 @@ not_net InMap = refl
 not_net InPassed = refl
 
 -- a line's fault after the header, and in no net
-body_same : (opening : Opening) (before : List Line) (s : State) (line : Line) (later : List Line) → Follows before s → in_header before ≡ false → s.in_net ≡ false → opening_of (first_word line) ≡ opening → fault_of before line later ≡ body_fault opening s line later
+body_same : (keyword : Keyword) (before : List Line) (s : State) (line : Line) (later : List Line) → Follows before s → in_header before ≡ false → s.in_net ≡ false → keyword_of (first_word line) ≡ keyword → fault_of before line later ≡ body_fault keyword s line later
 body_same Nothing before s line later f h n o =
     let p : place_of before ≡ place_in s.region false = sym f.place ∙ ap (place_in s.region) n in
     plain_is (place_in s.region false) (has_words line) before line later (not_net s.region) h p refl o
@@ -251,6 +251,6 @@ same_fault before s line later f =
           in_header_same before s line later f low n (is_idle s.headed line) refl ∙ sym (header_says s line later (is_idle s.headed line) (header_line s.headed s.heading line) n low refl refl).0)
       | inr high ↦ elim (truth s.in_net) [
         | inl inside ↦ no_fault before line later (is_over before s f high) (ap is_net (sym f.place ∙ ap (place_in s.region) inside)) ∙ sym (inside_fault s line later inside)
-        | inr n ↦ body_same (opening_of (first_word line)) before s line later f (is_over before s f high) n refl ∙ sym (body_says s line later (opening_of (first_word line)) n high refl).0
+        | inr n ↦ body_same (keyword_of (first_word line)) before s line later f (is_over before s f high) n refl ∙ sym (body_says s line later (keyword_of (first_word line)) n high refl).0
       ]
     ]

@@ -10,20 +10,20 @@ use Rattle.vg_scan.proofs.ClearedLemmas.{first_of, ne_of_false}
 use Rattle.spef_file.specs.declared.fault.SpefKind.{SpefKind}
 use Rattle.spef_file.specs.declared.fault.SpefKind.TheVariants.{Header}
 use Rattle.spef_file.specs.declared.heading.Heading.{Heading}
-use Rattle.spef_file.specs.declared.opening.Opening.{Opening}
-use Rattle.spef_file.specs.declared.opening.Opening.TheVariants.{Map, Passed, Net, Foreign, Nothing}
-use Rattle.spef_file.specs.declared.opening.Region.{Region}
-use Rattle.spef_file.specs.declared.opening.Region.TheVariants.{Outside, InMap, InPassed}
+use Rattle.spef_file.specs.declared.keyword.Keyword.{Keyword}
+use Rattle.spef_file.specs.declared.keyword.Keyword.TheVariants.{Map, Passed, Net, Foreign, Nothing}
+use Rattle.spef_file.specs.declared.keyword.Region.{Region}
+use Rattle.spef_file.specs.declared.keyword.Region.TheVariants.{Outside, InMap, InPassed}
 use Rattle.spef_file.specs.Words.{first_word, second_word}
-use Rattle.spef_file.specs.Openings.{opening_of}
-use Rattle.spef_file.specs.Marks.{divider_in, delimiter_in, bus_in}
+use Rattle.spef_file.specs.Keywords.{keyword_of}
+use Rattle.spef_file.specs.HeaderChars.{divider_in, delimiter_in, bus_in}
 use Rattle.spef_file.specs.Units.{unit_places}
 use Rattle.spef_file.specs.Headers.{is_header_word, header_line, value_line, is_idle, with_chars, with_c_places, with_r_places}
 use Rattle.spef_file.specs.HeaderLines.{spoken, in_header, header_at, chars_by, chars_of, c_places_of, r_places_of}
 use Rattle.spef_file.specs.Regions.{Place, outside, in_map, in_passed, in_net, place_of, place_after, opened, is_net, is_map}
 use Rattle.spef_file.specs.Rows.{map_line, head_name}
 use Rattle.spef_file.specs.Nets.{is_end}
-use Rattle.spef_file.specs.Sayings.{listed, row_in, rows_of, net_in, nets_of}
+use Rattle.spef_file.specs.Statements.{listed, row_in, rows_of, net_in, nets_of}
 use Rattle.spef_file.specs.Machine.{State, after, after_body, after_nothing, with_row, counted, head_of, state_fault}
 use Rattle.spef_file.proofs.StepLemmas.{header_says, body_says}
 use Rattle.spef_file.proofs.MoreLemmas.{truth, decide, spoken_more, header_past, header_here, header_other, header_kept, place_more, word_opens, idle_opens, rows_more, nets_more}
@@ -139,14 +139,14 @@ module _ (all before : List Line) (line : Line) (heading new : Heading) (more : 
       }
 
   -- at no line of marks
-  same_marks : (length (spoken before) ≡ 7 → ⊥) → (length (spoken before) ≡ 8 → ⊥) → (length (spoken before) ≡ 9 → ⊥) → chars_of all ≡ chars_of before
-  same_marks a b c = chars_same all before (other 7 (λ e. a (sym e))) (other 8 (λ e. b (sym e))) (other 9 (λ e. c (sym e)))
+  same_chars : (length (spoken before) ≡ 7 → ⊥) → (length (spoken before) ≡ 8 → ⊥) → (length (spoken before) ≡ 9 → ⊥) → chars_of all ≡ chars_of before
+  same_chars a b c = chars_same all before (other 7 (λ e. a (sym e))) (other 8 (λ e. b (sym e))) (other 9 (λ e. c (sym e)))
 
   at_c : length (spoken before) ≡ 11 → with_c_places heading (unit_places (codes "FF") (codes "PF") line) ≡ Ok new → Gives all new
   at_c n e =
       let m = scaled_c heading new (unit_places (codes "FF") (codes "PF") line) e in
       record {
-        chars = m.chars ∙ gives.chars ∙ sym (same_marks (λ k. omega arith) (λ k. omega arith) (λ k. omega arith));
+        chars = m.chars ∙ gives.chars ∙ sym (same_chars (λ k. omega arith) (λ k. omega arith) (λ k. omega arith));
         c_places = sym (c_are all line new.c_places (here 11 n) m.is);
         r_places = m.r ∙ gives.r_places ∙ sym (r_same all before (other 12 (λ k. omega arith)));
       }
@@ -155,7 +155,7 @@ module _ (all before : List Line) (line : Line) (heading new : Heading) (more : 
   at_r n e =
       let m = scaled_r heading new (unit_places (codes "OHM") (codes "KOHM") line) e in
       record {
-        chars = m.chars ∙ gives.chars ∙ sym (same_marks (λ k. omega arith) (λ k. omega arith) (λ k. omega arith));
+        chars = m.chars ∙ gives.chars ∙ sym (same_chars (λ k. omega arith) (λ k. omega arith) (λ k. omega arith));
         c_places = m.c ∙ gives.c_places ∙ sym (c_same all before (other 11 (λ k. omega arith)));
         r_places = sym (r_are all line new.r_places (here 12 n) m.is);
       }
@@ -163,7 +163,7 @@ module _ (all before : List Line) (line : Line) (heading new : Heading) (more : 
   at_none : (length (spoken before) ≡ 7 → ⊥) → (length (spoken before) ≡ 8 → ⊥) → (length (spoken before) ≡ 9 → ⊥) → (length (spoken before) ≡ 11 → ⊥) → (length (spoken before) ≡ 12 → ⊥) → heading ≡ new → Gives all new
   at_none a b c d e same =
       subst (Gives all) same (record {
-        chars = gives.chars ∙ sym (same_marks a b c);
+        chars = gives.chars ∙ sym (same_chars a b c);
         c_places = gives.c_places ∙ sym (c_same all before (other 11 (λ k. d (sym k))));
         r_places = gives.r_places ∙ sym (r_same all before (other 12 (λ k. e (sym k))));
       })
@@ -230,7 +230,7 @@ long before line h =
       | inr t ↦ (let e = ap length (spoken_more before line ∙ ap (λ b. cond b (spoken before) (spoken before ++ line ∷ [])) t) in omega (arith, e, length-append (spoken before) (line ∷ [])))
     ]
 
-header_place : (before : List Line) (line : Line) → place_of before ≡ outside → opening_of (first_word line) ≡ Nothing → place_of (before ++ line ∷ []) ≡ outside
+header_place : (before : List Line) (line : Line) → place_of before ≡ outside → keyword_of (first_word line) ≡ Nothing → place_of (before ++ line ∷ []) ≡ outside
 header_place before line e o = place_more before line ∙ ap (λ place. place_after place line) e ∙ ap (opened outside) o
 
 no_row : (before : List Line) (line : Line) → in_header before ≡ true → row_in before line ≡ None
@@ -334,40 +334,40 @@ inside_goes before s line false f high n e =
 
 -- after the header and in no net
 
-place_next : (region : Region) (line : Line) (o : Opening) → opening_of (first_word line) ≡ o → place_after (place_in region false) line ≡ opened (place_in region false) o
+place_next : (region : Region) (line : Line) (o : Keyword) → keyword_of (first_word line) ≡ o → place_after (place_in region false) line ≡ opened (place_in region false) o
 place_next Outside line o e = ap (opened outside) e
 place_next InMap line o e = ap (opened in_map) e
 place_next InPassed line o e = ap (opened in_passed) e
 
 module _ (before : List Line) (line : Line) (h : in_header before ≡ false) (p : is_net (place_of before) ≡ false) where
-  row_map : opening_of (first_word line) ≡ Map → row_in before line ≡ None
+  row_map : keyword_of (first_word line) ≡ Map → row_in before line ≡ None
   row_map o = rw (h, p, o) refl
 
-  net_map : opening_of (first_word line) ≡ Map → net_in before line ≡ None
+  net_map : keyword_of (first_word line) ≡ Map → net_in before line ≡ None
   net_map o = rw (h, p, o) refl
 
-  row_passed : opening_of (first_word line) ≡ Passed → row_in before line ≡ None
+  row_passed : keyword_of (first_word line) ≡ Passed → row_in before line ≡ None
   row_passed o = rw (h, p, o) refl
 
-  net_passed : opening_of (first_word line) ≡ Passed → net_in before line ≡ None
+  net_passed : keyword_of (first_word line) ≡ Passed → net_in before line ≡ None
   net_passed o = rw (h, p, o) refl
 
-  row_foreign : opening_of (first_word line) ≡ Foreign → row_in before line ≡ None
+  row_foreign : keyword_of (first_word line) ≡ Foreign → row_in before line ≡ None
   row_foreign o = rw (h, p, o) refl
 
-  net_foreign : opening_of (first_word line) ≡ Foreign → net_in before line ≡ None
+  net_foreign : keyword_of (first_word line) ≡ Foreign → net_in before line ≡ None
   net_foreign o = rw (h, p, o) refl
 
-  row_net : opening_of (first_word line) ≡ Net → row_in before line ≡ None
+  row_net : keyword_of (first_word line) ≡ Net → row_in before line ≡ None
   row_net o = rw (h, p, o) refl
 
-  net_net : opening_of (first_word line) ≡ Net → net_in before line ≡ Some (record { name = unwrap_or (head_name (chars_of before) (rows_of before) (second_word line)) []; reduced = bytes_eq (first_word line) (codes "*R_NET"); line = length before + 1 })
+  net_net : keyword_of (first_word line) ≡ Net → net_in before line ≡ Some (record { name = unwrap_or (head_name (chars_of before) (rows_of before) (second_word line)) []; reduced = bytes_eq (first_word line) (codes "*R_NET"); line = length before + 1 })
   net_net o = rw (h, p, o) refl
 
-  net_nothing : opening_of (first_word line) ≡ Nothing → net_in before line ≡ None
+  net_nothing : keyword_of (first_word line) ≡ Nothing → net_in before line ≡ None
   net_nothing o = rw (h, p, o) refl
 
-plain_row : (before : List Line) (line : Line) (place : Place) → in_header before ≡ false → is_net place ≡ false → place_of before ≡ place → opening_of (first_word line) ≡ Nothing → row_in before line ≡ cond (is_map place) (map_line (chars_of before) line) None
+plain_row : (before : List Line) (line : Line) (place : Place) → in_header before ≡ false → is_net place ≡ false → place_of before ≡ place → keyword_of (first_word line) ≡ Nothing → row_in before line ≡ cond (is_map place) (map_line (chars_of before) line) None
 plain_row before [] outside h n p o = rw (h, p, o) refl
 plain_row before [] in_map h n p o = rw (h, p, o) refl
 plain_row before [] in_passed h n p o = rw (h, p, o) refl
@@ -377,7 +377,7 @@ plain_row before (w ∷ ws) in_passed h n p o = rw (h, p, o) refl
 plain_row before line in_net h n p o = absurd (cc)
 
 -- a state with a row more, or none
-row_goes : (before : List Line) (s : State) (line : Line) (found : Option (List ℕ × List ℕ)) → Follows before s → 14 ≤ s.headed → s.in_net ≡ false → opening_of (first_word line) ≡ Nothing → row_in before line ≡ found → Follows (before ++ line ∷ []) (counted (with_row s found))
+row_goes : (before : List Line) (s : State) (line : Line) (found : Option (List ℕ × List ℕ)) → Follows before s → 14 ≤ s.headed → s.in_net ≡ false → keyword_of (first_word line) ≡ Nothing → row_in before line ≡ found → Follows (before ++ line ∷ []) (counted (with_row s found))
 row_goes before s line None f high n o row =
     let h = is_over before s f high in
     let place : place_of before ≡ place_in s.region false = sym f.place ∙ ap (place_in s.region) n in
@@ -393,7 +393,7 @@ row_goes before s line (Some row) f high n o found =
     (ap (λ x. s.names ++ listed x) (sym found))
     (added_none s.nets s.nets (net_in before line) refl (net_nothing before line h (ap is_net place ∙ not_net s.region) o))
 
-nothing_goes : (before : List Line) (s : State) (line : Line) (region : Region) → Follows before s → 14 ≤ s.headed → s.in_net ≡ false → opening_of (first_word line) ≡ Nothing → s.region ≡ region → Follows (before ++ line ∷ []) (counted (after_nothing region s line))
+nothing_goes : (before : List Line) (s : State) (line : Line) (region : Region) → Follows before s → 14 ≤ s.headed → s.in_net ≡ false → keyword_of (first_word line) ≡ Nothing → s.region ≡ region → Follows (before ++ line ∷ []) (counted (after_nothing region s line))
 nothing_goes before s line Outside f high n o r =
     let place : place_of before ≡ outside = sym f.place ∙ ap (place_in s.region) n ∙ ap (λ region. place_in region false) r in
     row_goes before s line None f high n o (plain_row before line outside (is_over before s f high) refl place o)
@@ -404,9 +404,9 @@ nothing_goes before s line InMap f high n o r =
     let place : place_of before ≡ in_map = sym f.place ∙ ap (place_in s.region) n ∙ ap (λ region. place_in region false) r in
     row_goes before s line (map_line s.heading.chars line) f high n o (plain_row before line in_map (is_over before s f high) refl place o ∙ ap (λ chars. map_line chars line) (sym f.chars))
 
-opening_goes : (before : List Line) (s : State) (line : Line) (opening : Opening) → Follows before s → 14 ≤ s.headed → s.in_net ≡ false → opening_of (first_word line) ≡ opening → Follows (before ++ line ∷ []) (counted (after_body opening s line))
-opening_goes before s line Nothing f high n o = nothing_goes before s line s.region f high n o refl
-opening_goes before s line Map f high n o =
+keyword_goes : (before : List Line) (s : State) (line : Line) (keyword : Keyword) → Follows before s → 14 ≤ s.headed → s.in_net ≡ false → keyword_of (first_word line) ≡ keyword → Follows (before ++ line ∷ []) (counted (after_body keyword s line))
+keyword_goes before s line Nothing f high n o = nothing_goes before s line s.region f high n o refl
+keyword_goes before s line Map f high n o =
     let h = is_over before s f high in
     let place : place_of before ≡ place_in s.region false = sym f.place ∙ ap (place_in s.region) n in
     let p : is_net (place_of before) ≡ false = ap is_net place ∙ not_net s.region in
@@ -414,7 +414,7 @@ opening_goes before s line Map f high n o =
     (ap (place_in InMap) n ∙ sym (ap (λ place. place_after place line) place ∙ place_next s.region line Map o))
     (added_none s.names s.names (row_in before line) refl (row_map before line h p o))
     (added_none s.nets s.nets (net_in before line) refl (net_map before line h p o))
-opening_goes before s line Passed f high n o =
+keyword_goes before s line Passed f high n o =
     let h = is_over before s f high in
     let place : place_of before ≡ place_in s.region false = sym f.place ∙ ap (place_in s.region) n in
     let p : is_net (place_of before) ≡ false = ap is_net place ∙ not_net s.region in
@@ -422,7 +422,7 @@ opening_goes before s line Passed f high n o =
     (ap (place_in InPassed) n ∙ sym (ap (λ place. place_after place line) place ∙ place_next s.region line Passed o))
     (added_none s.names s.names (row_in before line) refl (row_passed before line h p o))
     (added_none s.nets s.nets (net_in before line) refl (net_passed before line h p o))
-opening_goes before s line Foreign f high n o =
+keyword_goes before s line Foreign f high n o =
     let h = is_over before s f high in
     let place : place_of before ≡ place_in s.region false = sym f.place ∙ ap (place_in s.region) n in
     let p : is_net (place_of before) ≡ false = ap is_net place ∙ not_net s.region in
@@ -430,7 +430,7 @@ opening_goes before s line Foreign f high n o =
     (f.place ∙ sym (ap (λ place. place_after place line) place ∙ place_next s.region line Foreign o ∙ sym place))
     (added_none s.names s.names (row_in before line) refl (row_foreign before line h p o))
     (added_none s.nets s.nets (net_in before line) refl (net_foreign before line h p o))
-opening_goes before s line Net f high n o =
+keyword_goes before s line Net f high n o =
     let h = is_over before s f high in
     let place : place_of before ≡ place_in s.region false = sym f.place ∙ ap (place_in s.region) n in
     let p : is_net (place_of before) ≡ false = ap is_net place ∙ not_net s.region in
@@ -464,6 +464,6 @@ goes before s line later f none =
           ])
       | inr high ↦ elim (truth s.in_net) [
         | inl inside ↦ subst (Follows (before ++ line ∷ [])) (sym (inside_after s line (is_end line) inside refl)) (inside_goes before s line (is_end line) f high inside refl)
-        | inr n ↦ subst (Follows (before ++ line ∷ [])) (sym (body_says s line later (opening_of (first_word line)) n high refl).1) (opening_goes before s line (opening_of (first_word line)) f high n refl)
+        | inr n ↦ subst (Follows (before ++ line ∷ [])) (sym (body_says s line later (keyword_of (first_word line)) n high refl).1) (keyword_goes before s line (keyword_of (first_word line)) f high n refl)
       ]
     ]

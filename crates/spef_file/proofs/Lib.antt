@@ -1,8 +1,8 @@
-pub mod MarkLemmas
+pub mod CharLemmas
 pub mod TableLemmas
 pub mod EndLemmas
 pub mod StepLemmas
-pub mod LineWords
+pub mod LineWordsLemmas
 pub mod FileLemmas
 pub mod SpanLemmas
 pub mod TextLemmas

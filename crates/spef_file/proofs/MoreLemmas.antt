@@ -12,14 +12,14 @@ use Rattle.std.proofs.lemmas.Bool.Decides.{nat_tests}
 use Rattle.std.proofs.lemmas.Slice.Eq.{bytes_eq-Decides}
 use Rattle.vg_scan.specs.Lines.{Line}
 use Rattle.vg_scan.proofs.ClearedLemmas.{first_of, second_of}
-use Rattle.spef_file.specs.declared.opening.Opening.{Opening}
-use Rattle.spef_file.specs.declared.opening.Opening.TheVariants.{Map, Passed, Net, Foreign, Nothing}
+use Rattle.spef_file.specs.declared.keyword.Keyword.{Keyword}
+use Rattle.spef_file.specs.declared.keyword.Keyword.TheVariants.{Map, Passed, Net, Foreign, Nothing}
 use Rattle.spef_file.specs.Words.{first_word, has_words, is_quoted, starts_quoted}
-use Rattle.spef_file.specs.Openings.{opening_of}
+use Rattle.spef_file.specs.Keywords.{keyword_of}
 use Rattle.spef_file.specs.Headers.{header_words, is_header_word, is_idle}
 use Rattle.spef_file.specs.HeaderLines.{without_texts, spoken, header_at}
 use Rattle.spef_file.specs.Regions.{outside, place_after, place_of, opens_nothing}
-use Rattle.spef_file.specs.Sayings.{listed, gathered, row_in, rows_of, net_in, nets_of}
+use Rattle.spef_file.specs.Statements.{listed, gathered, row_in, rows_of, net_in, nets_of}
 
 pub truth : (b : Bool) → (b ≡ true) ⊎ (b ≡ false)
 truth true = inl refl
@@ -91,34 +91,34 @@ place_more lines line = fold-append place_after outside lines (line ∷ [])
 
 -- no header line opens anything
 
-each_opens : (words : List (List ℕ)) → list_all (λ word. opens_nothing (opening_of word)) words ≡ true → (n : ℕ) → opens_nothing (opening_of (get_or words n [])) ≡ true
-unfolding opening_of
+each_opens : (words : List (List ℕ)) → list_all (λ word. opens_nothing (keyword_of word)) words ≡ true → (n : ℕ) → opens_nothing (keyword_of (get_or words n [])) ≡ true
+unfolding keyword_of
 each_opens [] e n = refl
-each_opens (word ∷ words) e zero = first_of (opens_nothing (opening_of word)) (list_all (λ word. opens_nothing (opening_of word)) words) e
-each_opens (word ∷ words) e (suc n) = each_opens words (second_of (opens_nothing (opening_of word)) (list_all (λ word. opens_nothing (opening_of word)) words) e) n
+each_opens (word ∷ words) e zero = first_of (opens_nothing (keyword_of word)) (list_all (λ word. opens_nothing (keyword_of word)) words) e
+each_opens (word ∷ words) e (suc n) = each_opens words (second_of (opens_nothing (keyword_of word)) (list_all (λ word. opens_nothing (keyword_of word)) words) e) n
 
-header_opens : list_all (λ word. opens_nothing (opening_of word)) header_words ≡ true
-unfolding opening_of
+header_opens : list_all (λ word. opens_nothing (keyword_of word)) header_words ≡ true
+unfolding keyword_of
 header_opens = refl
 
-nothing_of : (o : Opening) → opens_nothing o ≡ true → o ≡ Nothing
+nothing_of : (o : Keyword) → opens_nothing o ≡ true → o ≡ Nothing
 nothing_of Map e = absurd (cc)
 nothing_of Passed e = absurd (cc)
 nothing_of Net e = absurd (cc)
 nothing_of Foreign e = absurd (cc)
 nothing_of Nothing e = refl
 
-pub word_opens : (n : ℕ) (word : List ℕ) → is_header_word n word ≡ true → opening_of word ≡ Nothing
+pub word_opens : (n : ℕ) (word : List ℕ) → is_header_word n word ≡ true → keyword_of word ≡ Nothing
 unfolding is_header_word
-word_opens n word e = ap opening_of ((bytes_eq-Decides word (get_or header_words n [])).0 e) ∙ nothing_of (opening_of (get_or header_words n [])) (each_opens header_words header_opens n)
+word_opens n word e = ap keyword_of ((bytes_eq-Decides word (get_or header_words n [])).0 e) ∙ nothing_of (keyword_of (get_or header_words n [])) (each_opens header_words header_opens n)
 
-quoted_opens : (word : List ℕ) → starts_quoted word ≡ true → opening_of word ≡ Nothing
-unfolding opening_of
+quoted_opens : (word : List ℕ) → starts_quoted word ≡ true → keyword_of word ≡ Nothing
+unfolding keyword_of
 quoted_opens [] e = absurd (cc)
-quoted_opens (b ∷ bs) e = ap (λ x. opening_of (x ∷ bs)) (eqb-true b 34 e)
+quoted_opens (b ∷ bs) e = ap (λ x. keyword_of (x ∷ bs)) (eqb-true b 34 e)
 
-pub idle_opens : (n : ℕ) (line : Line) → is_idle n line ≡ true → opening_of (first_word line) ≡ Nothing
-unfolding opening_of
+pub idle_opens : (n : ℕ) (line : Line) → is_idle n line ≡ true → keyword_of (first_word line) ≡ Nothing
+unfolding keyword_of
 idle_opens n [] e = refl
 idle_opens n (w ∷ ws) e = quoted_opens w (second_of (nat_lt 0 n) (starts_quoted w) e)
 

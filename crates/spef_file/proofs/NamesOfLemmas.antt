@@ -21,7 +21,7 @@ use Rattle.spef_file.specs.HeaderLines.{chars_of}
 use Rattle.spef_file.specs.Regions.{is_row, is_net_head}
 use Rattle.spef_file.specs.Rows.{row_of, map_line, mapped, head_name}
 use Rattle.spef_file.specs.Nets.{NetHead}
-use Rattle.spef_file.specs.Sayings.{listed, gathered, row_in, rows_of, name_in, net_in, nets_of}
+use Rattle.spef_file.specs.Statements.{listed, gathered, row_in, rows_of, name_in, net_in, nets_of}
 use Rattle.spef_file.specs.Faults.{breaks, fault_of, fault_at}
 use Rattle.spef_file.specs.Files.{File, file_lines, IsFileOf}
 

@@ -10,7 +10,7 @@ use Rattle.spef_file.specs.declared.fault.SpefKind.TheVariants.{Header}
 use Rattle.vg_scan.specs.declared.fault.LineFault.{LineFault}
 use Rattle.spef_file.specs.HeaderLines.{spoken, chars_of, c_places_of, r_places_of}
 use Rattle.spef_file.specs.Regions.{place_of}
-use Rattle.spef_file.specs.Sayings.{rows_of, nets_of}
+use Rattle.spef_file.specs.Statements.{rows_of, nets_of}
 use Rattle.spef_file.specs.Faults.{fault_of, fault_at}
 use Rattle.spef_file.specs.Files.{said_by, file_lines, IsFileOf, IsFileFault}
 use Rattle.spef_file.specs.Machine.{State, START, after, state_fault, read, said}

@@ -13,10 +13,10 @@ use Rattle.std.specs.Str.{bytes_eq}
 use Rattle.std.proofs.lemmas.Slice.Eq.{bytes_eq-Decides}
 use Rattle.vg_scan.proofs.BlankLemmas.{lines_skip}
 use Rattle.vg_scan.proofs.CutLemmas.{get_part}
-use Rattle.spef_file.specs.declared.opening.Opening.TheVariants.{Map, Passed, Net, Foreign, Nothing}
+use Rattle.spef_file.specs.declared.keyword.Keyword.TheVariants.{Map, Passed, Net, Foreign, Nothing}
 use Rattle.spef_file.specs.declared.section.Section.{Section}
 use Rattle.spef_file.specs.Tables.{NetRow}
-use Rattle.spef_file.specs.Openings.{opening_of, is_passed, is_net, is_foreign}
+use Rattle.spef_file.specs.Keywords.{keyword_of, is_passed, is_net, is_foreign}
 use Rattle.spef_file.specs.Words.{first_word, has_words}
 use Rattle.spef_file.specs.NetSpans.{net_lines, up_to_end, IsSpan, AreSpans, StaysRight}
 use Rattle.spef_file.proofs.EndLemmas.{drop_more}
@@ -40,8 +40,8 @@ part_skip bytes at from m all low high within =
     ∙ lines_skip (part bytes at m) k (omega (arith, len)) (λ j h. ap is_blank (get_part bytes at m j (omega arith)) ∙ all (at + j) (omega arith) (omega arith))
 
 -- a net's head has words
-pub net_words : (line : Line) → opening_of (first_word line) ≡ Net → has_words line ≡ true
-unfolding opening_of
+pub net_words : (line : Line) → keyword_of (first_word line) ≡ Net → has_words line ≡ true
+unfolding keyword_of
 net_words [] e = absurd (cc)
 net_words (word ∷ words) e = refl
 
@@ -58,8 +58,8 @@ one_of true b e = inl refl
 one_of false b e = inr e
 
 -- the first word of a net's head begins with a solid byte
-pub net_solid : (word : List ℕ) → opening_of word ≡ Net → is_solid (get_or word 0 0) ≡ true
-unfolding opening_of
+pub net_solid : (word : List ℕ) → keyword_of word ≡ Net → is_solid (get_or word 0 0) ≡ true
+unfolding keyword_of
 net_solid word e =
     elim (one_of (bytes_eq word (codes "*D_NET")) (bytes_eq word (codes "*R_NET")) (net_of (bytes_eq word (codes "*NAME_MAP")) (is_passed word) (is_net word) (is_foreign word) e)) [
       | inl d ↦ ap (λ w. is_solid (get_or w 0 0)) ((bytes_eq-Decides word (codes "*D_NET")).0 d)

@@ -6,10 +6,10 @@ use Rattle.vg_scan.specs.Lines.{Line}
 use Rattle.spef_file.specs.declared.fault.SpefKind.{SpefKind}
 use Rattle.spef_file.specs.declared.fault.SpefKind.TheVariants.{Header, Unit as UnitKind, MapTwice, MapUnknown, NoEnd, Stray, NetTwice, Unsupported, Memory}
 use Rattle.spef_file.specs.declared.heading.Heading.{Heading}
-use Rattle.spef_file.specs.declared.opening.Opening.{Opening}
-use Rattle.spef_file.specs.declared.opening.Opening.TheVariants.{Net, Nothing}
-use Rattle.spef_file.specs.declared.opening.Region.{Region}
-use Rattle.spef_file.specs.declared.opening.Region.TheVariants.{Outside, InMap, InPassed}
+use Rattle.spef_file.specs.declared.keyword.Keyword.{Keyword}
+use Rattle.spef_file.specs.declared.keyword.Keyword.TheVariants.{Net, Nothing}
+use Rattle.spef_file.specs.declared.keyword.Region.{Region}
+use Rattle.spef_file.specs.declared.keyword.Region.TheVariants.{Outside, InMap, InPassed}
 use Rattle.vg_scan.specs.declared.chars.Chars.{Chars}
 use Rattle.vg_scan.specs.References.{is_reference}
 use Rattle.std.specs.List.{list_any}
@@ -17,7 +17,7 @@ use Rattle.std.specs.Str.{bytes_eq}
 use Rattle.spef_file.specs.Tables.{NetRow, names_of, is_section}
 use Rattle.spef_file.proofs.TableLemmas.{map-last}
 use Rattle.spef_file.specs.Words.{first_word, second_word, has_words}
-use Rattle.spef_file.specs.Openings.{opening_of}
+use Rattle.spef_file.specs.Keywords.{keyword_of}
 use Rattle.spef_file.specs.Headers.{header_line, is_idle}
 use Rattle.spef_file.specs.Machine.{State, after, after_body, with_heading, fault_in, counted, state_fault, body_fault, head_fault, name_fault, row_fault, with_row, after_nothing, head_of}
 use Rattle.spef_file.specs.Rows.{map_line, head_name}
@@ -76,25 +76,25 @@ header_fails s line later kind out low i said = fails s line later kind (header_
 
 -- after the header
 
-pub body_says : (s : State) (line : Line) (later : List Line) (opening : Opening) → s.in_net ≡ false → 14 ≤ s.headed → opening_of (first_word line) ≡ opening
-    → (state_fault s line later ≡ body_fault opening s line later) × (after s line ≡ counted (after_body opening s line))
+pub body_says : (s : State) (line : Line) (later : List Line) (keyword : Keyword) → s.in_net ≡ false → 14 ≤ s.headed → keyword_of (first_word line) ≡ keyword
+    → (state_fault s line later ≡ body_fault keyword s line later) × (after s line ≡ counted (after_body keyword s line))
 unfolding state_fault after
-body_says s line later opening out high o =
+body_says s line later keyword out high o =
     let l : nat_lt s.headed 14 ≡ false = le-ltb s.headed 14 high in
     (rw (out, l, o) refl, rw (out, l, o) refl)
 
-pub body_passes : (s t : State) (line : Line) (later : List Line) (opening : Opening) → s.in_net ≡ false → 14 ≤ s.headed → opening_of (first_word line) ≡ opening
-    → body_fault opening s line later ≡ None → counted (after_body opening s line) ≡ t → read s (line ∷ later) ≡ read t later
-body_passes s t line later opening out high o f e = let h = body_says s line later opening out high o in passes s t line later (h.0 ∙ f) (h.1 ∙ e)
+pub body_passes : (s t : State) (line : Line) (later : List Line) (keyword : Keyword) → s.in_net ≡ false → 14 ≤ s.headed → keyword_of (first_word line) ≡ keyword
+    → body_fault keyword s line later ≡ None → counted (after_body keyword s line) ≡ t → read s (line ∷ later) ≡ read t later
+body_passes s t line later keyword out high o f e = let h = body_says s line later keyword out high o in passes s t line later (h.0 ∙ f) (h.1 ∙ e)
 
-pub body_fails : (s : State) (line : Line) (later : List Line) (opening : Opening) (kind : SpefKind) → s.in_net ≡ false → 14 ≤ s.headed → opening_of (first_word line) ≡ opening
-    → body_fault opening s line later ≡ Some kind → Fails kind s line later
-body_fails s line later opening kind out high o f = fails s line later kind ((body_says s line later opening out high o).0 ∙ f)
+pub body_fails : (s : State) (line : Line) (later : List Line) (keyword : Keyword) (kind : SpefKind) → s.in_net ≡ false → 14 ≤ s.headed → keyword_of (first_word line) ≡ keyword
+    → body_fault keyword s line later ≡ Some kind → Fails kind s line later
+body_fails s line later keyword kind out high o f = fails s line later kind ((body_says s line later keyword out high o).0 ∙ f)
 
-pub body_may_fail : (s : State) (line : Line) (later : List Line) (opening : Opening) (kind : SpefKind) → s.in_net ≡ false → 14 ≤ s.headed → opening_of (first_word line) ≡ opening
-    → IsFaultOrMemory (body_fault opening s line later) kind → Fails kind s line later
-body_may_fail s line later opening kind out high o f =
-    may_fail s line later kind (rw (sym (body_says s line later opening out high o).0) at f)
+pub body_may_fail : (s : State) (line : Line) (later : List Line) (keyword : Keyword) (kind : SpefKind) → s.in_net ≡ false → 14 ≤ s.headed → keyword_of (first_word line) ≡ keyword
+    → IsFaultOrMemory (body_fault keyword s line later) kind → Fails kind s line later
+body_may_fail s line later keyword kind out high o f =
+    may_fail s line later kind (rw (sym (body_says s line later keyword out high o).0) at f)
 
 -- in a net
 
@@ -140,24 +140,24 @@ nothing_empty InMap s = refl
 nothing_empty InPassed s = refl
 
 pub empty_passes : (s : State) (line : Line) (later : List Line) → s.in_net ≡ false → 14 ≤ s.headed → line ≡ [] → read s (line ∷ later) ≡ read (counted s) later
-unfolding opening_of
+unfolding keyword_of
 empty_passes s line later out high e =
     ap (λ l. read s (l ∷ later)) e ∙ body_passes s (counted s) [] later Nothing out high refl refl (ap counted (nothing_empty s.region s))
 
-pub outside_fails : (s : State) (line : Line) (later : List Line) → s.in_net ≡ false → 14 ≤ s.headed → opening_of (first_word line) ≡ Nothing → has_words line ≡ true → s.region ≡ Outside → Fails Stray s line later
+pub outside_fails : (s : State) (line : Line) (later : List Line) → s.in_net ≡ false → 14 ≤ s.headed → keyword_of (first_word line) ≡ Nothing → has_words line ≡ true → s.region ≡ Outside → Fails Stray s line later
 outside_fails s line later out high o w r = body_fails s line later Nothing Stray out high o (rw (w, r) refl)
 
-pub passed_passes : (s : State) (line : Line) (later : List Line) → s.in_net ≡ false → 14 ≤ s.headed → opening_of (first_word line) ≡ Nothing → has_words line ≡ true → s.region ≡ InPassed → read s (line ∷ later) ≡ read (counted s) later
+pub passed_passes : (s : State) (line : Line) (later : List Line) → s.in_net ≡ false → 14 ≤ s.headed → keyword_of (first_word line) ≡ Nothing → has_words line ≡ true → s.region ≡ InPassed → read s (line ∷ later) ≡ read (counted s) later
 passed_passes s line later out high o w r = body_passes s (counted s) line later Nothing out high o (rw (w, r) refl) (ap (λ region. counted (after_nothing region s line)) r)
 
-pub row_passes : (s : State) (line : Line) (later : List Line) (row : List ℕ × List ℕ) → s.in_net ≡ false → 14 ≤ s.headed → opening_of (first_word line) ≡ Nothing → has_words line ≡ true → s.region ≡ InMap
+pub row_passes : (s : State) (line : Line) (later : List Line) (row : List ℕ × List ℕ) → s.in_net ≡ false → 14 ≤ s.headed → keyword_of (first_word line) ≡ Nothing → has_words line ≡ true → s.region ≡ InMap
     → map_line s.heading.chars line ≡ Some row → row_fault s.heading.chars s.names line ≡ None → read s (line ∷ later) ≡ read (counted (record s { names = s.names ++ row ∷ [] })) later
 row_passes s line later row out high o w r is clear =
     body_passes s (counted (record s { names = s.names ++ row ∷ [] })) line later Nothing out high o
     (rw (w, r) clear)
     (ap (λ region. counted (after_nothing region s line)) r ∙ ap (λ found. counted (with_row s found)) is)
 
-pub row_fails : (s : State) (line : Line) (later : List Line) (kind : SpefKind) → s.in_net ≡ false → 14 ≤ s.headed → opening_of (first_word line) ≡ Nothing → has_words line ≡ true → s.region ≡ InMap
+pub row_fails : (s : State) (line : Line) (later : List Line) (kind : SpefKind) → s.in_net ≡ false → 14 ≤ s.headed → keyword_of (first_word line) ≡ Nothing → has_words line ≡ true → s.region ≡ InMap
     → IsFaultOrMemory (row_fault s.heading.chars s.names line) kind → Fails kind s line later
 row_fails s line later kind out high o w r h =
     let e : body_fault Nothing s line later ≡ row_fault s.heading.chars s.names line = rw (w, r) refl in
@@ -178,20 +178,20 @@ head_says : (s : State) (line : Line) (later : List Line) (name : Option (List �
     → head_fault s line later ≡ cond unknown (Some MapUnknown) (cond (is_some end) (name_fault s.nets name) (Some NoEnd))
 head_says s line later name end unknown n e u = rw (n, e) (rw u refl)
 
-pub unknown_fails : (s : State) (line : Line) (later : List Line) (name : List ℕ) (kind : SpefKind) → s.in_net ≡ false → 14 ≤ s.headed → opening_of (first_word line) ≡ Net
+pub unknown_fails : (s : State) (line : Line) (later : List Line) (name : List ℕ) (kind : SpefKind) → s.in_net ≡ false → 14 ≤ s.headed → keyword_of (first_word line) ≡ Net
     → IsHeadName s.heading.chars s.names (second_word line) name (Err kind) → Fails kind s line later
 unknown_fails s line later name Memory out high o h = tt
 unknown_fails s line later name MapUnknown out high o h =
     body_fails s line later Net MapUnknown out high o (head_says s line later None (end_at later) true h.1 refl (ap (λ b. b && true) h.2))
 unknown_fails s line later name kind out high o h = let e = h.0 in absurd (cc)
 
-pub no_end_fails : (s : State) (line : Line) (later : List Line) (name : Option (List ℕ)) → s.in_net ≡ false → 14 ≤ s.headed → opening_of (first_word line) ≡ Net
+pub no_end_fails : (s : State) (line : Line) (later : List Line) (name : Option (List ℕ)) → s.in_net ≡ false → 14 ≤ s.headed → keyword_of (first_word line) ≡ Net
     → IsHead s.heading.chars s.names (second_word line) name → end_at later ≡ None → Fails NoEnd s line later
 no_end_fails s line later name out high o h e =
     let k = known s.heading.chars s.names (second_word line) name h in
     body_fails s line later Net NoEnd out high o (head_says s line later name None false k.0 e k.1)
 
-pub no_name_fails : (s : State) (line : Line) (later : List Line) (n : ℕ) → s.in_net ≡ false → 14 ≤ s.headed → opening_of (first_word line) ≡ Net
+pub no_name_fails : (s : State) (line : Line) (later : List Line) (n : ℕ) → s.in_net ≡ false → 14 ≤ s.headed → keyword_of (first_word line) ≡ Net
     → IsHead s.heading.chars s.names (second_word line) None → end_at later ≡ Some n → Fails Stray s line later
 no_name_fails s line later n out high o h e =
     let k = known s.heading.chars s.names (second_word line) None h in
@@ -204,14 +204,14 @@ names-heads (section ∷ sections) = ap (λ names. section.0 ∷ names) (names-h
 taken_is : (sections : List NetRow) (name : List ℕ) → is_taken (heads_in sections) name ≡ is_section sections name
 taken_is sections name = ap (list_any (bytes_eq name)) (names-heads sections)
 
-pub twice_fails : (s : State) (line : Line) (later : List Line) (name : List ℕ) (n : ℕ) (sections : List NetRow) → s.in_net ≡ false → 14 ≤ s.headed → opening_of (first_word line) ≡ Net
+pub twice_fails : (s : State) (line : Line) (later : List Line) (name : List ℕ) (n : ℕ) (sections : List NetRow) → s.in_net ≡ false → 14 ≤ s.headed → keyword_of (first_word line) ≡ Net
     → IsHead s.heading.chars s.names (second_word line) (Some name) → end_at later ≡ Some n → s.nets ≡ heads_in sections → is_section sections name ≡ true → Fails NetTwice s line later
 twice_fails s line later name n sections out high o h e nets taken =
     let k = known s.heading.chars s.names (second_word line) (Some name) h in
     let t : is_taken s.nets name ≡ true = ap (λ heads. is_taken heads name) nets ∙ taken_is sections name ∙ taken in
     body_fails s line later Net NetTwice out high o (head_says s line later (Some name) (Some n) false k.0 e k.1 ∙ (rw t refl))
 
-pub net_goes : (s : State) (line : Line) (later : List Line) (name : List ℕ) (n : ℕ) (sections : List NetRow) (section : NetRow) → s.in_net ≡ false → 14 ≤ s.headed → opening_of (first_word line) ≡ Net
+pub net_goes : (s : State) (line : Line) (later : List Line) (name : List ℕ) (n : ℕ) (sections : List NetRow) (section : NetRow) → s.in_net ≡ false → 14 ≤ s.headed → keyword_of (first_word line) ≡ Net
     → IsHead s.heading.chars s.names (second_word line) (Some name) → end_at later ≡ Some n → s.nets ≡ heads_in sections → is_section sections name ≡ false
     → head_in section ≡ record { name = name; reduced = bytes_eq (first_word line) (codes "*R_NET"); line = s.count + 1 }
     → read s (line ∷ later) ≡ read (record s { region = Outside; in_net = false; count = s.count + (n + 2); nets = heads_in (sections ++ section ∷ []) }) (drop (n + 1) later)

@@ -7,14 +7,14 @@ use Rattle.vg_scan.specs.declared.chars.Chars.{Chars}
 use Rattle.spef_file.specs.declared.fault.SpefKind.{SpefKind}
 use Rattle.spef_file.specs.declared.fault.SpefKind.TheVariants.{Header, Unit as UnitKind, MapTwice, MapUnknown, NoEnd, Stray, NetTwice, Unsupported, Memory}
 use Rattle.spef_file.specs.Words.{first_word, second_word}
-use Rattle.spef_file.specs.Marks.{divider_in, delimiter_in, bus_in}
+use Rattle.spef_file.specs.HeaderChars.{divider_in, delimiter_in, bus_in}
 use Rattle.spef_file.specs.Units.{unit_places}
 use Rattle.spef_file.specs.Headers.{is_header_word, is_idle}
 use Rattle.spef_file.specs.Rows.{map_line, row_index, is_mapped}
 use Rattle.spef_file.specs.Nets.{end_at, is_taken}
 use Rattle.spef_file.specs.HeaderLines.{spoken, in_header, chars_of}
 use Rattle.spef_file.specs.Regions.{is_net_head, is_foreign_head, is_lost, is_row}
-use Rattle.spef_file.specs.Sayings.{rows_of, nets_of, name_in}
+use Rattle.spef_file.specs.Statements.{rows_of, nets_of, name_in}
 
 -- there is one, and the test holds of it
 abbrev pub is_some_and : {A : Type 0} → (A → Bool) → Option A → Bool
@@ -26,8 +26,8 @@ abbrev pub is_due : List Line → Line → Bool
 is_due before line = in_header before && not (is_idle (length (spoken before)) line)
 
 -- the rule of the divider's, the delimiter's and the bus delimiters' line, which have these numbers
-abbrev pub gives_marks : ℕ → Chars → Line → Bool
-gives_marks n chars line =
+abbrev pub gives_chars : ℕ → Chars → Line → Bool
+gives_chars n chars line =
     if n == 7 then is_some (divider_in chars line)
     else (if n == 8 then is_some (delimiter_in chars line)
     else (if n == 9 then is_some (bus_in chars line) else true))
@@ -40,7 +40,7 @@ gives_unit n line =
 
 -- the header line of this number begins with its word, has a further one, and keeps the rule of its delimiter
 abbrev pub is_header_line : ℕ → Chars → Line → Bool
-is_header_line n chars line = is_header_word n (first_word line) && nat_lt 1 (length line) && gives_marks n chars line
+is_header_line n chars line = is_header_word n (first_word line) && nat_lt 1 (length line) && gives_chars n chars line
 
 abbrev pub is_bad_header : List Line → Line → Bool
 is_bad_header before line = is_due before line && not (is_header_line (length (spoken before)) (chars_of before) line)

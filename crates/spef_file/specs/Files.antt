@@ -10,7 +10,7 @@ use Rattle.spef_file.specs.declared.fault.SpefKind.TheVariants.{Header}
 use Rattle.vg_scan.specs.declared.fault.LineFault.{LineFault}
 use Rattle.spef_file.specs.Nets.{NetHead}
 use Rattle.spef_file.specs.HeaderLines.{spoken, chars_of, c_places_of, r_places_of}
-use Rattle.spef_file.specs.Sayings.{rows_of, nets_of}
+use Rattle.spef_file.specs.Statements.{rows_of, nets_of}
 use Rattle.spef_file.specs.Faults.{fault_at}
 
 -- what a file says: how its names and numbers are meant, the digits and the name of each index, and the heads of its nets

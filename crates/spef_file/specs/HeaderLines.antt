@@ -4,7 +4,7 @@ use Rattle.std.specs.List.{filter}
 use Rattle.vg_scan.specs.Lines.{Line}
 use Rattle.vg_scan.specs.declared.chars.Chars.{Chars}
 use Rattle.spef_file.specs.Words.{has_words, is_quoted}
-use Rattle.spef_file.specs.Marks.{USUAL, divider_in, delimiter_in, bus_in}
+use Rattle.spef_file.specs.HeaderChars.{USUAL, divider_in, delimiter_in, bus_in}
 use Rattle.spef_file.specs.Units.{unit_places}
 
 -- lines with words, without those, after the first, in which a text goes on

@@ -6,7 +6,7 @@ use Rattle.vg_scan.specs.declared.chars.Chars.{Chars}
 use Rattle.spef_file.specs.declared.fault.SpefKind.{SpefKind}
 use Rattle.spef_file.specs.declared.fault.SpefKind.TheVariants.{Header, Unit as UnitKind}
 use Rattle.spef_file.specs.declared.heading.Heading.{Heading}
-use Rattle.spef_file.specs.Marks.{divider_in, delimiter_in, bus_in}
+use Rattle.spef_file.specs.HeaderChars.{divider_in, delimiter_in, bus_in}
 use Rattle.spef_file.specs.Units.{unit_places}
 use Rattle.spef_file.specs.Words.{first_word, has_words, is_quoted}
 

@@ -9,11 +9,11 @@ use Rattle.spef_file.specs.declared.spef_index.SpefIndex.{SpefIndex}
 use Rattle.spef_file.specs.Nets.{end_at}
 use Rattle.spef_file.specs.Files.{file_lines, IsFileOf}
 use Rattle.spef_file.specs.NetSpans.{IsSpan, AreSpans}
-use Rattle.spef_file.specs.Shown.{shown}
+use Rattle.spef_file.specs.IndexFiles.{file_of}
 
 -- the index of a text: what the text says, and where its nets stand
 pub record IsIndexOf (text : List ℕ) (index : SpefIndex) : Type 0 where
-  pub said : IsFileOf text (shown index)
+  pub said : IsFileOf text (file_of index)
   pub spans : AreSpans (without_comments Spef text) (file_lines text) index.sections
 
 -- a section of a text

@@ -10,13 +10,13 @@ use Rattle.vg_scan.specs.declared.fault.LineFault.{LineFault}
 use Rattle.spef_file.specs.declared.fault.SpefKind.{SpefKind}
 use Rattle.spef_file.specs.declared.fault.SpefKind.TheVariants.{MapTwice, MapUnknown, NoEnd, Stray, NetTwice, Unsupported}
 use Rattle.spef_file.specs.declared.heading.Heading.{Heading}
-use Rattle.spef_file.specs.declared.opening.Opening.{Opening}
-use Rattle.spef_file.specs.declared.opening.Opening.TheVariants.{Map, Passed, Net, Foreign, Nothing}
-use Rattle.spef_file.specs.declared.opening.Region.{Region}
-use Rattle.spef_file.specs.declared.opening.Region.TheVariants.{Outside, InMap, InPassed}
+use Rattle.spef_file.specs.declared.keyword.Keyword.{Keyword}
+use Rattle.spef_file.specs.declared.keyword.Keyword.TheVariants.{Map, Passed, Net, Foreign, Nothing}
+use Rattle.spef_file.specs.declared.keyword.Region.{Region}
+use Rattle.spef_file.specs.declared.keyword.Region.TheVariants.{Outside, InMap, InPassed}
 use Rattle.spef_file.specs.Words.{first_word, second_word, has_words}
-use Rattle.spef_file.specs.Openings.{opening_of}
-use Rattle.spef_file.specs.Marks.{USUAL}
+use Rattle.spef_file.specs.Keywords.{keyword_of}
+use Rattle.spef_file.specs.HeaderChars.{USUAL}
 use Rattle.spef_file.specs.Headers.{header_line, is_idle}
 use Rattle.spef_file.specs.Rows.{map_line, head_name, is_mapped}
 use Rattle.spef_file.specs.Nets.{NetHead, is_end, end_at, is_taken}
@@ -64,7 +64,7 @@ after_nothing InMap s line = with_row s (map_line s.heading.chars line)
 after_nothing Outside s line = s
 after_nothing InPassed s line = s
 
-abbrev pub after_body : Opening → State → Line → State
+abbrev pub after_body : Keyword → State → Line → State
 after_body Map s line = record s { region = InMap }
 after_body Passed s line = record s { region = InPassed }
 after_body Net s line = record s { region = Outside; in_net = true; nets = s.nets ++ head_of s line ∷ [] }
@@ -77,7 +77,7 @@ after_header s line = if is_idle s.headed line then s else with_heading s (heade
 abbrev pub after_uncounted : State → Line → State
 after_uncounted s line =
     if s.in_net then (if is_end line then record s { in_net = false } else s)
-    else (if nat_lt s.headed 14 then after_header s line else after_body (opening_of (first_word line)) s line)
+    else (if nat_lt s.headed 14 then after_header s line else after_body (keyword_of (first_word line)) s line)
 
 abbrev pub counted : State → State
 counted s = record s { count = s.count + 1 }
@@ -116,7 +116,7 @@ nothing_fault Outside s line = Some Stray
 nothing_fault InMap s line = row_fault s.heading.chars s.names line
 nothing_fault InPassed s line = None
 
-abbrev pub body_fault : Opening → State → Line → List Line → Option SpefKind
+abbrev pub body_fault : Keyword → State → Line → List Line → Option SpefKind
 body_fault Map s line later = None
 body_fault Passed s line later = None
 body_fault Net s line later = head_fault s line later
@@ -127,7 +127,7 @@ unfoldable pub state_fault : State → Line → List Line → Option SpefKind
 state_fault s line later =
     if s.in_net then None
     else (if nat_lt s.headed 14 then (if is_idle s.headed line then None else fault_in (header_line s.headed s.heading line))
-    else body_fault (opening_of (first_word line)) s line later)
+    else body_fault (keyword_of (first_word line)) s line later)
 
 abbrev pub unless_fault : Option SpefKind → ℕ → Result State (LineFault SpefKind) → Result State (LineFault SpefKind)
 unless_fault None number others = others

@@ -4,7 +4,7 @@ use Rattle.std.specs.List.{list_any}
 use Rattle.std.specs.Str.{bytes_eq}
 use Rattle.vg_scan.specs.Lines.{Line}
 use Rattle.spef_file.specs.Words.{first_word}
-use Rattle.spef_file.specs.Openings.{is_net}
+use Rattle.spef_file.specs.Keywords.{is_net}
 
 -- the head of a net: its canonical name, whether it is reduced, and the number of its line
 pub record NetHead : Type 0 where

@@ -2,10 +2,10 @@
 use Rattle.std.specs.Prelude.{◌&&◌, not, Bool, true, false, List, if◌then◌else◌}
 use Rattle.std.specs.List.{fold}
 use Rattle.vg_scan.specs.Lines.{Line}
-use Rattle.spef_file.specs.declared.opening.Opening.{Opening}
-use Rattle.spef_file.specs.declared.opening.Opening.TheVariants.{Map, Passed, Net, Foreign, Nothing}
+use Rattle.spef_file.specs.declared.keyword.Keyword.{Keyword}
+use Rattle.spef_file.specs.declared.keyword.Keyword.TheVariants.{Map, Passed, Net, Foreign, Nothing}
 use Rattle.spef_file.specs.Words.{first_word, has_words}
-use Rattle.spef_file.specs.Openings.{opening_of}
+use Rattle.spef_file.specs.Keywords.{keyword_of}
 use Rattle.spef_file.specs.Nets.{is_end}
 use Rattle.spef_file.specs.HeaderLines.{in_header}
 
@@ -17,7 +17,7 @@ pub data Place : Type 0 where
   in_net : Place
 
 -- the part that a line opens in this one
-abbrev pub opened : Place → Opening → Place
+abbrev pub opened : Place → Keyword → Place
 opened place Map = in_map
 opened place Passed = in_passed
 opened place Net = in_net
@@ -28,7 +28,7 @@ opened place Nothing = place
 -- so `*DEFINE`, `*PORTS` and the like are lines of the net in which they stand
 abbrev pub place_after : Place → Line → Place
 place_after in_net line = if is_end line then outside else in_net
-place_after place line = opened place (opening_of (first_word line))
+place_after place line = opened place (keyword_of (first_word line))
 
 -- the part in which the line after these stands; no line of a header opens one
 unfoldable pub place_of : List Line → Place
@@ -46,15 +46,15 @@ abbrev pub is_net : Place → Bool
 is_net in_net = true
 is_net _ = false
 
-abbrev pub opens_net : Opening → Bool
+abbrev pub opens_net : Keyword → Bool
 opens_net Net = true
 opens_net _ = false
 
-abbrev pub opens_foreign : Opening → Bool
+abbrev pub opens_foreign : Keyword → Bool
 opens_foreign Foreign = true
 opens_foreign _ = false
 
-abbrev pub opens_nothing : Opening → Bool
+abbrev pub opens_nothing : Keyword → Bool
 opens_nothing Nothing = true
 opens_nothing _ = false
 
@@ -64,15 +64,15 @@ is_free before = not (in_header before) && not (is_net (place_of before))
 
 -- a line after these is the head of a net
 abbrev pub is_net_head : List Line → Line → Bool
-is_net_head before line = is_free before && opens_net (opening_of (first_word line))
+is_net_head before line = is_free before && opens_net (keyword_of (first_word line))
 
 -- a line after these begins a part that is not supported
 abbrev pub is_foreign_head : List Line → Line → Bool
-is_foreign_head before line = is_free before && opens_foreign (opening_of (first_word line))
+is_foreign_head before line = is_free before && opens_foreign (keyword_of (first_word line))
 
 -- a line after these has words and opens nothing
 abbrev pub is_plain : List Line → Line → Bool
-is_plain before line = is_free before && opens_nothing (opening_of (first_word line)) && has_words line
+is_plain before line = is_free before && opens_nothing (keyword_of (first_word line)) && has_words line
 
 -- a line after these stands in no part
 abbrev pub is_lost : List Line → Line → Bool

@@ -20,8 +20,8 @@ head_in net = record { name = net.0; reduced = net.1.reduced; line = net.1.line 
 abbrev pub heads_in : List NetRow → List NetHead
 heads_in nets = map head_in nets
 
-abbrev pub seen : Reader → State
-seen r = record { headed = r.headed; heading = r.heading; region = r.region; in_net = false; count = r.count; names = r.map; nets = heads_in r.nets }
+abbrev pub state_of : Reader → State
+state_of r = record { headed = r.headed; heading = r.heading; region = r.region; in_net = false; count = r.count; names = r.map; nets = heads_in r.nets }
 
 -- no count is larger than it may be
 pub record IsWhole (r : Reader) : Type 0 where

@@ -7,8 +7,8 @@ ghost use Rattle.spef_file.specs.Headers.{is_header_word, header_line, divider_l
 
 use crate::fault::SpefKind;
 use crate::heading::Heading;
-use crate::marks::{bus_bytes, lone, with_bus, with_delimiter, with_divider};
-use crate::opening::same;
+use crate::header_chars::{bus_bytes, lone, with_bus, with_delimiter, with_divider};
+use crate::keyword::same;
 use crate::units::unit_places;
 use vg_scan::{Chars, Span, text_at};
 

@@ -1,17 +1,17 @@
 //! The index of a SPEF file (IEEE Std 1481): its header, its name map, and where its nets stand.
 #![tactic(auto)]
 
-mod edge;
+mod net_end;
 mod fault;
 mod header;
 mod header_line;
 mod heading;
 mod laws;
 mod lines;
-mod look;
-mod marks;
+mod lookup;
+mod header_chars;
 mod name_map;
-mod opening;
+mod keyword;
 mod read;
 mod reader;
 mod section;
@@ -24,7 +24,7 @@ mod units;
 pub use fault::{SpefFault, SpefKind};
 pub use header::Header;
 pub use laws::{comments_say_nothing, says_one_thing};
-pub use look::{mapped, net_at};
+pub use lookup::{mapped, net_at};
 pub use name_map::NameMap;
 pub use read::index;
 pub use section::Section;

@@ -5,18 +5,18 @@ ghost use Rattle.vg_scan.specs.Lines.{lines_of, words, part, is_blank, BeginsLin
 ghost use Rattle.spef_file.specs.NetSpans.{IsLine, KeepsSpans, KeepsLines};
 ghost use Rattle.vg_scan.specs.Spans.{IsIn, words_at, part_at};
 ghost use Rattle.spef_file.specs.Words.{first_word, second_word, has_words};
-ghost use Rattle.spef_file.specs.Openings.{opening_of};
-ghost use Rattle.spef_file.specs.Views.{seen, IsWhole, Passes, GoesTo, AddsGiven, AddsLine, IsHeadName, IsHead, CanonicalName};
-ghost use Rattle.spef_file.specs.declared.opening.Opening.TheVariants.{Nothing, Net};
+ghost use Rattle.spef_file.specs.Keywords.{keyword_of};
+ghost use Rattle.spef_file.specs.Views.{state_of, IsWhole, Passes, GoesTo, AddsGiven, AddsLine, IsHeadName, IsHead, CanonicalName};
+ghost use Rattle.spef_file.specs.declared.keyword.Keyword.TheVariants.{Nothing, Net};
 ghost use Rattle.std.specs.Prelude.{Ok, Some, None};
 ghost use Rattle.vg_scan.specs.Names.{canonical};
 ghost use Rattle.spef_file.specs.Machine.{given_fault};
 
-use crate::edge::find_end;
+use crate::net_end::find_end;
 use crate::fault::SpefKind;
 use crate::header_line::{first_word, header_line, is_idle};
 use crate::name_map::NameMap;
-use crate::opening::{Opening, Region, opening_of, same};
+use crate::keyword::{Keyword, Region, keyword_of, same};
 use crate::reader::Reader;
 use crate::section::Section;
 use vg_scan::{
@@ -32,7 +32,7 @@ pub(crate) fn take_header_line(
     requires headed { reader.old.headed < 14 }
     requires whole { IsWhole reader.old }
     requires few { reader.old.count < 2 ^ 28 }
-    ensures passes { Passes result (seen reader.old) (seen reader.new) (words_at bytes.now words.now) }
+    ensures passes { Passes result (state_of reader.old) (state_of reader.new) (words_at bytes.now words.now) }
     ensures whole { OnOk result (IsWhole reader.new) }
     ensures nets { OnOk result (reader.new.nets ≡ reader.old.nets) }
     ensures count { OnOk result (reader.new.count ≡ reader.old.count + 1) }
@@ -122,10 +122,10 @@ fn take_other_line(
     words: &[Span],
 ) -> Result<(), SpefKind>
     requires headed { 14 ≤ reader.old.headed }
-    requires opens { opening_of (first_word (words_at bytes.now words.now)) ≡ Nothing }
+    requires opens { keyword_of (first_word (words_at bytes.now words.now)) ≡ Nothing }
     requires whole { IsWhole reader.old }
     requires few { reader.old.count < 2 ^ 28 }
-    ensures passes { Passes result (seen reader.old) (seen reader.new) (words_at bytes.now words.now) }
+    ensures passes { Passes result (state_of reader.old) (state_of reader.new) (words_at bytes.now words.now) }
     ensures whole { OnOk result (IsWhole reader.new) }
     ensures nets { OnOk result (reader.new.nets ≡ reader.old.nets) }
     ensures count { OnOk result (reader.new.count ≡ reader.old.count + 1) }
@@ -218,13 +218,13 @@ fn take_named_net(
     name: Option<&[u8]>,
 ) -> Result<usize, SpefKind>
     requires headed { 14 ≤ reader.old.headed }
-    requires opens { opening_of (first_word (words_at bytes.now words.now)) ≡ Net }
+    requires opens { keyword_of (first_word (words_at bytes.now words.now)) ≡ Net }
     requires whole { IsWhole reader.old }
     requires few { reader.old.count < 2 ^ 28 }
     requires line { IsLine bytes.now line next (words_at bytes.now words.now) }
     requires place { (next ≤ length bytes.now) × (length bytes.now ≤ 2 ^ 28) }
     requires name { IsHead reader.old.heading.chars reader.old.map (second_word (words_at bytes.now words.now)) (option_map (λ name. name.now) name) }
-    ensures goes { GoesTo bytes.now next result (seen reader.old) (seen reader.new) (words_at bytes.now words.now) }
+    ensures goes { GoesTo bytes.now next result (state_of reader.old) (state_of reader.new) (words_at bytes.now words.now) }
     ensures whole { OnOk result (IsWhole reader.new) }
     ensures spans { KeepsSpans bytes.now next result reader.old reader.new (words_at bytes.now words.now) }
     ensures begins { IfOk result (BeginsLine bytes.now) }
@@ -263,12 +263,12 @@ fn take_net(
     next: usize,
 ) -> Result<usize, SpefKind>
     requires headed { 14 ≤ reader.old.headed }
-    requires opens { opening_of (first_word (words_at bytes.now words.now)) ≡ Net }
+    requires opens { keyword_of (first_word (words_at bytes.now words.now)) ≡ Net }
     requires whole { IsWhole reader.old }
     requires few { reader.old.count < 2 ^ 28 }
     requires line { IsLine bytes.now line next (words_at bytes.now words.now) }
     requires place { (next ≤ length bytes.now) × (length bytes.now ≤ 2 ^ 28) }
-    ensures goes { GoesTo bytes.now next result (seen reader.old) (seen reader.new) (words_at bytes.now words.now) }
+    ensures goes { GoesTo bytes.now next result (state_of reader.old) (state_of reader.new) (words_at bytes.now words.now) }
     ensures whole { OnOk result (IsWhole reader.new) }
     ensures spans { KeepsSpans bytes.now next result reader.old reader.new (words_at bytes.now words.now) }
     ensures begins { IfOk result (BeginsLine bytes.now) }
@@ -296,26 +296,26 @@ fn take_body_line(
     requires few { reader.old.count < 2 ^ 28 }
     requires line { IsLine bytes.now line next (words_at bytes.now words.now) }
     requires place { (next ≤ length bytes.now) × (length bytes.now ≤ 2 ^ 28) }
-    ensures goes { GoesTo bytes.now next result (seen reader.old) (seen reader.new) (words_at bytes.now words.now) }
+    ensures goes { GoesTo bytes.now next result (state_of reader.old) (state_of reader.new) (words_at bytes.now words.now) }
     ensures whole { OnOk result (IsWhole reader.new) }
     ensures spans { KeepsSpans bytes.now next result reader.old reader.new (words_at bytes.now words.now) }
     ensures begins { IfOk result (BeginsLine bytes.now) }
     ensures place { IfOk result (λ to. (next ≤ to) × (to ≤ length bytes.now) × (reader.new.count + next ≤ reader.old.count + 1 + to)) }
 {
-    match opening_of(first_word(bytes, words)) {
-        Opening::Map => {
+    match keyword_of(first_word(bytes, words)) {
+        Keyword::Map => {
             reader.region = Region::InMap;
             reader.count += 1;
             Ok(next)
         }
-        Opening::Passed => {
+        Keyword::Passed => {
             reader.region = Region::InPassed;
             reader.count += 1;
             Ok(next)
         }
-        Opening::Net => take_net(name, reader, bytes, words, line, next),
-        Opening::Foreign => Err(SpefKind::Unsupported),
-        Opening::Nothing => match take_other_line(name, reader, bytes, words) {
+        Keyword::Net => take_net(name, reader, bytes, words, line, next),
+        Keyword::Foreign => Err(SpefKind::Unsupported),
+        Keyword::Nothing => match take_other_line(name, reader, bytes, words) {
             Err(kind) => Err(kind),
             Ok(()) => Ok(next),
         },
@@ -335,7 +335,7 @@ fn take_words(
     requires few { reader.old.count < 2 ^ 28 }
     requires line { IsLine bytes.now line next (words_at bytes.now words.now) }
     requires place { (next ≤ length bytes.now) × (length bytes.now ≤ 2 ^ 28) }
-    ensures goes { GoesTo bytes.now next result (seen reader.old) (seen reader.new) (words_at bytes.now words.now) }
+    ensures goes { GoesTo bytes.now next result (state_of reader.old) (state_of reader.new) (words_at bytes.now words.now) }
     ensures whole { OnOk result (IsWhole reader.new) }
     ensures spans { KeepsSpans bytes.now next result reader.old reader.new (words_at bytes.now words.now) }
     ensures begins { IfOk result (BeginsLine bytes.now) }
@@ -363,7 +363,7 @@ pub(crate) fn take_line(
     requires whole { IsWhole reader.old }
     requires few { reader.old.count < 2 ^ 28 }
     requires place { (next ≤ length bytes.now) × (length bytes.now ≤ 2 ^ 28) }
-    ensures goes { GoesTo bytes.now next result (seen reader.old) (seen reader.new) (words (part_at bytes.now line)) }
+    ensures goes { GoesTo bytes.now next result (state_of reader.old) (state_of reader.new) (words (part_at bytes.now line)) }
     ensures whole { OnOk result (IsWhole reader.new) }
     ensures spans { KeepsSpans bytes.now next result reader.old reader.new (words (part_at bytes.now line)) }
     ensures begins { IfOk result (BeginsLine bytes.now) }

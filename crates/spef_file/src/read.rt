@@ -7,8 +7,8 @@ ghost use Rattle.spef_file.specs.Machine.{START};
 ghost use Rattle.spef_file.specs.Machine.{read, said};
 ghost use Rattle.spef_file.specs.Files.{IsFileFault};
 ghost use Rattle.spef_file.specs.NetSpans.{AreSpans};
-ghost use Rattle.spef_file.specs.Views.{seen, IsWhole};
-ghost use Rattle.spef_file.specs.Shown.{shown};
+ghost use Rattle.spef_file.specs.Views.{state_of, IsWhole};
+ghost use Rattle.spef_file.specs.IndexFiles.{file_of};
 ghost use Rattle.spef_file.specs.Indexes.{IsIndexOf};
 
 use crate::fault::{SpefFault, SpefKind};
@@ -16,7 +16,7 @@ use crate::header::Header;
 use crate::heading::Heading;
 use crate::lines::take_line;
 use crate::name_map::NameMap;
-use crate::opening::Region;
+use crate::keyword::Region;
 use crate::reader::Reader;
 use crate::sections::Sections;
 use crate::spef_index::SpefIndex;
@@ -26,7 +26,7 @@ use vg_scan::{Chars, next_line};
 
 /// What is said before the first line.
 fn start(alloc: Global) -> Reader
-    ensures seen { seen result ≡ START }
+    ensures state_of { state_of result ≡ START }
     ensures whole { IsWhole result }
     ensures empty { (result.nets ≡ []) × (result.count ≡ 0) }
 {
@@ -53,7 +53,7 @@ fn start(alloc: Global) -> Reader
 /// What all lines say of a text that has no comments.
 fn read_lines(alloc: Global, bytes: &[u8]) -> Result<Reader, SpefFault>
     requires { length bytes.now ≤ 2 ^ 28 }
-    ensures said { IfOk result (λ reader. read START (lines_of bytes.now) ≡ Ok (seen reader)) }
+    ensures said { IfOk result (λ reader. read START (lines_of bytes.now) ≡ Ok (state_of reader)) }
     ensures whole { IfOk result IsWhole }
     ensures spans { IfOk result (λ reader. AreSpans bytes.now (lines_of bytes.now) reader.nets) }
     ensures fault { IfErr result (λ fault. (fault.kind ≡ Memory) ⊎ (read START (lines_of bytes.now) ≡ Err fault)) }
@@ -77,7 +77,7 @@ fn read_lines(alloc: Global, bytes: &[u8]) -> Result<Reader, SpefFault>
 /// The index that the lines give.
 fn finish(reader: Reader) -> SpefIndex
     requires { IsWhole reader }
-    ensures shown { shown result ≡ said (seen reader) }
+    ensures file_of { file_of result ≡ said (state_of reader) }
     ensures sections { result.sections ≡ reader.nets }
 {
     let header = Header {

@@ -11,9 +11,9 @@ use Rattle.spef_file.specs.Files.{File}
 use Rattle.spef_net.specs.declared.part.Part.{Part}
 use Rattle.spef_net.specs.declared.part.Part.TheVariants.{Conns, Caps, Ress, Inducs}
 use Rattle.spef_net.specs.Lines.{head_of, part_named}
-use Rattle.spef_net.specs.Sayings.{Said, Nothing, said_in, said_words, said}
-use Rattle.spef_net.specs.Surveys.{is_conns, Surveys}
-use Rattle.spef_net.proofs.SeenLemmas.{no_length, surveys_quiet}
+use Rattle.spef_net.specs.Statements.{Stated, Nothing, statement_in, statement_of_words, statement_of}
+use Rattle.spef_net.specs.Connections.{is_conns, Gathers}
+use Rattle.spef_net.proofs.WordLemmas.{no_length, gathers_quiet}
 
 other : (b : ℕ) (w tail : List ℕ) → eqb b 42 ≡ false → (t : Bool) → bytes_eq (b ∷ w) (42 ∷ tail) ≡ t → t ≡ false
 other b w tail e false f = refl
@@ -66,15 +66,15 @@ unfolding words
 no_head_none [] e = refl
 no_head_none (b ∷ bs) e = absurd (let n = no_length (length (b ∷ bs)) e in omega arith)
 
-passed_if : (file : File) (part : Part) (line : List ℕ) (ws : Line) (nodes : List NodeName) → is_conns part ≡ false → head_of ws ≡ None → Surveys (Ok part) nodes nodes part (said_words file part line ws)
-unfolding said_words
+passed_if : (file : File) (part : Part) (line : List ℕ) (ws : Line) (nodes : List NodeName) → is_conns part ≡ false → head_of ws ≡ None → Gathers (Ok part) nodes nodes part (statement_of_words file part line ws)
+unfolding statement_of_words
 passed_if file part line [] nodes n h = (refl, refl)
 passed_if file part line (w ∷ ws) nodes n h =
-    surveys_quiet file part line (w ∷ ws) nodes _ (ap (λ o. Rattle.spef_net.specs.Sayings.said_or_opens o (said_in part file line (w ∷ ws))) h) n
+    gathers_quiet file part line (w ∷ ws) nodes _ (ap (λ o. Rattle.spef_net.specs.Statements.statement_or_opens o (statement_in part file line (w ∷ ws))) h) n
 
--- such a line changes nothing in the survey
-pub surveys_passed : (file : File) (part : Part) (line : List ℕ) (nodes : List NodeName) → is_conns part ≡ false → head_of (words line) ≡ None → Surveys (Ok part) nodes nodes part (said file part line)
-surveys_passed file part line nodes n h = passed_if file part line (words line) nodes n h
+-- such a line changes nothing in the gather
+pub gathers_passed : (file : File) (part : Part) (line : List ℕ) (nodes : List NodeName) → is_conns part ≡ false → head_of (words line) ≡ None → Gathers (Ok part) nodes nodes part (statement_of file part line)
+gathers_passed file part line nodes n h = passed_if file part line (words line) nodes n h
 
 pub is_not : (a b : ℕ) → eqb a b ≡ false → a ≡ b → ⊥
 is_not a b e h = let x : ⊥ = grind (arith, nat_tests) in x

@@ -1,4 +1,4 @@
--- The nodes of a draft: each stands once, and those of the connections stand first.
+-- The nodes of a builder: each stands once, and those of the connections stand first.
 use Rattle.std.proofs.Common.{◌≡◌, ◌≢◌, ℕ, zero, suc, ◌<◌, ◌≤◌, ◌||◌, not, take, drop, Bool, true, false, cond, List, [], ◌∷◌, ◌++◌, map, length, get_or, refl, sym, ap, ◌∙◌, arith, subst, append_assoc, length-append, Option, Some, None, Ok, Err, is_some}
 use Rattle.std.proofs.lemmas.List.{length-map, map-append, append-nil}
 use Rattle.std.proofs.lemmas.List.Elements.{filter_map-append}
@@ -9,7 +9,7 @@ use Rattle.vg_scan.specs.declared.name.NodeName.{NodeName}
 use Rattle.vg_scan.specs.Nodes.{same_node, has_node, node_value}
 use Rattle.spef_nodes.specs.Members.{with_node, distinct, AreApart, is_inner}
 use Rattle.spef_nodes.specs.Nodes.{ParNode, Note, note_at, noted, noted_all, is_joined}
-use Rattle.spef_nodes.proofs.NodeLists.{same_is, slice_get-with_node}
+use Rattle.spef_nodes.proofs.NodeListLemmas.{same_is, slice_get-with_node}
 use Rattle.spef_nodes.proofs.ApartLemmas.{one_number, apart_fold, has_at}
 use Rattle.spef_net.specs.declared.net.ConnKind.{ConnKind}
 use Rattle.spef_net.specs.declared.net.Direction.{Direction}
@@ -17,11 +17,11 @@ use Rattle.spef_net.specs.declared.net.ParConn.{ParConn}
 use Rattle.spef_net.specs.declared.fault.NetKind.{NetKind}
 use Rattle.spef_net.specs.declared.fault.NetKind.TheVariants.{Conn}
 use Rattle.spef_net.specs.Names.{is_own}
-use Rattle.spef_net.specs.Sayings.{Said, Opens, Nothing, Connects, Star, Ground, Coupling, Resistor, is_at}
+use Rattle.spef_net.specs.Statements.{Stated, Opens, Nothing, Connects, Star, Ground, Coupling, Resistor, is_at}
 use Rattle.spef_net.specs.Rows.{joined_in, joined_of, connected_of, conns_of, named_in}
 use Rattle.spef_net.specs.Faults.{fault_of, IsFaultless}
 use Rattle.spef_net.specs.Denoted.{conn_at, AreConns}
-use Rattle.spef_net.specs.Drafts.{Sketch, IsSketch}
+use Rattle.spef_net.specs.Builders.{PartialNet, IsPartialNet}
 use Rattle.spef_net.specs.Nets.{AreJoined, IsInside}
 use Rattle.spef_net.proofs.FinishLemmas.{note_later}
 use Rattle.spef_net.proofs.NotedLemmas.{joined_is}
@@ -94,7 +94,7 @@ taken_if true b e = absurd (cc)
 taken_if false b e = refl
 
 -- one line more
-once_more : (connected : List NodeName) (net : List ℕ) (before : List Said) (line : Said) → fault_of connected net before line ≡ None
+once_more : (connected : List NodeName) (net : List ℕ) (before : List Stated) (line : Stated) → fault_of connected net before line ≡ None
     → fold with_node (connected_of before) (map (λ row. row.0) (cons_option (joined_in line) [])) ≡ connected_of before ++ map (λ row. row.0) (cons_option (joined_in line) [])
 unfolding fault_of
 once_more connected net before (Err kind) e = absurd (cc)
@@ -107,11 +107,11 @@ once_more connected net before (Ok (Ground node value)) e = sym (append-nil (con
 once_more connected net before (Ok (Coupling a b value)) e = sym (append-nil (connected_of before))
 once_more connected net before (Ok (Resistor a b value)) e = sym (append-nil (connected_of before))
 
-connected-last : (before : List Said) (line : Said) → connected_of (before ++ line ∷ []) ≡ connected_of before ++ map (λ row. row.0) (cons_option (joined_in line) [])
+connected-last : (before : List Stated) (line : Stated) → connected_of (before ++ line ∷ []) ≡ connected_of before ++ map (λ row. row.0) (cons_option (joined_in line) [])
 connected-last before line = ap (map (λ row. row.0)) (filter_map-append joined_in before (line ∷ [])) ∙ map-append (λ row. row.0) (joined_of before) (cons_option (joined_in line) [])
 
 -- the lines after others
-connected_once : (connected : List NodeName) (net : List ℕ) (before later : List Said) → ((i : ℕ) → i < length later → fault_of connected net (before ++ take i later) (get_or later i (Ok Nothing)) ≡ None)
+connected_once : (connected : List NodeName) (net : List ℕ) (before later : List Stated) → ((i : ℕ) → i < length later → fault_of connected net (before ++ take i later) (get_or later i (Ok Nothing)) ≡ None)
     → distinct (connected_of before) ≡ connected_of before → distinct (connected_of (before ++ later)) ≡ connected_of (before ++ later)
 connected_once connected net before [] clear e = ap (λ ls. distinct (connected_of ls)) (append-nil before) ∙ e ∙ ap connected_of (sym (append-nil before))
 connected_once connected net before (line ∷ later) clear e =
@@ -125,7 +125,7 @@ connected_once connected net before (line ∷ later) clear e =
     ap (λ ls. distinct (connected_of ls)) (sym same) ∙ rest ∙ ap connected_of same
 
 -- the nodes of connections are those of their rows
-connected_rows : (all : List Said) → connected_of all ≡ map (λ row. row.1) (conns_of all)
+connected_rows : (all : List Stated) → connected_of all ≡ map (λ row. row.1) (conns_of all)
 connected_rows [] = refl
 connected_rows (Err kind ∷ all) = connected_rows all
 connected_rows (Ok (Opens part) ∷ all) = connected_rows all
@@ -159,22 +159,22 @@ got_map f [] i x e = absurd (cc)
 got_map f (y ∷ xs) zero x e = ap (λ t. Some (f t)) (same_Some _ _ e)
 got_map f (y ∷ xs) (suc i) x e = got_map f xs i x e
 
-module _ (net : List ℕ) (all : List Said) (draft : Sketch) (s : IsSketch (connected_of all) net all draft) where
-  pub apart : AreApart draft.nodes
+module _ (net : List ℕ) (all : List Stated) (builder : PartialNet) (s : IsPartialNet (connected_of all) net all builder) where
+  pub apart : AreApart builder.nodes
   apart = subst AreApart (sym s.nodes) (apart_fold (connected_of all ++ flat_map (named_in (connected_of all) net) all) [] tt)
 
   -- a node is inner where it is no connection's
-  inner_is : (i : ℕ) (node : ParNode) (h : IsNotedAt draft.nodes draft.notes i node) → node.inner ≡ not (has_node (connected_of all) h.name)
+  inner_is : (i : ℕ) (node : ParNode) (h : IsNotedAt builder.nodes builder.notes i node) → node.inner ≡ not (has_node (connected_of all) h.name)
   inner_is i node h =
       ap (λ (n : ParNode). n.inner) h.is ∙ ap (λ n. not (is_joined n)) (s.noted.here i h.name h.at) ∙ ap not (joined_is (node_value (joined_of all) h.name) _) ∙ ap not (sym (has_joined (joined_of all) h.name))
 
-  pub nodes_distinct : AllPairs (λ node other. node.name ≢ other.name) (noted_all draft.nodes draft.notes)
+  pub nodes_distinct : AllPairs (λ node other. node.name ≢ other.name) (noted_all builder.nodes builder.notes)
   nodes_distinct = λ i j d l m e.
-      let all_nodes = noted_all draft.nodes draft.notes in
-      let a = noted_at draft.nodes draft.notes i (get_or all_nodes i d) (slice_get-get_or all_nodes i d (omega arith)) in
-      let b = noted_at draft.nodes draft.notes j (get_or all_nodes j d) (slice_get-get_or all_nodes j d m) in
+      let all_nodes = noted_all builder.nodes builder.notes in
+      let a = noted_at builder.nodes builder.notes i (get_or all_nodes i d) (slice_get-get_or all_nodes i d (omega arith)) in
+      let b = noted_at builder.nodes builder.notes j (get_or all_nodes j d) (slice_get-get_or all_nodes j d m) in
       let same : b.name ≡ a.name = sym (ap (λ (n : ParNode). n.name) b.is) ∙ sym e ∙ ap (λ (n : ParNode). n.name) a.is in
-      let k : i ≡ j = one_number draft.nodes i j a.name apart a.at (b.at ∙ ap Some same) in
+      let k : i ≡ j = one_number builder.nodes i j a.name apart a.at (b.at ∙ ap Some same) in
       omega (arith, k, l)
 
   or_inner : (a b : Bool) → (a || b) ≡ true → not a ≡ true → b ≡ true
@@ -185,10 +185,10 @@ module _ (net : List ℕ) (all : List Said) (draft : Sketch) (s : IsSketch (conn
   or_known true b e = refl
   or_known false b e = absurd (cc)
 
-  pub nodes_inside : All (IsInside net) (noted_all draft.nodes draft.notes)
-  nodes_inside = all_from (IsInside net) (noted_all draft.nodes draft.notes) (λ i node at inner.
-      let h = noted_at draft.nodes draft.notes i node at in
-      let own : is_own (connected_of all) net h.name ≡ true = sym (s.own h.name) ∙ or_known (has_node draft.nodes h.name) _ (has_at draft.nodes i h.name h.at) in
+  pub nodes_inside : All (IsInside net) (noted_all builder.nodes builder.notes)
+  nodes_inside = all_from (IsInside net) (noted_all builder.nodes builder.notes) (λ i node at inner.
+      let h = noted_at builder.nodes builder.notes i node at in
+      let own : is_own (connected_of all) net h.name ≡ true = sym (s.own h.name) ∙ or_known (has_node builder.nodes h.name) _ (has_at builder.nodes i h.name h.at) in
       let is : is_inner net h.name ≡ true = or_inner (has_node (connected_of all) h.name) _ own (sym (inner_is i node h) ∙ inner) in
       subst (λ n. is_inner net n ≡ true) (sym (ap (λ (n : ParNode). n.name) h.is)) is)
 
@@ -197,28 +197,28 @@ module _ (net : List ℕ) (all : List Said) (draft : Sketch) (s : IsSketch (conn
     once : distinct (connected_of all) ≡ connected_of all
     once = connected_once (connected_of all) net [] all clear refl
 
-    nodes_are : draft.nodes ≡ fold with_node (connected_of all) (flat_map (named_in (connected_of all) net) all)
+    nodes_are : builder.nodes ≡ fold with_node (connected_of all) (flat_map (named_in (connected_of all) net) all)
     nodes_are = s.nodes ∙ fold-append with_node [] (connected_of all) (flat_map (named_in (connected_of all) net) all) ∙ ap (λ xs. fold with_node xs (flat_map (named_in (connected_of all) net) all)) once
 
-    front : (i : ℕ) (x : NodeName) → slice_get (connected_of all) i ≡ Some x → slice_get draft.nodes i ≡ Some x
+    front : (i : ℕ) (x : NodeName) → slice_get (connected_of all) i ≡ Some x → slice_get builder.nodes i ≡ Some x
     front i x e = ap (λ xs. slice_get xs i) nodes_are ∙ kept (flat_map (named_in (connected_of all) net) all) (connected_of all) i x e
 
-    count : length draft.conns ≡ length (connected_of all)
+    count : length builder.conns ≡ length (connected_of all)
     count =
-        sym (length-map draft.conns (conn_at draft.nodes)) ∙ ap length s.conns ∙ length-map (conns_of all) _ ∙ sym (length-map (conns_of all) (λ row. row.1)) ∙ ap length (sym (connected_rows all))
+        sym (length-map builder.conns (conn_at builder.nodes)) ∙ ap length s.conns ∙ length-map (conns_of all) _ ∙ sym (length-map (conns_of all) (λ row. row.1)) ∙ ap length (sym (connected_rows all))
 
-    first_at : (i : ℕ) (conn : ParConn) (h : IsRowAt draft.nodes (conns_of all) i conn) → slice_get (connected_of all) i ≡ Some h.row.1
+    first_at : (i : ℕ) (conn : ParConn) (h : IsRowAt builder.nodes (conns_of all) i conn) → slice_get (connected_of all) i ≡ Some h.row.1
     first_at i conn h = ap (λ xs. slice_get xs i) (connected_rows all) ∙ got_map (λ row. row.1) (conns_of all) i h.row h.at
 
-    pub nodes_joined : AreJoined draft.conns (noted_all draft.nodes draft.notes)
+    pub nodes_joined : AreJoined builder.conns (noted_all builder.nodes builder.notes)
     nodes_joined = record {
-      few = omega (arith, count, ap length nodes_are, fold_more (flat_map (named_in (connected_of all) net) all) (connected_of all), length-noted draft.nodes draft.notes);
+      few = omega (arith, count, ap length nodes_are, fold_more (flat_map (named_in (connected_of all) net) all) (connected_of all), length-noted builder.nodes builder.notes);
       numbers = λ i conn e.
-          let h = row_at draft.nodes draft.conns (conns_of all) s.conns i conn e in
-          one_number draft.nodes conn.node i h.row.1 apart h.node (front i h.row.1 (first_at i conn h));
+          let h = row_at builder.nodes builder.conns (conns_of all) s.conns i conn e in
+          one_number builder.nodes conn.node i h.row.1 apart h.node (front i h.row.1 (first_at i conn h));
       ends = λ i conn node e f.
-          let h = row_at draft.nodes draft.conns (conns_of all) s.conns i conn e in
-          let n = noted_at draft.nodes draft.notes i node f in
+          let h = row_at builder.nodes builder.conns (conns_of all) s.conns i conn e in
+          let n = noted_at builder.nodes builder.notes i node f in
           let same : n.name ≡ h.row.1 = same_Some _ _ (sym n.at ∙ front i h.row.1 (first_at i conn h)) in
           let there : has_node (connected_of all) n.name ≡ true = ap (has_node (connected_of all)) same ∙ has_at (connected_of all) i h.row.1 (first_at i conn h) in
           let low = slice_get_within (conns_of all) i h.row h.at in
@@ -228,15 +228,15 @@ module _ (net : List ℕ) (all : List Said) (draft : Sketch) (s : IsSketch (conn
             (λ j. is_at (h.kind j) ((ap (λ (m : ParNode). m.name) n.is ∙ same) j)) ∙ ap (λ r. is_at r.0 r.1) (sym row) ∙ at,
           );
       inner = λ i node l f.
-          let n = noted_at draft.nodes draft.notes i node f in
+          let n = noted_at builder.nodes builder.notes i node f in
           inner_is i node n ∙ ap not (other i n.name l n.at (has_node (connected_of all) n.name) refl);
     }
       where
-        other : (i : ℕ) (name : NodeName) → length draft.conns ≤ i → slice_get draft.nodes i ≡ Some name → (b : Bool) → has_node (connected_of all) name ≡ b → b ≡ false
+        other : (i : ℕ) (name : NodeName) → length builder.conns ≤ i → slice_get builder.nodes i ≡ Some name → (b : Bool) → has_node (connected_of all) name ≡ b → b ≡ false
         other i name l at false e = refl
         other i name l at true e = absurd (
             let p = place_of (connected_of all) name e in
-            let k : p.at ≡ i = one_number draft.nodes p.at i name apart (front p.at name p.is) at in
+            let k : p.at ≡ i = one_number builder.nodes p.at i name apart (front p.at name p.is) at in
             let m = slice_get_within (connected_of all) p.at name p.is in
             let x : ⊥ = omega (arith, k, m, l, count) in
             x)

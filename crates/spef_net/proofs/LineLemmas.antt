@@ -11,11 +11,11 @@ use Rattle.spef_net.specs.declared.part.Part.{Part}
 use Rattle.spef_net.specs.declared.part.Part.TheVariants.{Nowhere, Conns, Caps, Ress, Inducs}
 use Rattle.spef_net.specs.declared.fault.NetKind.{NetKind}
 use Rattle.spef_net.specs.declared.fault.NetKind.TheVariants.{Conn, Cap, Res, Number, Foreign, SelfCoupled, Memory}
-use Rattle.spef_net.specs.Sayings.{Opens, Nothing, Connects, Star, Ground, Coupling, Resistor}
+use Rattle.spef_net.specs.Statements.{Opens, Nothing, Connects, Star, Ground, Coupling, Resistor}
 use Rattle.vg_scan.specs.Nodes.{same_node, has_node}
 use Rattle.spef_net.specs.Names.{node_in}
 use Rattle.spef_nodes.specs.Members.{with_node, distinct}
-use Rattle.spef_net.specs.Sayings.{Said, ground, coupling, resistor, cap_line, res_line, conn_line, connection, connected, star, starred, is_at, direction_in, said_in, said, part_after, sayings_from}
+use Rattle.spef_net.specs.Statements.{Stated, ground, coupling, resistor, cap_line, res_line, conn_line, connection, connected, star, starred, is_at, direction_in, statement_in, statement_of, part_after, statements_from}
 use Rattle.spef_net.specs.Lines.{note_after}
 use Rattle.spef_net.specs.declared.net.ConnKind.{ConnKind}
 use Rattle.spef_net.specs.declared.net.ConnKind.TheVariants.{Pin, Port}
@@ -26,15 +26,15 @@ use Rattle.spef_net.specs.Rows.{joined_in, connected_of}
 use Rattle.vg_scan.specs.Faults.{IsClear}
 use Rattle.vg_scan.proofs.FaultLemmas.{first_fault as first_here}
 use Rattle.spef_net.specs.Faults.{fault_of, fault_at, IsFirstFaultIn}
-use Rattle.spef_net.specs.Drafts.{Sketch, start_of, IsSketch, IsCounted, Takes}
+use Rattle.spef_net.specs.Builders.{PartialNet, start_of, IsPartialNet, IsCounted, Takes}
 use Rattle.spef_net.specs.NodeReaders.{NetNodes}
-use Rattle.spef_net.specs.Surveys.{is_conns, with_joined}
+use Rattle.spef_net.specs.Connections.{is_conns, with_joined}
 use Rattle.spef_net.specs.Views.{IsFaultOrMemory, fault_in}
-use Rattle.spef_nodes.proofs.NodeLists.{has-distinct}
+use Rattle.spef_nodes.proofs.NodeListLemmas.{has-distinct}
 use Rattle.spef_net.proofs.TakeLemmas.{or_right}
 
 -- a line that opens no part and names no connection
-pub record IsQuiet (line : Said) : Type 0 where
+pub record IsQuiet (line : Stated) : Type 0 where
   pub part : (part : Part) → part ≡ part_after part line
   pub joined : joined_in line ≡ None
 
@@ -72,7 +72,7 @@ res-quiet file (a ∷ b ∷ c ∷ d ∷ []) = resistor-quiet _ _
 res-quiet file (a ∷ b ∷ c ∷ d ∷ e ∷ es) = bad Res
 
 -- where no connections stand, a line that is no head is such a one
-pub quiet : (file : File) (part : Part) (line : List ℕ) (ws : Line) → is_conns part ≡ false → IsQuiet (said_in part file line ws)
+pub quiet : (file : File) (part : Part) (line : List ℕ) (ws : Line) → is_conns part ≡ false → IsQuiet (statement_in part file line ws)
 quiet file Nowhere line ws e = bad Conn
 quiet file Conns line ws e = absurd (cc)
 quiet file Caps line ws e = cap-quiet file ws
@@ -101,7 +101,7 @@ star-part : (file : File) (line : List ℕ) (ws : Line) (part : Part) → part �
 star-part file line [] part = refl
 star-part file line (a ∷ ws) part = starred-part (note_after 2 line) (node_in file a) part
 
-tag-part : (p q r : Bool) (a b c : Said) (part : Part) → part ≡ part_after part a → part ≡ part_after part b → part ≡ part_after part c → part ≡ part_after part (cond p a (cond q b (cond r c (Err Conn))))
+tag-part : (p q r : Bool) (a b c : Stated) (part : Part) → part ≡ part_after part a → part ≡ part_after part b → part ≡ part_after part c → part ≡ part_after part (cond p a (cond q b (cond r c (Err Conn))))
 tag-part true q r a b c part x y z = x
 tag-part false true r a b c part x y z = y
 tag-part false false true a b c part x y z = z
@@ -115,7 +115,7 @@ conn-part file line (tag ∷ ws) part =
     (connection-part file Pin line ws part) (connection-part file Port line ws part) (star-part file line ws part)
 
 -- a line that is no head opens no part
-pub same_part : (file : File) (within part : Part) (line : List ℕ) (ws : Line) → part ≡ part_after part (said_in within file line ws)
+pub same_part : (file : File) (within part : Part) (line : List ℕ) (ws : Line) → part ≡ part_after part (statement_in within file line ws)
 same_part file Nowhere part line ws = refl
 same_part file Conns part line ws = conn-part file line ws part
 same_part file Caps part line ws = (cap-quiet file ws).part part
@@ -123,36 +123,36 @@ same_part file Ress part line ws = (res-quiet file ws).part part
 same_part file Inducs part line ws = refl
 
 -- the lines that are left
-pub left : (file : File) (part : Part) (line : List ℕ) (others : List (List ℕ)) → sayings_from file part (line ∷ others) ≡ said file part line ∷ sayings_from file (part_after part (said file part line)) others
-unfolding sayings_from
+pub left : (file : File) (part : Part) (line : List ℕ) (others : List (List ℕ)) → statements_from file part (line ∷ others) ≡ statement_of file part line ∷ statements_from file (part_after part (statement_of file part line)) others
+unfolding statements_from
 left file part line others = refl
 
-pub none_left : (file : File) (part : Part) → sayings_from file part [] ≡ []
-unfolding sayings_from
+pub none_left : (file : File) (part : Part) → statements_from file part [] ≡ []
+unfolding statements_from
 none_left file part = refl
 
 joined_first : (old : List NodeName) (row : Option (NodeName × List ℕ)) (rows : List (NodeName × List ℕ)) → fold with_node (with_joined old row) (map (λ r. r.0) rows) ≡ fold with_node old (map (λ r. r.0) (cons_option row rows))
 joined_first old None rows = refl
 joined_first old (Some row) rows = refl
 
--- the survey, one line later
-pub survey_more : (file : File) (part next : Part) (line : List ℕ) (others : List (List ℕ)) (old new : List NodeName)
-    → next ≡ part_after part (said file part line) → new ≡ with_joined old (joined_in (said file part line))
-    → fold with_node new (connected_of (sayings_from file next others)) ≡ fold with_node old (connected_of (sayings_from file part (line ∷ others)))
-survey_more file part next line others old new p n =
-    let s = said file part line in
-    ap (λ q. fold with_node new (connected_of (sayings_from file q others))) p
-    ∙ ap (λ ns. fold with_node ns (connected_of (sayings_from file (part_after part s) others))) n
-    ∙ joined_first old (joined_in s) (filter_map joined_in (sayings_from file (part_after part s) others))
+-- the gather, one line later
+pub gather_more : (file : File) (part next : Part) (line : List ℕ) (others : List (List ℕ)) (old new : List NodeName)
+    → next ≡ part_after part (statement_of file part line) → new ≡ with_joined old (joined_in (statement_of file part line))
+    → fold with_node new (connected_of (statements_from file next others)) ≡ fold with_node old (connected_of (statements_from file part (line ∷ others)))
+gather_more file part next line others old new p n =
+    let s = statement_of file part line in
+    ap (λ q. fold with_node new (connected_of (statements_from file q others))) p
+    ∙ ap (λ ns. fold with_node ns (connected_of (statements_from file (part_after part s) others))) n
+    ∙ joined_first old (joined_in s) (filter_map joined_in (statements_from file (part_after part s) others))
     ∙ ap (λ ss. fold with_node old (connected_of ss)) (sym (left file part line others))
 
 -- a line whose form or names are bad
-bad_fault : (connected : List NodeName) (net : List ℕ) (before : List Said) (line : Said) (kind : NetKind) → fault_in line ≡ Some kind → fault_of connected net before line ≡ Some kind
+bad_fault : (connected : List NodeName) (net : List ℕ) (before : List Stated) (line : Stated) (kind : NetKind) → fault_in line ≡ Some kind → fault_of connected net before line ≡ Some kind
 unfolding fault_of
-bad_fault connected net before (Ok saying) kind e = absurd (cc)
+bad_fault connected net before (Ok statement) kind e = absurd (cc)
 bad_fault connected net before (Err k) kind e = e
 
-pub bad_line : (net : List ℕ) (old new : Sketch) (line : Said) (kind : NetKind) → IsFaultOrMemory (fault_in line) kind → Takes (Err kind) net old line new
+pub bad_line : (net : List ℕ) (old new : PartialNet) (line : Stated) (kind : NetKind) → IsFaultOrMemory (fault_in line) kind → Takes (Err kind) net old line new
 bad_line net old new line Memory h = λ connected before counted s. tt
 bad_line net old new line Conn h = λ connected before counted s. bad_fault connected net before line Conn h
 bad_line net old new line Cap h = λ connected before counted s. bad_fault connected net before line Cap h
@@ -174,7 +174,7 @@ counted_later : (node : NodeName) (row : Option (NodeName × List ℕ)) (rows : 
 counted_later node None rows e = e
 counted_later node (Some row) rows e = or_right (same_node node row.0) (has_node (map (λ r. r.0) rows) node) e
 
-has_joined : (all : List Said) (n : ℕ) (line : Said) (others : List Said) (node : NodeName) (note : List ℕ) → drop n all ≡ line ∷ others → joined_in line ≡ Some (node, note) → has_node (connected_of all) node ≡ true
+has_joined : (all : List Stated) (n : ℕ) (line : Stated) (others : List Stated) (node : NodeName) (note : List ℕ) → drop n all ≡ line ∷ others → joined_in line ≡ Some (node, note) → has_node (connected_of all) node ≡ true
 has_joined [] zero line others node note e j = absurd (cc)
 has_joined [] (suc n) line others node note e j = absurd (cc)
 has_joined (l ∷ ls) zero line others node note e j =
@@ -182,7 +182,7 @@ has_joined (l ∷ ls) zero line others node note e j =
     ap (λ o. has_node (map (λ r. r.0) (cons_option o (filter_map joined_in ls))) node) (ap joined_in same ∙ j) ∙ counted_here node note (filter_map joined_in ls)
 has_joined (l ∷ ls) (suc n) line others node note e j = counted_later node (joined_in l) (filter_map joined_in ls) (has_joined ls n line others node note e j)
 
-pub is_counted : (all : List Said) (n : ℕ) (line : Said) (others : List Said) → drop n all ≡ line ∷ others → IsCounted (connected_of all) line
+pub is_counted : (all : List Stated) (n : ℕ) (line : Stated) (others : List Stated) → drop n all ≡ line ∷ others → IsCounted (connected_of all) line
 is_counted all n (Err kind) others e = tt
 is_counted all n (Ok (Opens part)) others e = tt
 is_counted all n (Ok Nothing) others e = tt
@@ -193,7 +193,7 @@ is_counted all n (Ok (Coupling a b value)) others e = tt
 is_counted all n (Ok (Resistor a b value)) others e = tt
 
 -- before the first line
-pub no_lines : (connected : List NodeName) (start : NetNodes) → start.nodes ≡ distinct connected → IsSketch connected start.net [] (start_of start)
+pub no_lines : (connected : List NodeName) (start : NetNodes) → start.nodes ≡ distinct connected → IsPartialNet connected start.net [] (start_of start)
 no_lines connected start e = record {
   nodes = e ∙ ap distinct (sym (append-nil connected));
   own = λ node. ap (λ ns. has_node ns node || Rattle.spef_nodes.specs.Members.is_inner start.net node) e ∙ ap (λ b. b || Rattle.spef_nodes.specs.Members.is_inner start.net node) (has-distinct connected node);
@@ -214,7 +214,7 @@ known fault SelfCoupled h = inr h
 known fault (Number f) h = inr h
 
 -- the first faulty line, from what is known of the lines before it
-pub first_fault : (net : List ℕ) (all : List Said) (n first : ℕ) (line : Said) (kind : NetKind) → n < length all → get_or all n (Ok Nothing) ≡ line → IsClear (fault_at net all) n
+pub first_fault : (net : List ℕ) (all : List Stated) (n first : ℕ) (line : Stated) (kind : NetKind) → n < length all → get_or all n (Ok Nothing) ≡ line → IsClear (fault_at net all) n
     → IsFaultOrMemory (fault_of (connected_of all) net (take n all) line) kind → (kind ≡ Memory) ⊎ IsFirstFaultIn net all first (record { kind = kind; line = first + n })
 first_fault net all n first line kind l e clear f =
     elim (known (fault_of (connected_of all) net (take n all) line) kind f) [

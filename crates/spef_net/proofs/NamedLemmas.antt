@@ -15,12 +15,12 @@ use Rattle.spef_file.proofs.NamesOfLemmas.{looked_up}
 use Rattle.spef_nodes.specs.Members.{with_node}
 use Rattle.spef_nodes.specs.Nodes.{ParNode, noted_all}
 use Rattle.spef_net.specs.Names.{is_own, indexed, owner_in, node_split, node_in}
-use Rattle.spef_net.specs.Sayings.{Said, Opens, Nothing, Connects, Star, Ground, Coupling, Resistor, sayings}
+use Rattle.spef_net.specs.Statements.{Stated, Opens, Nothing, Connects, Star, Ground, Coupling, Resistor, statements}
 use Rattle.spef_net.specs.Rows.{connected_of, own_one, named_in}
-use Rattle.spef_net.specs.Drafts.{Sketch, IsSketch}
+use Rattle.spef_net.specs.Builders.{PartialNet, IsPartialNet}
 use Rattle.spef_net.specs.Nets.{in_line, IsNamed}
 use Rattle.spef_net.proofs.SizeLemmas.{all_nil, all_cons, all_head, all_tail}
-use Rattle.spef_net.proofs.SaidLemmas.{Fine, AreFine, IsLine, sayings_fine}
+use Rattle.spef_net.proofs.StatementLemmas.{Fine, AreFine, IsLine, statements_fine}
 use Rattle.spef_net.proofs.JoinedLemmas.{all_from, noted_at}
 
 -- an owner and a leaf can be words
@@ -77,7 +77,7 @@ module _ (N : NodeName → Type 0) (M : List ℕ → Type 0) (file : File) where
   one_own false a b f g = g
 
   -- the nodes of lines are such where their words name such
-  named_fine : (connected : List NodeName) (net : List ℕ) (line : Said) → Fine N M file line → All N (named_in connected net line)
+  named_fine : (connected : List NodeName) (net : List ℕ) (line : Stated) → Fine N M file line → All N (named_in connected net line)
   named_fine connected net (Err kind) h = all_nil N
   named_fine connected net (Ok (Opens part)) h = all_nil N
   named_fine connected net (Ok Nothing) h = all_nil N
@@ -91,12 +91,12 @@ module _ (N : NodeName → Type 0) (M : List ℕ → Type 0) (file : File) where
   all_append [] ys h k = k
   all_append (x ∷ xs) ys h k = all_cons N x (xs ++ ys) (all_head N x xs h) (all_append xs ys (all_tail N x xs h) k)
 
-  all_named : (connected : List NodeName) (net : List ℕ) (all : List Said) → All (Fine N M file) all → All N (flat_map (named_in connected net) all)
+  all_named : (connected : List NodeName) (net : List ℕ) (all : List Stated) → All (Fine N M file) all → All N (flat_map (named_in connected net) all)
   all_named connected net [] h = all_nil N
   all_named connected net (line ∷ all) h =
       all_append (named_in connected net line) (flat_map (named_in connected net) all) (named_fine connected net line (all_head (Fine N M file) line all h)) (all_named connected net all (all_tail (Fine N M file) line all h))
 
-  joined_fine : (all : List Said) → All (Fine N M file) all → All N (connected_of all)
+  joined_fine : (all : List Stated) → All (Fine N M file) all → All N (connected_of all)
   joined_fine [] h = all_nil N
   joined_fine (Err kind ∷ all) h = joined_fine all (all_tail (Fine N M file) (Err kind) all h)
   joined_fine (Ok (Opens part) ∷ all) h = joined_fine all (all_tail (Fine N M file) (Ok (Opens part)) all h)
@@ -115,24 +115,24 @@ module _ (N : NodeName → Type 0) (M : List ℕ → Type 0) (file : File) where
   fold_fine [] xs h k = k
   fold_fine (y ∷ ys) xs h k = fold_fine ys (with_node xs y) (all_tail N y ys h) (with_fine (has_node xs y) xs y k (all_head N y ys h))
 
-  pub nodes_fine : (net : List ℕ) (all : List Said) (draft : Sketch) → IsSketch (connected_of all) net all draft → AreFine N M file all → All N draft.nodes
-  nodes_fine net all draft s h =
+  pub nodes_fine : (net : List ℕ) (all : List Stated) (builder : PartialNet) → IsPartialNet (connected_of all) net all builder → AreFine N M file all → All N builder.nodes
+  nodes_fine net all builder s h =
       subst (All N) (sym s.nodes) (fold_fine (connected_of all ++ flat_map (named_in (connected_of all) net) all) []
       (all_append (connected_of all) (flat_map (named_in (connected_of all) net) all) (joined_fine all h.lines) (all_named (connected_of all) net all h.lines)) (all_nil N))
 
--- the nodes of a draft have names that can be words
-pub nodes_named : (net : List ℕ) (file : File) (ls : List (List ℕ)) (draft : Sketch) → All (AllPass in_line) ls → All (λ row. IsPrintable row.1) file.names
-    → IsSketch (connected_of (sayings file ls)) net (sayings file ls) draft → All IsNamed (noted_all draft.nodes draft.notes)
-nodes_named net file ls draft inside names s =
+-- the nodes of a builder have names that can be words
+pub nodes_named : (net : List ℕ) (file : File) (ls : List (List ℕ)) (builder : PartialNet) → All (AllPass in_line) ls → All (λ row. IsPrintable row.1) file.names
+    → IsPartialNet (connected_of (statements file ls)) net (statements file ls) builder → All IsNamed (noted_all builder.nodes builder.notes)
+nodes_named net file ls builder inside names s =
     let some : List ℕ → Type 0 = λ _. Unit {0} in
     let here : (line : List ℕ) → AllPass in_line line → IsLine IsNodeName some file line (words line) = λ line h. record {
       names = λ k d l. record { name = λ node e. node_named file (get_or (words line) k d) node names (words_solid line h k d l) e };
       notes = record { conn = λ tag node direction rest name way e f g h. tt; star = λ tag node rest name e f g. tt };
     } in
-    let fine = nodes_fine IsNodeName some file net (sayings file ls) draft s (sayings_fine IsNodeName some file ls (λ k d l. here (get_or ls k d) (inside k d l))) in
-    all_from IsNamed (noted_all draft.nodes draft.notes) (λ i node at.
-    let n = noted_at draft.nodes draft.notes i node at in
-    let low = slice_get_within draft.nodes i n.name n.at in
-    let is : get_or draft.nodes i n.name ≡ n.name = same_Some _ _ (sym (slice_get-get_or draft.nodes i n.name low) ∙ n.at) in
+    let fine = nodes_fine IsNodeName some file net (statements file ls) builder s (statements_fine IsNodeName some file ls (λ k d l. here (get_or ls k d) (inside k d l))) in
+    all_from IsNamed (noted_all builder.nodes builder.notes) (λ i node at.
+    let n = noted_at builder.nodes builder.notes i node at in
+    let low = slice_get_within builder.nodes i n.name n.at in
+    let is : get_or builder.nodes i n.name ≡ n.name = same_Some _ _ (sym (slice_get-get_or builder.nodes i n.name low) ∙ n.at) in
     let h : IsNodeName node.name = subst IsNodeName (is ∙ sym (ap (λ (m : ParNode). m.name) n.is)) (fine i n.name low) in
     (h.owner, h.leaf))

@@ -10,11 +10,11 @@ use Rattle.spef_file.specs.Files.{File}
 use Rattle.spef_nodes.specs.Members.{with_node, Owns}
 use Rattle.spef_nodes.specs.Members.{is_inner}
 use Rattle.spef_nodes.proofs.NodeTableLemmas.{slice_get_front, with_there, same_refl}
-use Rattle.spef_nodes.proofs.NodeLists.{slice_get-with_node}
+use Rattle.spef_nodes.proofs.NodeListLemmas.{slice_get-with_node}
 use Rattle.spef_nodes.proofs.ApartLemmas.{has_at}
 use Rattle.spef_net.specs.NodeReaders.{SeesNode}
 use Rattle.spef_net.specs.Names.{node_in}
-use Rattle.spef_net.specs.Drafts.{Sketch}
+use Rattle.spef_net.specs.Builders.{PartialNet}
 use Rattle.spef_net.specs.Sights.{Sees, SeesTwo, two_in}
 use Rattle.spef_net.specs.declared.node_reader.Known.{Known}
 use Rattle.spef_net.specs.NodeReaders.{IsKnown, AreKnown}
@@ -55,7 +55,7 @@ pub owned_within : (net : List ℕ) (old new : List NodeName) (node : NodeName) 
 owned_within net old new node id (known, at, is) = slice_get_within new id node (ap (λ ns. slice_get ns id) is ∙ at)
 
 -- two texts, one after the other
-pub seen_two : (file mid_file : File) (net mid_net : List ℕ) → mid_file ≡ file → mid_net ≡ net → (first second : Option ℕ) (old mid new : Sketch) (a b : List ℕ)
+pub seen_two : (file mid_file : File) (net mid_net : List ℕ) → mid_file ≡ file → mid_net ≡ net → (first second : Option ℕ) (old mid new : PartialNet) (a b : List ℕ)
     → Sees (Ok first) net old (node_in file a) mid → Sees (Ok second) mid_net mid (node_in mid_file b) new → SeesTwo (Ok (first, second)) net old (two_in file a b) new
 seen_two file mid_file net mid_net f n first second old mid new a b (x, e, owns) s =
     let (y, g, later) = subst (λ (p : File × List ℕ). Sees (Ok second) p.1 mid (node_in p.0 b) new) (λ i. (f i, n i)) s in

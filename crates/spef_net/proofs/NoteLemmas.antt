@@ -10,12 +10,12 @@ use Rattle.vg_scan.specs.declared.name.NodeName.{NodeName}
 use Rattle.spef_file.specs.Files.{File}
 use Rattle.spef_nodes.specs.Nodes.{ParNode, text_of, noted_all}
 use Rattle.spef_net.specs.Lines.{is_space, is_solid, after_word, after_words, trimmed, note_after}
-use Rattle.spef_net.specs.Sayings.{Said, Opens, Nothing, Connects, Star, Ground, Coupling, Resistor, sayings}
+use Rattle.spef_net.specs.Statements.{Stated, Opens, Nothing, Connects, Star, Ground, Coupling, Resistor, statements}
 use Rattle.spef_net.specs.Rows.{joined_in, starred_in, joined_of, starred_of, connected_of}
-use Rattle.spef_net.specs.Drafts.{Sketch, IsSketch, note_from}
+use Rattle.spef_net.specs.Builders.{PartialNet, IsPartialNet, note_from}
 use Rattle.spef_net.specs.Nets.{in_line, IsNote}
 use Rattle.spef_net.proofs.SizeLemmas.{all_nil, all_cons, all_head, all_tail, all_filter_map}
-use Rattle.spef_net.proofs.SaidLemmas.{Fine, IsLine, sayings_fine}
+use Rattle.spef_net.proofs.StatementLemmas.{Fine, IsLine, statements_fine}
 use Rattle.spef_net.proofs.JoinedLemmas.{all_from, noted_at}
 
 line_take : (n : ℕ) (text : List ℕ) → AllPass in_line text → AllPass in_line (take n text)
@@ -98,7 +98,7 @@ no_note = record { one_line = all_nil _; begins = λ l. absurd (omega arith); en
 abbrev any_node : NodeName → Type 0
 any_node node = Unit {0}
 
-joined_note : (file : File) (line : Said) (row : NodeName × List ℕ) → Fine any_node IsNote file line → joined_in line ≡ Some row → IsNote row.1
+joined_note : (file : File) (line : Stated) (row : NodeName × List ℕ) → Fine any_node IsNote file line → joined_in line ≡ Some row → IsNote row.1
 joined_note file (Err kind) row h e = absurd (cc)
 joined_note file (Ok (Opens part)) row h e = absurd (cc)
 joined_note file (Ok Nothing) row h e = absurd (cc)
@@ -108,7 +108,7 @@ joined_note file (Ok (Ground node value)) row h e = absurd (cc)
 joined_note file (Ok (Coupling a b value)) row h e = absurd (cc)
 joined_note file (Ok (Resistor a b value)) row h e = absurd (cc)
 
-starred_note : (file : File) (line : Said) (row : NodeName × List ℕ) → Fine any_node IsNote file line → starred_in line ≡ Some row → IsNote row.1
+starred_note : (file : File) (line : Stated) (row : NodeName × List ℕ) → Fine any_node IsNote file line → starred_in line ≡ Some row → IsNote row.1
 starred_note file (Err kind) row h e = absurd (cc)
 starred_note file (Ok (Opens part)) row h e = absurd (cc)
 starred_note file (Ok Nothing) row h e = absurd (cc)
@@ -132,18 +132,18 @@ from_note None None f g = no_note
 from_note None (Some note) f g = g note refl
 from_note (Some note) s f g = f note refl
 
--- the notes of a draft
-pub notes_are : (net : List ℕ) (file : File) (ls : List (List ℕ)) (draft : Sketch) → All (AllPass in_line) ls
-    → IsSketch (connected_of (sayings file ls)) net (sayings file ls) draft → All (λ node. IsNote node.note) (noted_all draft.nodes draft.notes)
-notes_are net file ls draft inside s =
+-- the notes of a builder
+pub notes_are : (net : List ℕ) (file : File) (ls : List (List ℕ)) (builder : PartialNet) → All (AllPass in_line) ls
+    → IsPartialNet (connected_of (statements file ls)) net (statements file ls) builder → All (λ node. IsNote node.note) (noted_all builder.nodes builder.notes)
+notes_are net file ls builder inside s =
     let here : (line : List ℕ) → AllPass in_line line → IsLine any_node IsNote file line (words line) = λ line h. record {
       names = λ k d l. record { name = λ node e. tt };
       notes = record { conn = λ tag node direction rest name way e f g i. note_is 3 line h; star = λ tag node rest name e f g. note_is 2 line h };
     } in
-    let fine = (sayings_fine any_node IsNote file ls (λ k d l. here (get_or ls k d) (inside k d l))).lines in
-    let js = all_filter_map (λ (row : NodeName × List ℕ). IsNote row.1) (Fine any_node IsNote file) joined_in (sayings file ls) (joined_note file) fine in
-    let ss = all_filter_map (λ (row : NodeName × List ℕ). IsNote row.1) (Fine any_node IsNote file) starred_in (sayings file ls) (starred_note file) fine in
-    all_from (λ (node : ParNode). IsNote node.note) (noted_all draft.nodes draft.notes) (λ i node at.
-    let n = noted_at draft.nodes draft.notes i node at in
-    let h = from_note (node_value (joined_of (sayings file ls)) n.name) (node_value (starred_of (sayings file ls)) n.name) (λ note e. value_note (joined_of (sayings file ls)) n.name note js e) (λ note e. value_note (starred_of (sayings file ls)) n.name note ss e) in
+    let fine = (statements_fine any_node IsNote file ls (λ k d l. here (get_or ls k d) (inside k d l))).lines in
+    let js = all_filter_map (λ (row : NodeName × List ℕ). IsNote row.1) (Fine any_node IsNote file) joined_in (statements file ls) (joined_note file) fine in
+    let ss = all_filter_map (λ (row : NodeName × List ℕ). IsNote row.1) (Fine any_node IsNote file) starred_in (statements file ls) (starred_note file) fine in
+    all_from (λ (node : ParNode). IsNote node.note) (noted_all builder.nodes builder.notes) (λ i node at.
+    let n = noted_at builder.nodes builder.notes i node at in
+    let h = from_note (node_value (joined_of (statements file ls)) n.name) (node_value (starred_of (statements file ls)) n.name) (λ note e. value_note (joined_of (statements file ls)) n.name note js e) (λ note e. value_note (starred_of (statements file ls)) n.name note ss e) in
     subst IsNote (sym (ap (λ (m : ParNode). m.note) n.is ∙ ap text_of (s.noted.here i n.name n.at))) h)

@@ -10,9 +10,9 @@ use Rattle.vg_scan.specs.declared.name.NodeName.{NodeName}
 use Rattle.vg_scan.specs.Nodes.{same_node, has_node, node_value}
 use Rattle.spef_nodes.specs.Members.{with_node}
 use Rattle.spef_nodes.specs.Nodes.{Note, fresh, joined, starred, note_at, is_joined, is_starred}
-use Rattle.spef_net.specs.Drafts.{note_from, noted_by, AreNoted}
-use Rattle.spef_nodes.proofs.NodeLists.{same_is, has-with_node}
-use Rattle.spef_net.proofs.RowLists.{value-last, value-again}
+use Rattle.spef_net.specs.Builders.{note_from, noted_by, AreNoted}
+use Rattle.spef_nodes.proofs.NodeListLemmas.{same_is, has-with_node}
+use Rattle.spef_net.proofs.RowListLemmas.{value-last, value-again}
 use Rattle.spef_nodes.proofs.NodeTableLemmas.{slice_get_front, slice_get_last}
 use Rattle.spef_nodes.proofs.ApartLemmas.{one_number, has_at}
 use Rattle.spef_nodes.specs.Members.{AreApart}

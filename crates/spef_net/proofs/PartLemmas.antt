@@ -14,30 +14,30 @@ use Rattle.vg_scan.specs.declared.fault.LineFault.{LineFault}
 use Rattle.spef_net.specs.declared.fault.NetKind.{NetKind}
 use Rattle.spef_net.specs.declared.fault.NetKind.TheVariants.{Memory}
 use Rattle.spef_net.specs.declared.net.ParNet.{ParNet}
-use Rattle.spef_net.specs.Sayings.{Said, sayings, sayings_from}
+use Rattle.spef_net.specs.Statements.{Stated, statements, statements_from}
 use Rattle.spef_net.specs.Faults.{IsFaultless, IsFirstFaultIn}
 use Rattle.spef_net.specs.Denoted.{IsNet}
-use Rattle.spef_net.specs.Sections.{sayings_in, IsNetOf, IsFaultOf}
+use Rattle.spef_net.specs.Sections.{statements_in, IsNetOf, IsFaultOf}
 
-nothing_said : (file : File) → sayings file (lines []) ≡ []
-unfolding sayings_from
+nothing_said : (file : File) → statements file (lines []) ≡ []
+unfolding statements_from
 nothing_said file = refl
 
-pub reduced_sayings : (text : List ℕ) (file : File) (head : NetHead) → head.reduced ≡ true → sayings file (lines []) ≡ sayings_in text file head
-reduced_sayings text file head e = nothing_said file ∙ sym (ap (λ t. cond t [] (sayings file (lines_after text head.line))) e)
+pub reduced_statements : (text : List ℕ) (file : File) (head : NetHead) → head.reduced ≡ true → statements file (lines []) ≡ statements_in text file head
+reduced_statements text file head e = nothing_said file ∙ sym (ap (λ t. cond t [] (statements file (lines_after text head.line))) e)
 
-pub read_sayings : (text inner : List ℕ) (file : File) (head : NetHead) → head.reduced ≡ false → lines inner ≡ lines_after text head.line → sayings file (lines inner) ≡ sayings_in text file head
-read_sayings text inner file head e f = ap (sayings file) f ∙ sym (ap (λ t. cond t [] (sayings file (lines_after text head.line))) e)
+pub read_statements : (text inner : List ℕ) (file : File) (head : NetHead) → head.reduced ≡ false → lines inner ≡ lines_after text head.line → statements file (lines inner) ≡ statements_in text file head
+read_statements text inner file head e f = ap (statements file) f ∙ sym (ap (λ t. cond t [] (statements file (lines_after text head.line))) e)
 
-pub net_of : (text : List ℕ) (file : File) (head : NetHead) (reduced : Bool) (all : List Said) (r : Result ParNet (LineFault NetKind)) → head.reduced ≡ reduced → all ≡ sayings_in text file head
+pub net_of : (text : List ℕ) (file : File) (head : NetHead) (reduced : Bool) (all : List Stated) (r : Result ParNet (LineFault NetKind)) → head.reduced ≡ reduced → all ≡ statements_in text file head
     → IfOk r (λ net. IsFaultless head.name all) → IfOk r (IsNet head.name reduced all) → IfOk r (IsNetOf text file head)
 net_of text file head reduced all (Ok net) e f h k = record {
   faultless = subst (IsFaultless head.name) f h;
-  denoted = subst (λ t. IsNet head.name t (sayings_in text file head) net) (sym e) (subst (λ ss. IsNet head.name reduced ss net) f k);
+  denoted = subst (λ t. IsNet head.name t (statements_in text file head) net) (sym e) (subst (λ ss. IsNet head.name reduced ss net) f k);
 }
 net_of text file head reduced all (Err fault) e f h k = tt
 
-pub fault_of_part : (text : List ℕ) (file : File) (head : NetHead) (all : List Said) (r : Result ParNet (LineFault NetKind)) → all ≡ sayings_in text file head
+pub fault_of_part : (text : List ℕ) (file : File) (head : NetHead) (all : List Stated) (r : Result ParNet (LineFault NetKind)) → all ≡ statements_in text file head
     → IfErr r (λ fault. (fault.kind ≡ Memory) ⊎ IsFirstFaultIn head.name all (head.line + 1) fault) → IfErr r (λ fault. (fault.kind ≡ Memory) ⊎ IsFaultOf text file head fault)
 fault_of_part text file head all r f h = subst (λ ss. IfErr r (λ fault. (fault.kind ≡ Memory) ⊎ IsFirstFaultIn head.name ss (head.line + 1) fault)) f h
 

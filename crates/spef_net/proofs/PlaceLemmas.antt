@@ -5,7 +5,7 @@ use Rattle.std.specs.List.{slice_split, position, position_or_len}
 use Rattle.std.proofs.lemmas.List.Splits.{slice_split_first, length-slice_split}
 use Rattle.vg_num.specs.declared.fault.NumFault.TheVariants.{Form}
 use Rattle.vg_scan.proofs.LineLemmas as scan
-use Rattle.spef_net.specs.Sayings.{value_of_parts}
+use Rattle.spef_net.specs.Statements.{value_of_parts}
 
 pub first_at : (p : ℕ → Bool) (xs : List ℕ) (i : ℕ) → position p xs ≡ Some i → (position_or_len p xs ≡ i) × (i < length xs)
 first_at p xs i e = scan.first_at p xs i e

@@ -19,11 +19,11 @@ use Rattle.spef_net.specs.declared.net.Direction.{Direction}
 use Rattle.spef_net.specs.declared.net.ParNet.{ParNet}
 use Rattle.spef_net.specs.declared.part.Part.{Part}
 use Rattle.spef_net.specs.declared.part.Part.TheVariants.{Nowhere, Conns, Caps, Ress, Inducs}
-use Rattle.spef_net.specs.Sayings.{Opens, Nothing, Connects, Star, Ground, Coupling, Resistor}
+use Rattle.spef_net.specs.Statements.{Opens, Nothing, Connects, Star, Ground, Coupling, Resistor}
 use Rattle.vg_scan.specs.Nodes.{has_node}
 use Rattle.spef_nodes.specs.Members.{with_node}
 use Rattle.spef_net.specs.Lines.{head_of}
-use Rattle.spef_net.specs.Sayings.{Said, is_colon, middle, value_of_parts, value_in, is_at, ground, coupling, resistor, cap_line, res_line, conn_line, connection, connected, star, starred, said_in, said_or_opens, said_words, said, part_after, sayings_from, sayings}
+use Rattle.spef_net.specs.Statements.{Stated, is_colon, middle, value_of_parts, value_in, is_at, ground, coupling, resistor, cap_line, res_line, conn_line, connection, connected, star, starred, statement_in, statement_or_opens, statement_of_words, statement_of, part_after, statements_from, statements}
 use Rattle.spef_net.specs.Rows.{joined_in, joined_of, connected_of, cap_in, caps_of, res_in, ress_of, named_in}
 use Rattle.spef_net.specs.Denoted.{cap_at, res_at, AreCaps, AreRess, all_nodes, IsNet}
 use Rattle.spef_net.specs.Nets.{IsCapOf, IsResOf}
@@ -73,7 +73,7 @@ unfolding value_in
 small_value places text = parts_value places (slice_split is_colon text)
 
 -- so is that of a line
-record IsSmall (line : Said) : Type 0 where
+record IsSmall (line : Stated) : Type 0 where
   ground : (node : NodeName) (v : ℕ) → line ≡ Ok (Ground node (Ok v)) → v ≤ 10 ^ 15
   coupling : (a b : NodeName) (v : ℕ) → line ≡ Ok (Coupling a b (Ok v)) → v ≤ 10 ^ 15
   resistor : (a b : NodeName) (v : ℕ) → line ≡ Ok (Resistor a b (Ok v)) → v ≤ 10 ^ 15
@@ -81,7 +81,7 @@ record IsSmall (line : Said) : Type 0 where
 no_value : (kind : NetKind) → IsSmall (Err kind)
 no_value kind = record { ground = λ node v e. absurd (cc); coupling = λ a b v e. absurd (cc); resistor = λ a b v e. absurd (cc) }
 
-abbrev AreSame : Said → Said → Type 0
+abbrev AreSame : Stated → Stated → Type 0
 AreSame a b = a ≡ b
 
 ground_is : (n m : NodeName) (value : Result ℕ NumFault) (v : ℕ) → AreSame (Ok (Ground n value)) (Ok (Ground m (Ok v))) → value ≡ Ok v
@@ -140,13 +140,13 @@ res_small file (a ∷ b ∷ c ∷ d ∷ []) = resistor_small _ _ (small_value _ 
 res_small file (a ∷ b ∷ c ∷ d ∷ e ∷ es) = no_value Res
 
 -- a line of connections has no value
-abbrev IsValueless : Said → Type 0
+abbrev IsValueless : Stated → Type 0
 IsValueless (Ok (Ground _ _)) = ⊥
 IsValueless (Ok (Coupling _ _ _)) = ⊥
 IsValueless (Ok (Resistor _ _ _)) = ⊥
 IsValueless _ = Unit {0}
 
-valueless : (line : Said) → IsValueless line → IsSmall line
+valueless : (line : Stated) → IsValueless line → IsSmall line
 valueless (Err kind) h = no_value kind
 valueless (Ok (Opens part)) h = record { ground = λ node v e. absurd (cc); coupling = λ a b v e. absurd (cc); resistor = λ a b v e. absurd (cc) }
 valueless (Ok Nothing) h = record { ground = λ node v e. absurd (cc); coupling = λ a b v e. absurd (cc); resistor = λ a b v e. absurd (cc) }
@@ -156,10 +156,10 @@ valueless (Ok (Ground n value)) h = absurd h
 valueless (Ok (Coupling a b value)) h = absurd h
 valueless (Ok (Resistor a b value)) h = absurd h
 
-record IsFree (line : Said) : Type 0 where
+record IsFree (line : Stated) : Type 0 where
   none : IsValueless line
 
-free_if : (t : Bool) (a b : Said) → IsFree a → IsFree b → IsFree (cond t a b)
+free_if : (t : Bool) (a b : Stated) → IsFree a → IsFree b → IsFree (cond t a b)
 free_if true a b f g = f
 free_if false a b f g = g
 
@@ -189,21 +189,21 @@ conn_free file line (tag ∷ rest) =
     (free_if (bytes_eq tag (codes "*P")) _ _ (connection_free file Port line rest)
     (free_if (bytes_eq tag (codes "*N")) (star file line rest) (Err Conn) (star_free file line rest) (record { none = tt })))
 
-in_small : (part : Part) (file : File) (line : List ℕ) (ws : Line) → IsSmall (said_in part file line ws)
+in_small : (part : Part) (file : File) (line : List ℕ) (ws : Line) → IsSmall (statement_in part file line ws)
 in_small Nowhere file line ws = no_value Conn
 in_small Conns file line ws = valueless (conn_line file line ws) (conn_free file line ws).none
 in_small Caps file line ws = cap_small file ws
 in_small Ress file line ws = res_small file ws
 in_small Inducs file line ws = valueless (Ok Nothing) tt
 
-opens_small : (part : Option Part) (line : Said) → IsSmall line → IsSmall (said_or_opens part line)
+opens_small : (part : Option Part) (line : Stated) → IsSmall line → IsSmall (statement_or_opens part line)
 opens_small (Some part) line h = valueless (Ok (Opens part)) tt
 opens_small None line h = h
 
-words_small : (file : File) (part : Part) (line : List ℕ) (ws : Line) → IsSmall (said_words file part line ws)
-unfolding said_words
+words_small : (file : File) (part : Part) (line : List ℕ) (ws : Line) → IsSmall (statement_of_words file part line ws)
+unfolding statement_of_words
 words_small file part line [] = valueless (Ok Nothing) tt
-words_small file part line (word ∷ rest) = opens_small (head_of (word ∷ rest)) (said_in part file line (word ∷ rest)) (in_small part file line (word ∷ rest))
+words_small file part line (word ∷ rest) = opens_small (head_of (word ∷ rest)) (statement_in part file line (word ∷ rest)) (in_small part file line (word ∷ rest))
 
 -- lists
 
@@ -221,18 +221,18 @@ pub all_tail : {X : Type 0} (P : X → Type 0) (x : X) (xs : List X) → All P (
 all_tail P x xs h = λ k d l. h (suc k) d (omega arith)
 
 -- all lines of a section are small
-record AreSmall (all : List Said) : Type 0 where
+record AreSmall (all : List Stated) : Type 0 where
   lines : All IsSmall all
 
-sayings_small : (file : File) (part : Part) (ls : List (List ℕ)) → AreSmall (sayings_from file part ls)
-unfolding sayings_from
-sayings_small file part [] = record { lines = all_nil IsSmall }
-sayings_small file part (line ∷ ls) = record { lines = all_cons IsSmall _ _ (words_small file part line (words line)) (sayings_small file (part_after part (said file part line)) ls).lines }
+statements_small : (file : File) (part : Part) (ls : List (List ℕ)) → AreSmall (statements_from file part ls)
+unfolding statements_from
+statements_small file part [] = record { lines = all_nil IsSmall }
+statements_small file part (line ∷ ls) = record { lines = all_cons IsSmall _ _ (words_small file part line (words line)) (statements_small file (part_after part (statement_of file part line)) ls).lines }
 
-length-sayings : (file : File) (part : Part) (ls : List (List ℕ)) → length (sayings_from file part ls) ≡ length ls
-unfolding sayings_from
-length-sayings file part [] = refl
-length-sayings file part (line ∷ ls) = ap suc (length-sayings file (part_after part (said file part line)) ls)
+length-statements : (file : File) (part : Part) (ls : List (List ℕ)) → length (statements_from file part ls) ≡ length ls
+unfolding statements_from
+length-statements file part [] = refl
+length-statements file part (line ∷ ls) = ap suc (length-statements file (part_after part (statement_of file part line)) ls)
 
 length-cons_option : {X : Type 0} (o : Option X) (xs : List X) → length (cons_option o xs) ≤ length xs + 1
 length-cons_option None xs = omega arith
@@ -250,7 +250,7 @@ length-fold-with_node : (xs nodes : List NodeName) → length (fold with_node no
 length-fold-with_node [] nodes = omega arith
 length-fold-with_node (x ∷ xs) nodes = omega (arith, length-fold-with_node xs (with_node nodes x), with_node_if (has_node nodes x) nodes x)
 
-named_few : (connected : List NodeName) (net : List ℕ) (line : Said) → length (named_in connected net line) ≤ 2
+named_few : (connected : List NodeName) (net : List ℕ) (line : Stated) → length (named_in connected net line) ≤ 2
 named_few connected net (Err kind) = omega arith
 named_few connected net (Ok (Opens part)) = omega arith
 named_few connected net (Ok Nothing) = omega arith
@@ -260,19 +260,19 @@ named_few connected net (Ok (Ground node value)) = omega arith
 named_few connected net (Ok (Coupling a b value)) = omega arith
 named_few connected net (Ok (Resistor a b value)) = omega arith
 
-length-named : (connected : List NodeName) (net : List ℕ) (all : List Said) → length (flat_map (named_in connected net) all) ≤ 2 * length all
+length-named : (connected : List NodeName) (net : List ℕ) (all : List Stated) → length (flat_map (named_in connected net) all) ≤ 2 * length all
 length-named connected net [] = omega arith
 length-named connected net (line ∷ all) =
     omega (arith, length-append (named_in connected net line) (flat_map (named_in connected net) all), named_few connected net line, length-named connected net all)
 
-length-all_nodes : (net : List ℕ) (all : List Said) → length (all_nodes net all) ≤ 3 * length all
+length-all_nodes : (net : List ℕ) (all : List Stated) → length (all_nodes net all) ≤ 3 * length all
 length-all_nodes net all =
     let c : length (connected_of all) ≤ length all = omega (arith, length-map (joined_of all) (λ row. row.0), length-filter_map-le joined_in all) in
     omega (arith, length-fold-with_node (connected_of all ++ flat_map (named_in (connected_of all) net) all) [], length-append (connected_of all) (flat_map (named_in (connected_of all) net) all), c, length-named (connected_of all) net all)
 
 -- rows
 
-cap_small_in : (connected : List NodeName) (net : List ℕ) (line : Said) (row : NodeName × ℕ) → IsSmall line → cap_in connected net line ≡ Some row → row.1 ≤ 10 ^ 15
+cap_small_in : (connected : List NodeName) (net : List ℕ) (line : Stated) (row : NodeName × ℕ) → IsSmall line → cap_in connected net line ≡ Some row → row.1 ≤ 10 ^ 15
 cap_small_in connected net (Err kind) row h e = absurd (cc)
 cap_small_in connected net (Ok (Opens part)) row h e = absurd (cc)
 cap_small_in connected net (Ok Nothing) row h e = absurd (cc)
@@ -284,7 +284,7 @@ cap_small_in connected net (Ok (Coupling a b (Ok v))) row h e = (let f : v ≡ r
 cap_small_in connected net (Ok (Coupling a b (Err fault))) row h e = absurd (cc)
 cap_small_in connected net (Ok (Resistor a b value)) row h e = absurd (cc)
 
-res_small_in : (line : Said) (row : NodeName × NodeName × ℕ) → IsSmall line → res_in line ≡ Some row → row.2 ≤ 10 ^ 15
+res_small_in : (line : Stated) (row : NodeName × NodeName × ℕ) → IsSmall line → res_in line ≡ Some row → row.2 ≤ 10 ^ 15
 res_small_in (Err kind) row h e = absurd (cc)
 res_small_in (Ok (Opens part)) row h e = absurd (cc)
 res_small_in (Ok Nothing) row h e = absurd (cc)
@@ -340,14 +340,14 @@ length-as : {A B C : Type 0} (f : A → C) (g : B → C) (xs : List A) (ys : Lis
 length-as f g xs ys e = sym (length-map xs f) ∙ ap length e ∙ length-map ys g
 
 -- the values of lines
-pub cap_values : (connected : List NodeName) (net : List ℕ) (file : File) (ls : List (List ℕ)) → All (λ row. row.1 ≤ 10 ^ 15) (caps_of connected net (sayings file ls))
-cap_values connected net file ls = all_filter_map (λ row. row.1 ≤ 10 ^ 15) IsSmall (cap_in connected net) (sayings file ls) (cap_small_in connected net) (sayings_small file Nowhere ls).lines
+pub cap_values : (connected : List NodeName) (net : List ℕ) (file : File) (ls : List (List ℕ)) → All (λ row. row.1 ≤ 10 ^ 15) (caps_of connected net (statements file ls))
+cap_values connected net file ls = all_filter_map (λ row. row.1 ≤ 10 ^ 15) IsSmall (cap_in connected net) (statements file ls) (cap_small_in connected net) (statements_small file Nowhere ls).lines
 
-pub res_values : (file : File) (ls : List (List ℕ)) → All (λ row. row.2 ≤ 10 ^ 15) (ress_of (sayings file ls))
-res_values file ls = all_filter_map (λ row. row.2 ≤ 10 ^ 15) IsSmall res_in (sayings file ls) res_small_in (sayings_small file Nowhere ls).lines
+pub res_values : (file : File) (ls : List (List ℕ)) → All (λ row. row.2 ≤ 10 ^ 15) (ress_of (statements file ls))
+res_values file ls = all_filter_map (λ row. row.2 ≤ 10 ^ 15) IsSmall res_in (statements file ls) res_small_in (statements_small file Nowhere ls).lines
 
 -- the net of few lines is sized
-sized_net : (name : List ℕ) (reduced : Bool) (all : List Said) (net : ParNet) → length all ≤ 2 ^ 28 → IsNet name reduced all net → IsSized net
+sized_net : (name : List ℕ) (reduced : Bool) (all : List Stated) (net : ParNet) → length all ≤ 2 ^ 28 → IsNet name reduced all net → IsSized net
 sized_net name reduced all net few is =
     let nodes = all_nodes name all in
     let n : length net.nodes ≡ length nodes = ap length is.nodes ∙ length-map nodes _ in
@@ -357,5 +357,5 @@ sized_net name reduced all net few is =
       res_count = omega (arith, length-as (res_at nodes) (λ row. (Some row.0, Some row.1, row.2)) net.ress (ress_of all) is.ress, length-filter_map-le res_in all);
     }
 
-pub section_sized : (name : List ℕ) (reduced : Bool) (file : File) (ls : List (List ℕ)) (net : ParNet) → length ls ≤ 2 ^ 28 → IsNet name reduced (sayings file ls) net → IsSized net
-section_sized name reduced file ls net few is = sized_net name reduced (sayings file ls) net (omega (arith, length-sayings file Nowhere ls)) is
+pub section_sized : (name : List ℕ) (reduced : Bool) (file : File) (ls : List (List ℕ)) (net : ParNet) → length ls ≤ 2 ^ 28 → IsNet name reduced (statements file ls) net → IsSized net
+section_sized name reduced file ls net few is = sized_net name reduced (statements file ls) net (omega (arith, length-statements file Nowhere ls)) is

@@ -9,7 +9,7 @@ use Rattle.spef_net.specs.declared.net.ParConn.{ParConn}
 use Rattle.spef_nodes.specs.Nodes.{ParNode}
 use Rattle.spef_net.specs.declared.net.ParNet.{ParNet}
 use Rattle.vg_scan.specs.Nodes.{node_value}
-use Rattle.spef_net.specs.Sayings.{Said}
+use Rattle.spef_net.specs.Statements.{Stated}
 use Rattle.spef_net.specs.Rows.{joined_of, starred_of, connected_of, conns_of, caps_of, ress_of, nodes_of, is_inductive}
 
 -- a node with its note: its connection's, or that of its first `*N` line
@@ -40,11 +40,11 @@ AreCaps nodes caps rows = map (cap_at nodes) caps ≡ map (λ row. (Some row.0, 
 abbrev pub AreRess : List NodeName → List (ℕ × ℕ × ℕ) → List (NodeName × NodeName × ℕ) → Type 0
 AreRess nodes ress rows = map (res_at nodes) ress ≡ map (λ row. (Some row.0, Some row.1, row.2)) rows
 
-abbrev pub all_nodes : List ℕ → List Said → List NodeName
+abbrev pub all_nodes : List ℕ → List Stated → List NodeName
 all_nodes net lines = nodes_of (connected_of lines) net lines
 
 -- the net of this name is what the lines denote
-pub record IsNet (name : List ℕ) (reduced : Bool) (lines : List Said) (net : ParNet) : Type 0 where
+pub record IsNet (name : List ℕ) (reduced : Bool) (lines : List Stated) (net : ParNet) : Type 0 where
   pub named : net.name ≡ name
   pub nodes : net.nodes ≡ map (described (joined_of lines) (starred_of lines)) (all_nodes name lines)
   pub conns : AreConns (all_nodes name lines) net.conns (conns_of lines)

@@ -4,13 +4,13 @@ pub mod ConnLines
 pub mod Names
 pub mod NodeReaders
 pub mod Lines
-pub mod Sayings
+pub mod Statements
 pub mod Rows
 pub mod Faults
 pub mod Denoted
 pub mod Sections
 pub mod Views
-pub mod Drafts
+pub mod Builders
 pub mod Sights
-pub mod Surveys
+pub mod Connections
 pub mod Laws

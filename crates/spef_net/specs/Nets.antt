@@ -7,7 +7,7 @@ use Rattle.spef_nodes.specs.Members.{is_inner}
 use Rattle.spef_nodes.specs.Nodes.{ParNode}
 use Rattle.spef_net.specs.declared.net.ParConn.{ParConn}
 use Rattle.spef_net.specs.Lines.{is_space}
-use Rattle.spef_net.specs.Sayings.{is_at}
+use Rattle.spef_net.specs.Statements.{is_at}
 
 -- the owner of a node can be a word, and its leaf has no blank and no newline
 abbrev pub IsNamed : ParNode → Type 0

@@ -7,22 +7,22 @@ use Rattle.spef_file.specs.Indexes.{lines_after}
 use Rattle.vg_scan.specs.declared.fault.LineFault.{LineFault}
 use Rattle.spef_net.specs.declared.fault.NetKind.{NetKind}
 use Rattle.spef_net.specs.declared.net.ParNet.{ParNet}
-use Rattle.spef_net.specs.Sayings.{Said, sayings}
+use Rattle.spef_net.specs.Statements.{Stated, statements}
 use Rattle.spef_net.specs.Faults.{IsFaultless, IsFirstFaultIn}
 use Rattle.spef_net.specs.Denoted.{IsNet}
 
 -- what the lines of a net say whose head is this; those of a reduced net are not read
-abbrev pub sayings_in : List ℕ → File → NetHead → List Said
-sayings_in text file head = if head.reduced then [] else sayings file (lines_after text head.line)
+abbrev pub statements_in : List ℕ → File → NetHead → List Stated
+statements_in text file head = if head.reduced then [] else statements file (lines_after text head.line)
 
 -- the net of a head
 pub record IsNetOf (text : List ℕ) (file : File) (head : NetHead) (net : ParNet) : Type 0 where
-  pub faultless : IsFaultless head.name (sayings_in text file head)
-  pub denoted : IsNet head.name head.reduced (sayings_in text file head) net
+  pub faultless : IsFaultless head.name (statements_in text file head)
+  pub denoted : IsNet head.name head.reduced (statements_in text file head) net
 
 -- or its first fault, with the number of its line in the file
 abbrev pub IsFaultOf : List ℕ → File → NetHead → LineFault NetKind → Type 0
-IsFaultOf text file head fault = IsFirstFaultIn head.name (sayings_in text file head) (head.line + 1) fault
+IsFaultOf text file head fault = IsFirstFaultIn head.name (statements_in text file head) (head.line + 1) fault
 
 -- the same of the head at a place of the file's nets
 abbrev pub IsNetAt : List ℕ → File → ℕ → ParNet → Type 0

@@ -1,7 +1,7 @@
 -- Names as texts spell them.
 use Rattle.std.specs.List.{slice_split}
 use Rattle.vg_num.specs.declared.fault.NumFault.TheVariants.{Form}
-use Rattle.spef_net.specs.Sayings.{is_colon, value_of_parts}
+use Rattle.spef_net.specs.Statements.{is_colon, value_of_parts}
 use Rattle.std.specs.Prelude.{◌≡◌, ℕ, ℤ, [], ◌∷◌, ◌==◌, ◌||◌, not, Bool, true, false, slice_index, List, Option, Some, None, Result, Ok, Err, if◌then◌else◌}
 use Rattle.vg_scan.specs.declared.chars.Chars.{Chars}
 use Rattle.vg_scan.specs.declared.fault.NameFault.{NameFault}

@@ -1,9 +1,9 @@
 //! Lines of connections.
 
 ghost use Rattle.std.specs.Prelude.{◌≡◌, Some};
-ghost use Rattle.spef_file.specs.Shown.{shown};
+ghost use Rattle.spef_file.specs.IndexFiles.{file_of};
 ghost use Rattle.spef_net.specs.Lines.{note_after};
-ghost use Rattle.spef_net.specs.Sayings.{direction_in, is_at, connected, connection, star, conn_line};
+ghost use Rattle.spef_net.specs.Statements.{direction_in, is_at, connected, connection, star, conn_line};
 ghost use Rattle.spef_net.specs.Spellings.{named_by};
 ghost use Rattle.spef_net.specs.ConnLines.{Tells};
 ghost use Rattle.vg_scan.specs.Spans.{part_at, words_at};
@@ -77,7 +77,7 @@ fn connection<'a>(
     line: &'a [u8],
     words: &[Span],
 ) -> Result<ConnLine<'a>, NetKind>
-    ensures { Tells result line.now (connection (shown index.now) kind line.now (words_at line.now words.now)) }
+    ensures { Tells result line.now (connection (file_of index.now) kind line.now (words_at line.now words.now)) }
 {
     let [node, direction, ..] = words else {
         return Err(NetKind::Conn);
@@ -96,7 +96,7 @@ fn star<'a>(
     line: &'a [u8],
     words: &[Span],
 ) -> Result<ConnLine<'a>, NetKind>
-    ensures { Tells result line.now (star (shown index.now) line.now (words_at line.now words.now)) }
+    ensures { Tells result line.now (star (file_of index.now) line.now (words_at line.now words.now)) }
 {
     let [node, ..] = words else {
         return Err(NetKind::Conn);
@@ -111,14 +111,14 @@ fn star<'a>(
 /// A line of connections, but for its note.
 ///
 /// Answers `Conn` where its form or its name is no such line's, and `Memory` where there is no room.
-#[tactic(auto, unfolding(crate::specs::Sayings::conn_line))]
+#[tactic(auto, unfolding(crate::specs::Statements::conn_line))]
 pub(crate) fn read_conn<'a>(
     alloc: Global,
     index: &'a SpefIndex,
     line: &'a [u8],
     words: &[Span],
 ) -> Result<ConnLine<'a>, NetKind>
-    ensures { Tells result line.now (conn_line (shown index.now) line.now (words_at line.now words.now)) }
+    ensures { Tells result line.now (conn_line (file_of index.now) line.now (words_at line.now words.now)) }
 {
     if words.is_empty() {
         return Err(NetKind::Conn);

@@ -4,42 +4,42 @@ ghost use Rattle.std.specs.Prelude.{◌≡◌, ◌^◌, ◌≤◌, length, IfOk,
 ghost use Rattle.std.specs.List.{All};
 ghost use Rattle.std.specs.Str.Lines.{lines};
 ghost use Rattle.vg_scan.specs.Printed.{IsPrintable};
-ghost use Rattle.spef_file.specs.Shown.{shown};
-ghost use Rattle.spef_net.specs.Sayings.{sayings};
+ghost use Rattle.spef_file.specs.IndexFiles.{file_of};
+ghost use Rattle.spef_net.specs.Statements.{statements};
 ghost use Rattle.spef_net.specs.Faults.{IsFaultless, IsFirstFaultIn};
 ghost use Rattle.spef_net.specs.Denoted.{IsNet};
 ghost use Rattle.spef_net.specs.Sections.{IsSized};
-ghost use Rattle.spef_net.specs.Drafts.{IsMade};
+ghost use Rattle.spef_net.specs.Builders.{IsMade};
 ghost use Rattle.spef_net.specs.Nets.{IsSound};
 ghost use Rattle.spef_nodes.specs.Nodes.{noted_all};
 ghost use Rattle.spef_net.specs.declared.fault.NetKind.TheVariants.{Memory};
 
-use crate::draft::Draft;
+use crate::builder::NetBuilder;
 use crate::fault::{NetFault, NetKind};
 use crate::net::ParNet;
 use crate::read::read_lines;
-use crate::survey::read_connections;
+use crate::connections::read_connections;
 use spef_file::SpefIndex;
 use spef_nodes::Nodes;
 use std::alloc::Global;
 use vg_num::{Memory as NoRoom, Row};
 use vg_scan::Name;
 
-/// The net of a draft.
-fn finish(alloc: Global, net: &[u8], reduced: bool, draft: Draft) -> Result<ParNet, NoRoom>
-    requires { IsSound net.now (noted_all draft.nodes draft.notes) draft.conns draft.caps draft.ress }
-    ensures { IfOk result (λ par. IsMade net.now reduced draft.entry par) }
+/// The net of a builder.
+fn finish(alloc: Global, net: &[u8], reduced: bool, builder: NetBuilder) -> Result<ParNet, NoRoom>
+    requires { IsSound net.now (noted_all builder.nodes builder.notes) builder.conns builder.caps builder.ress }
+    ensures { IfOk result (λ par. IsMade net.now reduced builder.entry par) }
 {
     let name = Name::from_bytes(alloc, net)?;
-    let (owners, leaves) = draft.nodes.into_nodes().into_names();
+    let (owners, leaves) = builder.nodes.into_nodes().into_names();
     Ok(ParNet {
         name,
-        nodes: Nodes::new(owners, leaves, draft.notes),
-        conns: Row::from_vec(draft.conns),
-        caps: Row::from_vec(draft.caps),
-        ress: Row::from_vec(draft.ress),
+        nodes: Nodes::new(owners, leaves, builder.notes),
+        conns: Row::from_vec(builder.conns),
+        caps: Row::from_vec(builder.caps),
+        ress: Row::from_vec(builder.ress),
         reduced,
-        inductive: draft.inductive,
+        inductive: builder.inductive,
     })
 }
 
@@ -62,10 +62,10 @@ pub(crate) fn read_section(
     requires count { length (lines bytes.now) ≤ 2 ^ 28 }
     requires named { IsPrintable net.now }
     requires mapped { All (λ row. IsPrintable row.1) index.now.map }
-    ensures faultless { IfOk result (λ _. IsFaultless net.now (sayings (shown index.now) (lines bytes.now))) }
-    ensures net { IfOk result (λ par. IsNet net.now reduced (sayings (shown index.now) (lines bytes.now)) par) }
+    ensures faultless { IfOk result (λ _. IsFaultless net.now (statements (file_of index.now) (lines bytes.now))) }
+    ensures net { IfOk result (λ par. IsNet net.now reduced (statements (file_of index.now) (lines bytes.now)) par) }
     ensures sized { IfOk result IsSized }
-    ensures fault { IfErr result (λ fault. (fault.kind ≡ Memory) ⊎ IsFirstFaultIn net.now (sayings (shown index.now) (lines bytes.now)) first fault) }
+    ensures fault { IfErr result (λ fault. (fault.kind ≡ Memory) ⊎ IsFirstFaultIn net.now (statements (file_of index.now) (lines bytes.now)) first fault) }
 {
     match read_connections(alloc, index, net, bytes) {
         Err(_) => Err(NetFault {
@@ -74,7 +74,7 @@ pub(crate) fn read_section(
         }),
         Ok(nodes) => match read_lines(alloc, nodes, bytes, first) {
             Err(fault) => Err(fault),
-            Ok(draft) => match finish(alloc, net, reduced, draft) {
+            Ok(builder) => match finish(alloc, net, reduced, builder) {
                 Err(_) => Err(NetFault {
                     kind: NetKind::Memory,
                     line: first,

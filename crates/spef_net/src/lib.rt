@@ -2,7 +2,7 @@
 #![tactic(auto)]
 
 mod conn_line;
-mod draft;
+mod builder;
 mod fault;
 mod finish;
 mod laws;
@@ -13,7 +13,7 @@ mod node_reader;
 mod part;
 mod read;
 mod section;
-mod survey;
+mod connections;
 mod take;
 mod value;
 

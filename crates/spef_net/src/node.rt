@@ -3,7 +3,7 @@
 ghost use Rattle.std.specs.Prelude.{◌≡◌, ◌==◌, ◌<◌, true, [], length, Some, IfSome};
 ghost use Rattle.std.specs.List.{list_all};
 ghost use Rattle.vg_scan.specs.Names.{canonical, last_bare};
-ghost use Rattle.spef_file.specs.Shown.{shown};
+ghost use Rattle.spef_file.specs.IndexFiles.{file_of};
 ghost use Rattle.vg_scan.specs.Nodes.{node_of_parts};
 ghost use Rattle.spef_net.specs.Names.{owner_in, node_in};
 ghost use Rattle.spef_net.specs.Spellings.{is_itself, IsUnescaped, bytes_of, named_by, Spells, SpellsNode};
@@ -89,7 +89,7 @@ fn owner_of<'a>(
     index: &'a SpefIndex,
     text: &'a [u8],
 ) -> Result<Spelled<'a>, NameFault>
-    ensures { Spells result (owner_in (shown index.now) text.now) }
+    ensures { Spells result (owner_in (file_of index.now) text.now) }
 {
     if !is_reference(text) {
         return canonical(alloc, text, &index.header.chars);
@@ -105,7 +105,7 @@ fn owner_of<'a>(
 
 /// The node of a port: it has no leaf.
 fn port_node<'a>(alloc: Global, index: &'a SpefIndex, text: &'a [u8]) -> Result<Node<'a>, NameFault>
-    ensures { SpellsNode result (node_of_parts (owner_in (shown index.now) text.now) (Some [])) }
+    ensures { SpellsNode result (node_of_parts (owner_in (file_of index.now) text.now) (Some [])) }
 {
     match owner_of(alloc, index, text) {
         Err(NameFault::Bad) => Err(NameFault::Bad),
@@ -124,7 +124,7 @@ fn inner_node<'a>(
     owner: &'a [u8],
     leaf: &'a [u8],
 ) -> Result<Node<'a>, NameFault>
-    ensures { SpellsNode result (node_of_parts (owner_in (shown index.now) owner.now) (canonical index.now.header.chars leaf.now)) }
+    ensures { SpellsNode result (node_of_parts (owner_in (file_of index.now) owner.now) (canonical index.now.header.chars leaf.now)) }
 {
     match owner_of(alloc, index, owner) {
         Err(NameFault::Bad) => Err(NameFault::Bad),
@@ -157,7 +157,7 @@ fn last_of(text: &[u8], byte: u8) -> Option<usize>
 #[tactic(auto, unfolding(crate::specs::Names::owner_in))]
 fn plain_owner<'a>(index: &'a SpefIndex, text: &'a [u8]) -> Result<Spelled<'a>, NameFault>
     requires { list_all (is_itself index.now.header.chars) text.now ≡ true }
-    ensures { Spells result (owner_in (shown index.now) text.now) }
+    ensures { Spells result (owner_in (file_of index.now) text.now) }
 {
     if !is_reference(text) {
         return plain_name(&index.header.chars, text);
@@ -190,7 +190,7 @@ fn plain_parts<'a>(
 ) -> Result<Node<'a>, NameFault>
     requires owner { list_all (is_itself index.now.header.chars) owner.now ≡ true }
     requires leaf { list_all (is_itself index.now.header.chars) leaf.now ≡ true }
-    ensures { SpellsNode result (node_of_parts (owner_in (shown index.now) owner.now) (canonical index.now.header.chars leaf.now)) }
+    ensures { SpellsNode result (node_of_parts (owner_in (file_of index.now) owner.now) (canonical index.now.header.chars leaf.now)) }
 {
     match plain_owner(index, owner) {
         Err(NameFault::Bad) => Err(NameFault::Bad),
@@ -210,7 +210,7 @@ fn plain_node<'a>(
     text: &'a [u8],
 ) -> Result<Node<'a>, NameFault>
     requires { list_all (is_itself index.now.header.chars) text.now ≡ true }
-    ensures { SpellsNode result (node_in (shown index.now) text.now) }
+    ensures { SpellsNode result (node_in (file_of index.now) text.now) }
 {
     match last_of(text, index.header.chars.delimiter) {
         None => port_node(alloc, index, text),
@@ -224,7 +224,7 @@ fn spelled_node<'a>(
     index: &'a SpefIndex,
     text: &'a [u8],
 ) -> Result<Node<'a>, NameFault>
-    ensures { SpellsNode result (node_in (shown index.now) text.now) }
+    ensures { SpellsNode result (node_in (file_of index.now) text.now) }
 {
     match split_node(text, index.header.chars.delimiter) {
         None => port_node(alloc, index, text),
@@ -240,7 +240,7 @@ pub(crate) fn read_node<'a>(
     index: &'a SpefIndex,
     text: &'a [u8],
 ) -> Result<Node<'a>, NameFault>
-    ensures { SpellsNode result (node_in (shown index.now) text.now) }
+    ensures { SpellsNode result (node_in (file_of index.now) text.now) }
 {
     if is_plain(&index.header.chars, text) {
         plain_node(alloc, index, text)

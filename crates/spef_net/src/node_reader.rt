@@ -2,7 +2,7 @@
 
 ghost use Rattle.std.specs.Prelude.{◌≡◌, ◌^◌, ◌<◌, length, Some, IfOk, IfSome, OnOk, OnErr};
 ghost use Rattle.std.specs.List.{slice_get};
-ghost use Rattle.spef_file.specs.Shown.{shown};
+ghost use Rattle.spef_file.specs.IndexFiles.{file_of};
 ghost use Rattle.spef_nodes.specs.Members.{Owns, with_node};
 ghost use Rattle.spef_net.specs.Names.{node_in};
 ghost use Rattle.spef_net.specs.Spellings.{named_by};
@@ -35,14 +35,14 @@ pub(crate) struct NodeReader<'a> {
 }
 
 impl<'a> Model for NodeReader<'a> {
-    ghost use Rattle.spef_file.specs.Shown.{shown};
+    ghost use Rattle.spef_file.specs.IndexFiles.{file_of};
     ghost use Rattle.spef_net.specs.NodeReaders.{NetNodes, AreKnown};
 
     ghost Value = { NetNodes };
 
-    ghost view = { λ reader. record { file = shown reader.index.now; net = reader.net.now; nodes = reader.nodes } };
+    ghost view = { λ reader. record { file = file_of reader.index.now; net = reader.net.now; nodes = reader.nodes } };
 
-    ghost invariant = { λ reader. AreKnown (shown reader.index.now) reader.nodes reader.known.items };
+    ghost invariant = { λ reader. AreKnown (file_of reader.index.now) reader.nodes reader.known.items };
 }
 
 /// The slot of a text among so many. Texts that differ in one number have slots as far apart as their numbers, or an odd
@@ -75,7 +75,7 @@ impl<'a> NodeReader<'a> {
         nodes: NodeTable,
         slots: usize,
     ) -> Result<NodeReader<'a>, Memory>
-        ensures { IfOk result (λ reader. reader ≡ record { file = shown index.now; net = net.now; nodes = nodes }) }
+        ensures { IfOk result (λ reader. reader ≡ record { file = file_of index.now; net = net.now; nodes = nodes }) }
     {
         let known = vec![in alloc; None; slots]?;
         Ok(NodeReader {
@@ -89,7 +89,7 @@ impl<'a> NodeReader<'a> {
 
     /// The index of the file.
     pub fn index(&self) -> &'a SpefIndex
-        ensures { shown result.now ≡ self.now.file }
+        ensures { file_of result.now ≡ self.now.file }
     {
         self.index
     }

@@ -2,15 +2,15 @@
 
 ghost use Rattle.std.specs.Prelude.{◌≡◌, ◌^◌, ◌≤◌, length, OnOk, IfOk, IfErr, ◌⊎◌};
 ghost use Rattle.spef_nodes.specs.Members.{distinct};
-ghost use Rattle.spef_net.specs.Sayings.{said, said_words};
+ghost use Rattle.spef_net.specs.Statements.{statement_of, statement_of_words};
 ghost use Rattle.spef_net.specs.Rows.{connected_of};
 ghost use Rattle.spef_net.specs.Faults.{IsFaultless, IsFirstFaultIn};
-ghost use Rattle.spef_net.specs.Surveys.{said_of};
-ghost use Rattle.spef_net.specs.Drafts.{IsSketch, IsSameSource, Follows};
+ghost use Rattle.spef_net.specs.Connections.{statement_about};
+ghost use Rattle.spef_net.specs.Builders.{IsPartialNet, IsSameSource, Follows};
 ghost use Rattle.vg_scan.specs.Spans.{words_at};
 ghost use Rattle.spef_net.specs.declared.fault.NetKind.TheVariants.{Memory};
 
-use crate::draft::Draft;
+use crate::builder::NetBuilder;
 use crate::fault::{NetFault, NetKind};
 use crate::line::{head_of, line_words};
 use crate::node_reader::NodeReader;
@@ -21,23 +21,23 @@ use vg_scan::{Span, next_line, text_at};
 
 /// Takes a line's words, and says which part is open after it.
 fn take_words<'a>(
-    draft: &mut Draft<'a>,
+    builder: &mut NetBuilder<'a>,
     part: Part,
     line: &'a [u8],
     words: &[Span],
 ) -> Result<Part, NetKind>
-    ensures taken { Follows result draft.old.net part draft.old (said_words draft.old.file part line.now (words_at line.now words.now)) draft.new }
-    ensures source { OnOk result (IsSameSource draft.old draft.new) }
+    ensures taken { Follows result builder.old.net part builder.old (statement_of_words builder.old.file part line.now (words_at line.now words.now)) builder.new }
+    ensures source { OnOk result (IsSameSource builder.old builder.new) }
 {
     if words.is_empty() {
         return Ok(part);
     }
     match head_of(line, words) {
         Some(opened) => {
-            draft.open(opened);
+            builder.open(opened);
             Ok(opened)
         }
-        None => match take_in(draft, part, line, words) {
+        None => match take_in(builder, part, line, words) {
             Err(kind) => Err(kind),
             Ok(()) => Ok(part),
         },
@@ -46,17 +46,17 @@ fn take_words<'a>(
 
 /// The same of a line. The list is to hold its words.
 fn take_line<'a>(
-    draft: &mut Draft<'a>,
+    builder: &mut NetBuilder<'a>,
     part: Part,
     line: &'a [u8],
     found: &mut Vec<Span>,
 ) -> Result<Part, NetKind>
-    ensures taken { Follows result draft.old.net part draft.old (said draft.old.file part line.now) draft.new }
-    ensures source { OnOk result (IsSameSource draft.old draft.new) }
+    ensures taken { Follows result builder.old.net part builder.old (statement_of builder.old.file part line.now) builder.new }
+    ensures source { OnOk result (IsSameSource builder.old builder.new) }
 {
     match line_words(line, found) {
         Err(_) => Err(NetKind::Memory),
-        Ok(()) => take_words(draft, part, line, found.as_slice()),
+        Ok(()) => take_words(builder, part, line, found.as_slice()),
     }
 }
 
@@ -66,22 +66,22 @@ pub(crate) fn read_lines<'a>(
     nodes: NodeReader<'a>,
     bytes: &'a [u8],
     first: usize,
-) -> Result<Draft<'a>, NetFault>
+) -> Result<NetBuilder<'a>, NetFault>
     requires length { length bytes.now ≤ 2 ^ 28 }
     requires first { first ≤ 2 ^ 62 }
-    requires nodes { nodes.nodes ≡ distinct (connected_of (said_of nodes bytes.now)) }
-    ensures faultless { IfOk result (λ _. IsFaultless nodes.entry.net (said_of nodes.entry bytes.now)) }
-    ensures draft { IfOk result (λ draft. IsSketch (connected_of (said_of nodes.entry bytes.now)) nodes.entry.net (said_of nodes.entry bytes.now) draft) }
-    ensures fault { IfErr result (λ fault. (fault.kind ≡ Memory) ⊎ IsFirstFaultIn nodes.entry.net (said_of nodes.entry bytes.now) first fault) }
+    requires nodes { nodes.nodes ≡ distinct (connected_of (statement_about nodes bytes.now)) }
+    ensures faultless { IfOk result (λ _. IsFaultless nodes.entry.net (statement_about nodes.entry bytes.now)) }
+    ensures builder { IfOk result (λ builder. IsPartialNet (connected_of (statement_about nodes.entry bytes.now)) nodes.entry.net (statement_about nodes.entry bytes.now) builder) }
+    ensures fault { IfErr result (λ fault. (fault.kind ≡ Memory) ⊎ IsFirstFaultIn nodes.entry.net (statement_about nodes.entry bytes.now) first fault) }
 {
-    let mut draft = Draft::new(alloc, nodes);
+    let mut builder = NetBuilder::new(alloc, nodes);
     let mut found = Vec::new(alloc);
     let mut part = Part::Nowhere;
     let mut count = 0usize;
     let mut at = 0usize;
     'line: while let Some((line, next)) = next_line(bytes, at) {
         let text = text_at(bytes, line);
-        match take_line(&mut draft, part, text, &mut found) {
+        match take_line(&mut builder, part, text, &mut found) {
             Err(kind) => {
                 return Err(NetFault {
                     kind,
@@ -95,5 +95,5 @@ pub(crate) fn read_lines<'a>(
         count += 1;
         at = next;
     }
-    Ok(draft)
+    Ok(builder)
 }

@@ -5,7 +5,7 @@ ghost use Rattle.std.specs.List.{All};
 ghost use Rattle.vg_scan.specs.Printed.{IsPrintable};
 ghost use Rattle.spef_file.specs.Views.{head_in};
 ghost use Rattle.spef_file.specs.Indexes.{IsIndexOf, IsSectionOf};
-ghost use Rattle.spef_file.specs.Shown.{shown};
+ghost use Rattle.spef_file.specs.IndexFiles.{file_of};
 ghost use Rattle.spef_net.specs.Sections.{IsNetOf, IsFaultOf, IsNetAt, IsFaultAt, IsSized};
 ghost use Rattle.spef_net.specs.declared.fault.NetKind.TheVariants.{Memory};
 
@@ -26,9 +26,9 @@ fn read_part(
     requires section { IsSectionOf text.now section }
     requires named { IsPrintable name.now }
     requires mapped { All (λ row. IsPrintable row.1) index.now.map }
-    ensures net { IfOk result (IsNetOf text.now (shown index.now) (head_in (name.now, section))) }
+    ensures net { IfOk result (IsNetOf text.now (file_of index.now) (head_in (name.now, section))) }
     ensures sized { IfOk result IsSized }
-    ensures fault { IfErr result (λ fault. (fault.kind ≡ Memory) ⊎ IsFaultOf text.now (shown index.now) (head_in (name.now, section)) fault) }
+    ensures fault { IfErr result (λ fault. (fault.kind ≡ Memory) ⊎ IsFaultOf text.now (file_of index.now) (head_in (name.now, section)) fault) }
 {
     let first = section.line as usize + 1;
     if section.reduced {
@@ -52,9 +52,9 @@ pub fn read_net(
 ) -> Result<ParNet, NetFault>
     requires index { IsIndexOf text.now index.now }
     requires at { at < length index.now.sections }
-    ensures net { IfOk result (IsNetAt text.now (shown index.now) at) }
+    ensures net { IfOk result (IsNetAt text.now (file_of index.now) at) }
     ensures sized { IfOk result IsSized }
-    ensures fault { IfErr result (λ fault. (fault.kind ≡ Memory) ⊎ IsFaultAt text.now (shown index.now) at fault) }
+    ensures fault { IfErr result (λ fault. (fault.kind ≡ Memory) ⊎ IsFaultAt text.now (file_of index.now) at fault) }
 {
     let name = index.sections.name(at);
     let section = index.sections.get(at);

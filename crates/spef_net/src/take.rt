@@ -1,13 +1,13 @@
-//! A line of a part, taken into the draft of a net.
+//! A line of a part, taken into the builder of a net.
 
 ghost use Rattle.std.specs.Prelude.{◌≡◌, Ok, OnOk};
 ghost use Rattle.spef_net.specs.Sights.{ground_in, coupling_in, resistor_in};
-ghost use Rattle.spef_net.specs.Sayings.{conn_line, cap_line, res_line, said_in};
-ghost use Rattle.spef_net.specs.Drafts.{Takes, IsSameSource};
+ghost use Rattle.spef_net.specs.Statements.{conn_line, cap_line, res_line, statement_in};
+ghost use Rattle.spef_net.specs.Builders.{Takes, IsSameSource};
 ghost use Rattle.vg_scan.specs.Spans.{words_at};
 
 use crate::conn_line::{ConnLine, read_conn};
-use crate::draft::Draft;
+use crate::builder::NetBuilder;
 use crate::fault::NetKind;
 use crate::line::{connection_note, star_note};
 use crate::part::Part;
@@ -15,121 +15,121 @@ use crate::value::read_value;
 use vg_scan::{NameFault, Span, text_at};
 
 /// A line of connections.
-fn take_conn<'a>(draft: &mut Draft<'a>, line: &'a [u8], words: &[Span]) -> Result<(), NetKind>
-    ensures taken { Takes result draft.old.net draft.old (conn_line draft.old.file line.now (words_at line.now words.now)) draft.new }
-    ensures source { OnOk result (IsSameSource draft.old draft.new) }
+fn take_conn<'a>(builder: &mut NetBuilder<'a>, line: &'a [u8], words: &[Span]) -> Result<(), NetKind>
+    ensures taken { Takes result builder.old.net builder.old (conn_line builder.old.file line.now (words_at line.now words.now)) builder.new }
+    ensures source { OnOk result (IsSameSource builder.old builder.new) }
 {
-    let nodes = &draft.nodes;
+    let nodes = &builder.nodes;
     match read_conn(nodes.alloc(), nodes.index(), line, words) {
         Err(kind) => Err(kind),
         Ok(ConnLine::Joins(kind, direction, node)) => {
-            draft.join(kind, direction, &node, connection_note(line))
+            builder.join(kind, direction, &node, connection_note(line))
         }
-        Ok(ConnLine::Stars(node)) => draft.star(&node, star_note(line)),
+        Ok(ConnLine::Stars(node)) => builder.star(&node, star_note(line)),
     }
 }
 
 /// A capacitor to the ground, by the texts of its node and its value.
-fn take_ground<'a>(draft: &mut Draft<'a>, node: &'a [u8], value: &[u8]) -> Result<(), NetKind>
-    ensures taken { Takes result draft.old.net draft.old (ground_in draft.old.file node.now value.now) draft.new }
-    ensures source { OnOk result (IsSameSource draft.old draft.new) }
+fn take_ground<'a>(builder: &mut NetBuilder<'a>, node: &'a [u8], value: &[u8]) -> Result<(), NetKind>
+    ensures taken { Takes result builder.old.net builder.old (ground_in builder.old.file node.now value.now) builder.new }
+    ensures source { OnOk result (IsSameSource builder.old builder.new) }
 {
-    let places = draft.nodes.index().header.c_places;
-    match draft.see(node) {
+    let places = builder.nodes.index().header.c_places;
+    match builder.see(node) {
         Err(NameFault::Bad) => Err(NetKind::Cap),
         Err(NameFault::Memory) => Err(NetKind::Memory),
         Ok(None) => Err(NetKind::Foreign),
-        Ok(Some(id)) => draft.add_cap(id, read_value(value, places)),
+        Ok(Some(id)) => builder.add_cap(id, read_value(value, places)),
     }
 }
 
 /// A capacitor between two nodes.
 fn take_coupling<'a>(
-    draft: &mut Draft<'a>,
+    builder: &mut NetBuilder<'a>,
     nodes: (&'a [u8], &'a [u8]),
     value: &[u8],
 ) -> Result<(), NetKind>
-    ensures taken { Takes result draft.old.net draft.old (coupling_in draft.old.file nodes.entry.0.now nodes.entry.1.now value.now) draft.new }
-    ensures source { OnOk result (IsSameSource draft.old draft.new) }
+    ensures taken { Takes result builder.old.net builder.old (coupling_in builder.old.file nodes.entry.0.now nodes.entry.1.now value.now) builder.new }
+    ensures source { OnOk result (IsSameSource builder.old builder.new) }
 {
-    let places = draft.nodes.index().header.c_places;
-    match draft.see_two(nodes) {
+    let places = builder.nodes.index().header.c_places;
+    match builder.see_two(nodes) {
         Err(NameFault::Bad) => Err(NetKind::Cap),
         Err(NameFault::Memory) => Err(NetKind::Memory),
         Ok((None, None)) => Err(NetKind::Foreign),
-        Ok((Some(id), None)) => draft.add_cap(id, read_value(value, places)),
-        Ok((None, Some(id))) => draft.add_cap(id, read_value(value, places)),
+        Ok((Some(id), None)) => builder.add_cap(id, read_value(value, places)),
+        Ok((None, Some(id))) => builder.add_cap(id, read_value(value, places)),
         Ok((Some(_), Some(_))) => Err(NetKind::SelfCoupled),
     }
 }
 
 /// A resistor between two nodes.
 fn take_resistor<'a>(
-    draft: &mut Draft<'a>,
+    builder: &mut NetBuilder<'a>,
     nodes: (&'a [u8], &'a [u8]),
     value: &[u8],
 ) -> Result<(), NetKind>
-    ensures taken { Takes result draft.old.net draft.old (resistor_in draft.old.file nodes.entry.0.now nodes.entry.1.now value.now) draft.new }
-    ensures source { OnOk result (IsSameSource draft.old draft.new) }
+    ensures taken { Takes result builder.old.net builder.old (resistor_in builder.old.file nodes.entry.0.now nodes.entry.1.now value.now) builder.new }
+    ensures source { OnOk result (IsSameSource builder.old builder.new) }
 {
-    let places = draft.nodes.index().header.r_places;
-    match draft.see_two(nodes) {
+    let places = builder.nodes.index().header.r_places;
+    match builder.see_two(nodes) {
         Err(NameFault::Bad) => Err(NetKind::Res),
         Err(NameFault::Memory) => Err(NetKind::Memory),
         Ok((None, _)) => Err(NetKind::Foreign),
         Ok((Some(_), None)) => Err(NetKind::Foreign),
-        Ok((Some(a), Some(b))) => { draft.add_res((a, b), read_value(value, places)) }
+        Ok((Some(a), Some(b))) => { builder.add_res((a, b), read_value(value, places)) }
     }
 }
 
 /// A line of capacitors.
-#[tactic(auto, unfolding(crate::specs::Sayings::cap_line))]
-fn take_cap<'a>(draft: &mut Draft<'a>, line: &'a [u8], words: &[Span]) -> Result<(), NetKind>
-    ensures taken { Takes result draft.old.net draft.old (cap_line draft.old.file (words_at line.now words.now)) draft.new }
-    ensures source { OnOk result (IsSameSource draft.old draft.new) }
+#[tactic(auto, unfolding(crate::specs::Statements::cap_line))]
+fn take_cap<'a>(builder: &mut NetBuilder<'a>, line: &'a [u8], words: &[Span]) -> Result<(), NetKind>
+    ensures taken { Takes result builder.old.net builder.old (cap_line builder.old.file (words_at line.now words.now)) builder.new }
+    ensures source { OnOk result (IsSameSource builder.old builder.new) }
 {
     if words.len() == 3 {
         let node = text_at(line, words[1]);
         let value = text_at(line, words[2]);
-        return take_ground(draft, node, value);
+        return take_ground(builder, node, value);
     }
     let [_, a, b, value] = words else {
         return Err(NetKind::Cap);
     };
     let nodes = (text_at(line, *a), text_at(line, *b));
-    take_coupling(draft, nodes, text_at(line, *value))
+    take_coupling(builder, nodes, text_at(line, *value))
 }
 
 /// A line of resistors.
-#[tactic(auto, unfolding(crate::specs::Sayings::res_line))]
-fn take_res<'a>(draft: &mut Draft<'a>, line: &'a [u8], words: &[Span]) -> Result<(), NetKind>
-    ensures taken { Takes result draft.old.net draft.old (res_line draft.old.file (words_at line.now words.now)) draft.new }
-    ensures source { OnOk result (IsSameSource draft.old draft.new) }
+#[tactic(auto, unfolding(crate::specs::Statements::res_line))]
+fn take_res<'a>(builder: &mut NetBuilder<'a>, line: &'a [u8], words: &[Span]) -> Result<(), NetKind>
+    ensures taken { Takes result builder.old.net builder.old (res_line builder.old.file (words_at line.now words.now)) builder.new }
+    ensures source { OnOk result (IsSameSource builder.old builder.new) }
 {
     let [_, a, b, value] = words else {
         return Err(NetKind::Res);
     };
     let nodes = (text_at(line, *a), text_at(line, *b));
-    take_resistor(draft, nodes, text_at(line, *value))
+    take_resistor(builder, nodes, text_at(line, *value))
 }
 
 /// A line with words that is no head, in this part.
 ///
 /// Answers `Conn`, `Cap`, `Res`, `Foreign`, `SelfCoupled` and `Number` as they say, and `Memory` where there is no room.
 pub(crate) fn take_in<'a>(
-    draft: &mut Draft<'a>,
+    builder: &mut NetBuilder<'a>,
     part: Part,
     line: &'a [u8],
     words: &[Span],
 ) -> Result<(), NetKind>
-    ensures taken { Takes result draft.old.net draft.old (said_in part draft.old.file line.now (words_at line.now words.now)) draft.new }
-    ensures source { OnOk result (IsSameSource draft.old draft.new) }
+    ensures taken { Takes result builder.old.net builder.old (statement_in part builder.old.file line.now (words_at line.now words.now)) builder.new }
+    ensures source { OnOk result (IsSameSource builder.old builder.new) }
 {
     match part {
         Part::Nowhere => Err(NetKind::Conn),
-        Part::Conns => take_conn(draft, line, words),
-        Part::Caps => take_cap(draft, line, words),
-        Part::Ress => take_res(draft, line, words),
+        Part::Conns => take_conn(builder, line, words),
+        Part::Caps => take_cap(builder, line, words),
+        Part::Ress => take_res(builder, line, words),
         Part::Inducs => Ok(()),
     }
 }

@@ -3,7 +3,7 @@
 ghost use Rattle.std.specs.Prelude.{◌≡◌, ◌^◌, ◌≤ℤ◌, ℤ, pos, Some, MatchOption, IfSome, ◌<◌, length};
 ghost use Rattle.std.specs.List.{position};
 ghost use Rattle.vg_num.specs.Number.{scaled};
-ghost use Rattle.spef_net.specs.Sayings.{is_colon, middle, value_in};
+ghost use Rattle.spef_net.specs.Statements.{is_colon, middle, value_in};
 ghost use Rattle.spef_net.specs.Spellings.{IsNoValue, AreParts};
 
 use crate::line::text_from;

@@ -6,7 +6,7 @@ use Rattle.std.specs.Str.{bytes_eq}
 use Rattle.vg_scan.specs.declared.name.NodeName.{NodeName}
 use Rattle.vg_scan.specs.Nodes.{same_node, has_node}
 use Rattle.spef_nodes.specs.Members.{with_node, AreApart}
-use Rattle.spef_nodes.proofs.NodeLists.{same_is, any-last}
+use Rattle.spef_nodes.proofs.NodeListLemmas.{same_is, any-last}
 
 or_left : (a b : Bool) → (a || b) ≡ false → a ≡ false
 or_left true b e = e

@@ -1,4 +1,4 @@
-pub mod NodeLists
+pub mod NodeListLemmas
 pub mod ApartLemmas
 pub mod NodeTableLemmas
 pub mod NoteLemmas

@@ -14,7 +14,7 @@ use Rattle.spef_nodes.specs.NodeTables.{bucket_of, nodes_in, IsTable}
 use Rattle.spef_nodes.specs.Nodes.{ParNode, Note, note_at, noted, noted_all}
 use Rattle.std.proofs.Common.{min, drop}
 use Rattle.std.proofs.lemmas.Int.{clamps}
-use Rattle.spef_nodes.proofs.NodeLists.{same_is}
+use Rattle.spef_nodes.proofs.NodeListLemmas.{same_is}
 
 pub nodes_get : (owners leaves : List (List ℕ)) (at : ℕ) → at < length owners → at < length leaves
     → slice_get (nodes_in owners leaves) at ≡ Some (record { owner = get_or owners at []; leaf = get_or leaves at [] })

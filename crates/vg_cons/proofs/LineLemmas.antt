@@ -11,9 +11,9 @@ use Rattle.vg_scan.proofs.FaultLemmas.{first_fault}
 use Rattle.vg_cons.specs.declared.fault.ConsKind.{ConsKind}
 use Rattle.vg_cons.specs.declared.fault.ConsKind.TheVariants.{Version, Word, Number, Twice, Memory}
 use Rattle.vg_cons.specs.Lines.{Line, lines_of, is_hash, has_words}
-use Rattle.vg_cons.specs.Statements.{Statement, default, required, arrival, want, drive, load, block, said}
+use Rattle.vg_cons.specs.Statements.{Statement, default, required, arrival, want, drive, load, block, statement_of}
 use Rattle.vg_cons.specs.Rows.{Rows, rows_of, first_of, stated, default_in, required_in, arrival_in, want_in, drive_in, load_in, block_in}
-use Rattle.vg_cons.specs.Growth.{no_rows, with_said}
+use Rattle.vg_cons.specs.Growth.{no_rows, with_statement}
 use Rattle.vg_cons.specs.Faults.{fault_after, fault_of, fault_at}
 use Rattle.vg_cons.specs.Views.{IsFaultOrMemory}
 
@@ -71,8 +71,8 @@ or_none None = refl
 or_none (Some x) = refl
 
 -- the rows, with what one line states of each kind
-abbrev grown : Rows → Result Statement ConsKind → Rows
-grown rows s = record {
+abbrev rows_with : Rows → Result Statement ConsKind → Rows
+rows_with rows s = record {
   default = option_or rows.default (first_of (cons_option (default_in s) []));
   required = rows.required ++ cons_option (required_in s) [];
   arrival = rows.arrival ++ cons_option (arrival_in s) [];
@@ -82,23 +82,23 @@ grown rows s = record {
   block = rows.block ++ cons_option (block_in s) [];
 }
 
-grown-with : (rows : Rows) (s : Result Statement ConsKind) → grown rows s ≡ with_said rows s
-grown-with rows (Err kind) = simp (append-nil, or_none)
-grown-with rows (Ok (default t)) = simp append-nil
-grown-with rows (Ok (required row)) = simp (append-nil, or_none)
-grown-with rows (Ok (arrival row)) = simp (append-nil, or_none)
-grown-with rows (Ok (want pin)) = simp (append-nil, or_none)
-grown-with rows (Ok (drive row)) = simp (append-nil, or_none)
-grown-with rows (Ok (load row)) = simp (append-nil, or_none)
-grown-with rows (Ok (block node)) = simp (append-nil, or_none)
+rows_with-with : (rows : Rows) (s : Result Statement ConsKind) → rows_with rows s ≡ with_statement rows s
+rows_with-with rows (Err kind) = simp (append-nil, or_none)
+rows_with-with rows (Ok (default t)) = simp append-nil
+rows_with-with rows (Ok (required row)) = simp (append-nil, or_none)
+rows_with-with rows (Ok (arrival row)) = simp (append-nil, or_none)
+rows_with-with rows (Ok (want pin)) = simp (append-nil, or_none)
+rows_with-with rows (Ok (drive row)) = simp (append-nil, or_none)
+rows_with-with rows (Ok (load row)) = simp (append-nil, or_none)
+rows_with-with rows (Ok (block node)) = simp (append-nil, or_none)
 
-stated-last : {A : Type 0} (kind : Result Statement ConsKind → Option A) (before : List Line) (line : Line) → stated kind (before ++ line ∷ []) ≡ stated kind before ++ cons_option (kind (said line)) []
-stated-last kind before line = filter_map-append (λ l. kind (said l)) before (line ∷ [])
+stated-last : {A : Type 0} (kind : Result Statement ConsKind → Option A) (before : List Line) (line : Line) → stated kind (before ++ line ∷ []) ≡ stated kind before ++ cons_option (kind (statement_of line)) []
+stated-last kind before line = filter_map-append (λ l. kind (statement_of l)) before (line ∷ [])
 
-rows_of-last : (before : List Line) (line : Line) → rows_of (before ++ line ∷ []) ≡ grown (rows_of before) (said line)
+rows_of-last : (before : List Line) (line : Line) → rows_of (before ++ line ∷ []) ≡ rows_with (rows_of before) (statement_of line)
 unfolding rows_of
 rows_of-last before line = λ i. record {
-  default = (ap first_of (stated-last default_in before line) ∙ first_of-append (stated default_in before) (cons_option (default_in (said line)) [])) i;
+  default = (ap first_of (stated-last default_in before line) ∙ first_of-append (stated default_in before) (cons_option (default_in (statement_of line)) [])) i;
   required = stated-last required_in before line i;
   arrival = stated-last arrival_in before line i;
   want = stated-last want_in before line i;
@@ -109,9 +109,9 @@ rows_of-last before line = λ i. record {
 
 -- the rows, one line later
 pub rows_more : (before : List Line) (line : Line) (after : List Line) (old new : Rows) → after ≡ before ++ line ∷ []
-    → old ≡ rows_of before → new ≡ with_said old (said line) → new ≡ rows_of after
+    → old ≡ rows_of before → new ≡ with_statement old (statement_of line) → new ≡ rows_of after
 rows_more before line after old new is o e =
-    e ∙ ap (λ rows. with_said rows (said line)) o ∙ sym (ap rows_of is ∙ rows_of-last before line ∙ grown-with (rows_of before) (said line))
+    e ∙ ap (λ rows. with_statement rows (statement_of line)) o ∙ sym (ap rows_of is ∙ rows_of-last before line ∙ rows_with-with (rows_of before) (statement_of line))
 
 -- the fault of a line, from what is known of those before it
 pub fault_of-after : (before : List Line) (line : Line) (started : Bool) (rows : Rows) → started ≡ list_any has_words before → rows ≡ rows_of before

@@ -6,9 +6,9 @@ use Rattle.std.proofs.lemmas.Slice.Eq.{bytes_eq-Decides}
 use Rattle.std.proofs.lemmas.Bool.Decides.{nat_tests}
 use Rattle.vg_cons.specs.declared.fault.ConsKind.TheVariants.{Word}
 use Rattle.vg_cons.specs.Lines.{Line, has_words, is_heading}
-use Rattle.vg_cons.specs.Statements.{said}
+use Rattle.vg_cons.specs.Statements.{statement_of}
 use Rattle.vg_cons.specs.Rows.{Rows}
-use Rattle.vg_cons.specs.Growth.{with_said}
+use Rattle.vg_cons.specs.Growth.{with_statement}
 use Rattle.vg_cons.specs.Views.{Takes}
 
 pub no_words : {X : Type 0} (f : X → List ℕ) (xs : List X) → eqb (length xs) 0 ≡ true → map f xs ≡ []
@@ -19,12 +19,12 @@ or_false : (b : Bool) → b ≡ (b || false)
 or_false true = refl
 or_false false = refl
 
-said_nothing : said [] ≡ Err Word
-unfolding said
-said_nothing = refl
+states_nothing : statement_of [] ≡ Err Word
+unfolding statement_of
+states_nothing = refl
 
 empty_line : (started : Bool) (old : Rows) → Takes (Ok started) started old old []
-empty_line started old = (refl, or_false started, sym (ap (with_said old) said_nothing))
+empty_line started old = (refl, or_false started, sym (ap (with_statement old) states_nothing))
 
 -- a line without words
 pub takes_empty : (started : Bool) (old : Rows) (line : Line) → line ≡ [] → Takes (Ok started) started old old line
@@ -34,14 +34,14 @@ both : (a b : Bool) → (a && b) ≡ true → a ≡ true
 both true b e = refl
 both false b e = absurd (cc)
 
-said_heading : (line : Line) → is_heading line ≡ true → said line ≡ Err Word
-unfolding said
-said_heading [] e = absurd (cc)
-said_heading (a ∷ []) e = absurd (cc)
-said_heading (a ∷ b ∷ []) e =
+heading_states : (line : Line) → is_heading line ≡ true → statement_of line ≡ Err Word
+unfolding statement_of
+heading_states [] e = absurd (cc)
+heading_states (a ∷ []) e = absurd (cc)
+heading_states (a ∷ b ∷ []) e =
     let k : a ≡ codes "vgcons" = (bytes_eq-Decides a (codes "vgcons")).0 (both (bytes_eq a (codes "vgcons")) (bytes_eq b (codes "1")) e) in
     rw k refl
-said_heading (a ∷ b ∷ c ∷ cs) e = absurd (cc)
+heading_states (a ∷ b ∷ c ∷ cs) e = absurd (cc)
 
 heading_has_words : (line : Line) → is_heading line ≡ true → has_words line ≡ true
 heading_has_words [] e = absurd (cc)
@@ -53,5 +53,5 @@ takes_heading started old line s e =
     let w = heading_has_words line e in (
       rw (s, w) (rw e refl),
       rw (s, w) refl,
-      sym (ap (with_said old) (said_heading line e)),
+      sym (ap (with_statement old) (heading_states line e)),
     )

@@ -6,17 +6,17 @@ use Rattle.vg_scan.specs.Faults.{IsClear, IsFirstFault}
 use Rattle.vg_cons.specs.declared.fault.ConsKind.{ConsKind}
 use Rattle.vg_cons.specs.declared.fault.ConsKind.TheVariants.{Version, Twice}
 use Rattle.vg_cons.specs.Lines.{Line, has_words, is_heading}
-use Rattle.vg_cons.specs.Statements.{Statement, said}
+use Rattle.vg_cons.specs.Statements.{Statement, statement_of}
 use Rattle.vg_cons.specs.Rows.{Rows, rows_of, is_again}
 
 -- the fault of what is stated, given the rows before it
-abbrev pub fault_of_said : Rows → Result Statement ConsKind → Option ConsKind
-fault_of_said rows (Ok statement) = if is_again rows statement then Some Twice else None
-fault_of_said rows (Err kind) = Some kind
+abbrev pub fault_of_statement : Rows → Result Statement ConsKind → Option ConsKind
+fault_of_statement rows (Ok statement) = if is_again rows statement then Some Twice else None
+fault_of_statement rows (Err kind) = Some kind
 
 -- the fault of a line with words: the first one is the heading, and the others state rows
 abbrev pub fault_of_words : Bool → Rows → Line → Option ConsKind
-fault_of_words true rows line = fault_of_said rows (said line)
+fault_of_words true rows line = fault_of_statement rows (statement_of line)
 fault_of_words false rows line = if is_heading line then None else Some Version
 
 -- the fault of a line, given whether a line before it has words, and the rows before it

@@ -18,6 +18,6 @@ with_row rows (drive row) = record rows { drive = rows.drive ++ row ∷ [] }
 with_row rows (load row) = record rows { load = rows.load ++ row ∷ [] }
 with_row rows (block node) = record rows { block = rows.block ++ node ∷ [] }
 
-abbrev pub with_said : Rows → Result Statement ConsKind → Rows
-with_said rows (Ok statement) = with_row rows statement
-with_said rows (Err _) = rows
+abbrev pub with_statement : Rows → Result Statement ConsKind → Rows
+with_statement rows (Ok statement) = with_row rows statement
+with_statement rows (Err _) = rows

@@ -7,7 +7,7 @@ use Rattle.vg_cons.specs.Lines.{Line}
 use Rattle.vg_scan.specs.Nodes.{node_value, has_node}
 use Rattle.vg_scan.specs.declared.name.NodeName.{NodeName}
 use Rattle.vg_cons.specs.Names.{port_value}
-use Rattle.vg_cons.specs.Statements.{Statement, default, required, arrival, want, drive, load, block, said}
+use Rattle.vg_cons.specs.Statements.{Statement, default, required, arrival, want, drive, load, block, statement_of}
 
 pub record Rows : Type 0 where
   pub default : Option ℤ
@@ -49,7 +49,7 @@ block_in _ = None
 
 -- the rows of one kind that some lines state, in order
 abbrev pub stated : {A : Type 0} → (Result Statement ConsKind → Option A) → List Line → List A
-stated kind lines = filter_map (λ line. kind (said line)) lines
+stated kind lines = filter_map (λ line. kind (statement_of line)) lines
 
 abbrev pub first_of : {A : Type 0} → List A → Option A
 first_of [] = None

@@ -93,9 +93,9 @@ block_line (node ∷ []) = of_one block (inner_in node)
 block_line _ = Err Word
 
 -- what a line states, by its first word
-unfoldable pub said : Line → Result Statement ConsKind
-said [] = Err Word
-said (first ∷ words) =
+unfoldable pub statement_of : Line → Result Statement ConsKind
+statement_of [] = Err Word
+statement_of (first ∷ words) =
     if bytes_eq first (codes "default") then default_line words
     else (if bytes_eq first (codes "required") then of_one required (timed words)
     else (if bytes_eq first (codes "arrival") then of_one arrival (timed words)

@@ -6,19 +6,19 @@ use Rattle.vg_cons.specs.declared.fault.ConsKind.TheVariants.{Version, Word, Num
 use Rattle.vg_cons.specs.declared.row.Row.{Row}
 use Rattle.vg_cons.specs.declared.row.Row.TheVariants.{Default, Required, Arrival, Want, Drive, Load, Block}
 use Rattle.vg_cons.specs.Lines.{Line, has_words}
-use Rattle.vg_cons.specs.Statements.{Statement, default, required, arrival, want, drive, load, block, said}
+use Rattle.vg_cons.specs.Statements.{Statement, default, required, arrival, want, drive, load, block, statement_of}
 use Rattle.vg_cons.specs.Rows.{Rows}
-use Rattle.vg_cons.specs.Growth.{with_row, with_said}
-use Rattle.vg_cons.specs.Faults.{fault_of_said, fault_after}
+use Rattle.vg_cons.specs.Growth.{with_row, with_statement}
+use Rattle.vg_cons.specs.Faults.{fault_of_statement, fault_after}
 
-abbrev pub seen : Row → Statement
-seen (Default t) = default t
-seen (Required pin t) = required (pin, t)
-seen (Arrival pin t) = arrival (pin, t)
-seen (Want pin) = want pin
-seen (Drive port r) = drive (port, r)
-seen (Load port c) = load (port, c)
-seen (Block node) = block node
+abbrev pub as_statement : Row → Statement
+as_statement (Default t) = default t
+as_statement (Required pin t) = required (pin, t)
+as_statement (Arrival pin t) = arrival (pin, t)
+as_statement (Want pin) = want pin
+as_statement (Drive port r) = drive (port, r)
+as_statement (Load port c) = load (port, c)
+as_statement (Block node) = block node
 
 -- this fault, or want of memory
 abbrev pub IsFaultOrMemory : Option ConsKind → ConsKind → Type 0
@@ -44,10 +44,10 @@ added_as (Err _) = Err Memory
 
 -- a row is added that was not there, or it was there
 abbrev pub Adds : Result (Unit {0}) ConsKind → Rows → Rows → Statement → Type 0
-Adds (Ok _) old new statement = (fault_of_said old (Ok statement) ≡ None) × (new ≡ with_row old statement)
-Adds (Err kind) old new statement = IsFaultOrMemory (fault_of_said old (Ok statement)) kind
+Adds (Ok _) old new statement = (fault_of_statement old (Ok statement) ≡ None) × (new ≡ with_row old statement)
+Adds (Err kind) old new statement = IsFaultOrMemory (fault_of_statement old (Ok statement)) kind
 
 -- a line is taken after others: the rows with its own, and whether a line has words by now; or its fault
 abbrev pub Takes : Result Bool ConsKind → Bool → Rows → Rows → Line → Type 0
-Takes (Ok now) started old new line = (fault_after started old line ≡ None) × (now ≡ (started || has_words line)) × (new ≡ with_said old (said line))
+Takes (Ok now) started old new line = (fault_after started old line ≡ None) × (now ≡ (started || has_words line)) × (new ≡ with_statement old (statement_of line))
 Takes (Err kind) started old new line = IsFaultOrMemory (fault_after started old line) kind

@@ -2,7 +2,7 @@
 
 ghost use Rattle.std.specs.Prelude.{◌≡◌};
 ghost use Rattle.vg_cons.specs.Statements.{default};
-ghost use Rattle.vg_cons.specs.Views.{Adds, added_as, seen};
+ghost use Rattle.vg_cons.specs.Views.{Adds, added_as, as_statement};
 ghost use Rattle.vg_cons.specs.Rows.{Rows, required_of, arrival_of, wants_inverted_of, drive_of, load_of, is_blocked_of};
 ghost use Rattle.vg_cons.specs.Growth.{no_rows};
 
@@ -66,7 +66,7 @@ impl Constraints {
     ///
     /// Answers `Twice` where there is one of the same kind and name, and `Memory` where there is no room.
     pub(crate) fn add(&mut self, row: Row) -> Result<(), ConsKind>
-        ensures { Adds result self.old self.new (seen row) }
+        ensures { Adds result self.old self.new (as_statement row) }
     {
         match row {
             Row::Default(time) => self.add_default(time),

@@ -6,8 +6,8 @@ ghost use Rattle.std.specs.Str.{bytes_eq};
 ghost use Rattle.vg_scan.specs.Spans.{IsIn, part_at, words_at};
 ghost use Rattle.vg_scan.specs.declared.name.NodeName.{NodeName};
 ghost use Rattle.vg_cons.specs.Lines.{is_hash, is_heading};
-ghost use Rattle.vg_cons.specs.Statements.{said, default_line, timed, want_line, drive_line, load_line, block_line, of_one, required, arrival};
-ghost use Rattle.vg_cons.specs.Views.{Agrees, seen};
+ghost use Rattle.vg_cons.specs.Statements.{statement_of, default_line, timed, want_line, drive_line, load_line, block_line, of_one, required, arrival};
+ghost use Rattle.vg_cons.specs.Views.{Agrees, as_statement};
 
 use crate::fault::ConsKind;
 use crate::names::{inner_of, pin_of, port_of, read_thousandths, read_time};
@@ -52,9 +52,9 @@ pub(crate) fn is_heading(bytes: &[u8], words: &[Span]) -> bool
 /// The row that the words of a line state.
 ///
 /// Answers `Word` and `Number` where they are none, in this order, and `Memory` where there is no room for a name.
-#[tactic(auto, unfolding(crate::specs::Statements::said))]
+#[tactic(auto, unfolding(crate::specs::Statements::statement_of))]
 pub(crate) fn say(alloc: Global, bytes: &[u8], words: &[Span]) -> Result<Row, ConsKind>
-    ensures { Agrees seen result (said (words_at bytes.now words.now)) }
+    ensures { Agrees as_statement result (statement_of (words_at bytes.now words.now)) }
 {
     if words.is_empty() {
         return Err(ConsKind::Word);
@@ -85,7 +85,7 @@ pub(crate) fn say(alloc: Global, bytes: &[u8], words: &[Span]) -> Result<Row, Co
 }
 
 fn say_default(bytes: &[u8], words: &[Span]) -> Result<Row, ConsKind>
-    ensures { Agrees seen result (default_line (words_at bytes.now words.now)) }
+    ensures { Agrees as_statement result (default_line (words_at bytes.now words.now)) }
 {
     let [word, time] = words else {
         return Err(ConsKind::Word);
@@ -109,21 +109,21 @@ fn say_timed(alloc: Global, bytes: &[u8], words: &[Span]) -> Result<(NodeName, i
 }
 
 fn say_required(alloc: Global, bytes: &[u8], words: &[Span]) -> Result<Row, ConsKind>
-    ensures { Agrees seen result (of_one required (timed (words_at bytes.now words.now))) }
+    ensures { Agrees as_statement result (of_one required (timed (words_at bytes.now words.now))) }
 {
     let (pin, time) = say_timed(alloc, bytes, words)?;
     Ok(Row::Required(pin, time))
 }
 
 fn say_arrival(alloc: Global, bytes: &[u8], words: &[Span]) -> Result<Row, ConsKind>
-    ensures { Agrees seen result (of_one arrival (timed (words_at bytes.now words.now))) }
+    ensures { Agrees as_statement result (of_one arrival (timed (words_at bytes.now words.now))) }
 {
     let (pin, time) = say_timed(alloc, bytes, words)?;
     Ok(Row::Arrival(pin, time))
 }
 
 fn say_want(alloc: Global, bytes: &[u8], words: &[Span]) -> Result<Row, ConsKind>
-    ensures { Agrees seen result (want_line (words_at bytes.now words.now)) }
+    ensures { Agrees as_statement result (want_line (words_at bytes.now words.now)) }
 {
     let [pin, word] = words else {
         return Err(ConsKind::Word);
@@ -136,7 +136,7 @@ fn say_want(alloc: Global, bytes: &[u8], words: &[Span]) -> Result<Row, ConsKind
 }
 
 fn say_drive(alloc: Global, bytes: &[u8], words: &[Span]) -> Result<Row, ConsKind>
-    ensures { Agrees seen result (drive_line (words_at bytes.now words.now)) }
+    ensures { Agrees as_statement result (drive_line (words_at bytes.now words.now)) }
 {
     let [port, resistance, delay] = words else {
         return Err(ConsKind::Word);
@@ -148,7 +148,7 @@ fn say_drive(alloc: Global, bytes: &[u8], words: &[Span]) -> Result<Row, ConsKin
 }
 
 fn say_load(alloc: Global, bytes: &[u8], words: &[Span]) -> Result<Row, ConsKind>
-    ensures { Agrees seen result (load_line (words_at bytes.now words.now)) }
+    ensures { Agrees as_statement result (load_line (words_at bytes.now words.now)) }
 {
     let [port, load] = words else {
         return Err(ConsKind::Word);
@@ -159,7 +159,7 @@ fn say_load(alloc: Global, bytes: &[u8], words: &[Span]) -> Result<Row, ConsKind
 }
 
 fn say_block(alloc: Global, bytes: &[u8], words: &[Span]) -> Result<Row, ConsKind>
-    ensures { Agrees seen result (block_line (words_at bytes.now words.now)) }
+    ensures { Agrees as_statement result (block_line (words_at bytes.now words.now)) }
 {
     let [node] = words else {
         return Err(ConsKind::Word);

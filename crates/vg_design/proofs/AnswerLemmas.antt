@@ -1,13 +1,13 @@
 -- A name has one answer.
 use Rattle.std.proofs.Common.{◌≡◌, ℕ, ◌+◌, length, ◌<◌, List, [], ◌∷◌, sym, ap, ◌∙◌, subst, Some, None}
 use Rattle.rc_tree.specs.Answers.{IsTreeOf}
-use Rattle.rc_tree.proofs.OneTree.{one_tree}
+use Rattle.rc_tree.proofs.OneTreeLemmas.{one_tree}
 use Rattle.spef_file.specs.Files.{File}
 use Rattle.spef_file.specs.Nets.{NetHead}
 use Rattle.spef_net.specs.declared.net.ParConn.{ParConn}
 use Rattle.spef_net.specs.declared.net.ParNet.{ParNet}
 use Rattle.spef_net.specs.Sections.{sayings_in, IsNetOf}
-use Rattle.spef_net.proofs.OneNet.{one_net, fault_or_none}
+use Rattle.spef_net.proofs.OneNetLemmas.{one_net, fault_or_none}
 use Rattle.vg_design.specs.Refusals.{number_of, Refuses, PassesUpTo}
 use Rattle.vg_design.specs.Nets.{head_named, IsHeadOf, IsNetNamed, IsNetRefused}
 use Rattle.vg_design.specs.Laws.{OneNet, OneTree, PassedOrRefused}

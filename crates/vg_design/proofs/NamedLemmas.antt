@@ -5,7 +5,7 @@ use Rattle.std.proofs.lemmas.List.Sums.{prefix_len-le-length}
 use Rattle.std.specs.List.{position, position_or_len, slice_get, find}
 use Rattle.std.specs.Str.{bytes_eq}
 use Rattle.spef_file.specs.Indexes.{IsIndexOf}
-use Rattle.spef_file.specs.Shown.{shown}
+use Rattle.spef_file.specs.IndexFiles.{file_of}
 use Rattle.spef_file.specs.Nets.{NetHead}
 use Rattle.spef_file.specs.Tables.{NetRow, names_of}
 use Rattle.spef_file.specs.Views.{head_in, heads_in}
@@ -70,7 +70,7 @@ module _ (text : List ℕ) (index : SpefIndex) (name : List ℕ) (of : IsIndexOf
   none_named e =
       let names = names_of index.sections in
       let h = ltb-false (position_or_len (bytes_eq name) names) (length names) (cond_none (ltb (position_or_len (bytes_eq name) names) (length names)) (position_or_len (bytes_eq name) names) (sym e)) in
-      record { file = shown index; said = of.said; none = no_head name index.sections (omega (arith, h, prefix_le (bytes_eq name) names)) }
+      record { file = file_of index; said = of.said; none = no_head name index.sections (omega (arith, h, prefix_le (bytes_eq name) names)) }
 
   found : (at : ℕ) → Some at ≡ position (bytes_eq name) (names_of index.sections) → IsHeadAt name (heads_in index.sections) at
   found at e =
@@ -80,17 +80,17 @@ module _ (text : List ℕ) (index : SpefIndex) (name : List ℕ) (of : IsIndexOf
       head_at name index.sections at h.1 (omega (arith, h.1, l))
 
   pub net_named : (at : ℕ) (net : ParNet) → Some at ≡ position (bytes_eq name) (names_of index.sections)
-      → ((head : NetHead) → slice_get (shown index).nets at ≡ Some head → IsNetOf text (shown index) head net)
+      → ((head : NetHead) → slice_get (file_of index).nets at ≡ Some head → IsNetOf text (file_of index) head net)
       → IsNetNamed text name net
   net_named at net e reads =
       let f = found at e in
-      record { file = shown index; head = f.head; head_of = record { said = of.said; named = f.first }; read = reads f.head f.is }
+      record { file = file_of index; head = f.head; head_of = record { said = of.said; named = f.first }; read = reads f.head f.is }
 
   pub fault_named : (at : ℕ) (fault : LineFault NetKind) → Some at ≡ position (bytes_eq name) (names_of index.sections)
       → (fault.kind ≡ Memory → ⊥)
-      → (fault.kind ≡ Memory) ⊎ ((head : NetHead) → slice_get (shown index).nets at ≡ Some head → IsFaultOf text (shown index) head fault)
+      → (fault.kind ≡ Memory) ⊎ ((head : NetHead) → slice_get (file_of index).nets at ≡ Some head → IsFaultOf text (file_of index) head fault)
       → IsFaultNamed text name fault
   fault_named at fault e room (inl memory) = absurd (room memory)
   fault_named at fault e room (inr reads) =
       let f = found at e in
-      record { file = shown index; head = f.head; head_of = record { said = of.said; named = f.first }; first = reads f.head f.is }
+      record { file = file_of index; head = f.head; head_of = record { said = of.said; named = f.first }; first = reads f.head f.is }

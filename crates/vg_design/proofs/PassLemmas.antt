@@ -6,7 +6,7 @@ use Rattle.elmore.specs.declared.tree.Node.{Node}
 use Rattle.rc_tree.specs.Answers.{IsTreeOf}
 use Rattle.rc_tree.specs.Chains.{AreJoined}
 use Rattle.rc_tree.specs.Faults.{NoneFloats, HasLoop}
-use Rattle.rc_tree.proofs.OneTree.{one_tree}
+use Rattle.rc_tree.proofs.OneTreeLemmas.{one_tree}
 use Rattle.vg_scan.specs.declared.name.NodeName.{NodeName}
 use Rattle.spef_net.specs.declared.net.ParConn.{ParConn}
 use Rattle.spef_net.specs.declared.net.ParNet.{ParNet}

@@ -1,7 +1,7 @@
-pub mod Caps
-pub mod Clips
-pub mod Nearly
-pub mod Printing
-pub mod Reading
-pub mod Again
+pub mod CapLemmas
+pub mod ClipLemmas
+pub mod NearestLemmas
+pub mod PrintingLemmas
+pub mod ReadingLemmas
+pub mod AgainLemmas
 pub mod PlainLemmas

@@ -8,8 +8,8 @@ use Rattle.std.proofs.Math.Nat.{pow-suc}
 use lib.Signed.{lt_z}
 use lib.IntN.{nat_abs}
 use Rattle.vg_num.specs.Number.{is_digit, value_of, value_after, IsScaled}
-use Rattle.vg_num.proofs.Caps.{value_after-append}
-use Rattle.vg_num.proofs.Again.{split_scaled, no_letters}
+use Rattle.vg_num.proofs.CapLemmas.{value_after-append}
+use Rattle.vg_num.proofs.AgainLemmas.{split_scaled, no_letters}
 
 pub not_below : (z : ℤ) → lt_z z (pos 0) ≡ false → pos (nat_abs z) ≡ z
 not_below (pos n) e = refl

@@ -1,7 +1,7 @@
-pub mod Bare
+pub mod BareLemmas
 pub mod ClearedLemmas
 pub mod LineLemmas
-pub mod Spelled
+pub mod SpelledLemmas
 pub mod WordLemmas
 pub mod FoundLemmas
 pub mod NodeLemmas

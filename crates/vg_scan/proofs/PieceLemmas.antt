@@ -6,13 +6,13 @@ use Rattle.vg_scan.specs.declared.comments.Comments.{Comments}
 use Rattle.vg_scan.specs.declared.comments.Comments.TheVariants.{Spef}
 use Rattle.vg_scan.specs.declared.scan.Scan.TheVariants.{Outside, Quoted, InLine, InBlock}
 use Rattle.vg_scan.specs.Lines.{is_newline}
-use Rattle.vg_scan.specs.Comments.{ends_string, through_string, through_block, piece_length, some_pieces, pieces, blanked, shown, without_comments, StaysOrBlanks}
+use Rattle.vg_scan.specs.Comments.{ends_string, through_string, through_block, piece_length, some_pieces, pieces, blanked, uncommented, without_comments, StaysOrBlanks}
 use Rattle.vg_scan.specs.Clearing.{cleared_in}
 use Rattle.vg_scan.proofs.ClearedLemmas.{eq_of, first_of, second_of, only_blanks, length-cleared}
 
 -- so many bytes of a text are a piece of it
 abbrev IsPiece : List ℕ → ℕ → Type 0
-IsPiece text k = cleared_in Outside text ≡ shown (take k text) ++ cleared_in Outside (drop k text)
+IsPiece text k = cleared_in Outside text ≡ uncommented (take k text) ++ cleared_in Outside (drop k text)
 
 choose : (t : Bool) (text : List ℕ) (x y : ℕ) → (t ≡ true → IsPiece text x) → (t ≡ false → IsPiece text y) → IsPiece text (cond t x y)
 choose true text x y f g = f refl
@@ -31,7 +31,7 @@ unfolding cleared_in
 quoted [] = refl
 quoted (b ∷ bs) = string_step ((b == 34) || (b == 10)) b (position_or_len ends_string bs) bs (quoted bs)
 
-shown_other : (b : ℕ) (bs : List ℕ) → eqb b 47 ≡ false → shown (b ∷ bs) ≡ b ∷ bs
+shown_other : (b : ℕ) (bs : List ℕ) → eqb b 47 ≡ false → uncommented (b ∷ bs) ≡ b ∷ bs
 shown_other b [] e = refl
 shown_other b (c ∷ bs) e = rw e refl
 
@@ -109,19 +109,19 @@ some b [] = omega arith
 some b (c ∷ bs) =
     either (b == 92) _ _ (omega arith) (either (b == 34) _ _ (omega arith) (either ((b == 47) && (c == 47)) _ _ (omega arith) (either ((b == 47) && (c == 42)) _ _ (omega arith) (omega arith))))
 
-all_shown : (n : ℕ) (text : List ℕ) → length text ≤ n → cleared_in Outside text ≡ flat_map shown (some_pieces n text)
+all_uncommented : (n : ℕ) (text : List ℕ) → length text ≤ n → cleared_in Outside text ≡ flat_map uncommented (some_pieces n text)
 unfolding cleared_in some_pieces
-all_shown zero [] l = refl
-all_shown zero (b ∷ bs) l = absurd (omega arith)
-all_shown (suc n) [] l = refl
-all_shown (suc n) (b ∷ bs) l =
+all_uncommented zero [] l = refl
+all_uncommented zero (b ∷ bs) l = absurd (omega arith)
+all_uncommented (suc n) [] l = refl
+all_uncommented (suc n) (b ∷ bs) l =
     let k = piece_length (b ∷ bs) in
-    first_piece b bs ∙ ap (λ xs. shown (take k (b ∷ bs)) ++ xs) (all_shown n (drop k (b ∷ bs)) (omega (arith, length-drop k (b ∷ bs), some b bs)))
+    first_piece b bs ∙ ap (λ xs. uncommented (take k (b ∷ bs)) ++ xs) (all_uncommented n (drop k (b ∷ bs)) (omega (arith, length-drop k (b ∷ bs), some b bs)))
 
 -- a scan from the text's start on makes the comments blank
 pub cleared_is : (text : List ℕ) → cleared_in Outside text ≡ without_comments Spef text
 unfolding without_comments pieces
-cleared_is text = all_shown (length text) text (omega arith)
+cleared_is text = all_uncommented (length text) text (omega arith)
 
 pub comments_only_blank : (kind : Comments) (text : List ℕ) → AllZip StaysOrBlanks text (without_comments kind text)
 comments_only_blank Spef text = subst (AllZip StaysOrBlanks text) (cleared_is text) (only_blanks Outside text).holds

@@ -60,12 +60,12 @@ abbrev pub blanked : ℕ → ℕ
 blanked b = if b == 10 then 10 else 32
 
 -- a piece, blank where it is a comment
-abbrev pub shown : List ℕ → List ℕ
-shown piece = if is_comment piece then map blanked piece else piece
+abbrev pub uncommented : List ℕ → List ℕ
+uncommented piece = if is_comment piece then map blanked piece else piece
 
 -- a text whose comments are blank
 unfoldable pub without_comments : Comments → List ℕ → List ℕ
-without_comments Spef text = flat_map shown (pieces text)
+without_comments Spef text = flat_map uncommented (pieces text)
 
 -- a byte stays, or it is no newline and becomes a space
 abbrev pub StaysOrBlanks : ℕ → ℕ → Type 0

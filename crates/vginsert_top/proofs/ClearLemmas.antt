@@ -12,7 +12,7 @@ use Rattle.spef_file.specs.Files.{File, IsFileOf, IsFileFault}
 use Rattle.spef_file.proofs.LawLemmas.{file_along, fault_along, lines_along}
 use Rattle.spef_file.specs.Indexes.{lines_after}
 use Rattle.spef_net.specs.Sections.{sayings_in, IsNetOf, IsFaultOf}
-use Rattle.spef_net.specs.Sayings.{sayings}
+use Rattle.spef_net.specs.Statements.{sayings}
 use Rattle.spef_net.specs.Faults.{IsFaultless, IsFirstFaultIn}
 use Rattle.spef_net.specs.Denoted.{IsNet}
 use Rattle.spef_net.specs.declared.net.ParNet.{ParNet}

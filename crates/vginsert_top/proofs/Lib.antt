@@ -3,6 +3,6 @@ pub mod EndingLemmas
 pub mod RunLemmas
 pub mod AnswerLemmas
 pub mod TimeLemmas
-pub mod TimeAnswers
+pub mod TimeAnswerLemmas
 pub mod ClearLemmas
 pub mod ReportLemmas

@@ -1,5 +1,5 @@
 use Rattle.std.proofs.Common.{sym, ◌∙◌, arith}
-use Rattle.elmore.proofs.LimitLaws.{cost_of_all}
+use Rattle.elmore.proofs.LimitLemmas.{cost_of_all}
 use Rattle.elmore.proofs.costs.cost.Goals as goal
 
 pub returns : goal.returns

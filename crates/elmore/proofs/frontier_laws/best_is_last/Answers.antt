@@ -1,4 +1,4 @@
-use Rattle.elmore.proofs.FrontierProofs.{last_is_best}
+use Rattle.elmore.proofs.FrontierLemmas.{last_is_best}
 use Rattle.elmore.proofs.frontier_laws.best_is_last.Goals as goal
 
 pub returns : goal.returns

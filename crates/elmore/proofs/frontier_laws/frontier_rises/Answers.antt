@@ -1,5 +1,5 @@
 use Rattle.elmore.specs.Frontier.{IsAttained}
-use Rattle.elmore.proofs.FrontierProofs.{rises}
+use Rattle.elmore.proofs.FrontierLemmas.{rises}
 use Rattle.elmore.proofs.frontier_laws.frontier_rises.Goals as goal
 
 pub returns : goal.returns

@@ -1,5 +1,5 @@
 use Rattle.elmore.specs.Frontier.{IsAttained}
-use Rattle.elmore.proofs.FrontierProofs.{one_of_each}
+use Rattle.elmore.proofs.FrontierLemmas.{one_of_each}
 use Rattle.elmore.proofs.frontier_laws.one_frontier.Goals as goal
 
 pub returns : goal.returns

@@ -1,5 +1,5 @@
 use Rattle.elmore.specs.Pairs.{IsPairAt}
-use Rattle.elmore.proofs.FrontierProofs.{undominated_holds, undominated_alone}
+use Rattle.elmore.proofs.FrontierLemmas.{undominated_holds, undominated_alone}
 use Rattle.elmore.proofs.frontier_laws.undominated_is_exact.Goals as goal
 
 pub returns : goal.returns

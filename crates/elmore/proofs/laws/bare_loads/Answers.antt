@@ -3,7 +3,7 @@ use Rattle.elmore.specs.Cells.{cell_at, rep_of}
 use Rattle.elmore.specs.Trees.{parent_of, resistance, capacitance}
 use Rattle.elmore.specs.PlacedLaws.{HasNoCell}
 use Rattle.elmore.specs.declared.rep.Rep.{Rep}
-use Rattle.elmore.proofs.WireLaws.{bare_load, bare_delay}
+use Rattle.elmore.proofs.WireLemmas.{bare_load, bare_delay}
 use Rattle.elmore.proofs.laws.bare_loads.Goals as goal
 
 bare : (reps : List Rep) (cells : List (Option ℕ)) → HasNoCell cells → (u : ℕ) → cell_at reps cells u ≡ None

@@ -4,8 +4,8 @@ use Rattle.elmore.specs.Trees.{parent_of, resistance, capacitance}
 use Rattle.elmore.specs.PlacedLaws.{AreAlikeFrom}
 use Rattle.elmore.specs.declared.tree.Node.{Node}
 use Rattle.elmore.specs.declared.rep.Rep.{Rep}
-use Rattle.elmore.proofs.LocalLaws.{Same, same_agree, load_local, same_upload, same_delay, same_inverters}
-use Rattle.elmore.proofs.TreeLaws.{tree_falls}
+use Rattle.elmore.proofs.LocalLemmas.{Same, same_agree, load_local, same_upload, same_delay, same_inverters}
+use Rattle.elmore.proofs.TreeLemmas.{tree_falls}
 use Rattle.elmore.proofs.laws.below_decides.Goals as goal
 
 same : (tree : List Node) (reps : List Rep) (v : ℕ) (a b : List (Option ℕ)) → AreAlikeFrom tree v a b

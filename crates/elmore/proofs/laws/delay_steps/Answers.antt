@@ -1,4 +1,4 @@
-use Rattle.elmore.proofs.TreeLaws.{root_delay, next_delay}
+use Rattle.elmore.proofs.TreeLemmas.{root_delay, next_delay}
 use Rattle.elmore.proofs.laws.delay_steps.Goals as goal
 
 pub returns : goal.returns

@@ -1,7 +1,7 @@
 use Rattle.std.proofs.Common.{length}
 use Rattle.elmore.specs.Trees.{parent_of, capacitance}
-use Rattle.elmore.proofs.WireLaws.{downstream_children}
-use Rattle.elmore.proofs.TreeLaws.{tree_of}
+use Rattle.elmore.proofs.WireLemmas.{downstream_children}
+use Rattle.elmore.proofs.TreeLemmas.{tree_of}
 use Rattle.elmore.proofs.laws.downstream_steps.Goals as goal
 
 pub returns : goal.returns

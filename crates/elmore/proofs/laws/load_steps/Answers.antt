@@ -1,8 +1,8 @@
 use Rattle.std.proofs.Common.{length}
 use Rattle.elmore.specs.Cells.{cell_at}
 use Rattle.elmore.specs.Trees.{parent_of, capacitance}
-use Rattle.elmore.proofs.LoadChildren.{load_children}
-use Rattle.elmore.proofs.TreeLaws.{tree_of}
+use Rattle.elmore.proofs.ChildLoadLemmas.{load_children}
+use Rattle.elmore.proofs.TreeLemmas.{tree_of}
 use Rattle.elmore.proofs.laws.load_steps.Goals as goal
 
 pub returns : goal.returns

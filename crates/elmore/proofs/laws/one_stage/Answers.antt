@@ -1,8 +1,8 @@
 use Rattle.std.proofs.Common.{length}
 use Rattle.elmore.specs.Cells.{cell_at}
 use Rattle.elmore.specs.Trees.{parent_of}
-use Rattle.elmore.proofs.Heads.{head_of, one_stage}
-use Rattle.elmore.proofs.TreeLaws.{tree_falls, tree_of}
+use Rattle.elmore.proofs.HeadLemmas.{head_of, one_stage}
+use Rattle.elmore.proofs.TreeLemmas.{tree_falls, tree_of}
 use Rattle.elmore.proofs.laws.one_stage.Goals as goal
 
 pub returns : goal.returns

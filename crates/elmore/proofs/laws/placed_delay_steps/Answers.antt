@@ -1,9 +1,9 @@
 use Rattle.std.proofs.Common.{length}
 use Rattle.elmore.specs.Cells.{cell_at}
 use Rattle.elmore.specs.Trees.{parent_of, resistance, capacitance}
-use Rattle.elmore.proofs.PathLaws.{below_other}
-use Rattle.elmore.proofs.PlacedDelays.{delay_self, delay_below, delay_through}
-use Rattle.elmore.proofs.TreeLaws.{tree_falls}
+use Rattle.elmore.proofs.PathLemmas.{below_other}
+use Rattle.elmore.proofs.PlacedDelayLemmas.{delay_self, delay_below, delay_through}
+use Rattle.elmore.proofs.TreeLemmas.{tree_falls}
 use Rattle.elmore.proofs.laws.placed_delay_steps.Goals as goal
 
 pub returns : goal.returns

@@ -1,4 +1,4 @@
-use Rattle.elmore.proofs.ProblemLaws.{sum_fits}
+use Rattle.elmore.proofs.ProblemLemmas.{sum_fits}
 use Rattle.elmore.proofs.legal.first_illegal_by.Goals as goal
 
 pub sum_loads-requires-clause-sum : goal.sum_loads-requires-clause-sum

@@ -1,5 +1,5 @@
 use Rattle.std.proofs.Common.{false, arith, None}
-use Rattle.elmore.proofs.LimitLaws.{greatest_more}
+use Rattle.elmore.proofs.LimitLemmas.{greatest_more}
 use Rattle.elmore.proofs.limits.most_input.Goals as goal
 
 pub inputs-preserved : goal.inputs-preserved

@@ -1,8 +1,8 @@
 use Rattle.std.proofs.Common.{◌-◌, ◌<◌, arith, length}
 use Rattle.elmore.specs.Trees.{parent_of}
 use Rattle.elmore.specs.Problems.{is_sink}
-use Rattle.elmore.proofs.TreeLaws.{tree_falls, parent_read}
-use Rattle.elmore.proofs.LiveLaws.{marks_begin, marks_more, marks_same, marks_end}
+use Rattle.elmore.proofs.TreeLemmas.{tree_falls, parent_read}
+use Rattle.elmore.proofs.LiveLemmas.{marks_begin, marks_more, marks_same, marks_end}
 use Rattle.elmore.proofs.live.mark_above.Goals as goal
 
 pub up-init : goal.up-init

@@ -1,8 +1,8 @@
 use Rattle.std.proofs.Common.{length}
-use Rattle.elmore.proofs.CutLaws.{cut}
+use Rattle.elmore.proofs.CutLemmas.{cut}
 use Rattle.elmore.specs.Trees.{parent_of}
 use Rattle.elmore.specs.Problems.{is_sink}
-use Rattle.elmore.proofs.LiveLaws.{AreMarks}
+use Rattle.elmore.proofs.LiveLemmas.{AreMarks}
 use Rattle.elmore.proofs.live.mark_above.Given as goal
 
 abbrev pub invariant-up : goal.invariant-up

@@ -2,10 +2,10 @@ use Rattle.std.proofs.Common.{◌∙◌, ap, sym, arith, ℕ, ◌<◌, ◌-◌, 
 use Rattle.elmore.specs.Cells.{cell_at}
 use Rattle.elmore.specs.Stage.{load}
 use Rattle.elmore.specs.Trees.{parent_of, capacitance}
-use Rattle.elmore.proofs.CutLaws.{cut_none}
-use Rattle.elmore.proofs.LoadLaws.{load_alone, loads_more, step_bound}
-use Rattle.elmore.proofs.TreeLaws.{tree_falls, cut_past, parent_read}
-use Rattle.elmore.proofs.PlacedTrees.{capacitance_sum}
+use Rattle.elmore.proofs.CutLemmas.{cut_none}
+use Rattle.elmore.proofs.LoadLemmas.{load_alone, loads_more, step_bound}
+use Rattle.elmore.proofs.TreeLemmas.{tree_falls, cut_past, parent_read}
+use Rattle.elmore.proofs.PlacedTreeLemmas.{capacitance_sum}
 use Rattle.elmore.proofs.loads.sum_loads.Goals as goal
 
 pub up-init : goal.up-init

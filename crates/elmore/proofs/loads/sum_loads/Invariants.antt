@@ -1,8 +1,8 @@
 use Rattle.std.proofs.Common.{length}
 use Rattle.elmore.specs.Cells.{cell_at}
-use Rattle.elmore.proofs.CutLaws.{cut}
+use Rattle.elmore.proofs.CutLemmas.{cut}
 use Rattle.elmore.specs.Trees.{parent_of, capacitance}
-use Rattle.elmore.proofs.LoadLaws.{AreLoads}
+use Rattle.elmore.proofs.LoadLemmas.{AreLoads}
 use Rattle.elmore.proofs.loads.sum_loads.Given as goal
 
 abbrev pub invariant-up : goal.invariant-up

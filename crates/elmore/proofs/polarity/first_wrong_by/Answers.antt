@@ -1,4 +1,4 @@
-use Rattle.elmore.proofs.ProblemLaws.{wrong_is}
+use Rattle.elmore.proofs.ProblemLemmas.{wrong_is}
 use Rattle.elmore.proofs.polarity.first_wrong_by.Goals as goal
 
 pub returns : goal.returns

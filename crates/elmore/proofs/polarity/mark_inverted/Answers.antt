@@ -4,10 +4,10 @@ use Rattle.elmore.specs.Trees.{parent_of}
 use Rattle.elmore.specs.Cells.{cell_at, is_inverter}
 use Rattle.elmore.specs.Delay.{is_odd}
 use Rattle.elmore.specs.Placed.{placed_inverters}
-use Rattle.elmore.proofs.Filled.{filled_first, filled_more}
-use Rattle.elmore.proofs.TreeLaws.{parent_read}
-use Rattle.elmore.proofs.PlacedInverters.{odd_once, odd_step}
-use Rattle.elmore.proofs.PlacedTrees.{root_inverters, next_inverters}
+use Rattle.elmore.proofs.FilledLemmas.{filled_first, filled_more}
+use Rattle.elmore.proofs.TreeLemmas.{parent_read}
+use Rattle.elmore.proofs.PlacedInverterLemmas.{odd_once, odd_step}
+use Rattle.elmore.proofs.PlacedTreeLemmas.{root_inverters, next_inverters}
 use Rattle.elmore.proofs.polarity.mark_inverted.Goals as goal
 
 pub down-init : goal.down-init

@@ -1,7 +1,7 @@
 use Rattle.std.proofs.Common.{false}
 use Rattle.elmore.specs.Delay.{is_odd}
 use Rattle.elmore.specs.Placed.{placed_inverters}
-use Rattle.elmore.proofs.Filled.{AreFilled}
+use Rattle.elmore.proofs.FilledLemmas.{AreFilled}
 use Rattle.elmore.proofs.polarity.mark_inverted.Given as goal
 
 abbrev pub invariant-down : goal.invariant-down

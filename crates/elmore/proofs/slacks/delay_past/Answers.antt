@@ -4,8 +4,8 @@ use Rattle.std.proofs.lemmas.Int.{ints, fits_signed_from_abs}
 use mir.Syntax.{w128}
 use Rattle.elmore.specs.Cells.{rep_of, cell_delay as delay_of}
 use Rattle.elmore.specs.Stage.{seen}
-use Rattle.elmore.proofs.Fits.{whole}
-use Rattle.elmore.proofs.PlacedTrees.{cell_delay_small}
+use Rattle.elmore.proofs.FitLemmas.{whole}
+use Rattle.elmore.proofs.PlacedTreeLemmas.{cell_delay_small}
 use Rattle.elmore.proofs.slacks.delay_past.Goals as goal
 
 -- what is added

@@ -3,8 +3,8 @@ use Rattle.std.proofs.lemmas.Int.{ints, to_z-of_z}
 use Rattle.std.specs.Int.{int_min}
 use mir.Syntax.{w128}
 use Rattle.elmore.specs.Problems.{IsSmall}
-use Rattle.elmore.proofs.Fits.{whole}
-use Rattle.elmore.proofs.LeastLaws.{least_none, least_some, least_end, within_sinks}
+use Rattle.elmore.proofs.FitLemmas.{whole}
+use Rattle.elmore.proofs.LeastLemmas.{least_none, least_some, least_end, within_sinks}
 use Rattle.elmore.proofs.slacks.least_slack.Goals.{in-Some, in_default}
 use Rattle.elmore.proofs.slacks.least_slack.Goals as goal
 

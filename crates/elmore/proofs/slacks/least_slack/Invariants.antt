@@ -1,5 +1,5 @@
 use Rattle.std.proofs.Common.{◌+ℤ◌, ◌-ℤ◌, slice_index_or, pos}
-use Rattle.elmore.proofs.LeastLaws.{IsLeastOf}
+use Rattle.elmore.proofs.LeastLemmas.{IsLeastOf}
 use Rattle.elmore.proofs.slacks.least_slack.Given as goal
 
 abbrev pub invariant-sinks : goal.invariant-sinks

@@ -1,9 +1,9 @@
 use Rattle.std.proofs.Common.{rules, arith, SFits}
 use Rattle.std.proofs.lemmas.Int.{ints, to_z-of_z}
 use mir.Syntax.{w128}
-use Rattle.elmore.proofs.Fits.{whole}
-use Rattle.elmore.proofs.ProblemLaws.{placed_tree, slack_is}
-use Rattle.elmore.proofs.PlacedTrees.{load_small, delay_small}
+use Rattle.elmore.proofs.FitLemmas.{whole}
+use Rattle.elmore.proofs.ProblemLemmas.{placed_tree, slack_is}
+use Rattle.elmore.proofs.PlacedTreeLemmas.{load_small, delay_small}
 use Rattle.elmore.proofs.slacks.slack_by.Goals as goal
 
 pub departure-start-requires-clause-load : goal.departure-start-requires-clause-load

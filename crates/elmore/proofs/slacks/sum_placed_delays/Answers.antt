@@ -8,9 +8,9 @@ use Rattle.elmore.specs.Steps.{IsPlacedTree}
 use Rattle.elmore.specs.Trees.{parent_of}
 use Rattle.elmore.specs.declared.tree.Node.{Node}
 use Rattle.elmore.specs.declared.rep.Rep.{Rep}
-use Rattle.elmore.proofs.Filled.{AreFilled, filled_first, filled_more, filled_time}
-use Rattle.elmore.proofs.TreeLaws.{parent_read, resistance_read}
-use Rattle.elmore.proofs.PlacedTrees.{root_delay, next_delay, load_small, upload_small, delay_small, delay_whole}
+use Rattle.elmore.proofs.FilledLemmas.{AreFilled, filled_first, filled_more, filled_time}
+use Rattle.elmore.proofs.TreeLemmas.{parent_read, resistance_read}
+use Rattle.elmore.proofs.PlacedTreeLemmas.{root_delay, next_delay, load_small, upload_small, delay_small, delay_whole}
 use Rattle.elmore.proofs.slacks.sum_placed_delays.Goals as goal
 
 pub cell_delay-requires-clause-load : goal.cell_delay-requires-clause-load

@@ -1,6 +1,6 @@
 use Rattle.std.proofs.Common.{arith, ◌<◌, length}
 use Rattle.std.proofs.lemmas.Bool.{false≢true}
-use Rattle.elmore.proofs.TreeLaws.{parent_read}
+use Rattle.elmore.proofs.TreeLemmas.{parent_read}
 use Rattle.elmore.proofs.tree.parents_are_smaller.Goals as goal
 
 pub returns-then-nodes-v : goal.returns-then-nodes-v

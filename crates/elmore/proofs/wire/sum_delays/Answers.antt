@@ -5,8 +5,8 @@ use mir.Syntax.{w128}
 use Rattle.elmore.specs.Wire.{delay_in}
 use Rattle.elmore.specs.Trees.{IsTree, IsWithinLimits, parent_of}
 use Rattle.elmore.specs.declared.tree.Node.{Node}
-use Rattle.elmore.proofs.TreeLaws.{root_delay, delay_fits, small_delay, next_delay, load_bound, parent_read, resistance_read}
-use Rattle.elmore.proofs.Filled.{AreFilled, filled_first, filled_more, filled_time}
+use Rattle.elmore.proofs.TreeLemmas.{root_delay, delay_fits, small_delay, next_delay, load_bound, parent_read, resistance_read}
+use Rattle.elmore.proofs.FilledLemmas.{AreFilled, filled_first, filled_more, filled_time}
 use Rattle.elmore.proofs.wire.sum_delays.Goals as goal
 
 pub down-init : goal.down-init

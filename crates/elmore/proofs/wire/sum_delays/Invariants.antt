@@ -1,6 +1,6 @@
 use Rattle.std.proofs.Common.{pos}
 use Rattle.elmore.specs.Wire.{delay_in}
-use Rattle.elmore.proofs.Filled.{AreFilled}
+use Rattle.elmore.proofs.FilledLemmas.{AreFilled}
 use Rattle.elmore.proofs.wire.sum_delays.Given as goal
 
 abbrev pub invariant-down : goal.invariant-down

@@ -2,11 +2,11 @@ use Rattle.std.proofs.Common.{◌∙◌, refl, ap, sym, arith, ℕ, ◌<◌, ◌
 use Rattle.elmore.specs.Path.{nodes as node_numbers}
 use Rattle.elmore.specs.Stage.{load}
 use Rattle.elmore.specs.Trees.{parent_of, capacitance}
-use Rattle.elmore.proofs.CutLaws.{cut_none}
-use Rattle.elmore.proofs.SumLaws.{sum_of_none}
-use Rattle.elmore.proofs.LoadLaws.{load_alone, loads_more, step_bound}
-use Rattle.elmore.proofs.WireLaws.{no_cell, bare_load}
-use Rattle.elmore.proofs.TreeLaws.{tree_falls, cut_past, parent_read, sum_of_nodes}
+use Rattle.elmore.proofs.CutLemmas.{cut_none}
+use Rattle.elmore.proofs.SumLemmas.{sum_of_none}
+use Rattle.elmore.proofs.LoadLemmas.{load_alone, loads_more, step_bound}
+use Rattle.elmore.proofs.WireLemmas.{no_cell, bare_load}
+use Rattle.elmore.proofs.TreeLemmas.{tree_falls, cut_past, parent_read, sum_of_nodes}
 use Rattle.elmore.proofs.wire.sum_downstream.Goals as goal
 
 pub up-init : goal.up-init

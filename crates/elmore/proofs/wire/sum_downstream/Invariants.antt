@@ -1,8 +1,8 @@
 use Rattle.std.proofs.Common.{length}
-use Rattle.elmore.proofs.CutLaws.{cut}
+use Rattle.elmore.proofs.CutLemmas.{cut}
 use Rattle.elmore.specs.Trees.{parent_of, capacitance}
-use Rattle.elmore.proofs.LoadLaws.{AreLoads}
-use Rattle.elmore.proofs.WireLaws.{no_cell}
+use Rattle.elmore.proofs.LoadLemmas.{AreLoads}
+use Rattle.elmore.proofs.WireLemmas.{no_cell}
 use Rattle.elmore.proofs.wire.sum_downstream.Given as goal
 
 abbrev pub invariant-up : goal.invariant-up

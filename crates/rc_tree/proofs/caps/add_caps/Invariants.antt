@@ -1,4 +1,4 @@
-use Rattle.rc_tree.proofs.CapLaws.{AreSums}
+use Rattle.rc_tree.proofs.CapLemmas.{AreSums}
 use Rattle.rc_tree.proofs.caps.add_caps.Given as goal
 
 abbrev pub invariant-caps : goal.invariant-caps

@@ -1,4 +1,4 @@
-use Rattle.rc_tree.proofs.OneTree.{one_tree as law}
+use Rattle.rc_tree.proofs.OneTreeLemmas.{one_tree as law}
 use Rattle.rc_tree.proofs.laws.one_tree.Goals as goal
 
 pub returns : goal.returns

@@ -1,5 +1,5 @@
 use Rattle.std.proofs.Common.{◌-◌, arith, length}
-use Rattle.rc_tree.proofs.LinkLaws.{links_more}
+use Rattle.rc_tree.proofs.LinkLemmas.{links_more}
 use Rattle.rc_tree.proofs.links.fill.Goals as goal
 
 pub edges-preserved : goal.edges-preserved

@@ -4,8 +4,8 @@ use Rattle.elmore.specs.declared.tree.Node.{Node}
 use Rattle.rc_tree.specs.Answers.{IsTreeOf}
 use Rattle.rc_tree.specs.Search.{node_of, AreReached, IsSearch}
 use Rattle.rc_tree.specs.declared.search.Place.{Place}
-use Rattle.rc_tree.proofs.JoinLaws.{least_floating, all_joined}
-use Rattle.rc_tree.proofs.TreeLaws.{a_tree, tree_done}
+use Rattle.rc_tree.proofs.JoinLemmas.{least_floating, all_joined}
+use Rattle.rc_tree.proofs.TreeLemmas.{a_tree, tree_done}
 use Rattle.rc_tree.proofs.net.build.Goals as goal
 
 pub returns-in-Some : goal.returns-in-Some

@@ -1,7 +1,7 @@
 use Rattle.std.proofs.Common.{length, refl}
 use Rattle.rc_tree.specs.Chains.{edge_at}
 use Rattle.rc_tree.specs.Search.{root_of}
-use Rattle.rc_tree.proofs.SearchLaws.{scan_begin, scan_turn, scan_done, far_node, link_after}
+use Rattle.rc_tree.proofs.SearchLemmas.{scan_begin, scan_turn, scan_done, far_node, link_after}
 use Rattle.rc_tree.proofs.search.scan.Goals as goal
 
 pub edges-preserved : goal.edges-preserved

@@ -1,6 +1,6 @@
 use Rattle.std.proofs.Common.{◌-◌, length}
 use Rattle.rc_tree.specs.Search.{root_of}
-use Rattle.rc_tree.proofs.SearchLaws.{IsScanAt}
+use Rattle.rc_tree.proofs.SearchLemmas.{IsScanAt}
 use Rattle.rc_tree.proofs.search.scan.Given as goal
 
 abbrev pub invariant-edges : goal.invariant-edges

@@ -1,6 +1,6 @@
 use Rattle.std.proofs.Common.{ℕ, ◌+◌, length, sym, subst, arith}
 use Rattle.rc_tree.specs.Search.{root_of, IsScan}
-use Rattle.rc_tree.proofs.JoinLaws.{search_end, places_few}
+use Rattle.rc_tree.proofs.JoinLemmas.{search_end, places_few}
 use Rattle.rc_tree.proofs.search.search.Goals as goal
 
 pub scan-requires-clause-low : goal.scan-requires-clause-low

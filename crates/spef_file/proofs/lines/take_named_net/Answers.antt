@@ -8,28 +8,28 @@ use Rattle.vg_scan.specs.Parts.{IsFirstSolid}
 use Rattle.vg_scan.specs.Printed.{is_solid}
 use Rattle.vg_scan.specs.Spans.{words_at}
 use Rattle.spef_file.specs.declared.section.Section.{Section}
-use Rattle.spef_file.specs.declared.opening.Region.TheVariants.{Outside}
+use Rattle.spef_file.specs.declared.keyword.Region.TheVariants.{Outside}
 use Rattle.spef_file.specs.Machine.{State}
 use Rattle.spef_file.specs.Machine.{read}
 use Rattle.spef_file.specs.Words.{first_word, second_word, has_words}
-use Rattle.spef_file.specs.Views.{seen, heads_in, IsHead}
+use Rattle.spef_file.specs.Views.{state_of, heads_in, IsHead}
 use Rattle.spef_file.proofs.StepLemmas.{no_end_fails, no_name_fails, twice_fails, net_goes, not_is}
 use Rattle.spef_file.proofs.lines.take_named_net.Goals as goal
 
 pub returns-in_default-clause-goes : goal.returns-in_default-clause-goes
 returns-in_default-clause-goes c =
-    no_end_fails (seen c.args.reader.now) (words_at c.args.bytes.now c.args.words.now) (lines_of (drop c.args.next c.args.bytes.now)) (option_map (λ (n : Bor (List ℕ)). n.now) c.args.name) refl c.requires.headed c.requires.opens c.requires.name (sym c.in_default.ensures.lines)
+    no_end_fails (state_of c.args.reader.now) (words_at c.args.bytes.now c.args.words.now) (lines_of (drop c.args.next c.args.bytes.now)) (option_map (λ (n : Bor (List ℕ)). n.now) c.args.name) refl c.requires.headed c.requires.opens c.requires.name (sym c.in_default.ensures.lines)
 
 pub returns-in_default-name-clause-goes : goal.returns-in_default-name-clause-goes
 returns-in_default-name-clause-goes c =
-    let s : State = seen c.args.reader.now in
+    let s : State = state_of c.args.reader.now in
     let line : Line = words_at c.args.bytes.now c.args.words.now in
     no_name_fails s line (lines_of (drop c.args.next c.args.bytes.now)) c.in-Some.end.lines refl c.requires.headed c.requires.opens
     (subst (λ (o : Option (Bor (List ℕ))). IsHead s.heading.chars s.names (second_word line) (option_map (λ (n : Bor (List ℕ)). n.now) o)) c.in_default-name.is c.requires.name) (sym c.in-Some.ensures.lines)
 
 pub returns-in-Ok-false-clause-goes : goal.returns-in-Ok-false-clause-goes
 returns-in-Ok-false-clause-goes c =
-    let s : State = seen c.args.reader.now in
+    let s : State = state_of c.args.reader.now in
     let line : Line = words_at c.args.bytes.now c.args.words.now in
     twice_fails s line (lines_of (drop c.args.next c.args.bytes.now)) c.in-Some-name.name.now c.in-Some.end.lines c.args.reader.now.nets refl c.requires.headed c.requires.opens
     (subst (λ (o : Option (Bor (List ℕ))). IsHead s.heading.chars s.names (second_word line) (option_map (λ (n : Bor (List ℕ)). n.now) o)) c.in-Some-name.is c.requires.name) (sym c.in-Some.ensures.lines)
@@ -37,7 +37,7 @@ returns-in-Ok-false-clause-goes c =
 
 pub returns-in-Ok-true-clause-goes : goal.returns-in-Ok-true-clause-goes
 returns-in-Ok-true-clause-goes c =
-    let s : State = seen c.args.reader.now in
+    let s : State = state_of c.args.reader.now in
     let line : Line = words_at c.args.bytes.now c.args.words.now in
     let later = lines_of (drop c.args.next c.args.bytes.now) in
     let sections = c.args.reader.now.nets in

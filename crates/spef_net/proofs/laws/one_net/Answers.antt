@@ -1,4 +1,4 @@
-use Rattle.spef_net.proofs.OneNet.{one_net, one_fault, fault_or_none}
+use Rattle.spef_net.proofs.OneNetLemmas.{one_net, one_fault, fault_or_none}
 use Rattle.spef_net.proofs.laws.one_net.Goals as goal
 
 pub returns-clause-net : goal.returns-clause-net

@@ -1,7 +1,7 @@
 use Rattle.std.specs.Int.{w32}
 use Rattle.std.proofs.lemmas.Int.{to_z-of_z}
 use Rattle.std.proofs.Common.{sym, ◌∙◌, ap}
-use Rattle.spef_net.specs.Sayings.{is_colon, value_in, value_of_parts}
+use Rattle.spef_net.specs.Statements.{is_colon, value_in, value_of_parts}
 use Rattle.spef_net.proofs.PlaceLemmas.{one_part}
 use Rattle.spef_net.proofs.value.read_value.Goals as goal
 

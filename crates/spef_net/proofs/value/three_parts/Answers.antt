@@ -1,5 +1,5 @@
 use Rattle.std.proofs.Common.{sym, ◌∙◌}
-use Rattle.spef_net.specs.Sayings.{is_colon}
+use Rattle.spef_net.specs.Statements.{is_colon}
 use Rattle.spef_net.proofs.PlaceLemmas.{no_value, three_parts, many_parts}
 use Rattle.spef_net.proofs.value.three_parts.Goals as goal
 

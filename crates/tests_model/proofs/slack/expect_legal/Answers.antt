@@ -1,5 +1,5 @@
 use Rattle.elmore.specs.Placements.{load_of}
-use Rattle.elmore.proofs.LegalLaws.{legal_placed}
+use Rattle.elmore.proofs.LegalLemmas.{legal_placed}
 use Rattle.tests_model.proofs.slack.expect_legal.Goals as goal
 
 pub returns-in-None-clause-placed : goal.returns-in-None-clause-placed

@@ -1,7 +1,7 @@
 use Rattle.std.proofs.Common.{◌≡◌, ◌+◌, arith, ap, ◌∙◌, pos}
 use Rattle.vg_num.specs.Number.{scaled}
 use Rattle.vg_num.specs.Printed.{scaled_text}
-use Rattle.vg_num.proofs.Again.{scaled_reads}
+use Rattle.vg_num.proofs.AgainLemmas.{scaled_reads}
 use Rattle.vg_num.proofs.laws.reads_scaled_again.Goals as goal
 
 pub returns : goal.returns

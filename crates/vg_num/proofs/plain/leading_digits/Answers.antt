@@ -4,7 +4,7 @@ use Rattle.std.proofs.Math.Seq.{take-suc}
 use Rattle.std.proofs.lemmas.Bool.Decides.{nat_tests}
 use Rattle.std.proofs.lemmas.List.Folds.{list_all-append}
 use Rattle.vg_num.specs.Number.{is_digit, value_after}
-use Rattle.vg_num.proofs.Caps.{value_after-append}
+use Rattle.vg_num.proofs.CapLemmas.{value_after-append}
 use Rattle.vg_num.proofs.plain.leading_digits.Goals as goal
 
 digit_is : (b : ℕ) → 48 ≤ b → b ≤ 57 → is_digit b ≡ true

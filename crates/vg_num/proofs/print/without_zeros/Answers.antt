@@ -1,5 +1,5 @@
 use Rattle.std.proofs.Common.{arith, ◌∙◌}
-use Rattle.vg_num.proofs.Printing.{zero_cancels, no_fraction, last_digit}
+use Rattle.vg_num.proofs.PrintingLemmas.{zero_cancels, no_fraction, last_digit}
 use Rattle.vg_num.proofs.print.without_zeros.Goals as goal
 
 pub zeros-preserved : goal.zeros-preserved

@@ -1,6 +1,6 @@
 use Rattle.std.proofs.Common.{◌≡◌, ◌∙◌, ◌-◌, arith, sym}
 use Rattle.vg_num.specs.Printed.{with_point}
-use Rattle.vg_num.proofs.Printing.{nothing_behind, point_step}
+use Rattle.vg_num.proofs.PrintingLemmas.{nothing_behind, point_step}
 use Rattle.vg_num.proofs.print.write_fraction.Goals as goal
 
 pub digits-init : goal.digits-init

@@ -1,6 +1,6 @@
 use Rattle.std.proofs.Common.{ℕ, ◌∙◌, arith, sym}
 use Rattle.std.proofs.Math.ListN.{length-set}
-use Rattle.vg_num.proofs.Printing.{nothing_behind}
+use Rattle.vg_num.proofs.PrintingLemmas.{nothing_behind}
 use Rattle.std.specs.Fmt.{decimal}
 use Rattle.std.proofs.lemmas.Fmt.{length-decimal-le}
 use Rattle.vg_num.proofs.print.write_scaled.Goals as goal

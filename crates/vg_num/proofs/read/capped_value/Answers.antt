@@ -1,7 +1,7 @@
 use Rattle.std.proofs.Common.{ℕ, ◌+◌, ◌-◌, ◌*◌, ◌<◌, drop, length, get_or, min, arith, sym, ◌∙◌, ap}
 use Rattle.std.proofs.lemmas.List.{at_drop_more}
 use Rattle.vg_num.specs.Number.{value_after}
-use Rattle.vg_num.proofs.Caps.{capped_on}
+use Rattle.vg_num.proofs.CapLemmas.{capped_on}
 use Rattle.vg_num.proofs.read.capped_value.Goals as goal
 use Rattle.vg_num.proofs.read.capped_value.Goals.{then-more-lt-CAP, else-more-lt-CAP}
 

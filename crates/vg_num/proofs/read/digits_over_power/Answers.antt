@@ -1,7 +1,7 @@
 use Rattle.std.proofs.Common.{◌≡◌, ◌+◌, ◌-◌, ◌^◌, ◌<◌, ◌++◌, length, drop, get_or, arith, refl, length-append, length-drop, drop-cons, suc, inl, inr}
 use Rattle.std.proofs.lemmas.Bool.{cases_lt}
 use Rattle.vg_num.specs.Number.{value_of}
-use Rattle.vg_num.proofs.Caps.{rounds, below_half, near_zero}
+use Rattle.vg_num.proofs.CapLemmas.{rounds, below_half, near_zero}
 use Rattle.vg_num.proofs.read.digits_over_power.Goals as goal
 use Rattle.vg_num.proofs.read.digits_over_power.Goals.{else-value-lt-CAP-via-then-value-lt-CAP+else-next-ge53, else-value-lt-CAP-via-else-value-lt-CAP}
 

@@ -1,7 +1,7 @@
 use Rattle.std.proofs.Common.{◌≡◌, ℕ, ◌+◌, ◌-◌, ◌++◌, length, take, min, arith, sym, ◌∙◌, ap}
 use Rattle.std.proofs.Math.Seq.{take-append-add}
 use Rattle.vg_num.specs.Number.{value_of, value_after}
-use Rattle.vg_num.proofs.Caps.{capped_on, value_after-append}
+use Rattle.vg_num.proofs.CapLemmas.{capped_on, value_after-append}
 use Rattle.vg_num.proofs.read.front_value.Goals as goal
 
 pub returns-else-kept-whole : goal.returns-else-kept-whole

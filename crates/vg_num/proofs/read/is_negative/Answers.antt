@@ -3,7 +3,7 @@ use Rattle.std.specs.List.{before_first, after_first}
 use Rattle.std.specs.Str.Parse.{starts_with_minus}
 use Rattle.std.proofs.lemmas.Bool.Decides.{nat_tests}
 use Rattle.vg_num.specs.Number.{is_negative, is_point, coefficient, whole, fraction, value_of, value_after}
-use Rattle.vg_num.proofs.Caps.{capped_on, value_after-append}
+use Rattle.vg_num.proofs.CapLemmas.{capped_on, value_after-append}
 use Rattle.vg_num.proofs.read.is_negative.Goals as goal
 
 capped_test : (n v cap : ℕ) → 0 < cap → n ≡ min v cap → nat_lt 0 n ≡ nat_lt 0 v

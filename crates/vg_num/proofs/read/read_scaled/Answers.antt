@@ -1,7 +1,7 @@
 use Rattle.std.proofs.Common.{◌≡◌, arith, ◌∙◌, rules, ap, Ok}
 use Rattle.std.proofs.lemmas.Int.{to_z-of_z}
 use mir.Syntax.{w32}
-use Rattle.vg_num.proofs.Nearly.{exact_form, exact_negative, exact_large, exact_ok}
+use Rattle.vg_num.proofs.NearestLemmas.{exact_form, exact_negative, exact_large, exact_ok}
 use Rattle.vg_num.proofs.read.read_scaled.Goals as goal
 
 pub returns-then-not-is_number-clause-exact : goal.returns-then-not-is_number-clause-exact

@@ -7,7 +7,7 @@ use Rattle.std.proofs.lemmas.Int.{to_z-of_z}
 use mir.Syntax.{w32, w128}
 use mir.Val.{SFits}
 use Rattle.std.proofs.Common.{rules}
-use Rattle.vg_num.proofs.Clips.{clip, Stands}
+use Rattle.vg_num.proofs.ClipLemmas.{clip, Stands}
 use Rattle.vg_num.proofs.read.size_of.Goals as goal
 
 number_digits : (text : List ℕ) → is_number text ≡ true → list_all is_digit (digits text) ≡ true

@@ -1,5 +1,5 @@
 use Rattle.std.proofs.Common.{◌≡◌, ◌*◌, ◌^◌, min, arith, ◌∙◌}
-use Rattle.vg_num.proofs.Caps.{grow_step, grow_past}
+use Rattle.vg_num.proofs.CapLemmas.{grow_step, grow_past}
 use Rattle.vg_num.proofs.read.times_power.Goals as goal
 use Rattle.vg_num.proofs.read.times_power.Goals.{then-more-lt-CAP, else-more-lt-CAP, then-power-lt30, else-power-lt30}
 

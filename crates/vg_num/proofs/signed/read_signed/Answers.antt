@@ -4,7 +4,7 @@ use Rattle.std.proofs.lemmas.Int.{to_z-of_z}
 use mir.Syntax.{w32, w128}
 use mir.Val.{SFits}
 use Rattle.vg_num.specs.Number.{with_sign}
-use Rattle.vg_num.proofs.Nearly.{signed_form, signed_large, signed_ok}
+use Rattle.vg_num.proofs.NearestLemmas.{signed_form, signed_large, signed_ok}
 use Rattle.vg_num.proofs.signed.read_signed.Goals as goal
 
 pub returns-then-not-is_number-clause-exact : goal.returns-then-not-is_number-clause-exact

@@ -3,7 +3,7 @@ use Rattle.std.proofs.lemmas.Int.{to_z-of_z}
 use mir.Syntax.{w128}
 use mir.Val.{SFits}
 use Rattle.vg_num.specs.Number.{with_sign, without_minus, value_of}
-use Rattle.vg_num.proofs.Nearly.{whole_form, whole_large, whole_ok}
+use Rattle.vg_num.proofs.NearestLemmas.{whole_form, whole_large, whole_ok}
 use Rattle.vg_num.proofs.whole.read_whole.Goals as goal
 
 pub returns-then-not-is_numeral : goal.returns-then-not-is_numeral

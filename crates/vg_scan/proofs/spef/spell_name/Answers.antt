@@ -1,6 +1,6 @@
 use Rattle.std.proofs.Common.{◌≡◌, ◌∷◌, [], ◌++◌, length, true, false, Some, inl, inr, sym, ◌∙◌, ap, arith}
 use Rattle.vg_scan.specs.Names.{canonical, is_escaped, spelled}
-use Rattle.vg_scan.proofs.Spelled.{onto, onto-before, full, whole_text, read_on, quote_found, canonical_end, canonical_open, canonical_whole, canonical-ordinary}
+use Rattle.vg_scan.proofs.SpelledLemmas.{onto, onto-before, full, whole_text, read_on, quote_found, canonical_end, canonical_open, canonical_whole, canonical-ordinary}
 use Rattle.vg_scan.proofs.spef.spell_name.Goals as goal
 use Rattle.vg_scan.proofs.spef.spell_name.Goals.{in-Escape, in-Stands+in-Ok}
 

@@ -1,4 +1,4 @@
-use Rattle.vg_scan.proofs.Spelled.{IsReadTo}
+use Rattle.vg_scan.proofs.SpelledLemmas.{IsReadTo}
 use Rattle.vg_scan.proofs.spef.spell_name.Given as goal
 
 abbrev pub invariant-byte : goal.invariant-byte

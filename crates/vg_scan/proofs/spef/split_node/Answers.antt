@@ -1,5 +1,5 @@
 use Rattle.std.proofs.Common.{length, sym, ◌∙◌, arith}
-use Rattle.vg_scan.proofs.Bare.{none_bare, some_bare}
+use Rattle.vg_scan.proofs.BareLemmas.{none_bare, some_bare}
 use Rattle.vg_scan.proofs.spef.split_node.Goals as goal
 
 pub returns-in-None-clause-last : goal.returns-in-None-clause-last

@@ -1,6 +1,6 @@
 use Rattle.std.proofs.Common.{length, arith, ap, length-drop}
 use Rattle.std.proofs.lemmas.Result.{err_from_is_err_and}
-use Rattle.vg_store.proofs.Pieces.{rest_of-drop, gains_next, gains_then_prefix}
+use Rattle.vg_store.proofs.PieceLemmas.{rest_of-drop, gains_next, gains_then_prefix}
 use Rattle.vg_store.proofs.output.put_all.Goals as goal
 
 pub returns-in_err-done-clause-prefix : goal.returns-in_err-done-clause-prefix

@@ -1,6 +1,6 @@
 use Rattle.std.proofs.Common.{◌≡◌, sym, ap, ◌∙◌, subst, arith}
 use Rattle.elmore.specs.Allowances.{all_allowed, AreAllowances}
-use Rattle.elmore.proofs.LegalLaws.{all_allowances}
+use Rattle.elmore.proofs.LegalLemmas.{all_allowances}
 use Rattle.elmore.proofs.allowed.Allowed.everywhere.Goals as goal
 
 pub returns-clause-allowances : goal.returns-clause-allowances

@@ -1,7 +1,7 @@
 use Rattle.std.proofs.Common.{◌∙◌, sym, ap, arith, length}
 use Rattle.std.proofs.lemmas.List.FromFn.{length-map-range_with_len}
 use Rattle.elmore.specs.Problems.{is_live}
-use Rattle.elmore.proofs.LiveLaws.{are_places}
+use Rattle.elmore.proofs.LiveLemmas.{are_places}
 use Rattle.elmore.proofs.live.Marks.of.Goals as goal
 
 pub free_and_live-requires : goal.free_and_live-requires

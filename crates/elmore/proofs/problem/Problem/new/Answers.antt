@@ -1,6 +1,6 @@
 use Rattle.std.proofs.Common.{◌≡◌}
 use Rattle.elmore.specs.Problems.{places as places_of}
-use Rattle.elmore.proofs.LiveLaws.{places_are}
+use Rattle.elmore.proofs.LiveLemmas.{places_are}
 use Rattle.elmore.proofs.problem.Problem.new.Goals as goal
 
 pub invariant_of-result-clause-places_are : goal.invariant_of-result-clause-places_are

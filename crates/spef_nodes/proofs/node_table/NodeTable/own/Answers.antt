@@ -4,7 +4,7 @@ use Rattle.vg_scan.specs.declared.name.NodeName.{NodeName}
 use Rattle.vg_scan.specs.Nodes.{has_node}
 use Rattle.spef_nodes.specs.Members.{with_node, is_inner}
 use Rattle.spef_nodes.proofs.NodeTableLemmas.{with_there, slice_get_last, same_refl}
-use Rattle.spef_nodes.proofs.NodeLists.{slice_get-with_node}
+use Rattle.spef_nodes.proofs.NodeListLemmas.{slice_get-with_node}
 use Rattle.spef_nodes.proofs.ApartLemmas.{has_at}
 use Rattle.spef_nodes.proofs.node_table.NodeTable.own.Goals as goal
 

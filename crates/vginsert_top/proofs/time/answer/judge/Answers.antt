@@ -1,5 +1,5 @@
 use Rattle.std.proofs.Common.{sym, ◌∙◌}
-use Rattle.vginsert_top.proofs.TimeAnswers.{free_within}
+use Rattle.vginsert_top.proofs.TimeAnswerLemmas.{free_within}
 use Rattle.vginsert_top.proofs.time.answer.judge.Goals as goal
 
 pub name_of-requires : goal.name_of-requires

@@ -1,7 +1,7 @@
 use Rattle.std.proofs.Common.{ℕ, List, subst}
 use Rattle.vg_design.specs.Nets.{IsRefusalOf}
 use Rattle.vg_design.specs.Wires.{IsTreeNamed}
-use Rattle.vginsert_top.proofs.TimeAnswers.{ready_is, own_net, refused_net}
+use Rattle.vginsert_top.proofs.TimeAnswerLemmas.{ready_is, own_net, refused_net}
 use Rattle.vginsert_top.proofs.time.answer.judge_named.Goals as goal
 
 pub judge-requires : goal.judge-requires

@@ -1,0 +1,9 @@
+use Rattle.std.proofs.Common.{sym, ◌∙◌}
+use Rattle.spef_file.proofs.CharLemmas.{divider_yes, divider_no}
+use Rattle.spef_file.proofs.header_chars.with_divider.Goals as goal
+
+pub returns-then-not-is_separator : goal.returns-then-not-is_separator
+returns-then-not-is_separator c = divider_no c.args.chars.now c.args.byte (sym c.is_separator.ensures ∙ c.if-not-is_separator.true)
+
+pub returns : goal.returns
+returns c = divider_yes c.args.chars.now c.args.byte _ _ _
