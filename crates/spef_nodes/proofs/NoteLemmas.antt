@@ -49,5 +49,14 @@ notes_put texts new_texts text old new at mark note e put h is notes v i =
     ∙ ap (λ n. cond (eqb i at) n (note_in texts (get_or old i Fresh))) is
     ∙ ap (λ n. cond (eqb i at) note n) (sym (note_of_mark texts old i) ∙ ap (λ ns. note_at ns i) v)
 
+-- what is noted after a text was added and no mark
+pub notes_same : (texts new_texts : List (List ℕ)) (text : List ℕ) (old new : List Mark) → new_texts ≡ texts ++ text ∷ []
+    → ((i : ℕ) → get_or new i Fresh ≡ get_or old i Fresh) → AreMarks (length texts) old
+    → (notes : List Note) → map (note_in texts) old ≡ notes → (i : ℕ) → note_at (map (note_in new_texts) new) i ≡ note_at notes i
+notes_same texts new_texts text old new e same h notes v i =
+    ap (λ ts. note_at (map (note_in ts) new) i) e ∙ note_of_mark (texts ++ text ∷ []) new i ∙ ap (note_in (texts ++ text ∷ [])) (same i)
+    ∙ mark_stays texts text (get_or old i Fresh) (h i)
+    ∙ sym (note_of_mark texts old i) ∙ ap (λ ns. note_at ns i) v
+
 pub text_is : (texts : List (List ℕ)) (text : List ℕ) (id : ℕ) → id ≡ length texts → get_or (texts ++ text ∷ []) id [] ≡ text
 text_is texts text id e = ap (λ k. get_or (texts ++ text ∷ []) k []) e ∙ get_or-append_seam texts text [] []

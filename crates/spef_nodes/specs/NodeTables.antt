@@ -5,6 +5,7 @@ use Rattle.vg_scan.specs.declared.name.NodeName.{NodeName}
 use Rattle.vg_scan.specs.declared.chains.Chains.{Chains}
 use Rattle.vg_scan.specs.Chains.{AreChains}
 use Rattle.spef_nodes.specs.Members.{node_named}
+use Rattle.spef_nodes.specs.declared.node_table.Table.{Table}
 
 -- a hash, with one byte more
 abbrev pub hash_with : ℕ → ℕ → ℕ
@@ -18,6 +19,10 @@ bucket_of buckets node = bit_and (fold hash_with (fold hash_with 0 node.owner) n
 unfoldable pub nodes_in : List (List ℕ) → List (List ℕ) → List NodeName
 nodes_in (owner ∷ owners) (leaf ∷ leaves) = record { owner = owner; leaf = leaf } ∷ nodes_in owners leaves
 nodes_in _ _ = []
+
+-- the nodes of a table
+abbrev pub nodes_of : Table → List NodeName
+nodes_of table = nodes_in table.owners table.leaves
 
 -- the node of a number, by its owner and its leaf
 abbrev pub node_at : List (List ℕ) → List (List ℕ) → ℕ → NodeName

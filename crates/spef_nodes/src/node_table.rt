@@ -5,9 +5,8 @@ ghost use Rattle.std.specs.List.{slice_get, fold};
 ghost use Rattle.vg_scan.specs.declared.name.NodeName.{NodeName};
 ghost use Rattle.vg_scan.specs.Chains.{AreChains};
 ghost use Rattle.vg_scan.specs.Nodes.{has_node, same_node};
-ghost use Rattle.spef_nodes.specs.Members.{node_named, with_node};
-ghost use Rattle.spef_nodes.specs.Members.{node_named, Owns};
-ghost use Rattle.spef_nodes.specs.NodeTables.{node_at, hash_with, bucket_of, nodes_in, IsTable};
+ghost use Rattle.spef_nodes.specs.Members.{node_named, with_node, Owns};
+ghost use Rattle.spef_nodes.specs.NodeTables.{node_at, hash_with, bucket_of, nodes_in, nodes_of, IsTable};
 
 use crate::members::is_inner;
 use std::alloc::Global;
@@ -113,8 +112,8 @@ impl Table {
 
     /// Whether this node has this number.
     fn is_at(&self, at: usize, owner: &[u8], leaf: &[u8]) -> bool
-        ensures same { (node : NodeName) → slice_get (nodes_in self.now.owners self.now.leaves) at ≡ Some node → result ≡ same_node (node_named owner.now leaf.now) node }
-        ensures there { result ≡ true → slice_get (nodes_in self.now.owners self.now.leaves) at ≡ Some (node_named owner.now leaf.now) }
+        ensures same { (node : NodeName) → slice_get (nodes_of self.now) at ≡ Some node → result ≡ same_node (node_named owner.now leaf.now) node }
+        ensures there { result ≡ true → slice_get (nodes_of self.now) at ≡ Some (node_named owner.now leaf.now) }
     {
         if at >= self.owners.len() {
             return false;
@@ -127,11 +126,11 @@ impl Table {
 
     /// The number of a node whose bucket is this one. `None`: it is not there.
     fn find_in(&self, bucket: usize, owner: &[u8], leaf: &[u8]) -> Option<u32>
-        requires table { IsTable (nodes_in self.now.owners self.now.leaves) self.now.rows.items self.now.chains }
+        requires table { IsTable (nodes_of self.now) self.now.rows.items self.now.chains }
         requires bucket { bucket ≡ bucket_of (length self.now.chains.lasts.items) (node_named owner.now leaf.now) }
         requires within { bucket < length self.now.chains.lasts.items }
-        ensures found { IfSome result (λ id. slice_get (nodes_in self.now.owners self.now.leaves) id ≡ Some (node_named owner.now leaf.now)) }
-        ensures absent { IfNone result (has_node (nodes_in self.now.owners self.now.leaves) (node_named owner.now leaf.now) ≡ false) }
+        ensures found { IfSome result (λ id. slice_get (nodes_of self.now) id ≡ Some (node_named owner.now leaf.now)) }
+        ensures absent { IfNone result (has_node (nodes_of self.now) (node_named owner.now leaf.now) ≡ false) }
     {
         let mut link = self.chains.last(bucket);
         'row: while link != 0 {
@@ -146,13 +145,13 @@ impl Table {
 
     /// Puts a node last whose bucket is this one. Answers `Memory` where there is no room, and from then on.
     fn add(&mut self, bucket: usize, owner: &[u8], leaf: &[u8]) -> Result<u32, Memory>
-        requires table { IsTable (nodes_in self.old.owners self.old.leaves) self.old.rows.items self.old.chains }
+        requires table { IsTable (nodes_of self.old) self.old.rows.items self.old.chains }
         requires bucket { bucket ≡ bucket_of (length self.old.chains.lasts.items) (node_named owner.now leaf.now) }
         requires within { bucket < length self.old.chains.lasts.items }
-        ensures table { IsTable (nodes_in self.new.owners self.new.leaves) self.new.rows.items self.new.chains }
-        ensures nodes { OnOk result (nodes_in self.new.owners self.new.leaves ≡ nodes_in self.old.owners self.old.leaves ++ node_named owner.now leaf.now ∷ []) }
-        ensures number { IfOk result (λ id. id ≡ length (nodes_in self.old.owners self.old.leaves)) }
-        ensures unchanged { OnErr result (nodes_in self.new.owners self.new.leaves ≡ nodes_in self.old.owners self.old.leaves) }
+        ensures table { IsTable (nodes_of self.new) self.new.rows.items self.new.chains }
+        ensures nodes { OnOk result (nodes_of self.new ≡ nodes_of self.old ++ node_named owner.now leaf.now ∷ []) }
+        ensures number { IfOk result (λ id. id ≡ length (nodes_of self.old)) }
+        ensures unchanged { OnErr result (nodes_of self.new ≡ nodes_of self.old) }
     {
         let count = self.rows.len();
         if count >= 0xFFFF_FFFF || self.owners.len() != count || self.leaves.len() != count {

@@ -145,21 +145,31 @@ impl Notes {
         text_in(&self.texts, mark_at(self.marks.as_slice(), at))
     }
 
-    /// Notes a connection at a number. Answers `Memory` where there is no room.
+    /// Notes a connection at a number. Answers `Memory` where there is no room; nothing changes then.
     pub fn join(&mut self, at: u32, note: &[u8]) -> Result<(), Memory>
-        ensures { OnOk result ((i : ℕ) → note_at self.new i ≡ (if i == at then joined note.now else note_at self.old i)) }
+        ensures noted { OnOk result ((i : ℕ) → note_at self.new i ≡ (if i == at then joined note.now else note_at self.old i)) }
+        ensures unchanged { OnErr result ((i : ℕ) → note_at self.new i ≡ note_at self.old i) }
     {
-        let id = add_text(&mut self.texts, note)?;
-        put(&mut self.marks, at as usize, Mark::Joined(id))?;
+        let Ok(id) = add_text(&mut self.texts, note) else {
+            return Err(Memory);
+        };
+        let Ok(()) = put(&mut self.marks, at as usize, Mark::Joined(id)) else {
+            return Err(Memory);
+        };
         Ok(())
     }
 
-    /// Notes a `*N` line at a number. Answers `Memory` where there is no room.
+    /// Notes a `*N` line at a number. Answers `Memory` where there is no room; nothing changes then.
     pub fn star(&mut self, at: u32, note: &[u8]) -> Result<(), Memory>
-        ensures { OnOk result ((i : ℕ) → note_at self.new i ≡ (if i == at then starred note.now else note_at self.old i)) }
+        ensures noted { OnOk result ((i : ℕ) → note_at self.new i ≡ (if i == at then starred note.now else note_at self.old i)) }
+        ensures unchanged { OnErr result ((i : ℕ) → note_at self.new i ≡ note_at self.old i) }
     {
-        let id = add_text(&mut self.texts, note)?;
-        put(&mut self.marks, at as usize, Mark::Starred(id))?;
+        let Ok(id) = add_text(&mut self.texts, note) else {
+            return Err(Memory);
+        };
+        let Ok(()) = put(&mut self.marks, at as usize, Mark::Starred(id)) else {
+            return Err(Memory);
+        };
         Ok(())
     }
 }
