@@ -57,7 +57,7 @@ and_true : (a : Bool) → (a && true) ≡ a
 and_true true = refl
 and_true false = refl
 
-bare_is : (byte : ℕ) (text : List ℕ) (at : ℕ) → ((i : ℕ) → is_backslash (get_or text i 0) ≡ false) → is_bare byte text at ≡ eqb (get_or text at 0) byte
+pub bare_is : (byte : ℕ) (text : List ℕ) (at : ℕ) → ((i : ℕ) → is_backslash (get_or text i 0) ≡ false) → is_bare byte text at ≡ eqb (get_or text at 0) byte
 bare_is byte text at h = ap (λ e. eqb (get_or text at 0) byte && not e) (none_escaped text h at) ∙ and_true (eqb (get_or text at 0) byte)
 
 -- the last of a byte, from the end

@@ -1,13 +1,15 @@
 -- The nodes of a net, and texts that name them.
-use Rattle.std.specs.Prelude.{◌≡◌, ℕ, ◌<◌, List, length, slice_index_or, Option, Some, None, Result, Ok, Err}
+use Rattle.std.specs.Prelude.{◌≡◌, ◌==◌, ◌++◌, ℕ, suc, true, false, List, length, slice_index, Option, Some, None, Result, Ok, Err}
 use Rattle.std.specs.List.{slice_get}
+use Rattle.vg_num.specs.Number.{is_digit, are_digits, value_of}
+use Rattle.vg_scan.specs.declared.chars.Chars.{Chars}
 use Rattle.vg_scan.specs.declared.fault.NameFault.{NameFault}
 use Rattle.vg_scan.specs.declared.fault.NameFault.TheVariants.{Bad, Memory}
 use Rattle.vg_scan.specs.declared.name.NodeName.{NodeName}
 use Rattle.spef_file.specs.Files.{File}
-use Rattle.spef_nodes.specs.Members.{Owns}
+use Rattle.spef_nodes.specs.Members.{node_named, Owns}
 use Rattle.spef_net.specs.Names.{node_in}
-use Rattle.spef_net.specs.declared.node_reader.Known.{Known}
+use Rattle.spef_net.specs.Spellings.{is_itself}
 
 -- the nodes so far of the net of this name in a file
 pub record NetNodes : Type 0 where
@@ -15,13 +17,25 @@ pub record NetNodes : Type 0 where
   pub net : List ℕ
   pub nodes : List NodeName
 
--- a text that is known names the node of its number
-abbrev pub IsKnown : File → List NodeName → Option Known → Type 0
-IsKnown file nodes None = Unit {0}
-IsKnown file nodes (Some known) = (node_in file known.text.now ≡ slice_get nodes known.id) × (known.id < length nodes)
+-- digits of which the first is no zero write a number
+abbrev pub Writes : List ℕ → ℕ → Type 0
+Writes digits number = (are_digits digits ≡ true) × ((slice_index digits 0 == 48) ≡ false) × (value_of digits ≡ number)
 
-abbrev pub AreKnown : File → List NodeName → List (Option Known) → Type 0
-AreKnown file nodes slots = (i : ℕ) → IsKnown file nodes (slice_index_or slots i None)
+-- digits stand for themselves in names, and none is the delimiter
+abbrev pub ArePlainDigits : Chars → Type 0
+ArePlainDigits chars = (b : ℕ) → is_digit b ≡ true → (is_itself chars b ≡ true) × ((b == chars.delimiter) ≡ false)
+
+-- there is no prefix yet, or it and digits name the inner node of those digits
+abbrev pub IsPrefix : File → List ℕ → List ℕ → Type 0
+IsPrefix file net prefix = (leaf : List ℕ) → (length prefix == 0) ≡ false → are_digits leaf ≡ true → node_in file (prefix ++ leaf) ≡ Some (node_named net leaf)
+
+-- a number that is not 0 is one more than that of the node whose leaf writes its place
+abbrev pub AreNumbers : NetNodes → List ℕ → Type 0
+AreNumbers reader numbers = (number id : ℕ) (leaf : List ℕ) → slice_index numbers number ≡ suc id → Writes leaf number → slice_get reader.nodes id ≡ Some (node_named reader.net leaf)
+
+pub record IsReader (reader : NetNodes) (prefix numbers : List ℕ) : Type 0 where
+  pub begins : IsPrefix reader.file reader.net prefix
+  pub leads : AreNumbers reader numbers
 
 -- the number of the node that a text names, where it is the net's, or none
 abbrev pub SeesNode : Result (Option ℕ) NameFault → List ℕ → List NodeName → Option NodeName → List NodeName → Type 0

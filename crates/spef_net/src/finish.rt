@@ -15,10 +15,10 @@ ghost use Rattle.spef_nodes.specs.Nodes.{noted_all};
 ghost use Rattle.spef_net.specs.declared.fault.NetKind.TheVariants.{Memory};
 
 use crate::builder::NetBuilder;
+use crate::connections::read_connections;
 use crate::fault::{NetFault, NetKind};
 use crate::net::ParNet;
 use crate::read::read_lines;
-use crate::connections::read_connections;
 use spef_file::SpefIndex;
 use spef_nodes::Nodes;
 use std::alloc::Global;

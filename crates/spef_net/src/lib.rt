@@ -1,8 +1,9 @@
 //! One section of a SPEF file (IEEE Std 1481): the connections, nodes, capacitors and resistors of a net.
 #![tactic(auto)]
 
-mod conn_line;
 mod builder;
+mod conn_line;
+mod connections;
 mod fault;
 mod finish;
 mod laws;
@@ -13,7 +14,6 @@ mod node_reader;
 mod part;
 mod read;
 mod section;
-mod connections;
 mod take;
 mod value;
 

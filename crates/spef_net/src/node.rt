@@ -1,11 +1,12 @@
 //! The names of nodes, as texts spell them.
 
-ghost use Rattle.std.specs.Prelude.{◌≡◌, ◌==◌, ◌<◌, true, [], length, Some, IfSome};
+ghost use Rattle.std.specs.Prelude.{◌≡◌, ◌==◌, ◌<◌, true, [], length, Some, IfSome, IsTrue};
 ghost use Rattle.std.specs.List.{list_all};
 ghost use Rattle.vg_scan.specs.Names.{canonical, last_bare};
 ghost use Rattle.spef_file.specs.IndexFiles.{file_of};
 ghost use Rattle.vg_scan.specs.Nodes.{node_of_parts};
 ghost use Rattle.spef_net.specs.Names.{owner_in, node_in};
+ghost use Rattle.spef_net.specs.NodeReaders.{ArePlainDigits, IsPrefix};
 ghost use Rattle.spef_net.specs.Spellings.{is_itself, IsUnescaped, bytes_of, named_by, Spells, SpellsNode};
 
 use crate::line::text_from;
@@ -254,4 +255,48 @@ pub(crate) fn is_bare(node: &Node) -> bool
     ensures { result ≡ (length (named_by node.now).leaf == 0) }
 {
     node.leaf.as_bytes().is_empty()
+}
+
+/// Whether digits stand for themselves and none is the delimiter.
+fn are_digits_plain(chars: &Chars) -> bool
+    ensures { IsTrue result → ArePlainDigits chars.now }
+{
+    !chars.delimiter.is_ascii_digit()
+        && !chars.divider.is_ascii_digit()
+        && !chars.bus_left.is_ascii_digit()
+        && !chars.bus_right.is_ascii_digit()
+}
+
+/// Whether a text is the net's name, or an index of it.
+fn is_name_of(index: &SpefIndex, text: &[u8], net: &[u8]) -> bool
+    requires { list_all (is_itself index.now.header.chars) text.now ≡ true }
+    ensures { IsTrue result → owner_in (file_of index.now) text.now ≡ Some net.now }
+{
+    match plain_owner(index, text) {
+        Err(_) => false,
+        Ok(owner) => owner.as_bytes() == net,
+    }
+}
+
+/// What stands before the leaf in the text of a net's inner node. Empty: the text is none that begins so plainly.
+pub(crate) fn prefix_of<'a>(index: &SpefIndex, net: &[u8], text: &'a [u8]) -> &'a [u8]
+    ensures { IsPrefix (file_of index.now) net.now result.now }
+{
+    let chars = &index.header.chars;
+    if !is_plain(chars, text) {
+        return b"";
+    }
+    if !are_digits_plain(chars) {
+        return b"";
+    }
+    match last_of(text, chars.delimiter) {
+        None => b"",
+        Some(at) => {
+            if is_name_of(index, &text[..at], net) {
+                &text[..at + 1]
+            } else {
+                b""
+            }
+        }
+    }
 }

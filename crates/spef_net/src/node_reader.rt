@@ -1,14 +1,14 @@
 //! The nodes of a net, by the texts that name them.
 
-ghost use Rattle.std.specs.Prelude.{◌≡◌, ◌^◌, ◌<◌, length, Some, IfOk, IfSome, OnOk, OnErr};
+ghost use Rattle.std.specs.Prelude.{◌≡◌, ℕ, List, length, Some, IfOk, IfSome, OnOk, OnErr};
 ghost use Rattle.std.specs.List.{slice_get};
 ghost use Rattle.spef_file.specs.IndexFiles.{file_of};
-ghost use Rattle.spef_nodes.specs.Members.{Owns, with_node};
+ghost use Rattle.spef_nodes.specs.Members.{Owns, node_named, with_node};
 ghost use Rattle.spef_net.specs.Names.{node_in};
 ghost use Rattle.spef_net.specs.Spellings.{named_by};
-ghost use Rattle.spef_net.specs.NodeReaders.{SeesNode};
+ghost use Rattle.spef_net.specs.NodeReaders.{SeesNode, Writes};
 
-use crate::node::{Node, read_node};
+use crate::node::{Node, prefix_of, read_node};
 use spef_file::SpefIndex;
 use spef_nodes::NodeTable;
 use std::alloc::Global;
@@ -16,74 +16,75 @@ use std::marker::Model;
 use vg_num::Memory;
 use vg_scan::NameFault;
 
-/// A text that names the node of a number.
-#[derive(Clone, Copy, Debug)]
-pub(crate) struct Known<'a> {
-    pub text: &'a [u8],
-    pub id: u32,
-}
-
-/// The nodes of a net while its lines are read. A text that comes again, as most do, is looked up by its bytes and not read
-/// again: of the texts that share a slot the last one is known.
+/// The nodes of a net while its lines are read. Most texts name an inner node: they begin as the first such text did, and go
+/// on with digits. The number that the digits write leads to the node, where it came before.
 #[derive(Drop)]
 pub(crate) struct NodeReader<'a> {
     alloc: Global,
     index: &'a SpefIndex,
     net: &'a [u8],
     nodes: NodeTable,
-    known: Vec<Option<Known<'a>>>,
+    /// What stands before the leaf in the text of an inner node. Empty: no such text came yet.
+    prefix: &'a [u8],
+    /// For each number, one more than the number of the node whose leaf writes it. 0: no such node came yet.
+    numbers: Vec<u32>,
 }
 
 impl<'a> Model for NodeReader<'a> {
     ghost use Rattle.spef_file.specs.IndexFiles.{file_of};
-    ghost use Rattle.spef_net.specs.NodeReaders.{NetNodes, AreKnown};
+    ghost use Rattle.spef_net.specs.NodeReaders.{NetNodes, IsReader};
 
     ghost Value = { NetNodes };
 
     ghost view = { λ reader. record { file = file_of reader.index.now; net = reader.net.now; nodes = reader.nodes } };
 
-    ghost invariant = { λ reader. AreKnown (file_of reader.index.now) reader.nodes reader.known.items };
+    ghost invariant = { λ reader. IsReader (record { file = file_of reader.index.now; net = reader.net.now; nodes = reader.nodes }) reader.prefix.now reader.numbers.items };
 }
 
-/// The slot of a text among so many. Texts that differ in one number have slots as far apart as their numbers, or an odd
-/// multiple of that.
-fn slot_of(slots: usize, text: &[u8]) -> usize
-    requires { 0 < slots }
-    ensures { result < slots }
+/// The number that digits write of which the first is no zero. `None`: it is another text, or of ten bytes or more.
+fn number_of(text: &[u8]) -> Option<usize>
+    ensures { IfSome result (Writes text.now) }
 {
-    let end = &text[text.len().saturating_sub(8)..];
-    let mut hash = 0u64;
-    let mut number = 0u64;
-    'byte: for byte in end {
-        if byte.is_ascii_digit() {
-            number = (number * 10 + u64::from(*byte - b'0')) % 0x1_0000_0000;
-        } else {
-            hash = ((hash + number) * 9 + u64::from(*byte)) % 0x1_0000_0000;
-            number = 0;
-        }
+    if text.is_empty() {
+        return None;
     }
-    (hash + number) as usize & (slots - 1)
+    if text.len() > 9 {
+        return None;
+    }
+    if text[0] == b'0' {
+        return None;
+    }
+    let mut number = 0usize;
+    'digit: for byte in text {
+        let byte = *byte;
+        if byte < b'0' || byte > b'9' {
+            return None;
+        }
+        number = number * 10 + usize::from(byte - b'0');
+    }
+    Some(number)
 }
 
 impl<'a> NodeReader<'a> {
-    /// These nodes, before the first text; so many slots for texts, at best a power of two. Answers `Memory` where there is
-    /// no room.
+    /// These nodes, before the first text; inner nodes whose number is less than a count are found by it. Answers `Memory`
+    /// where there is no room.
     pub fn new(
         alloc: Global,
         index: &'a SpefIndex,
         net: &'a [u8],
         nodes: NodeTable,
-        slots: usize,
+        count: usize,
     ) -> Result<NodeReader<'a>, Memory>
         ensures { IfOk result (λ reader. reader ≡ record { file = file_of index.now; net = net.now; nodes = nodes }) }
     {
-        let known = vec![in alloc; None; slots]?;
+        let numbers = vec![in alloc; 0u32; count]?;
         Ok(NodeReader {
             alloc,
             index,
             net,
             nodes,
-            known,
+            prefix: b"",
+            numbers,
         })
     }
 
@@ -106,39 +107,75 @@ impl<'a> NodeReader<'a> {
         self.net
     }
 
-    /// The node of a text that came before.
-    fn find(&self, text: &[u8]) -> Option<u32>
-        ensures named { IfSome result (λ id. node_in self.now.file text.now ≡ slice_get self.now.nodes id) }
-        ensures within { IfSome result (λ id. id < length self.now.nodes) }
+    /// The leaf of an inner node, and the number that it writes, where a text has the prefix.
+    fn inner_leaf(&self, text: &'a [u8]) -> Option<(&'a [u8], usize)>
+        ensures { IfSome result (λ found. (node_in self.now.file text.now ≡ Some (node_named self.now.net found.0.now)) × Writes found.0.now found.1) }
     {
-        let slots = self.known.len();
-        if slots == 0 {
+        let start = self.prefix.len();
+        if start == 0 {
             return None;
         }
-        match self.known[slot_of(slots, text)] {
+        if text.len() <= start {
+            return None;
+        }
+        if &text[..start] != self.prefix {
+            return None;
+        }
+        let leaf = &text[start..];
+        match number_of(leaf) {
             None => None,
-            Some(known) => {
-                if known.text == text {
-                    Some(known.id)
-                } else {
-                    None
-                }
-            }
+            Some(number) => Some((leaf, number)),
         }
     }
 
-    /// Puts a text into its slot, which names the node of this number.
-    fn remember(&mut self, text: &'a [u8], id: u32)
-        requires named { node_in self.old.file text.now ≡ slice_get self.old.nodes id }
-        requires within { id < length self.old.nodes }
+    /// The node whose leaf writes a number, where it came before.
+    fn find(&self, number: usize) -> Option<u32>
+        ensures named { IfSome result (λ id. (leaf : List ℕ) → Writes leaf number → slice_get self.now.nodes id ≡ Some (node_named self.now.net leaf)) }
+    {
+        if number >= self.numbers.len() {
+            return None;
+        }
+        let link = self.numbers[number];
+        if link == 0 {
+            return None;
+        }
+        Some(link - 1)
+    }
+
+    /// Notes the node whose leaf writes a number.
+    fn remember(&mut self, number: usize, leaf: &[u8], id: u32)
+        requires writes { Writes leaf.now number }
+        requires named { slice_get self.old.nodes id ≡ Some (node_named self.old.net leaf.now) }
         ensures { self.new ≡ self.old }
     {
-        let slots = self.known.len();
-        if slots == 0 {
-            return;
+        if number < self.numbers.len() && id < 0xFFFF_FFFF {
+            self.numbers[number] = id + 1;
         }
-        let slot = slot_of(slots, text);
-        self.known[slot] = Some(Known { text, id });
+    }
+
+    /// The number of the inner node of a leaf, which is put last where it is new. Answers `Memory` where there is no room.
+    fn see_inner(&mut self, leaf: &[u8], number: usize) -> Result<Option<u32>, NameFault>
+        requires { Writes leaf.now number }
+        ensures seen { SeesNode result self.old.net self.old.nodes (Some (node_named self.old.net leaf.now)) self.new.nodes }
+        ensures rest { self.new ≡ record self.old { nodes = self.new.nodes } }
+    {
+        match self.find(number) {
+            Some(id) => Ok(Some(id)),
+            None => self.add_inner(leaf, number),
+        }
+    }
+
+    /// The same of one that is not found by its number.
+    fn add_inner(&mut self, leaf: &[u8], number: usize) -> Result<Option<u32>, NameFault>
+        requires { Writes leaf.now number }
+        ensures seen { SeesNode result self.old.net self.old.nodes (Some (node_named self.old.net leaf.now)) self.new.nodes }
+        ensures rest { self.new ≡ record self.old { nodes = self.new.nodes } }
+    {
+        let Ok(id) = self.nodes.intern(self.net, leaf) else {
+            return Err(NameFault::Memory);
+        };
+        self.remember(number, leaf, id);
+        Ok(Some(id))
     }
 
     /// The number of a node, which is put last where it is new. Answers `Memory` where there is no room; nothing changes
@@ -169,13 +206,13 @@ impl<'a> NodeReader<'a> {
         ensures seen { SeesNode result self.old.net self.old.nodes (node_in self.old.file text.now) self.new.nodes }
         ensures rest { self.new ≡ record self.old { nodes = self.new.nodes } }
     {
-        match self.find(text) {
-            Some(id) => Ok(Some(id)),
+        match self.inner_leaf(text) {
+            Some((leaf, number)) => self.see_inner(leaf, number),
             None => self.read(text),
         }
     }
 
-    /// The same of a text that is not known.
+    /// The same of a text that has not the prefix.
     #[inline(never)]
     fn read(&mut self, text: &'a [u8]) -> Result<Option<u32>, NameFault>
         ensures seen { SeesNode result self.old.net self.old.nodes (node_in self.old.file text.now) self.new.nodes }
@@ -184,14 +221,22 @@ impl<'a> NodeReader<'a> {
         match read_node(self.alloc, self.index, text) {
             Err(NameFault::Bad) => Err(NameFault::Bad),
             Err(NameFault::Memory) => Err(NameFault::Memory),
-            Ok(node) => match self.own(&node) {
-                Err(_) => Err(NameFault::Memory),
-                Ok(None) => Ok(None),
-                Ok(Some(id)) => {
-                    self.remember(text, id);
-                    Ok(Some(id))
+            Ok(node) => {
+                self.learn(&node, text);
+                match self.own(&node) {
+                    Err(_) => Err(NameFault::Memory),
+                    Ok(found) => Ok(found),
                 }
-            },
+            }
+        }
+    }
+
+    /// Takes the prefix from the text of a node, where the node is the net's and there is no prefix yet.
+    fn learn(&mut self, node: &Node, text: &'a [u8])
+        ensures { self.new ≡ self.old }
+    {
+        if self.prefix.is_empty() && node.owner.as_bytes() == self.net {
+            self.prefix = prefix_of(self.index, self.net, text);
         }
     }
 

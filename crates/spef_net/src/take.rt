@@ -6,8 +6,8 @@ ghost use Rattle.spef_net.specs.Statements.{conn_line, cap_line, res_line, state
 ghost use Rattle.spef_net.specs.Builders.{Takes, IsSameSource};
 ghost use Rattle.vg_scan.specs.Spans.{words_at};
 
-use crate::conn_line::{ConnLine, read_conn};
 use crate::builder::NetBuilder;
+use crate::conn_line::{ConnLine, read_conn};
 use crate::fault::NetKind;
 use crate::line::{connection_note, star_note};
 use crate::part::Part;
@@ -15,7 +15,11 @@ use crate::value::read_value;
 use vg_scan::{NameFault, Span, text_at};
 
 /// A line of connections.
-fn take_conn<'a>(builder: &mut NetBuilder<'a>, line: &'a [u8], words: &[Span]) -> Result<(), NetKind>
+fn take_conn<'a>(
+    builder: &mut NetBuilder<'a>,
+    line: &'a [u8],
+    words: &[Span],
+) -> Result<(), NetKind>
     ensures taken { Takes result builder.old.net builder.old (conn_line builder.old.file line.now (words_at line.now words.now)) builder.new }
     ensures source { OnOk result (IsSameSource builder.old builder.new) }
 {
@@ -30,7 +34,11 @@ fn take_conn<'a>(builder: &mut NetBuilder<'a>, line: &'a [u8], words: &[Span]) -
 }
 
 /// A capacitor to the ground, by the texts of its node and its value.
-fn take_ground<'a>(builder: &mut NetBuilder<'a>, node: &'a [u8], value: &[u8]) -> Result<(), NetKind>
+fn take_ground<'a>(
+    builder: &mut NetBuilder<'a>,
+    node: &'a [u8],
+    value: &[u8],
+) -> Result<(), NetKind>
     ensures taken { Takes result builder.old.net builder.old (ground_in builder.old.file node.now value.now) builder.new }
     ensures source { OnOk result (IsSameSource builder.old builder.new) }
 {

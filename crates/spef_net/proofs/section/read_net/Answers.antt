@@ -10,7 +10,7 @@ use Rattle.spef_net.proofs.section.read_net.Goals as goal
 pub read_part-requires : goal.read_part-requires
 read_part-requires c =
     let text = c.args.text.now in
-    let names = names_printable text (file_of c.args.index.now) c.requires.index.statement_of in
+    let names = names_printable text (file_of c.args.index.now) c.requires.index.said in
     record {
       section = section_at (without_comments Spef text) (file_lines text) c.args.index.now.sections c.args.at c.get-section.result c.requires.index.spans c.get-section.ensures;
       named = name_printable c.args.index.now.sections c.args.at c.name-name.result.now names.nets c.name-name.ensures;
