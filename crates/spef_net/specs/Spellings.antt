@@ -12,6 +12,10 @@ use Rattle.spef_net.specs.declared.node.Spelled.{Spelled}
 use Rattle.spef_net.specs.declared.node.Spelled.TheVariants.{Plain, Made}
 use Rattle.spef_net.specs.declared.node.Node.{Node}
 
+-- a byte that neither escapes nor quotes
+abbrev pub is_bare : ℕ → Bool
+is_bare b = not (is_backslash b || is_quote b)
+
 -- a byte that stands for itself in a name where nothing escapes it: the divider is `/` there, and the bus delimiters `[` and `]`
 abbrev pub is_itself : Chars → ℕ → Bool
 is_itself chars b =

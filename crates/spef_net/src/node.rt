@@ -1,13 +1,13 @@
 //! The names of nodes, as texts spell them.
 
-ghost use Rattle.std.specs.Prelude.{◌≡◌, ◌==◌, ◌<◌, true, [], length, Some, IfSome, IsTrue};
+ghost use Rattle.std.specs.Prelude.{◌≡◌, ◌==◌, ℕ, ◌<◌, true, [], length, Some, IfSome, IsTrue};
 ghost use Rattle.std.specs.List.{list_all};
 ghost use Rattle.vg_scan.specs.Names.{canonical, last_bare};
 ghost use Rattle.spef_file.specs.IndexFiles.{file_of};
 ghost use Rattle.vg_scan.specs.Nodes.{node_of_parts};
 ghost use Rattle.spef_net.specs.Names.{owner_in, node_in};
 ghost use Rattle.spef_net.specs.NodeReaders.{ArePlainDigits, IsPrefix};
-ghost use Rattle.spef_net.specs.Spellings.{is_itself, IsUnescaped, bytes_of, named_by, Spells, SpellsNode};
+ghost use Rattle.spef_net.specs.Spellings.{is_bare, is_itself, IsUnescaped, bytes_of, named_by, Spells, SpellsNode};
 
 use crate::line::text_from;
 use spef_file::{SpefIndex, mapped};
@@ -59,11 +59,29 @@ fn is_itself(chars: &Chars, byte: u8) -> bool
     }
 }
 
+/// Whether a file writes its names with the divider and the bus delimiters that canonical names have.
+fn are_usual(chars: &Chars) -> bool
+    ensures { IsTrue result → (b : ℕ) → is_itself chars.now b ≡ is_bare b }
+{
+    chars.divider == b'/' && chars.bus_left == b'[' && chars.bus_right == b']'
+}
+
+/// Whether no byte of a text is a backslash or a quote.
+fn are_bare(text: &[u8]) -> bool
+    ensures { result ≡ list_all is_bare text.now }
+{
+    text.iter().all(|byte| *byte != b'\\' && *byte != b'"')
+}
+
 /// Whether each byte of a text stands for itself.
 fn is_plain(chars: &Chars, text: &[u8]) -> bool
     ensures { result ≡ list_all (is_itself chars.now) text.now }
 {
-    text.iter().all(|byte| is_itself(chars, *byte))
+    if are_usual(chars) {
+        are_bare(text)
+    } else {
+        text.iter().all(|byte| is_itself(chars, *byte))
+    }
 }
 
 /// The canonical name of a text. Answers `Bad` where there is none, and `Memory` where there is no room.
