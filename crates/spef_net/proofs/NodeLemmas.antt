@@ -76,8 +76,8 @@ prefix_names file net text leaf at plain p last low owner digits =
     ∙ last_is file.chars.delimiter text at (unescaped file.chars text plain) last in
     let later : (i : ℕ) → at < i → i < length whole → eqb (get_or whole i 0) file.chars.delimiter ≡ false =
     λ i more less.
-        ap (λ b. eqb b file.chars.delimiter) (get_or-append_right front leaf (at + 1) i 0 count (omega (arith, more)))
-        ∙ (p (get_or leaf (i - (at + 1)) 0) (digit_there leaf (i - (at + 1)) ds.1 (omega (arith, more, less, all)))).1 in
+    ap (λ b. eqb b file.chars.delimiter) (get_or-append_right front leaf (at + 1) i 0 count (omega (arith, more)))
+    ∙ (p (get_or leaf (i - (at + 1)) 0) (digit_there leaf (i - (at + 1)) ds.1 (omega (arith, more, less, all)))).1 in
     let split : leaf_at file.chars whole ≡ Some at = last_from file.chars.delimiter whole at (length whole) bare (omega (arith, all)) here later in
     let first : take at text ≡ take at whole = sym (take-append-le at front leaf (omega (arith, count)) ∙ take-take text at (at + 1) (omega arith)) in
     let rest : leaf ≡ drop (at + 1) whole = sym (ap (λ n. drop n whole) (sym count) ∙ drop-append_seam front leaf) in
@@ -86,11 +86,13 @@ prefix_names file net text leaf at plain p last low owner digits =
   where
     some : (xs : List ℕ) → nat_lt 0 (length xs) ≡ true → eqb (length xs) 0 ≡ false
     some xs e = grind (arith, nat_tests)
+
     take-take : (xs : List ℕ) (n m : ℕ) → n ≤ m → take n (take m xs) ≡ take n xs
     take-take xs zero m h = refl
     take-take xs (suc n) zero h = absurd (omega (arith, h))
     take-take [] (suc n) (suc m) h = refl
     take-take (x ∷ xs) (suc n) (suc m) h = ap (λ ys. x ∷ ys) (take-take xs n m (omega (arith, h)))
+
     get_or-take : (xs : List ℕ) (n i d : ℕ) → i < n → get_or (take n xs) i d ≡ get_or xs i d
     get_or-take xs zero i d h = absurd (omega (arith, h))
     get_or-take [] (suc n) i d h = refl

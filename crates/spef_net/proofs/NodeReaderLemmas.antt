@@ -1,5 +1,5 @@
 -- The prefix of a net's inner nodes, and their numbers.
-use Rattle.std.proofs.Common.{◌≡◌, ℕ, zero, suc, ◌+◌, ◌*◌, ◌-◌, ◌^◌, ◌<◌, ◌≤◌, Bool, true, false, ◌||◌, ◌&&◌, not, cond, eqb, nat_lt, List, [], ◌∷◌, ◌++◌, length, get_or, take, drop, refl, sym, ap, ◌∙◌, subst, arith, Option, Some, None, Result, Ok, Err, inl, inr}
+use Rattle.std.proofs.Common.{◌≡◌, ℕ, zero, suc, ◌+◌, ◌*◌, ◌-◌, ◌^◌, ◌<◌, ◌≤◌, Bool, true, false, ◌||◌, ◌&&◌, not, cond, eqb, nat_lt, List, [], ◌∷◌, ◌++◌, length, get_or, take, drop, refl, sym, ap, ◌∙◌, subst, arith, Option, Some, None, Result, Ok, Err, inl, inr, length-append}
 use Rattle.std.specs.Prelude.{OnOk, OnErr}
 use Rattle.std.proofs.lemmas.Option.{slice_get_within}
 use Rattle.std.proofs.lemmas.Bool.{cases_lt, cases_eq}
@@ -28,7 +28,8 @@ use Rattle.spef_nodes.specs.Members.{node_named, with_node, Owns, is_inner}
 use Rattle.spef_nodes.proofs.NodeTableLemmas.{slice_get_front, with_there, same_refl}
 use Rattle.spef_nodes.proofs.NodeListLemmas.{slice_get-with_node}
 use Rattle.spef_nodes.proofs.ApartLemmas.{has_at}
-use Rattle.spef_net.specs.NodeReaders.{NetNodes, SeesNode, Writes, AreNumbers, IsReader}
+use Rattle.spef_net.specs.NodeReaders.{NetNodes, SeesNode, Writes, AreNumbers, IsKnown, IsReader}
+use Rattle.spef_net.specs.declared.node_reader.Known.{Known}
 use Rattle.spef_net.specs.Names.{node_in}
 use Rattle.spef_net.specs.Builders.{PartialNet}
 use Rattle.spef_net.specs.Sights.{Sees, SeesTwo, two_in}
@@ -41,28 +42,54 @@ stays_if false nodes node id x e = slice_get_front nodes (node ∷ []) id (slice
 stays : (nodes new : List NodeName) (node : NodeName) (id : ℕ) (x : NodeName) → new ≡ with_node nodes node → slice_get nodes id ≡ Some x → slice_get new id ≡ Some x
 stays nodes new node id x e h = ap (λ ns. slice_get ns id) e ∙ stays_if (has_node nodes node) nodes node id x h
 
-pub leads_more : (file : File) (net : List ℕ) (nodes new : List NodeName) (node : NodeName) (prefix numbers : List ℕ) → new ≡ with_node nodes node
-    → IsReader (record { file = file; net = net; nodes = nodes }) prefix numbers → IsReader (record { file = file; net = net; nodes = new }) prefix numbers
-leads_more file net nodes new node prefix numbers e r = record {
+known_if : (b : Bool) (file : File) (net : List ℕ) (nodes : List NodeName) (node : NodeName) (o : Option Known)
+    → IsKnown (record { file = file; net = net; nodes = nodes }) o → IsKnown (record { file = file; net = net; nodes = cond b nodes (nodes ++ node ∷ []) }) o
+known_if true file net nodes node o h = h
+known_if false file net nodes node None h = tt
+known_if false file net nodes node (Some k) h = (h.0 ∙ sym (slice_get_front nodes (node ∷ []) k.id h.1), omega (arith, h.1, length-append nodes (node ∷ [])))
+
+known_more : (file : File) (net : List ℕ) (nodes new : List NodeName) (node : NodeName) → new ≡ with_node nodes node → (o : Option Known)
+    → IsKnown (record { file = file; net = net; nodes = nodes }) o → IsKnown (record { file = file; net = net; nodes = new }) o
+known_more file net nodes new node e o h = subst (λ ns. IsKnown (record { file = file; net = net; nodes = ns }) o) (sym e) (known_if (has_node nodes node) file net nodes node o h)
+
+pub leads_more : (file : File) (net : List ℕ) (nodes new : List NodeName) (node : NodeName) (prefix numbers : List ℕ) (slots : List (Option Known)) → new ≡ with_node nodes node
+    → IsReader (record { file = file; net = net; nodes = nodes }) prefix numbers slots → IsReader (record { file = file; net = net; nodes = new }) prefix numbers slots
+leads_more file net nodes new node prefix numbers slots e r = record {
   begins = r.begins;
   leads = λ number id leaf at w. stays nodes new node id (node_named net leaf) e (r.leads number id leaf at w);
+  known = λ i. known_more file net nodes new node e (get_or slots i None) (r.known i);
 }
 
 -- after the look-up of a node
-pub leads_interned : (r : Result ℕ Memory) (file : File) (net : List ℕ) (nodes new : List NodeName) (node : NodeName) (prefix numbers : List ℕ)
-    → OnOk r (new ≡ with_node nodes node) → OnErr r (new ≡ nodes) → IsReader (record { file = file; net = net; nodes = nodes }) prefix numbers → IsReader (record { file = file; net = net; nodes = new }) prefix numbers
-leads_interned (Ok id) file net nodes new node prefix numbers e f h = leads_more file net nodes new node prefix numbers e h
-leads_interned (Err m) file net nodes new node prefix numbers e f h = subst (λ ns. IsReader (record { file = file; net = net; nodes = ns }) prefix numbers) (sym f) h
+pub leads_interned : (r : Result ℕ Memory) (file : File) (net : List ℕ) (nodes new : List NodeName) (node : NodeName) (prefix numbers : List ℕ) (slots : List (Option Known))
+    → OnOk r (new ≡ with_node nodes node) → OnErr r (new ≡ nodes) → IsReader (record { file = file; net = net; nodes = nodes }) prefix numbers slots → IsReader (record { file = file; net = net; nodes = new }) prefix numbers slots
+leads_interned (Ok id) file net nodes new node prefix numbers slots e f h = leads_more file net nodes new node prefix numbers slots e h
+leads_interned (Err m) file net nodes new node prefix numbers slots e f h = subst (λ ns. IsReader (record { file = file; net = net; nodes = ns }) prefix numbers slots) (sym f) h
 
-pub leads_owned : (r : Result (Option ℕ) Memory) (file : File) (net : List ℕ) (nodes new : List NodeName) (node : NodeName) (prefix numbers : List ℕ)
-    → Owns r net nodes node new → OnErr r (new ≡ nodes) → IsReader (record { file = file; net = net; nodes = nodes }) prefix numbers → IsReader (record { file = file; net = net; nodes = new }) prefix numbers
-leads_owned (Ok (Some id)) file net nodes new node prefix numbers o f h = leads_more file net nodes new node prefix numbers o.2 h
-leads_owned (Ok None) file net nodes new node prefix numbers o f h = subst (λ ns. IsReader (record { file = file; net = net; nodes = ns }) prefix numbers) (sym o.1) h
-leads_owned (Err m) file net nodes new node prefix numbers o f h = subst (λ ns. IsReader (record { file = file; net = net; nodes = ns }) prefix numbers) (sym f) h
+pub leads_owned : (r : Result (Option ℕ) Memory) (file : File) (net : List ℕ) (nodes new : List NodeName) (node : NodeName) (prefix numbers : List ℕ) (slots : List (Option Known))
+    → Owns r net nodes node new → OnErr r (new ≡ nodes) → IsReader (record { file = file; net = net; nodes = nodes }) prefix numbers slots → IsReader (record { file = file; net = net; nodes = new }) prefix numbers slots
+leads_owned (Ok (Some id)) file net nodes new node prefix numbers slots o f h = leads_more file net nodes new node prefix numbers slots o.2 h
+leads_owned (Ok None) file net nodes new node prefix numbers slots o f h = subst (λ ns. IsReader (record { file = file; net = net; nodes = ns }) prefix numbers slots) (sym o.1) h
+leads_owned (Err m) file net nodes new node prefix numbers slots o f h = subst (λ ns. IsReader (record { file = file; net = net; nodes = ns }) prefix numbers slots) (sym f) h
 
 -- a node that is there is the net's
 pub seen_there : (net : List ℕ) (nodes : List NodeName) (id : ℕ) (node : NodeName) → slice_get nodes id ≡ Some node → SeesNode (Ok (Some id)) net nodes (Some node) nodes
 seen_there net nodes id node at = (node, refl, (ap (λ b. b || is_inner net node) (has_at nodes id node at), slice_get-with_node nodes node id node at, with_there nodes id node same_refl at))
+
+some_at : {A : Type 0} (xs : List A) (i : ℕ) → i < length xs → (x : A) × (slice_get xs i ≡ Some x)
+some_at [] i h = absurd (omega (arith, h))
+some_at (x ∷ xs) zero h = (x, refl)
+some_at (x ∷ xs) (suc i) h = some_at xs i (omega (arith, h))
+
+-- a known text is that of a node of the net
+pub seen_known : (net : List ℕ) (nodes : List NodeName) (id : ℕ) (o : Option NodeName) → o ≡ slice_get nodes id → id < length nodes → SeesNode (Ok (Some id)) net nodes o nodes
+seen_known net nodes id o e h =
+    let (node, at) = some_at nodes id h in
+    (node, e ∙ at, (ap (λ b. b || is_inner net node) (has_at nodes id node at), slice_get-with_node nodes node id node at, with_there nodes id node same_refl at))
+
+-- the number of an owned node is that of a node
+pub owned_within : (net : List ℕ) (old new : List NodeName) (node : NodeName) (id : ℕ) → Owns (Ok (Some id)) net old node new → id < length new
+owned_within net old new node id (known, at, is) = slice_get_within new id node (ap (λ ns. slice_get ns id) is ∙ at)
 
 -- two digits and what stands before them
 split_digit : (m n a b : ℕ) → is_digit a ≡ true → is_digit b ≡ true → m * 10 + (a - 48) ≡ n * 10 + (b - 48) → (m ≡ n) × (a ≡ b)
@@ -172,6 +199,7 @@ numbers_more reader numbers number id leaf w at low old = λ other other_id othe
     slice_set_here [] i x h = absurd (omega (arith, h))
     slice_set_here (y ∷ ys) zero x h = refl
     slice_set_here (y ∷ ys) (suc i) x h = slice_set_here ys i x (omega (arith, h))
+
     slice_set_there : (xs : List ℕ) (i j x : ℕ) → (j ≡ i → ⊥) → get_or (slice_set xs i x) j 0 ≡ get_or xs j 0
     slice_set_there [] i j x h = refl
     slice_set_there (y ∷ ys) zero zero x h = absurd (h refl)
@@ -184,10 +212,10 @@ not_false true e = refl
 not_false false e = absurd (cc)
 
 -- a text that has the prefix
-pub leaf_found : (reader : NetNodes) (prefix numbers text leaf : List ℕ) (n : ℕ) → IsReader reader prefix numbers → (length prefix ≡ 0 → ⊥) → length prefix < length text
+pub leaf_found : (reader : NetNodes) (prefix numbers text leaf : List ℕ) (slots : List (Option Known)) (n : ℕ) → IsReader reader prefix numbers slots → (length prefix ≡ 0 → ⊥) → length prefix < length text
     → false ≡ not (bytes_eq (take (length prefix) text) prefix) → leaf ≡ take (length text - length prefix) (drop (length prefix) text) → Writes leaf n
     → (node_in reader.file text ≡ Some (node_named reader.net leaf)) × Writes leaf n
-leaf_found reader prefix numbers text leaf n r some low same is w =
+leaf_found reader prefix numbers text leaf slots n r some low same is w =
     let k = length prefix in
     let rest : leaf ≡ drop k text = is ∙ take_all (length text - k) (drop k text) (omega (arith, length-drop k text)) in
     let begins : take k text ≡ prefix = (bytes_eq-Decides (take k text) prefix).0 (not_false (bytes_eq (take k text) prefix) same) in

@@ -1,5 +1,5 @@
 -- The nodes of a net, and texts that name them.
-use Rattle.std.specs.Prelude.{◌≡◌, ◌==◌, ◌++◌, ℕ, suc, true, false, List, length, slice_index, Option, Some, None, Result, Ok, Err}
+use Rattle.std.specs.Prelude.{◌≡◌, ◌==◌, ◌++◌, ℕ, suc, ◌<◌, true, false, List, length, slice_index, slice_index_or, Option, Some, None, Result, Ok, Err}
 use Rattle.std.specs.List.{slice_get}
 use Rattle.vg_num.specs.Number.{is_digit, are_digits, value_of}
 use Rattle.vg_scan.specs.declared.chars.Chars.{Chars}
@@ -10,6 +10,7 @@ use Rattle.spef_file.specs.Files.{File}
 use Rattle.spef_nodes.specs.Members.{node_named, Owns}
 use Rattle.spef_net.specs.Names.{node_in}
 use Rattle.spef_net.specs.Spellings.{is_itself}
+use Rattle.spef_net.specs.declared.node_reader.Known.{Known}
 
 -- the nodes so far of the net of this name in a file
 pub record NetNodes : Type 0 where
@@ -33,9 +34,19 @@ IsPrefix file net prefix = (leaf : List ℕ) → (length prefix == 0) ≡ false 
 abbrev pub AreNumbers : NetNodes → List ℕ → Type 0
 AreNumbers reader numbers = (number id : ℕ) (leaf : List ℕ) → slice_index numbers number ≡ suc id → Writes leaf number → slice_get reader.nodes id ≡ Some (node_named reader.net leaf)
 
-pub record IsReader (reader : NetNodes) (prefix numbers : List ℕ) : Type 0 where
+-- a text that is known names the node of its number
+abbrev pub IsKnown : NetNodes → Option Known → Type 0
+IsKnown reader None = Unit {0}
+IsKnown reader (Some known) = (node_in reader.file known.text.now ≡ slice_get reader.nodes known.id) × (known.id < length reader.nodes)
+
+abbrev pub AreKnown : NetNodes → List (Option Known) → Type 0
+AreKnown reader slots = (i : ℕ) → IsKnown reader (slice_index_or slots i None)
+
+-- what a reader of these nodes knows is true
+pub record IsReader (reader : NetNodes) (prefix numbers : List ℕ) (slots : List (Option Known)) : Type 0 where
   pub begins : IsPrefix reader.file reader.net prefix
   pub leads : AreNumbers reader numbers
+  pub known : AreKnown reader slots
 
 -- the number of the node that a text names, where it is the net's, or none
 abbrev pub SeesNode : Result (Option ℕ) NameFault → List ℕ → List NodeName → Option NodeName → List NodeName → Type 0

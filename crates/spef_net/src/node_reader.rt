@@ -1,6 +1,6 @@
 //! The nodes of a net, by the texts that name them.
 
-ghost use Rattle.std.specs.Prelude.{◌≡◌, ℕ, List, length, Some, IfOk, IfSome, OnOk, OnErr};
+ghost use Rattle.std.specs.Prelude.{◌≡◌, ℕ, ◌<◌, List, length, Some, IfOk, IfSome, OnOk, OnErr};
 ghost use Rattle.std.specs.List.{slice_get};
 ghost use Rattle.spef_file.specs.IndexFiles.{file_of};
 ghost use Rattle.spef_nodes.specs.Members.{Owns, node_named, with_node};
@@ -16,8 +16,19 @@ use std::marker::Model;
 use vg_num::Memory;
 use vg_scan::NameFault;
 
+/// How many texts are known at most.
+const SLOTS: usize = 16;
+
+/// A text that names the node of a number.
+#[derive(Clone, Copy, Debug)]
+pub(crate) struct Known<'a> {
+    pub text: &'a [u8],
+    pub id: u32,
+}
+
 /// The nodes of a net while its lines are read. Most texts name an inner node: they begin as the first such text did, and go
-/// on with digits. The number that the digits write leads to the node, where it came before.
+/// on with digits. The number that the digits write leads to the node, where it came before. Of the other texts those that
+/// were read last are known by their bytes.
 #[derive(Drop)]
 pub(crate) struct NodeReader<'a> {
     alloc: Global,
@@ -28,6 +39,8 @@ pub(crate) struct NodeReader<'a> {
     prefix: &'a [u8],
     /// For each number, one more than the number of the node whose leaf writes it. 0: no such node came yet.
     numbers: Vec<u32>,
+    /// Of the texts that share a slot the last one.
+    known: Vec<Option<Known<'a>>>,
 }
 
 impl<'a> Model for NodeReader<'a> {
@@ -38,7 +51,7 @@ impl<'a> Model for NodeReader<'a> {
 
     ghost view = { λ reader. record { file = file_of reader.index.now; net = reader.net.now; nodes = reader.nodes } };
 
-    ghost invariant = { λ reader. IsReader (record { file = file_of reader.index.now; net = reader.net.now; nodes = reader.nodes }) reader.prefix.now reader.numbers.items };
+    ghost invariant = { λ reader. IsReader (record { file = file_of reader.index.now; net = reader.net.now; nodes = reader.nodes }) reader.prefix.now reader.numbers.items reader.known.items };
 }
 
 /// The number that digits write of which the first is no zero. `None`: it is another text, or of ten bytes or more.
@@ -65,6 +78,16 @@ fn number_of(text: &[u8]) -> Option<usize>
     Some(number)
 }
 
+/// The slot of a text: by its length and its last byte.
+fn slot_of(text: &[u8]) -> usize
+    ensures { result < 16 }
+{
+    match text.last() {
+        None => 0,
+        Some(last) => (text.len() + usize::from(*last)) & (SLOTS - 1),
+    }
+}
+
 impl<'a> NodeReader<'a> {
     /// These nodes, before the first text; inner nodes whose number is less than a count are found by it. Answers `Memory`
     /// where there is no room.
@@ -78,6 +101,7 @@ impl<'a> NodeReader<'a> {
         ensures { IfOk result (λ reader. reader ≡ record { file = file_of index.now; net = net.now; nodes = nodes }) }
     {
         let numbers = vec![in alloc; 0u32; count]?;
+        let known = vec![in alloc; None; SLOTS]?;
         Ok(NodeReader {
             alloc,
             index,
@@ -85,6 +109,7 @@ impl<'a> NodeReader<'a> {
             nodes,
             prefix: b"",
             numbers,
+            known,
         })
     }
 
@@ -208,12 +233,56 @@ impl<'a> NodeReader<'a> {
     {
         match self.inner_leaf(text) {
             Some((leaf, number)) => self.see_inner(leaf, number),
-            None => self.read(text),
+            None => self.see_other(text),
+        }
+    }
+
+    /// The node of a text that is known.
+    fn recall(&self, text: &[u8]) -> Option<u32>
+        ensures named { IfSome result (λ id. node_in self.now.file text.now ≡ slice_get self.now.nodes id) }
+        ensures within { IfSome result (λ id. id < length self.now.nodes) }
+    {
+        let slot = slot_of(text);
+        if slot >= self.known.len() {
+            return None;
+        }
+        match self.known[slot] {
+            None => None,
+            Some(known) => {
+                if known.text == text {
+                    Some(known.id)
+                } else {
+                    None
+                }
+            }
+        }
+    }
+
+    /// Puts a text into its slot, which names the node of this number.
+    fn keep(&mut self, text: &'a [u8], id: u32)
+        requires named { node_in self.old.file text.now ≡ slice_get self.old.nodes id }
+        requires within { id < length self.old.nodes }
+        ensures { self.new ≡ self.old }
+    {
+        let slot = slot_of(text);
+        if slot < self.known.len() {
+            self.known[slot] = Some(Known { text, id });
         }
     }
 
     /// The same of a text that has not the prefix.
     #[inline(never)]
+    fn see_other(&mut self, text: &'a [u8]) -> Result<Option<u32>, NameFault>
+        ensures seen { SeesNode result self.old.net self.old.nodes (node_in self.old.file text.now) self.new.nodes }
+        ensures rest { self.new ≡ record self.old { nodes = self.new.nodes } }
+    {
+        match self.recall(text) {
+            Some(id) => Ok(Some(id)),
+            None => self.read(text),
+        }
+    }
+
+    /// The same of a text that is not known.
     fn read(&mut self, text: &'a [u8]) -> Result<Option<u32>, NameFault>
         ensures seen { SeesNode result self.old.net self.old.nodes (node_in self.old.file text.now) self.new.nodes }
         ensures rest { self.new ≡ record self.old { nodes = self.new.nodes } }
@@ -225,7 +294,11 @@ impl<'a> NodeReader<'a> {
                 self.learn(&node, text);
                 match self.own(&node) {
                     Err(_) => Err(NameFault::Memory),
-                    Ok(found) => Ok(found),
+                    Ok(None) => Ok(None),
+                    Ok(Some(id)) => {
+                        self.keep(text, id);
+                        Ok(Some(id))
+                    }
                 }
             }
         }

@@ -14,4 +14,5 @@ invariant_of-self c =
     record {
       begins = c.self.invariant.begins;
       leads = numbers_more (record { file = file_of s.index.now; net = s.net.now; nodes = s.nodes }) s.numbers.items c.args.number c.args.id c.args.leaf.now c.requires.writes here (omega (arith, c.if-number-len.true, c.len.ensures)) c.self.invariant.leads;
+      known = c.self.invariant.known;
     }
