@@ -15,3 +15,4 @@ pub mod ReadLemmas
 pub mod LawLemmas
 pub mod ZipLemmas
 pub mod NamesOfLemmas
+pub mod PlaceLemmas

@@ -5,7 +5,7 @@ use Rattle.std.proofs.lemmas.List.Elements.{All-append, All-get_or}
 use Rattle.std.proofs.lemmas.Option.{get_or_from_slice_get, slice_get_within}
 use Rattle.std.specs.List.{slice_get}
 use Rattle.std.specs.Prelude.{Option, Some, None, option_map}
-use Rattle.vg_scan.specs.Lines.{Line, lines_of, part, is_blank, BeginsLine}
+use Rattle.vg_scan.specs.Lines.{Line, lines_of, part, is_blank}
 use Rattle.vg_scan.specs.Parts.{IsFirstSolid}
 use Rattle.vg_scan.specs.Printed.{is_solid}
 use Rattle.std.specs.Prelude.{codes, if◌then◌else◌}
@@ -88,38 +88,24 @@ drop_drop_more n m all line rest e =
 pub keeps_net : (clear : List ℕ) (next to n count new_count : ℕ) (old new : List NetRow) (line : Line) (name : List ℕ) (section : Section)
     → new ≡ old ++ (name, section) ∷ [] → new_count ≡ count + (n + 2) → section.line ≡ count + 1
     → lines_of (part clear section.from section.to) ≡ line ∷ up_to_end (lines_of (drop next clear))
-    → IsFirstSolid clear section.from → is_solid (get_or clear (section.to - 1) 0) ≡ true → (section.from < section.to) × (section.to ≤ length clear)
-    → section.line ≤ 2 ^ 28 → BeginsLine clear next → (section.from ≤ next) × (next < section.to) → length (lines_of (part clear section.from next)) ≡ 1 → lines_of (part clear next section.to) ≡ up_to_end (lines_of (drop next clear))
+    → lines_of (drop section.from clear) ≡ line ∷ lines_of (drop next clear)
+    → IsFirstSolid clear section.from → is_solid (get_or clear (section.to - 1) 0) ≡ true → (section.from < section.to) × (section.to ≤ length clear) → section.line ≤ 2 ^ 28
     → lines_of (drop to clear) ≡ drop (n + 1) (lines_of (drop next clear)) → StaysRight clear next to count new_count old new line
-keeps_net clear next to n count new_count old new line name section rows counts number net first last order few begins within head inner rest = λ lines at spans.
+keeps_net clear next to n count new_count old new line name section rows counts number net on first last order few rest = λ lines at spans.
     let later = lines_of (drop next clear) in
     let here : drop (section.line - 1) lines ≡ line ∷ later = ap (λ k. drop k lines) (let x : section.line - 1 ≡ count = omega (arith, number) in x) ∙ at in
     let one : IsSpan clear lines section = record {
-      net = net ∙ ap net_lines (sym here);
       first = first;
+      line = on ∙ sym here;
+      net = net ∙ ap net_lines (sym here);
       last = last;
       order = order;
-      few = few;
-      next = next;
-      begins = begins;
-      within = within;
-      head = head;
-      later = drop_more count lines line later (sym at) ∙ ap (λ k. drop k lines) (sym number);
-      inner = inner;
+      number = (omega (arith, number), few);
     } in (
       subst (AreSpans clear lines) (sym rows) (All-append (λ (net : NetRow). IsSpan clear lines net.1) old ((name, section) ∷ []) spans
           (λ k d l. let z : 0 ≡ k = omega arith in subst (λ j. IsSpan clear lines (get_or ((name, section) ∷ []) j d).1) z one)),
       ap (λ k. drop k lines) counts ∙ drop_drop_more count n lines line later (sym at) ∙ sym rest,
     )
-
-pub no_lines : lines_of [] ≡ []
-unfolding lines_of
-no_lines = refl
-
--- a line alone
-pub line_alone : (clear : List ℕ) (from next : ℕ) (line : Line) → lines_of (part clear from next) ≡ line ∷ lines_of (part clear next next) → length (lines_of (part clear from next)) ≡ 1
-line_alone clear from next line e =
-    ap length (e ∙ ap (λ n. line ∷ lines_of (take n (drop next clear))) (let z : next - next ≡ 0 = omega arith in z) ∙ ap (λ ls. line ∷ ls) no_lines)
 
 -- the section at a place is one of the text
 

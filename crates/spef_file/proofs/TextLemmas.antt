@@ -16,6 +16,7 @@ use Rattle.vg_scan.proofs.CutLemmas.{cut_ended, get_part}
 use Rattle.spef_file.specs.declared.section.Section.{Section}
 use Rattle.spef_file.specs.Nets.{end_at}
 use Rattle.spef_file.specs.NetSpans.{IsSpan}
+use Rattle.spef_file.proofs.PlaceLemmas.{placed}
 use Rattle.spef_file.specs.Indexes.{between, lines_after}
 
 found_or_none : (o : Option ℕ) → (o ≡ None) ⊎ ((e : ℕ) × (o ≡ Some e))
@@ -206,41 +207,42 @@ pub inner_is : (text : List ℕ) (section : Section) → IsSpan (without_comment
     → between (lines (part (without_comments Spef text) section.from section.to)) ≡ lines_after text section.line
 inner_is text section span =
     let clear = without_comments Spef text in
+    let place = placed clear (lines_of clear) section span in
     let whole = part clear section.from section.to in
-    let later = drop span.next clear in
-    let tail = part clear span.next section.to in
-    let a = span.next - section.from in
+    let later = drop place.next clear in
+    let tail = part clear place.next section.to in
+    let a = place.next - section.from in
     let len : length whole ≡ section.to - section.from = simp (length-take, length-drop) (omega (arith, span.order)) in
-    let tail_len : length tail ≡ section.to - span.next = simp (length-take, length-drop) (omega (arith, span.order, span.within)) in
-    let front_is : take a whole ≡ part clear section.from span.next = take-take a (section.to - section.from) (drop section.from clear) (omega (arith, span.within)) in
+    let tail_len : length tail ≡ section.to - place.next = simp (length-take, length-drop) (omega (arith, span.order, place.within)) in
+    let front_is : take a whole ≡ part clear section.from place.next = take-take a (section.to - section.from) (drop section.from clear) (omega (arith, place.within)) in
     let tail_is : drop a whole ≡ tail =
-    ap (λ n. drop a (take n (drop section.from clear))) (let x : section.to - section.from ≡ a + (section.to - span.next) = omega (arith, span.within) in x)
-    ∙ drop-take a (section.to - span.next) (drop section.from clear)
-    ∙ ap (take (section.to - span.next)) (drop-drop a section.from clear ∙ ap (λ n. drop n clear) (let x : section.from + a ≡ span.next = omega (arith, span.within) in x)) in
-    let head = single (lines (part clear section.from span.next)) (sym (count_lines (part clear section.from span.next)) ∙ span.head) in
-    let last = last_at (length tail) tail (omega arith) (omega (arith, tail_len, span.within)) in
+    ap (λ n. drop a (take n (drop section.from clear))) (let x : section.to - section.from ≡ a + (section.to - place.next) = omega (arith, place.within) in x)
+    ∙ drop-take a (section.to - place.next) (drop section.from clear)
+    ∙ ap (take (section.to - place.next)) (drop-drop a section.from clear ∙ ap (λ n. drop n clear) (let x : section.from + a ≡ place.next = omega (arith, place.within) in x)) in
+    let head = single (lines (part clear section.from place.next)) (sym (count_lines (part clear section.from place.next)) ∙ place.head) in
+    let last = last_at (length tail) tail (omega arith) (omega (arith, tail_len, place.within)) in
     let inner = lines (take last.at tail) in
     let in_tail : lines tail ≡ inner ++ last.one.line ∷ [] = lines_split (length tail) tail last.at (omega (arith, last.within)) (omega (arith, last.within)) last.begins ∙ ap (λ ls. inner ++ ls) last.one.is in
     let in_whole : lines whole ≡ head.0 ∷ (inner ++ last.one.line ∷ []) =
-    lines_split (length whole) whole a (omega (arith, len, span.within)) (omega (arith, len, span.within))
-    (λ some. get_part clear section.from section.to (a - 1) (omega (arith, span.within, span.order)) ∙ ap (λ k. get_or clear k 0) (let x : section.from + (a - 1) ≡ span.next - 1 = omega (arith, span.within) in x) ∙ span.begins (omega arith) (omega (arith, span.within, span.order)))
-    ∙ ap (λ t. lines t ++ lines (drop a whole)) front_is ∙ ap (λ t. lines (part clear section.from span.next) ++ lines t) tail_is
+    lines_split (length whole) whole a (omega (arith, len, place.within)) (omega (arith, len, place.within))
+    (λ some. get_part clear section.from section.to (a - 1) (omega (arith, place.within, span.order)) ∙ ap (λ k. get_or clear k 0) (let x : section.from + (a - 1) ≡ place.next - 1 = omega (arith, place.within) in x) ∙ place.begins (omega arith) (omega (arith, place.within, span.order)))
+    ∙ ap (λ t. lines t ++ lines (drop a whole)) front_is ∙ ap (λ t. lines (part clear section.from place.next) ++ lines t) tail_is
     ∙ ap (λ ls. ls ++ lines tail) head.1 ∙ ap (λ ls. head.0 ∷ ls) in_tail in
     let others = lines (drop last.at later) in
-    let low : last.at < section.to - span.next = omega (arith, tail_len, last.within) in
-    let later_len : length later ≡ length clear - span.next = length-drop span.next clear in
+    let low : last.at < section.to - place.next = omega (arith, tail_len, last.within) in
+    let later_len : length later ≡ length clear - place.next = length-drop place.next clear in
     let in_later : lines later ≡ inner ++ others =
     lines_split (length later) later last.at (omega (arith, low, later_len, span.order)) (omega (arith, low, later_len, span.order))
-    (λ some. sym (get_or-take (section.to - span.next) later (last.at - 1) 0 (omega arith)) ∙ last.begins some)
-    ∙ ap (λ t. lines t ++ others) (sym (take-take last.at (section.to - span.next) later (omega arith))) in
+    (λ some. sym (get_or-take (section.to - place.next) later (last.at - 1) 0 (omega arith)) ∙ last.begins some)
+    ∙ ap (λ t. lines t ++ others) (sym (take-take last.at (section.to - place.next) later (omega arith))) in
     let n = unwrap_or (end_at (lines_of later)) 0 in
     let long : length inner ≡ length (take n (lines_of later)) =
     (let e = ap length in_tail in
-    let f = ap length span.inner in
+    let f = ap length place.inner in
     omega (arith, e, f, count_lines tail, length-append inner (last.one.line ∷ []), length-append (take n (lines_of later)) ((codes "*END" ∷ []) ∷ []))) in
     let same : take n (inner ++ others) ≡ inner =
     same_front n inner others (omega (arith, long, ap length in_later, count_lines later, length-take n (inner ++ others), length-take n (lines_of later))) in
-    let after : drop section.line (lines clear) ≡ lines later = lines_from clear span.next section.line (omega (arith, span.within, span.order)) span.begins span.later in
-    let words_are : map words (drop section.line (lines clear)) ≡ lines_of later = words_after section.line clear ∙ sym span.later in
+    let after : drop section.line (lines clear) ≡ lines later = lines_from clear place.next section.line (omega (arith, place.within, span.order)) place.begins place.later in
+    let words_are : map words (drop section.line (lines clear)) ≡ lines_of later = words_after section.line clear ∙ sym place.later in
     ap between in_whole ∙ between_more head.0 last.one.line inner ∙ sym same ∙ ap (take n) (sym in_later) ∙ ap (take n) (sym after)
     ∙ ap (λ ws. take (unwrap_or (end_at ws) 0) (drop section.line (lines clear))) (sym words_are)

@@ -25,21 +25,15 @@ abbrev pub net_lines : List Line → List Line
 net_lines [] = []
 net_lines (head ∷ later) = head ∷ up_to_end later
 
--- a section's part of a text without comments is the net whose head is the line of its number: it begins with the first word
--- of a line, and ends with a word
+-- a section of a text without comments: it begins with the first word of the line of its number, a net's head, and ends with
+-- the word `*END` of that net
 pub record IsSpan (clear : List ℕ) (lines : List Line) (section : Section) : Type 0 where
-  pub net : lines_of (part clear section.from section.to) ≡ net_lines (drop (section.line - 1) lines)
   pub first : IsFirstSolid clear section.from
+  pub line : lines_of (drop section.from clear) ≡ drop (section.line - 1) lines
+  pub net : lines_of (part clear section.from section.to) ≡ net_lines (drop (section.line - 1) lines)
   pub last : is_solid (slice_index clear (section.to - 1)) ≡ true
   pub order : (section.from < section.to) × (section.to ≤ length clear)
-  pub few : section.line ≤ 2 ^ 28
-  -- where the line after its head begins, and the lines from there on
-  pub next : ℕ
-  pub begins : BeginsLine clear next
-  pub within : (section.from ≤ next) × (next < section.to)
-  pub head : length (lines_of (part clear section.from next)) ≡ 1
-  pub later : lines_of (drop next clear) ≡ drop section.line lines
-  pub inner : lines_of (part clear next section.to) ≡ up_to_end (lines_of (drop next clear))
+  pub number : (1 ≤ section.line) × (section.line ≤ 2 ^ 28)
 
 abbrev pub AreSpans : List ℕ → List Line → List NetRow → Type 0
 AreSpans clear lines nets = All (λ (net : NetRow). IsSpan clear lines net.1) nets

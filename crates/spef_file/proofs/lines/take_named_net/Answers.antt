@@ -1,9 +1,10 @@
-use Rattle.std.proofs.Common.{get_or, true, ◌<◌, ◌≤◌, ◌∷◌, length, arith, ◌≡◌, ◌+◌, drop, sym, ◌∙◌, refl, ap, subst, Option, not, Bor, option_map, List, ℕ}
+use Rattle.std.proofs.Common.{get_or, true, ◌<◌, ◌≤◌, ◌∷◌, length, length-drop, ◌-◌, arith, ◌≡◌, ◌+◌, drop, sym, ◌∙◌, refl, ap, subst, Option, not, Bor, option_map, List, ℕ}
+use Rattle.std.proofs.lemmas.List.{take_all}
 use Rattle.std.specs.Prelude.{codes}
 use Rattle.std.specs.Str.{bytes_eq}
 use Rattle.vg_scan.specs.Lines.{Line, lines_of, part}
 use Rattle.spef_file.specs.NetSpans.{up_to_end}
-use Rattle.spef_file.proofs.SpanLemmas.{net_words, net_solid, keeps_net, line_alone}
+use Rattle.spef_file.proofs.SpanLemmas.{net_words, net_solid, keeps_net}
 use Rattle.vg_scan.specs.Parts.{IsFirstSolid}
 use Rattle.vg_scan.specs.Printed.{is_solid}
 use Rattle.vg_scan.specs.Spans.{words_at}
@@ -63,7 +64,9 @@ returns-in-Ok-true-clause-spans c =
     let byte = c.start_of.ensures.word (ap has_words (sym c.requires.line.here) ∙ net_words line c.requires.opens) in
     let solid : is_solid (get_or text section.from 0) ≡ true = ap is_solid byte ∙ ap (λ ws. is_solid (get_or (first_word ws) 0 0)) (sym c.requires.line.here) ∙ net_solid (first_word line) c.requires.opens in
     let first : IsFirstSolid text section.from = record { line = c.args.line.from; begins = c.requires.line.begins.0; order = c.start_of.ensures.place.0; blank = c.start_of.ensures.blank; solid = solid } in
-    let low : section.from < next = omega (arith, c.start_of.ensures.some (ap has_words (sym c.requires.line.here) ∙ net_words line c.requires.opens), c.requires.line.order) in
-    let head = line_alone text section.from next line (c.start_of.ensures.starts next low c.requires.line.order.2 ∙ c.requires.line.on next (omega arith)) in
-    keeps_net text next end.next end.lines c.args.reader.now.count (c.args.reader.now.count + (end.lines + 2)) c.args.reader.now.nets c.add.new.self line c.in-Some-name.name.now section (c.in-Ok-true.ensures.last c.in-Ok-true.field-0-test) refl refl net first c.in-Some.ensures.solid order (omega (arith, c.requires.few)) c.requires.line.begins.1
-    (omega arith, omega (arith, c.in-Some.ensures.place)) head c.in-Some.ensures.span c.in-Some.ensures.rest
+    let whole : part text section.from (length text) ≡ drop section.from text = take_all (length text - section.from) (drop section.from text) (omega (arith, length-drop section.from text)) in
+    let later : part text next (length text) ≡ drop next text = take_all (length text - next) (drop next text) (omega (arith, length-drop next text)) in
+    let on : lines_of (drop section.from text) ≡ line ∷ lines_of (drop next text) =
+    ap lines_of (sym whole) ∙ c.start_of.ensures.starts (length text) (omega (arith, order)) (omega arith) ∙ c.requires.line.on (length text) (omega (arith, c.requires.line.order)) ∙ ap (λ t. line ∷ lines_of t) later in
+    keeps_net text next end.next end.lines c.args.reader.now.count (c.args.reader.now.count + (end.lines + 2)) c.args.reader.now.nets c.add.new.self line c.in-Some-name.name.now section (c.in-Ok-true.ensures.last c.in-Ok-true.field-0-test) refl refl net on first c.in-Some.ensures.solid order (omega (arith, c.requires.few))
+    c.in-Some.ensures.rest
