@@ -4,7 +4,7 @@ use Rattle.std.proofs.lemmas.Bool.{eq-eqb, ne_eqb}
 use Rattle.std.specs.List.{sum_by}
 use Rattle.elmore.specs.Path.{nodes}
 use Rattle.elmore.specs.Cells.{has_cell, input_capacitance}
-use Rattle.elmore.specs.Stage.{in_stage, ends_stage, load, upload, seen}
+use Rattle.elmore.specs.Stage.{in_stage, ends_stage, load, input_load, seen}
 use Rattle.elmore.specs.declared.rep.Rep.{Rep}
 use Rattle.elmore.proofs.StageLemmas.{stage_self, stage_at_root, stage_below, end_self, end_at_root, end_below}
 use Rattle.elmore.proofs.SumLemmas.{sum_of_filter, sum_of_both, sum_of_same, sum_at, sum_of_none}
@@ -169,8 +169,8 @@ seen_is (Some rep) a b = omega arith
 
 -- the load of p grows by what is seen of i
 pub load_hung : (before after : ℕ → ℕ) (i p : ℕ) → Hung before after i p → (c : ℕ → ℕ) (cell : ℕ → Option Rep) (n : ℕ) → i < n
-    → load after c cell n p ≡ load before c cell n p + upload before c cell n i
-unfolding upload stage_part ends_part
+    → load after c cell n p ≡ load before c cell n p + input_load before c cell n i
+unfolding input_load stage_part ends_part
 load_hung before after i p h c cell n i_n =
     let hi : Bool = has_cell cell i in
     let stage : stage_part after c cell n p ≡ stage_part before c cell n p + cond (has_cell cell i) 0 (stage_part before c cell n i) =
@@ -190,7 +190,7 @@ load_hung before after i p h c cell n i_n =
     seen_is (cell i) (stage_part before c cell n i) (ends_part before cell n i) ∙ ap (seen (cell i)) (sym (load_parts before c cell n i)) in
     omega (arith, load_parts after c cell n p, load_parts before c cell n p, stage, ends, own)
 
-pub upload_other : (before after : ℕ → ℕ) (i p : ℕ) → Hung before after i p → (c : ℕ → ℕ) (cell : ℕ → Option Rep) (n v : ℕ) → v ≢ p
-    → upload after c cell n v ≡ upload before c cell n v
-unfolding upload
-upload_other before after i p h c cell n v v_p = ap (seen (cell v)) (load_other before after i p h c cell n v v_p)
+pub input_load_other : (before after : ℕ → ℕ) (i p : ℕ) → Hung before after i p → (c : ℕ → ℕ) (cell : ℕ → Option Rep) (n v : ℕ) → v ≢ p
+    → input_load after c cell n v ≡ input_load before c cell n v
+unfolding input_load
+input_load_other before after i p h c cell n v v_p = ap (seen (cell v)) (load_other before after i p h c cell n v v_p)

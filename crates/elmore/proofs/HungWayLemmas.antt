@@ -3,12 +3,12 @@ use Rattle.std.proofs.Common.{◌≡◌, ◌≢◌, ℕ, ◌+◌, ◌*◌, true,
 use Rattle.std.proofs.lemmas.Bool.{false≢true}
 use Rattle.std.specs.List.{sum_by}
 use Rattle.elmore.specs.Path.{is_over, way}
-use Rattle.elmore.specs.Stage.{upload}
+use Rattle.elmore.specs.Stage.{input_load}
 use Rattle.elmore.specs.Delay.{delay_from, inverters_from}
 use Rattle.elmore.specs.declared.rep.Rep.{Rep}
 use Rattle.elmore.proofs.PathLemmas.{over_at_root, over_below}
 use Rattle.elmore.proofs.HangLemmas.{Hung, along}
-use Rattle.elmore.proofs.HungLoadLemmas.{load_other, upload_other}
+use Rattle.elmore.proofs.HungLoadLemmas.{load_other, input_load_other}
 use Rattle.elmore.proofs.WayLemmas.{way_sum_self, way_sum_below}
 use Rattle.elmore.proofs.PlacedDelayLemmas.{step_delay, delay_parts}
 use Rattle.elmore.proofs.PlacedInverterLemmas.{step_inverters, inverters_parts}
@@ -62,11 +62,11 @@ way_sum_hung before after i p h f g same =
 step_other : (before after : ℕ → ℕ) (i p : ℕ) → Hung before after i p → (r c : ℕ → ℕ) (cell : ℕ → Option Rep) (n u : ℕ) → u ≢ p
     → step_delay after r c cell n u ≡ step_delay before r c cell n u
 step_other before after i p h r c cell n u u_p =
-    rw (load_other before after i p h c cell n u u_p, upload_other before after i p h c cell n u u_p) refl
+    rw (load_other before after i p h c cell n u u_p, input_load_other before after i p h c cell n u u_p) refl
 
 -- the delay to a node below i, without the cell of p
 pub delay_hung : (before after : ℕ → ℕ) (i p : ℕ) → Hung before after i p → (r c : ℕ → ℕ) (cell : ℕ → Option Rep) (n w : ℕ) → is_over before i w ≡ true
-    → sum_by (step_delay after r c cell n) (way after p w) ≡ r i * upload before c cell n i + delay_from before r c cell n i w
+    → sum_by (step_delay after r c cell n) (way after p w) ≡ r i * input_load before c cell n i + delay_from before r c cell n i w
 delay_hung before after i p h r c cell n w under =
     omega (
       arith,

@@ -5,7 +5,7 @@ use Rattle.std.proofs.lemmas.List.{get_or-set_same, get_or-set_other}
 use Rattle.std.specs.List.{sum_by}
 use Rattle.elmore.specs.Path.{Falls, nodes}
 use Rattle.elmore.specs.Cells.{input_capacitance}
-use Rattle.elmore.specs.Stage.{in_stage, ends_stage, load, upload, seen}
+use Rattle.elmore.specs.Stage.{in_stage, ends_stage, load, input_load, seen}
 use Rattle.elmore.specs.declared.rep.Rep.{Rep}
 use Rattle.elmore.proofs.StageLemmas.{stage_self, stage_at_root, end_self, end_at_root}
 use Rattle.elmore.proofs.SumLemmas.{sum_of_same, sum_at, sum_of_none, sum_of_filter_le}
@@ -50,9 +50,9 @@ up_step : (parent c : ℕ → ℕ) (cell : ℕ → Option Rep) (n : ℕ) (loads 
     → AreLoads (cut j parent) c cell n loads
     → up ≡ seen (cell i) (get_or loads i 0)
     → get_or loads (parent i) 0 + up ≡ load (cut i parent) c cell n (parent i)
-unfolding upload
+unfolding input_load
 up_step parent c cell n loads i j up next falls above i_n before up_is =
-    let own : up ≡ upload (cut j parent) c cell n i = up_is ∙ ap (seen (cell i)) (before.each i i_n) in
+    let own : up ≡ input_load (cut j parent) c cell n i = up_is ∙ ap (seen (cell i)) (before.each i i_n) in
     omega (arith, own, before.each (parent i) (omega arith), load_hung _ _ i (parent i) (cut_hung parent falls i j next above) c cell n i_n)
 
 pub loads_more : (parent c : ℕ → ℕ) (cell : ℕ → Option Rep) (n : ℕ) (loads : List ℕ) (i j up : ℕ) → i + 1 ≡ j → Falls parent → parent i < i → i < n → n ≤ length loads

@@ -3,7 +3,7 @@ use Rattle.std.proofs.Common.{◌≡◌, ◌≢◌, ℕ, ◌*◌, Bool, true, fa
 use Rattle.std.proofs.lemmas.Bool.{cases_Bool}
 use Rattle.elmore.specs.Path.{Falls, is_over, nodes}
 use Rattle.elmore.specs.Cells.{input_capacitance, cell_delay}
-use Rattle.elmore.specs.Stage.{in_stage, ends_stage, load, upload}
+use Rattle.elmore.specs.Stage.{in_stage, ends_stage, load, input_load}
 use Rattle.elmore.specs.Delay.{delay_from, inverters_from}
 use Rattle.elmore.specs.declared.rep.Rep.{Rep}
 use Rattle.elmore.proofs.PathLemmas.{down, over_self, over_le, over_trans}
@@ -82,10 +82,10 @@ load_local parent falls v a b agree c n =
     )
 
 -- with the same cell at v too
-upload_local : (parent : ℕ → ℕ) → Falls parent → (v : ℕ) (a b : ℕ → Option Rep) → a v ≡ b v → Agree parent v a b → (c : ℕ → ℕ) (n : ℕ)
-    → upload parent c a n v ≡ upload parent c b n v
-unfolding upload
-upload_local parent falls v a b own agree c n = rw (own, load_local parent falls v a b agree c n) refl
+input_load_local : (parent : ℕ → ℕ) → Falls parent → (v : ℕ) (a b : ℕ → Option Rep) → a v ≡ b v → Agree parent v a b → (c : ℕ → ℕ) (n : ℕ)
+    → input_load parent c a n v ≡ input_load parent c b n v
+unfolding input_load
+input_load_local parent falls v a b own agree c n = rw (own, load_local parent falls v a b agree c n) refl
 
 pub own_local : (parent : ℕ → ℕ) → Falls parent → (v : ℕ) (a b : ℕ → Option Rep) → a v ≡ b v → Agree parent v a b → (c : ℕ → ℕ) (n : ℕ)
     → cell_delay (a v) (load parent c a n v) ≡ cell_delay (b v) (load parent c b n v)
@@ -94,7 +94,7 @@ own_local parent falls v a b own agree c n = rw (own, load_local parent falls v 
 pub step_local : (parent : ℕ → ℕ) → Falls parent → (v : ℕ) (a b : ℕ → Option Rep) → a v ≡ b v → Agree parent v a b → (r c : ℕ → ℕ) (n : ℕ)
     → step_delay parent r c a n v ≡ step_delay parent r c b n v
 step_local parent falls v a b own agree r c n =
-    omega (arith, ap (λ (k : ℕ). r v * k) (upload_local parent falls v a b own agree c n), own_local parent falls v a b own agree c n)
+    omega (arith, ap (λ (k : ℕ). r v * k) (input_load_local parent falls v a b own agree c n), own_local parent falls v a b own agree c n)
 
 -- THE LAW: where the cells at v and below it are the same
 pub record Same (parent : ℕ → ℕ) (v : ℕ) (a b : ℕ → Option Rep) : Type 0 where
@@ -103,9 +103,9 @@ pub record Same (parent : ℕ → ℕ) (v : ℕ) (a b : ℕ → Option Rep) : Ty
 pub same_agree : (parent : ℕ → ℕ) (v : ℕ) (a b : ℕ → Option Rep) → Same parent v a b → Agree parent v a b
 same_agree parent v a b same = record { at = λ u over _. same.at u over }
 
-pub same_upload : (parent : ℕ → ℕ) → Falls parent → (v : ℕ) (a b : ℕ → Option Rep) → Same parent v a b → (c : ℕ → ℕ) (n : ℕ)
-    → upload parent c a n v ≡ upload parent c b n v
-same_upload parent falls v a b same = upload_local parent falls v a b (same.at v (over_self parent falls v)) (same_agree parent v a b same)
+pub same_input_load : (parent : ℕ → ℕ) → Falls parent → (v : ℕ) (a b : ℕ → Option Rep) → Same parent v a b → (c : ℕ → ℕ) (n : ℕ)
+    → input_load parent c a n v ≡ input_load parent c b n v
+same_input_load parent falls v a b same = input_load_local parent falls v a b (same.at v (over_self parent falls v)) (same_agree parent v a b same)
 
 pub same_delay : (parent : ℕ → ℕ) → Falls parent → (v : ℕ) (a b : ℕ → Option Rep) → Same parent v a b → (r c : ℕ → ℕ) (n w : ℕ) → is_over parent v w ≡ true
     → delay_from parent r c a n v w ≡ delay_from parent r c b n v w

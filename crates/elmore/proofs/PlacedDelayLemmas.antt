@@ -5,7 +5,7 @@ use Rattle.std.proofs.Math.Nat.{mul-le-mul_left}
 use Rattle.std.specs.List.{sum_by}
 use Rattle.elmore.specs.Path.{Falls, is_over, way, nodes}
 use Rattle.elmore.specs.Cells.{cell_delay, input_capacitance}
-use Rattle.elmore.specs.Stage.{load, upload, seen}
+use Rattle.elmore.specs.Stage.{load, input_load, seen}
 use Rattle.elmore.specs.Delay.{delay_from}
 use Rattle.elmore.specs.declared.rep.Rep.{Rep}
 use Rattle.elmore.proofs.WayLemmas.{way_sum_self, way_sum_below, way_sum_through}
@@ -15,7 +15,7 @@ use Rattle.elmore.proofs.LoadLemmas.{load_bound}
 
 -- what a node adds to the delays of the nodes at and below it, seen from above: its wire and its cell
 abbrev pub step_delay : (ℕ → ℕ) → (ℕ → ℕ) → (ℕ → ℕ) → (ℕ → Option Rep) → ℕ → ℕ → ℕ
-step_delay parent r c cell n u = r u * upload parent c cell n u + cell_delay (cell u) (load parent c cell n u)
+step_delay parent r c cell n u = r u * input_load parent c cell n u + cell_delay (cell u) (load parent c cell n u)
 
 pub delay_parts : (parent r c : ℕ → ℕ) (cell : ℕ → Option Rep) (n v w : ℕ)
     → delay_from parent r c cell n v w ≡ sum_by (step_delay parent r c cell n) (way parent v w) + cell_delay (cell v) (load parent c cell n v)
@@ -23,7 +23,7 @@ unfolding delay_from
 delay_parts parent r c cell n v w =
     omega (
       arith,
-      sum_of_both (λ (u : ℕ). r u * upload parent c cell n u) (λ (u : ℕ). cell_delay (cell u) (load parent c cell n u)) (way parent v w),
+      sum_of_both (λ (u : ℕ). r u * input_load parent c cell n u) (λ (u : ℕ). cell_delay (cell u) (load parent c cell n u)) (way parent v w),
       sum_by_push (λ (u : ℕ). cell_delay (cell u) (load parent c cell n u)) (way parent v w) v,
     )
 
@@ -59,10 +59,10 @@ delay_through parent falls r c cell n v u w v_u u_w =
     )
 
 -- what is seen of a node is at most all capacitances together
-pub upload_bound : (parent c : ℕ → ℕ) (cell : ℕ → Option Rep) (n v : ℕ) → v < n
-    → upload parent c cell n v ≤ sum_by c (nodes n) + sum_by (λ w. input_capacitance (cell w)) (nodes n)
-unfolding upload
-upload_bound parent c cell n v v_n = either (cell v) (summand_le (λ w. input_capacitance (cell w)) v n v_n)
+pub input_load_bound : (parent c : ℕ → ℕ) (cell : ℕ → Option Rep) (n v : ℕ) → v < n
+    → input_load parent c cell n v ≤ sum_by c (nodes n) + sum_by (λ w. input_capacitance (cell w)) (nodes n)
+unfolding input_load
+input_load_bound parent c cell n v v_n = either (cell v) (summand_le (λ w. input_capacitance (cell w)) v n v_n)
   where
     either : (o : Option Rep) → input_capacitance o ≤ sum_by (λ w. input_capacitance (cell w)) (nodes n)
         → seen o (load parent c cell n v) ≤ sum_by c (nodes n) + sum_by (λ w. input_capacitance (cell w)) (nodes n)
@@ -71,10 +71,10 @@ upload_bound parent c cell n v v_n = either (cell v) (summand_le (λ w. input_ca
 
 -- a delay from the root, where no wire has to charge more than a, and no cell takes longer than b
 pub delay_bound : (parent : ℕ → ℕ) (n : ℕ) → IsRooted parent n → (r c : ℕ → ℕ) (cell : ℕ → Option Rep) (a b : ℕ)
-    → ((u : ℕ) → u < n → upload parent c cell n u ≤ a)
+    → ((u : ℕ) → u < n → input_load parent c cell n u ≤ a)
     → ((u : ℕ) → u < n → cell_delay (cell u) (load parent c cell n u) ≤ b)
     → (w : ℕ) → w < n → delay_from parent r c cell n 0 w ≤ a * sum_by r (nodes n) + n * b
-delay_bound parent n t r c cell a b uploads cells w w_n =
+delay_bound parent n t r c cell a b input_loads cells w w_n =
     omega (
       arith,
       up_to w w_n,
@@ -94,7 +94,7 @@ delay_bound parent n t r c cell a b uploads cells w w_n =
           arith,
           more,
           delay_below parent t.falls r c cell n 0 v (λ e. omega (arith, t.above v v_0 v_n)) (λ e. omega arith),
-          mul-le-mul_left (r v) (uploads v v_n),
+          mul-le-mul_left (r v) (input_loads v v_n),
           cells v v_n,
           mul-le-mul_left a (sum_of_fewer r (parent v + 1) v (omega (arith, t.above v v_0 v_n))),
           mul-le-mul_left b (t.above v v_0 v_n),

@@ -12,13 +12,13 @@ use Rattle.elmore.specs.Path.{nodes as node_numbers}
 use Rattle.elmore.specs.Cells.{rep_at, rep_of, cell_at, input_capacitance, cell_delay}
 use Rattle.elmore.specs.Problems.{IsRepWithin}
 use Rattle.elmore.specs.Trees.{IsTree, parent_of, resistance, capacitance}
-use Rattle.elmore.specs.Placed.{IsPlacementOf, placed_load, placed_upload, placed_delay, placed_inverters}
+use Rattle.elmore.specs.Placed.{IsPlacementOf, placed_load, placed_input_load, placed_delay, placed_inverters}
 use Rattle.elmore.specs.Steps.{IsPlacedTree, placed_capacitance}
 use Rattle.elmore.specs.declared.tree.Node.{Node}
 use Rattle.elmore.specs.declared.rep.Rep.{Rep}
 use Rattle.elmore.proofs.SumLemmas.{sum_of_items}
 use Rattle.elmore.proofs.LoadLemmas.{load_bound}
-use Rattle.elmore.proofs.PlacedDelayLemmas.{delay_self, delay_below, delay_bound, upload_bound}
+use Rattle.elmore.proofs.PlacedDelayLemmas.{delay_self, delay_below, delay_bound, input_load_bound}
 use Rattle.elmore.proofs.PlacedInverterLemmas.{step_inverters, inverters_self, inverters_below}
 use Rattle.elmore.proofs.TreeLemmas.{sum_of_nodes, tree_falls, tree_of}
 
@@ -60,12 +60,12 @@ load_small tree reps cells placed v =
       placed.capacitances,
     )
 
-pub upload_small : (tree : List Node) (reps : List Rep) (cells : List (Option ℕ)) → IsPlacedTree tree reps cells
-    → (v : ℕ) → v < length tree → placed_upload tree reps cells v ≤ 10 ^ 11
-upload_small tree reps cells placed v v_n =
+pub input_load_small : (tree : List Node) (reps : List Rep) (cells : List (Option ℕ)) → IsPlacedTree tree reps cells
+    → (v : ℕ) → v < length tree → placed_input_load tree reps cells v ≤ 10 ^ 11
+input_load_small tree reps cells placed v v_n =
     omega (
       arith,
-      upload_bound (parent_of tree) (capacitance tree) (cell_at reps cells) (length tree) v v_n,
+      input_load_bound (parent_of tree) (capacitance tree) (cell_at reps cells) (length tree) v v_n,
       capacitance_sum tree reps cells placed.placement,
       placed.capacitances,
     )
@@ -76,7 +76,7 @@ delay_smaller tree reps cells placed v v_n =
     omega (
       arith,
       delay_bound (parent_of tree) (length tree) (tree_of tree placed.a_tree) (resistance tree) (capacitance tree) (cell_at reps cells) (10 ^ 11) (101 * 10 ^ 18)
-          (upload_small tree reps cells placed)
+          (input_load_small tree reps cells placed)
           (λ u u_n. cell_delay_small reps placed.each_repeater _ _ (load_small tree reps cells placed u)) v v_n,
       sum_of_nodes (λ n. n.r) tree,
       placed.resistances,
@@ -103,7 +103,7 @@ root_delay tree t reps cells =
 pub next_delay : (tree : List Node) → IsTree tree → (reps : List Rep) (cells : List (Option ℕ)) (v : ℕ) → 0 < v → v < length tree
     → placed_delay tree reps cells 0 v
     ≡ placed_delay tree reps cells 0 (parent_of tree v)
-    + (resistance tree v * placed_upload tree reps cells v + cell_delay (cell_at reps cells v) (placed_load tree reps cells v))
+    + (resistance tree v * placed_input_load tree reps cells v + cell_delay (cell_at reps cells v) (placed_load tree reps cells v))
 next_delay tree t reps cells v v_0 v_n =
     delay_below (parent_of tree) (tree_falls tree t) (resistance tree) (capacitance tree) (cell_at reps cells) (length tree) 0 v
     (λ e. omega (arith, t.smaller v v_0 v_n)) (λ e. omega arith)

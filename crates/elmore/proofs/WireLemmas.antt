@@ -3,7 +3,7 @@ use Rattle.std.proofs.Common.{◌≡◌, ℕ, ◌+◌, ◌*◌, ◌<◌, ◌≤�
 use Rattle.std.specs.List.{sum_by, filter, list_all}
 use Rattle.elmore.specs.Path.{Falls, is_over, is_child, way, nodes}
 use Rattle.elmore.specs.Cells.{has_cell, input_capacitance, cell_delay}
-use Rattle.elmore.specs.Stage.{in_stage, ends_stage, load, upload}
+use Rattle.elmore.specs.Stage.{in_stage, ends_stage, load, input_load}
 use Rattle.elmore.specs.Delay.{delay_from}
 use Rattle.elmore.specs.Wire.{downstream, wire_delay}
 use Rattle.elmore.specs.declared.rep.Rep.{Rep}
@@ -49,9 +49,9 @@ bare_load parent c cell bare n v =
         either true = refl
         either false = refl
 
-pub bare_upload : (parent c : ℕ → ℕ) (cell : ℕ → Option Rep) → ((u : ℕ) → cell u ≡ None) → (n v : ℕ) → upload parent c cell n v ≡ downstream parent c n v
-unfolding upload
-bare_upload parent c cell bare n v = rw (bare v) (bare_load parent c cell bare n v)
+pub bare_input_load : (parent c : ℕ → ℕ) (cell : ℕ → Option Rep) → ((u : ℕ) → cell u ≡ None) → (n v : ℕ) → input_load parent c cell n v ≡ downstream parent c n v
+unfolding input_load
+bare_input_load parent c cell bare n v = rw (bare v) (bare_load parent c cell bare n v)
 
 pub bare_delay : (parent r c : ℕ → ℕ) (cell : ℕ → Option Rep) → ((u : ℕ) → cell u ≡ None) → (n w : ℕ) → delay_from parent r c cell n 0 w ≡ wire_delay parent r c n w
 unfolding wire_delay
@@ -62,7 +62,7 @@ bare_delay parent r c cell bare n w =
     own u = rw (bare u) refl
 
     step : (u : ℕ) → step_delay parent r c cell n u ≡ r u * downstream parent c n u
-    step u = omega (arith, own u, ap (λ (k : ℕ). r u * k) (bare_upload parent c cell bare n u))
+    step u = omega (arith, own u, ap (λ (k : ℕ). r u * k) (bare_input_load parent c cell bare n u))
 
 -- the same where no node has one
 abbrev pub no_cell : ℕ → Option Rep
@@ -82,7 +82,7 @@ pub downstream_children : (parent : ℕ → ℕ) (n : ℕ) → IsRooted parent n
 downstream_children parent n t c v v_n =
     sym (bare_load parent c no_cell (λ _. refl) n v)
     ∙ load_children parent n t c no_cell v v_n
-    ∙ ap (λ (k : ℕ). c v + k) (sum_of_same _ _ (filter (is_child parent v) (nodes n)) (bare_upload parent c no_cell (λ _. refl) n))
+    ∙ ap (λ (k : ℕ). c v + k) (sum_of_same _ _ (filter (is_child parent v) (nodes n)) (bare_input_load parent c no_cell (λ _. refl) n))
 
 -- nothing is above the root
 pub wire_delay_root : (parent : ℕ → ℕ) → Falls parent → (r c : ℕ → ℕ) (n : ℕ) → wire_delay parent r c n 0 ≡ 0
@@ -104,6 +104,6 @@ wire_delay_bound parent n t r c w w_n =
       arith,
       bare_delay parent r c no_cell (λ _. refl) n w,
       delay_bound parent n t r c no_cell (sum_by c (nodes n)) 0
-          (λ u _. omega (arith, bare_upload parent c no_cell (λ _. refl) n u, downstream_bound parent c n u))
+          (λ u _. omega (arith, bare_input_load parent c no_cell (λ _. refl) n u, downstream_bound parent c n u))
           (λ u _. omega arith) w w_n,
     )

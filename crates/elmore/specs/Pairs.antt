@@ -5,7 +5,7 @@ use Rattle.std.specs.List.{Contains, All, AllPairs}
 use Rattle.elmore.specs.Path.{is_over}
 use Rattle.elmore.specs.Delay.{is_odd}
 use Rattle.elmore.specs.Legal.{IsPlaced, MayHave}
-use Rattle.elmore.specs.Placements.{IsPlacement, IsSinkAt, load_of, delay_between, inverters_between, upload_of}
+use Rattle.elmore.specs.Placements.{IsPlacement, IsSinkAt, load_of, delay_between, inverters_between, input_load_of}
 use Rattle.elmore.specs.Trees.{parent_of}
 use Rattle.elmore.specs.declared.parts.Sink.{Sink}
 use Rattle.elmore.specs.declared.pair.Pair.{Pair}
@@ -34,7 +34,7 @@ pub record IsPairOf (p : Problem) (v : ℕ) (odd : Bool) (cells : List (Option �
   pub wanted : (w : ℕ) (sink : Sink) → IsSinkUnder p v w sink → is_odd (class_of odd + inverters_between p cells v w) ≡ sink.inverted
   pub least : (w : ℕ) (sink : Sink) → IsSinkUnder p v w sink → x.q ≤ℤ required_from p cells v w sink
   pub met : (w : ℕ) × (sink : Sink) × IsSinkUnder p v w sink × (x.q ≡ required_from p cells v w sink)
-  pub load : x.c ≡ upload_of p cells v
+  pub load : x.c ≡ input_load_of p cells v
 
 abbrev pub IsPairAt : Problem → ℕ → Bool → Pair → Type 0
 IsPairAt p v odd x = (cells : List (Option ℕ)) × IsPairOf p v odd cells x

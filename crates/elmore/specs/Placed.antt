@@ -1,7 +1,7 @@
 -- Trees with cells: their loads, delays, slack and polarity, by their parts: a driver, nodes, repeaters, sinks and cells.
 use Rattle.std.specs.Prelude.{◌≡◌, ℕ, ◌+◌, ◌*◌, ◌<◌, Bool, List, length, slice_index_or, ℤ, pos, ◌+ℤ◌, ◌-ℤ◌, ◌≤ℤ◌, Option, Some, None}
 use Rattle.elmore.specs.Cells.{cell_at}
-use Rattle.elmore.specs.Stage.{load, upload}
+use Rattle.elmore.specs.Stage.{load, input_load}
 use Rattle.elmore.specs.Delay.{delay_from, inverters_from, is_odd}
 use Rattle.elmore.specs.Problems.{sink_of}
 use Rattle.elmore.specs.Trees.{parent_of, resistance, capacitance}
@@ -20,8 +20,8 @@ abbrev pub placed_load : List Node → List Rep → List (Option ℕ) → ℕ �
 placed_load tree reps cells v = load (parent_of tree) (capacitance tree) (cell_at reps cells) (length tree) v
 
 -- what is seen of v from above
-abbrev pub placed_upload : List Node → List Rep → List (Option ℕ) → ℕ → ℕ
-placed_upload tree reps cells v = upload (parent_of tree) (capacitance tree) (cell_at reps cells) (length tree) v
+abbrev pub placed_input_load : List Node → List Rep → List (Option ℕ) → ℕ → ℕ
+placed_input_load tree reps cells v = input_load (parent_of tree) (capacitance tree) (cell_at reps cells) (length tree) v
 
 -- the delay from v to w
 abbrev pub placed_delay : List Node → List Rep → List (Option ℕ) → ℕ → ℕ → ℕ

@@ -7,14 +7,14 @@ use Rattle.elmore.specs.Stage.{in_stage, is_head}
 use Rattle.elmore.specs.Trees.{IsTree, parent_of, resistance, capacitance}
 use Rattle.elmore.specs.Wire.{downstream_in, delay_in}
 use Rattle.elmore.specs.Laws.{children_of}
-use Rattle.elmore.specs.Placed.{placed_load, placed_upload, placed_delay, placed_inverters}
+use Rattle.elmore.specs.Placed.{placed_load, placed_input_load, placed_delay, placed_inverters}
 use Rattle.elmore.specs.declared.tree.Node.{Node}
 use Rattle.elmore.specs.declared.rep.Rep.{Rep}
 
 -- a node's load is its own capacitance and what is seen of its children
 abbrev pub LoadSteps : Type 0
 LoadSteps = (tree : List Node) (reps : List Rep) (cells : List (Option ℕ)) → IsTree tree
-    → (v : ℕ) → v < length tree → placed_load tree reps cells v ≡ capacitance tree v + sum_by (placed_upload tree reps cells) (children_of tree v)
+    → (v : ℕ) → v < length tree → placed_load tree reps cells v ≡ capacitance tree v + sum_by (placed_input_load tree reps cells) (children_of tree v)
 
 -- a node's own cell, into its load
 abbrev pub own_delay : List Node → List Rep → List (Option ℕ) → ℕ → ℕ
@@ -26,7 +26,7 @@ pub record AreDelaysFrom (tree : List Node) (reps : List Rep) (cells : List (Opt
   pub self : placed_delay tree reps cells v v ≡ own_delay tree reps cells v
   pub below : (w : ℕ) → is_over (parent_of tree) v w ≡ true → w ≢ v
       → placed_delay tree reps cells v w
-      ≡ placed_delay tree reps cells v (parent_of tree w) + (resistance tree w * placed_upload tree reps cells w + own_delay tree reps cells w)
+      ≡ placed_delay tree reps cells v (parent_of tree w) + (resistance tree w * placed_input_load tree reps cells w + own_delay tree reps cells w)
   pub through : (u w : ℕ) → is_over (parent_of tree) v u ≡ true → is_over (parent_of tree) u w ≡ true
       → placed_delay tree reps cells v w + own_delay tree reps cells u ≡ placed_delay tree reps cells v u + placed_delay tree reps cells u w
 
@@ -51,7 +51,7 @@ AreAlikeFrom tree v a b = (u : ℕ) → is_over (parent_of tree) v u ≡ true �
 -- v is loaded and seen alike, and the nodes at and below it are as late and as often inverted
 pub record ActAlikeFrom (tree : List Node) (reps : List Rep) (v : ℕ) (a b : List (Option ℕ)) : Type 0 where
   pub load : placed_load tree reps a v ≡ placed_load tree reps b v
-  pub upload : placed_upload tree reps a v ≡ placed_upload tree reps b v
+  pub input_load : placed_input_load tree reps a v ≡ placed_input_load tree reps b v
   pub delays : (w : ℕ) → is_over (parent_of tree) v w ≡ true → placed_delay tree reps a v w ≡ placed_delay tree reps b v w
   pub inverters : (w : ℕ) → is_over (parent_of tree) v w ≡ true → placed_inverters tree reps a v w ≡ placed_inverters tree reps b v w
 

@@ -5,7 +5,7 @@
 use Rattle.std.specs.Prelude.{◌≡◌, ℕ, Bool, List, length, ℤ, Option, Some}
 use Rattle.std.specs.List.{sum_by}
 use Rattle.elmore.specs.Cells.{rep_of, cell_cost}
-use Rattle.elmore.specs.Placed.{IsPlacementOf, placed_load, placed_upload, placed_delay, placed_inverters, driven_delay, slack_left, IsLeast, placed_inverted, IsWanted, IsFirstUnwanted}
+use Rattle.elmore.specs.Placed.{IsPlacementOf, placed_load, placed_input_load, placed_delay, placed_inverters, driven_delay, slack_left, IsLeast, placed_inverted, IsWanted, IsFirstUnwanted}
 use Rattle.elmore.specs.Problems.{sink_of}
 use Rattle.elmore.specs.declared.parts.Sink.{Sink}
 use Rattle.elmore.specs.declared.problem.Problem.{Problem}
@@ -22,8 +22,8 @@ abbrev pub load_of : Problem → List (Option ℕ) → ℕ → ℕ
 load_of p cells v = placed_load p.tree.nodes p.reps cells v
 
 -- what is seen of v from above
-abbrev pub upload_of : Problem → List (Option ℕ) → ℕ → ℕ
-upload_of p cells v = placed_upload p.tree.nodes p.reps cells v
+abbrev pub input_load_of : Problem → List (Option ℕ) → ℕ → ℕ
+input_load_of p cells v = placed_input_load p.tree.nodes p.reps cells v
 
 -- the delay from v to w
 abbrev pub delay_between : Problem → List (Option ℕ) → ℕ → ℕ → ℕ

@@ -31,5 +31,5 @@ abbrev pub seen : Option Rep → ℕ → ℕ
 seen None load = load
 seen (Some rep) load = rep.cin
 
-unfoldable pub upload : (ℕ → ℕ) → (ℕ → ℕ) → (ℕ → Option Rep) → ℕ → ℕ → ℕ
-upload parent c cell n v = seen (cell v) (load parent c cell n v)
+unfoldable pub input_load : (ℕ → ℕ) → (ℕ → ℕ) → (ℕ → Option Rep) → ℕ → ℕ → ℕ
+input_load parent c cell n v = seen (cell v) (load parent c cell n v)

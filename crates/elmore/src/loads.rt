@@ -47,7 +47,7 @@ pub(crate) fn sum_loads(nodes: &[Node], cells: &[Option<u32>], reps: &[Rep], loa
 /// The load (aF) of a node under a placement whose cells stand only at places: the capacitances of the wire from it down to the next cells, and
 /// the input capacitances of these. It is what a cell at the node, or the driver at the root, has to charge. It walks
 /// the whole net, and the scratch has room for its nodes.
-#[tactic(auto, using(crate::proofs::ProblemLaws::placed_tree))]
+#[tactic(auto, using(crate::proofs::ProblemLemmas::placed_tree))]
 pub fn load_of(p: &Problem, at: &Placement, node: u32, scratch: &mut Scratch) -> u128
     requires placement { IsPlacement p.now at.now.cells }
     requires placed { IsPlaced p.now at.now.cells }

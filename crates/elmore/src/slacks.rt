@@ -116,7 +116,7 @@ fn departure(driver: Driver, load: u128) -> i128
 }
 
 /// The slack of a placement whose cells stand only at places. It leaves the loads and the delays of its nodes.
-#[tactic(auto, using(crate::proofs::ProblemLaws::placed_tree))]
+#[tactic(auto, using(crate::proofs::ProblemLemmas::placed_tree))]
 fn slack_by(p: &Problem, cells: &[Option<u32>], loads: &mut [u128], delays: &mut [i128]) -> i128
     requires placement { IsPlacement p.now cells.now }
     requires placed { IsPlaced p.now cells.now }

@@ -2,7 +2,7 @@ use Rattle.std.proofs.Common.{◌≡◌, ◌∙◌, ap, sym, arith, ℕ, ◌<◌
 use Rattle.std.proofs.lemmas.Int.{ints}
 use Rattle.std.proofs.Math.ListN.{length-set}
 use mir.Syntax.{w128}
-use Rattle.elmore.specs.Stage.{upload}
+use Rattle.elmore.specs.Stage.{input_load}
 use Rattle.elmore.specs.Placed.{placed_delay}
 use Rattle.elmore.specs.Steps.{IsPlacedTree}
 use Rattle.elmore.specs.Trees.{parent_of}
@@ -10,7 +10,7 @@ use Rattle.elmore.specs.declared.tree.Node.{Node}
 use Rattle.elmore.specs.declared.rep.Rep.{Rep}
 use Rattle.elmore.proofs.FilledLemmas.{AreFilled, filled_first, filled_more, filled_time}
 use Rattle.elmore.proofs.TreeLemmas.{parent_read, resistance_read}
-use Rattle.elmore.proofs.PlacedTreeLemmas.{root_delay, next_delay, load_small, upload_small, delay_small, delay_whole}
+use Rattle.elmore.proofs.PlacedTreeLemmas.{root_delay, next_delay, load_small, input_load_small, delay_small, delay_whole}
 use Rattle.elmore.proofs.slacks.sum_placed_delays.Goals as goal
 
 pub cell_delay-requires-clause-load : goal.cell_delay-requires-clause-load
@@ -69,13 +69,13 @@ delay_past-requires-clause-load c =
     )
 
 pub delay_past-requires-clause-seen : goal.delay_past-requires-clause-seen
-unfolding upload
+unfolding input_load
 delay_past-requires-clause-seen c =
     rw (c.requires.loads c.down.v (omega arith))
-    (upload_small c.args.nodes.now c.args.reps.now c.args.cells.now c.requires.placed c.down.v (omega arith))
+    (input_load_small c.args.nodes.now c.args.reps.now c.args.cells.now c.requires.placed c.down.v (omega arith))
 
 pub down-preserved : goal.down-preserved
-unfolding upload
+unfolding input_load
 down-preserved c =
     let v_n : c.down.v < length c.args.nodes.now = omega arith in
     let sum : c.delay_past.result ≡ pos (placed_delay c.args.nodes.now c.args.reps.now c.args.cells.now 0 c.down.v) =
