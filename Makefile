@@ -1,12 +1,15 @@
-# `make demo` and `make time` prove and build the program on first use, and run it on an example.
-# `make test` is the merge gate.
-.PHONY: demo time test
+# `make` proves and builds the program, once. `make demo` and `make time` run it on an example; where it is not built yet,
+# without a proof. `make test` is the merge gate.
+.PHONY: build demo time test
+
+build:
+	VGINSERT_BUILD=only ./vginsert
 
 demo:
-	./vginsert --mode wire --spef examples/fork.spef --net n1
+	@VGINSERT_BUILD=try ./vginsert --mode wire --spef examples/fork.spef --net n1
 
 time:
-	./vginsert --mode time --spef examples/ports.spef --cons examples/ports.cons --net p
+	@VGINSERT_BUILD=try ./vginsert --mode time --spef examples/ports.spef --cons examples/ports.cons --net p
 
 test:
 	rt ci
