@@ -1,27 +1,12 @@
 //! Nets of whole files: their wire delays, and why they are refused.
+
+use crate::texts::HEADER;
 use spef_file::{SpefText, index};
 use spef_net::NetKind;
 use std::alloc::Global;
 use std::test::Fail;
 use vg_design::{Refusal, Refused, WireNet, wire_net};
 use vg_scan::Name;
-
-/// Fourteen lines, with units of a thousand attofarads and a thousand milliohms.
-const HEADER: &str = "*SPEF \"IEEE 1481\"
-*DESIGN \"top\"
-*DATE \"now\"
-*VENDOR \"v\"
-*PROGRAM \"p\"
-*VERSION \"1\"
-*DESIGN_FLOW \"x\"
-*DIVIDER /
-*DELIMITER :
-*BUS_DELIMITER [ ]
-*T_UNIT 1 NS
-*C_UNIT 1 FF
-*R_UNIT 1 OHM
-*L_UNIT 1 HENRY
-";
 
 /// The wire delays of the net `n` of a file with these lines behind its header.
 fn wire(alloc: Global, lines: &str) -> Result<Result<WireNet, Refused>, Fail> {
@@ -81,20 +66,89 @@ fn delays_of_sinks(rt: HostRuntime) -> Result<(), Fail> {
 fn numbers_of_refusals(rt: HostRuntime) -> Result<(), Fail> {
     let rows = [
         ("*D_NET m 1\n*END\n", 1),
-        ("*D_NET n 1\n*INDUC\n*CONN\n*I u1:y X\n*END\n", 2),
-        ("*R_NET n 1\n*END\n", 3),
-        ("*D_NET n 1\n*CONN\n*I u1:y B\n*INDUC\n*END\n", 4),
-        ("*D_NET n 1\n*CONN\n*I u1:y B\n*END\n", 5),
-        ("*D_NET n 1\n*CONN\n*I u1:a I\n*P p O\n*END\n", 6),
-        ("*D_NET n 1\n*CONN\n*I u1:y O\n*P p I\n*END\n", 7),
-        ("*D_NET n 1\n*CONN\n*P p I\n*I u1:a I\n*END\n", 12),
         (
-            "*D_NET n 1\n*CONN\n*P p I\n*I u1:a I\n*RES\n1 p u1:a 1\n2 p u1:a 1\n*END\n",
+            "*D_NET n 1
+*INDUC
+*CONN
+*I u1:y X
+*END
+",
+            2,
+        ),
+        ("*R_NET n 1\n*END\n", 3),
+        (
+            "*D_NET n 1
+*CONN
+*I u1:y B
+*INDUC
+*END
+",
+            4,
+        ),
+        (
+            "*D_NET n 1
+*CONN
+*I u1:y B
+*END
+",
+            5,
+        ),
+        (
+            "*D_NET n 1
+*CONN
+*I u1:a I
+*P p O
+*END
+",
+            6,
+        ),
+        (
+            "*D_NET n 1
+*CONN
+*I u1:y O
+*P p I
+*END
+",
+            7,
+        ),
+        (
+            "*D_NET n 1
+*CONN
+*P p I
+*I u1:a I
+*END
+",
+            12,
+        ),
+        (
+            "*D_NET n 1
+*CONN
+*P p I
+*I u1:a I
+*RES
+1 p u1:a 1
+2 p u1:a 1
+*END
+",
             13,
         ),
-        ("*D_NET n 1\n*CONN\n*I u1:y O\n*END\n", 14),
         (
-            "*D_NET n 1\n*CONN\n*P p I\n*I u1:a I\n*RES\n1 p u1:a 1000000001\n*END\n",
+            "*D_NET n 1
+*CONN
+*I u1:y O
+*END
+",
+            14,
+        ),
+        (
+            "*D_NET n 1
+*CONN
+*P p I
+*I u1:a I
+*RES
+1 p u1:a 1000000001
+*END
+",
             16,
         ),
     ];
@@ -106,20 +160,43 @@ fn numbers_of_refusals(rt: HostRuntime) -> Result<(), Fail> {
 
 #[test]
 fn limits(rt: HostRuntime) -> Result<(), Fail> {
-    let lines =
-        "*D_NET n 1\n*CONN\n*P p I\n*I u1:a I\n*CAP\n1 p 100000000\n*RES\n1 p u1:a 1000000000\n*END\n";
+    let lines = "*D_NET n 1
+*CONN
+*P p I
+*I u1:a I
+*CAP
+1 p 100000000
+*RES
+1 p u1:a 1000000000
+*END
+";
     assert!(rt; wire(rt.alloc(), lines)?.is_ok());
     Ok(())
 }
 
 #[test]
 fn what_refusals_say(rt: HostRuntime) -> Result<(), Fail> {
-    let fault = refusal(rt.alloc(), "*D_NET n 1\n*CONN\n*I u1:y X\n*END\n")?;
+    let fault = refusal(
+        rt.alloc(),
+        "*D_NET n 1
+*CONN
+*I u1:y X
+*END
+",
+    )?;
     let Refusal::Section(fault) = fault else {
         return Err("no fault".into());
     };
     assert_eq!(rt; (fault.kind, fault.line), (NetKind::Conn, 17));
-    let floating = "*D_NET n 1\n*CONN\n*P p I\n*I u1:a I\n*RES\n1 n:1 n:2 1\n2 p u1:a 1\n*END\n";
+    let floating = "*D_NET n 1
+*CONN
+*P p I
+*I u1:a I
+*RES
+1 n:1 n:2 1
+2 p u1:a 1
+*END
+";
     let Refusal::Floating(node) = refusal(rt.alloc(), floating)? else {
         return Err("no node floats".into());
     };

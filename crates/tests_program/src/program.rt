@@ -1,17 +1,25 @@
 //! Whole runs over files in memory.
 ghost use Rattle.std.specs.Prelude.{◌≤◌};
 
+use crate::texts::{HEADER, words_of};
 use std::alloc::Global;
 use std::process::Abort;
 use std::test::Fail;
 use vg_store::{MemFiles, MemOut};
 use vginsert_top::run;
 
-const HEADER: &str =
-    "*SPEF \"IEEE 1481-1998\"\n*DESIGN \"top\"\n*DATE \"none\"\n*VENDOR \"none\"\n*PROGRAM \"none\"\n*VERSION \"1\"\n*DESIGN_FLOW \"none\"\n*DIVIDER /\n*DELIMITER :\n*BUS_DELIMITER [ ]\n*T_UNIT 1 PS\n*C_UNIT 1 FF\n*R_UNIT 1 OHM\n*L_UNIT 1 HENRY\n";
-
-const NET: &str =
-    "*D_NET n1 200\n*CONN\n*I u1:Z O\n*I u2:A I\n*CAP\n1 n1:1 100\n2 u2:A 100\n*RES\n1 u1:Z n1:1 1000\n2 n1:1 u2:A 1000\n*END\n";
+const NET: &str = "*D_NET n1 200
+*CONN
+*I u1:Z O
+*I u2:A I
+*CAP
+1 n1:1 100
+2 u2:A 100
+*RES
+1 u1:Z n1:1 1000
+2 n1:1 u2:A 1000
+*END
+";
 
 const WORDS: &str = "--mode wire --spef a.spef --net n1";
 
@@ -22,14 +30,6 @@ type Failing<'a> = (&'a [u64], &'a [u64], &'a [u64]);
 
 /// The status of a run, what it printed and what it told.
 type Ending = (u8, MemOut, MemOut);
-
-fn words_of(alloc: Global, text: &str) -> Result<Vec<String>, Fail> {
-    let mut words = Vec::new(alloc);
-    for word in text.split(' ') {
-        words.push(String::from_str(alloc, word)?)?;
-    }
-    Ok(words)
-}
 
 fn run_on(
     alloc: Global,
@@ -115,53 +115,146 @@ fn answers_each_row(rt: HostRuntime) -> Result<(), Fail> {
         // a fork
         (
             WORDS,
-            "*D_NET n1 250\n*CONN\n*I u1:Z O\n*I u2:A I\n*I u3:A I\n*CAP\n1 n1:1 100\n2 u2:A 100\n3 u3:A 50\n*RES\n1 u1:Z n1:1 1000\n2 n1:1 u2:A 1000\n3 n1:1 u3:A 1000\n*END\n",
+            "*D_NET n1 250
+*CONN
+*I u1:Z O
+*I u2:A I
+*I u3:A I
+*CAP
+1 n1:1 100
+2 u2:A 100
+3 u3:A 50
+*RES
+1 u1:Z n1:1 1000
+2 n1:1 u2:A 1000
+3 n1:1 u3:A 1000
+*END
+",
             0,
             "net n1 total 250000\nsink u2:A 350000000000\nsink u3:A 300000000000\n",
         ),
         // sinks in tree order, not in that of their lines, and a branch without a sink
         (
             WORDS,
-            "*D_NET n1 0\n*CONN\n*I u1:Z O\n*I u3:A I\n*I u2:A I\n*CAP\n1 n1:1 100\n2 u2:A 100\n4 n1:2 1000\n3 u3:A 50\n*RES\n1 u1:Z n1:1 1e3\n2 n1:1 u2:A 1000\n3 n1:1 u3:A 1000\n4 n1:1 n1:2 100\n*END\n",
+            "*D_NET n1 0
+*CONN
+*I u1:Z O
+*I u3:A I
+*I u2:A I
+*CAP
+1 n1:1 100
+2 u2:A 100
+4 n1:2 1000
+3 u3:A 50
+*RES
+1 u1:Z n1:1 1e3
+2 n1:1 u2:A 1000
+3 n1:1 u3:A 1000
+4 n1:1 n1:2 100
+*END
+",
             0,
             "net n1 total 1250000\nsink u2:A 1350000000000\nsink u3:A 1300000000000\n",
         ),
         // a resistor and a capacitor of 0, and capacitors that add up
         (
             WORDS,
-            "*D_NET n1 200\n*CONN\n*I u1:Z O\n*I u2:A I\n*CAP\n1 n1:1 60\n1 n1:1 40\n2 u2:A 0\n*RES\n1 u1:Z n1:1 1000\n2 n1:1 u2:A 0\n*END\n",
+            "*D_NET n1 200
+*CONN
+*I u1:Z O
+*I u2:A I
+*CAP
+1 n1:1 60
+1 n1:1 40
+2 u2:A 0
+*RES
+1 u1:Z n1:1 1000
+2 n1:1 u2:A 0
+*END
+",
             0,
             "net n1 total 100000\nsink u2:A 100000000000\n",
         ),
         // the limits of capacitance and of resistance, and past them
         (
             WORDS,
-            "*D_NET n1 0\n*CONN\n*I u1:Z O\n*I u2:A I\n*CAP\n1 u2:A 1e8\n*RES\n1 u1:Z u2:A 1e9\n*END\n",
+            "*D_NET n1 0
+*CONN
+*I u1:Z O
+*I u2:A I
+*CAP
+1 u2:A 1e8
+*RES
+1 u1:Z u2:A 1e9
+*END
+",
             0,
             "net n1 total 100000000000\nsink u2:A 100000000000000000000000\n",
         ),
         (
             WORDS,
-            "*D_NET n1 0\n*CONN\n*I u1:Z O\n*I u2:A I\n*CAP\n1 u2:A 1e8\n2 u2:A 0.001\n*RES\n1 u1:Z u2:A 1e9\n*END\n",
+            "*D_NET n1 0
+*CONN
+*I u1:Z O
+*I u2:A I
+*CAP
+1 u2:A 1e8
+2 u2:A 0.001
+*RES
+1 u1:Z u2:A 1e9
+*END
+",
             2,
             "net n1 refused 16 TooLarge\n",
         ),
         (
             WORDS,
-            "*D_NET n1 0\n*CONN\n*I u1:Z O\n*I u2:A I\n*CAP\n1 u2:A 1\n*RES\n1 u1:Z u2:A 1000000000.001\n*END\n",
+            "*D_NET n1 0
+*CONN
+*I u1:Z O
+*I u2:A I
+*CAP
+1 u2:A 1
+*RES
+1 u1:Z u2:A 1000000000.001
+*END
+",
             2,
             "net n1 refused 16 TooLarge\n",
         ),
         // resistors in any order and direction
         (
             WORDS,
-            "*D_NET n1 200\n*CONN\n*I u1:Z O\n*I u2:A I\n*CAP\n1 n1:1 100\n2 u2:A 100\n*RES\n2 u2:A n1:1 1000\n1 n1:1 u1:Z 1000\n*END\n",
+            "*D_NET n1 200
+*CONN
+*I u1:Z O
+*I u2:A I
+*CAP
+1 n1:1 100
+2 u2:A 100
+*RES
+2 u2:A n1:1 1000
+1 n1:1 u1:Z 1000
+*END
+",
             0,
             DELAYS,
         ),
         (
             WORDS,
-            "*D_NET n1 0\n*RES\n1 u1:Z n1:1 1\n2 u1:Z n1:2 1\n3 n1:2 n1:3 1\n4 n1:1 u2:A 1\n*CAP\n1 u2:A 1\n*CONN\n*I u1:Z O\n*I u2:A I\n*END\n",
+            "*D_NET n1 0
+*RES
+1 u1:Z n1:1 1
+2 u1:Z n1:2 1
+3 n1:2 n1:3 1
+4 n1:1 u2:A 1
+*CAP
+1 u2:A 1
+*CONN
+*I u1:Z O
+*I u2:A I
+*END
+",
             0,
             "net n1 total 1000\nsink u2:A 2000000\n",
         ),
@@ -180,19 +273,47 @@ fn refuses_nets(rt: HostRuntime) -> Result<(), Fail> {
     let rows = [
         // two resistors side by side, and a node that nothing joins
         (
-            "*CONN\n*I u1:Z O\n*I u2:A I\n*CAP\n1 u2:A 1\n*RES\n1 u1:Z n1:1 1000\n2 n1:1 u2:A 1000\n3 u1:Z n1:1 500\n",
+            "*CONN
+*I u1:Z O
+*I u2:A I
+*CAP
+1 u2:A 1
+*RES
+1 u1:Z n1:1 1000
+2 n1:1 u2:A 1000
+3 u1:Z n1:1 500
+",
             "13 Loop",
         ),
         (
-            "*CONN\n*I u1:Z O\n*I u2:A I\n*CAP\n1 n1:9 5\n*RES\n1 u1:Z u2:A 1000\n",
+            "*CONN
+*I u1:Z O
+*I u2:A I
+*CAP
+1 n1:9 5
+*RES
+1 u1:Z u2:A 1000
+",
             "12 Floating n1:9",
         ),
         (
-            "*CONN\n*I u1:Z O\n*P z O\n*CAP\n1 u1:Z 5\n",
+            "*CONN
+*I u1:Z O
+*P z O
+*CAP
+1 u1:Z 5
+",
             "12 Floating z",
         ),
         (
-            "*CONN\n*I u1:Z O\n*I u2:A I\n*RES\n1 u1:Z u2:A 1\n*INDUC\n1 n1:1 n1:2 7\n",
+            "*CONN
+*I u1:Z O
+*I u2:A I
+*RES
+1 u1:Z u2:A 1
+*INDUC
+1 n1:1 n1:2 7
+",
             "4 Inductive",
         ),
         ("*CONN\n*I u1:Z O\n*I u2:A B\n", "5 Bidirectional"),
@@ -202,15 +323,30 @@ fn refuses_nets(rt: HostRuntime) -> Result<(), Fail> {
         // faults of lines: they come before every other reason
         ("*CONN\n*I u1:Z B\n*I u1:Z O\n", "2 Section Conn line 18"),
         (
-            "*CONN\n*I u1:Z O\n*I u2:A I\n*CAP\n1 u3:A 1\n",
+            "*CONN
+*I u1:Z O
+*I u2:A I
+*CAP
+1 u3:A 1
+",
             "2 Section Foreign line 20",
         ),
         (
-            "*CONN\n*I u1:Z O\n*I u2:A I\n*CAP\n1 u2:A -1\n",
+            "*CONN
+*I u1:Z O
+*I u2:A I
+*CAP
+1 u2:A -1
+",
             "2 Section Number Negative line 20",
         ),
         (
-            "*CONN\n*I u1:Z O\n*I u2:A I\n*CAP\n1 u2:A u1:Z 1\n",
+            "*CONN
+*I u1:Z O
+*I u2:A I
+*CAP
+1 u2:A u1:Z 1
+",
             "2 Section SelfCoupled line 20",
         ),
         ("*CAP\n1 n1:1\n", "2 Section Cap line 17"),
@@ -277,8 +413,27 @@ fn reads_other_headers(rt: HostRuntime) -> Result<(), Fail> {
 }
 
 /// A net as an extractor writes it: a name map, an escaped name, coupling, triples and comments.
-const EXTRACTED: &str =
-    "*NAME_MAP\n*1 n\\[3\\]\n*2 u1\n*3 u2\n*4 other\n*PORTS\nin1 I *C 0.0 2.0\n*D_NET *1 0.25 *V 100\n*CONN\n*I *2:Z O *C 1.0 2.0 *L 0 *D DRV\n*I *3:A I *C 9.0 2.0 *L 0.002 *D BUF\n*N *1:1 *C 5.0 2.0\n*CAP\n1 *1:1 0.08:0.1:0.12\n2 *3:A 0.1 // far end\n3 *1:1 *4:7 0.05\n*RES\n1 *2:Z *1:1 0.9:1:1.1\n2 *1:1 *3:A 1\n*END\n";
+const EXTRACTED: &str = "*NAME_MAP
+*1 n\\[3\\]
+*2 u1
+*3 u2
+*4 other
+*PORTS
+in1 I *C 0.0 2.0
+*D_NET *1 0.25 *V 100
+*CONN
+*I *2:Z O *C 1.0 2.0 *L 0 *D DRV
+*I *3:A I *C 9.0 2.0 *L 0.002 *D BUF
+*N *1:1 *C 5.0 2.0
+*CAP
+1 *1:1 0.08:0.1:0.12
+2 *3:A 0.1 // far end
+3 *1:1 *4:7 0.05
+*RES
+1 *2:Z *1:1 0.9:1:1.1
+2 *1:1 *3:A 1
+*END
+";
 
 #[test]
 fn reads_an_extractors_file(rt: HostRuntime) -> Result<(), Fail> {
@@ -296,7 +451,15 @@ fn reads_an_extractors_file(rt: HostRuntime) -> Result<(), Fail> {
 /// A file whose net is a chain of so many resistors from its driver.
 fn chain(alloc: Global, resistors: usize) -> Result<Vec<u8>, Fail> {
     let mut text = Vec::from_slice(alloc, HEADER.as_bytes())?;
-    text.extend_from_slice(b"*D_NET n 0\n*CONN\n*P n I\n*P z O\n*RES\n1 n n:1 1\n")?;
+    text.extend_from_slice(
+        b"*D_NET n 0
+*CONN
+*P n I
+*P z O
+*RES
+1 n n:1 1
+",
+    )?;
     'resistor: for i in 2..resistors {
         let line = format!(in alloc; "1 n:{} n:{} 1\n", i - 1, i)?;
         text.extend_from_slice(line.as_bytes())?;
@@ -387,8 +550,18 @@ fn tells_what_it_can(rt: HostRuntime) -> Result<(), Fail> {
 }
 
 /// A net from a port to a port.
-const PORTS: &str =
-    "*D_NET p 200\n*CONN\n*P a I\n*P z O\n*CAP\n1 p:1 100\n2 z 100\n*RES\n1 a p:1 1000\n2 p:1 z 1000\n*END\n";
+const PORTS: &str = "*D_NET p 200
+*CONN
+*P a I
+*P z O
+*CAP
+1 p:1 100
+2 z 100
+*RES
+1 a p:1 1000
+2 p:1 z 1000
+*END
+";
 
 const TIME: &str = "--mode time --spef a.spef --cons c.txt --net p";
 
@@ -398,14 +571,23 @@ fn times_each_row(rt: HostRuntime) -> Result<(), Fail> {
         (
             TIME,
             PORTS,
-            "vgcons 1\nrequired z 400\ndrive a 1000 10\nload z 2\n",
+            "vgcons 1
+required z 400
+drive a 1000 10
+load z 2
+",
             0,
             "net p slack -116000000000 polarity right\n",
         ),
         (
             TIME,
             PORTS,
-            "vgcons 1\nrequired z 400\ndrive a 1000 10\nload z 2\narrival a 5\nwant z inverted",
+            "vgcons 1
+required z 400
+drive a 1000 10
+load z 2
+arrival a 5
+want z inverted",
             0,
             "net p slack -121000000000 polarity wrong z\n",
         ),
@@ -419,7 +601,11 @@ fn times_each_row(rt: HostRuntime) -> Result<(), Fail> {
         (
             TIME,
             PORTS,
-            "vgcons 1\nrequired z 400\ndrive a 1000 10\nload z -2\n",
+            "vgcons 1
+required z 400
+drive a 1000 10
+load z -2
+",
             4,
             "vginsert: c.txt: Number Negative line 4\n",
         ),
@@ -448,14 +634,29 @@ fn times_each_row(rt: HostRuntime) -> Result<(), Fail> {
         // what refuses the net alone comes before what the constraints lack
         (
             TIME,
-            "*D_NET p 0\n*CONN\n*P a I\n*P z O\n*I u:A I\n*END\n",
+            "*D_NET p 0
+*CONN
+*P a I
+*P z O
+*I u:A I
+*END
+",
             "vgcons 1",
             2,
             "net p refused 12 Floating z\n",
         ),
         (
             TIME,
-            "*D_NET p 0\n*CONN\n*P a I\n*P z O\n*CAP\n1 z 1e9\n*RES\n1 a z 1\n*END\n",
+            "*D_NET p 0
+*CONN
+*P a I
+*P z O
+*CAP
+1 z 1e9
+*RES
+1 a z 1
+*END
+",
             "vgcons 1",
             2,
             "net p refused 15 Unconstrained z\n",

@@ -1,17 +1,8 @@
 //! The words of the command line.
-use std::alloc::{AllocError, Global};
+
+use crate::texts::words_of;
 use std::test::Fail;
 use vg_words::{Mode, Opt, WordFault, read_words};
-
-/// The words of a line, parted at blanks; `~` is an empty word.
-fn words_of(alloc: Global, line: &str) -> Result<Vec<String>, AllocError> {
-    let mut words = Vec::new(alloc);
-    for word in line.split(' ') {
-        let word = if word == "~" { "" } else { word };
-        words.push(String::from_str(alloc, word)?)?;
-    }
-    Ok(words)
-}
 
 #[test]
 fn reads_each_spelling(rt: HostRuntime) -> Result<(), Fail> {

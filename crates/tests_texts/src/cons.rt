@@ -102,8 +102,15 @@ fn good_rows(rt: HostRuntime) -> Result<(), Fail> {
     Ok(())
 }
 
-const TEXT: &str =
-    "vgcons 1\ndefault required 500\nrequired u2:A 400\narrival in -2.5\nwant u3:A inverted\ndrive in 100 12\nload z 1.5\nblock n1:2\n";
+const TEXT: &str = "vgcons 1
+default required 500
+required u2:A 400
+arrival in -2.5
+want u3:A inverted
+drive in 100 12
+load z 1.5
+block n1:2
+";
 
 #[test]
 fn look_ups(rt: HostRuntime) -> Result<(), Fail> {

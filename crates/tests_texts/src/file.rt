@@ -1,6 +1,7 @@
 //! Files and their faults, taken from the format.
 
-use spef_file::{SpefKind, SpefText, index, mapped, net_at, net_lines};
+use crate::texts::text_of;
+use spef_file::{SpefKind, index, mapped, net_at, net_lines};
 use std::alloc::{AllocError, Global};
 use std::process::Abort;
 use std::test::Fail;
@@ -22,12 +23,6 @@ const HEADER: &str = "*SPEF \"IEEE 1481\"
 *R_UNIT 1 KOHM
 *L_UNIT 1 HENRY
 ";
-
-fn text_of(rt: &impl Abort, alloc: Global, text: &str) -> Result<SpefText, AllocError> {
-    let bytes = Vec::from_slice(alloc, text.as_bytes())?;
-    assert!(rt; bytes.len() <= 2000);
-    Ok(SpefText::new(bytes))
-}
 
 fn fault(
     rt: &impl Abort,
@@ -189,7 +184,13 @@ fn faulty_lines(rt: HostRuntime) -> Result<(), Fail> {
             "{body}"
         );
     }
-    let text = format!(in rt.alloc(); "{HEADER}*D_NET a 1\n*DEFINE b\n*NAME_MAP\n*END\n")?;
+    let text = format!(in rt.alloc();
+        "{HEADER}*D_NET a 1
+*DEFINE b
+*NAME_MAP
+*END
+"
+    )?;
     assert_eq!(rt; fault(&rt, rt.alloc(), text.as_str())?, None);
     Ok(())
 }

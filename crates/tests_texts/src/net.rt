@@ -1,5 +1,7 @@
 //! Sections and what they denote, taken from the format.
-use spef_file::{SpefText, index};
+
+use crate::texts::text_of;
+use spef_file::index;
 use spef_net::{ConnKind, Direction, NetFault, NetKind, ParConn, ParNet, read_net};
 use std::alloc::Global;
 use std::process::Abort;
@@ -33,8 +35,7 @@ fn read(
     text: &str,
     at: usize,
 ) -> Result<Result<ParNet, NetFault>, Fail> {
-    assert!(rt; text.len() <= 2000);
-    let text = SpefText::new(Vec::from_slice(alloc, text.as_bytes())?);
+    let text = text_of(rt, alloc, text)?;
     let index = index(alloc, &text)?;
     assert!(rt; at < index.sections.len());
     Ok(read_net(alloc, &text, &index, at))
@@ -151,19 +152,33 @@ fn node_names_and_values(rt: HostRuntime) -> Result<(), Fail> {
     let rows: [(&str, &[(&[u8], &[u8])], &[(u32, u64)]); 5] = [
         // an index that is mapped after its use
         (
-            "*D_NET n 1\n*CONN\n*I *3:a I\n*END\n*NAME_MAP\n*3 u3",
+            "*D_NET n 1
+*CONN
+*I *3:a I
+*END
+*NAME_MAP
+*3 u3",
             &[(b"u3", b"a")],
             &[],
         ),
         // another index than that of the same number
         (
-            "*01 u2\n*D_NET n 1\n*CONN\n*I *01:a I\n*N *1:4\n*END",
+            "*01 u2
+*D_NET n 1
+*CONN
+*I *01:a I
+*N *1:4
+*END",
             &[(b"u2", b"a"), (b"n", b"4")],
             &[],
         ),
         // an escaped bracket and a bus bit
         (
-            "*D_NET n[3] 1\n*CAP\n1 n\\[3\\]:1 1\n2 n[3]:1 2\n*END",
+            "*D_NET n[3] 1
+*CAP
+1 n\\[3\\]:1 1
+2 n[3]:1 2
+*END",
             &[(b"n[3]", b"1")],
             &[(0, 1000), (0, 2000)],
         ),
