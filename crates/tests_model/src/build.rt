@@ -71,22 +71,28 @@ fn fork_and_root(rt: HostRuntime) -> Result<(), Fail> {
     Ok(())
 }
 
+static FAULTS: [(usize, Edges, TreeFault); 6] = [
+    (2, &[(0, 1, 5), (1, 0, 5)], TreeFault::Loop),
+    (3, &[(0, 1, 1), (1, 2, 1), (2, 0, 1)], TreeFault::Loop),
+    (2, &[(0, 1, 1), (1, 1, 1)], TreeFault::Loop),
+    (1, &[(0, 0, 1)], TreeFault::Loop),
+    (4, &[(0, 2, 1)], TreeFault::Floating(1)),
+    (
+        4,
+        &[(0, 1, 1), (2, 3, 1), (3, 2, 1)],
+        TreeFault::Floating(2),
+    ),
+];
+
+fn fault(alloc: Global, n: usize, edges: Edges) -> Result<Option<TreeFault>, Fail> {
+    Ok(built(alloc, n, &[], edges)?.err())
+}
+
 #[test]
 fn faults_of_nets(rt: HostRuntime) -> Result<(), Fail> {
-    let cases: [(usize, Edges, TreeFault); 6] = [
-        (2, &[(0, 1, 5), (1, 0, 5)], TreeFault::Loop),
-        (3, &[(0, 1, 1), (1, 2, 1), (2, 0, 1)], TreeFault::Loop),
-        (2, &[(0, 1, 1), (1, 1, 1)], TreeFault::Loop),
-        (1, &[(0, 0, 1)], TreeFault::Loop),
-        (4, &[(0, 2, 1)], TreeFault::Floating(1)),
-        (
-            4,
-            &[(0, 1, 1), (2, 3, 1), (3, 2, 1)],
-            TreeFault::Floating(2),
-        ),
-    ];
-    for (n, edges, fault) in cases {
-        assert_eq!(rt; built(rt.alloc(), n, &[], edges)?.err(), Some(fault));
+    for (n, edges, wanted) in &FAULTS {
+        let found = fault(rt.alloc(), *n, edges)?;
+        assert!(rt; found.as_ref() == Some(wanted), "{edges:?}");
     }
     Ok(())
 }

@@ -3,8 +3,8 @@
 ghost use Rattle.std.specs.Prelude.{ℕ, IfOk};
 ghost use Rattle.elmore.specs.Allowances.{AreAllowances};
 
-use crate::problems::{BUF, DRIVER, LEAF, ROOT, TRUNK, problem_with, worked_placement};
-use elmore::{Allowed, Driver, Rep, Scratch, Sink, first_illegal};
+use crate::problems::{BUF, DRIVER, LEAF, ROOT, TRUNK, illegal_in, problem_with};
+use elmore::{Allowed, Driver, Node, Rep, Sink};
 use std::alloc::Global;
 use std::test::Fail;
 use vg_num::{Memory, Row};
@@ -26,45 +26,54 @@ fn allowed(alloc: Global, open: bool) -> Result<Row<Allowed>, Memory>
     Ok(Row::from_vec(nodes))
 }
 
+const NODES: [Node; 3] = [ROOT, TRUNK, LEAF];
+
+const SINKS: [Option<Sink>; 3] = [None, None, SINK];
+
+const FREE: [bool; 3] = [false, true, false];
+
+/// The limits of the buffer and of the driver, whether the node in the middle allows the buffer, and whether it stands
+/// there and at the sink.
+type Case = (Option<u64>, Option<u64>, bool, Option<u32>, Option<u32>);
+
+/// The first illegal node.
+fn illegal_node(alloc: Global, case: Case) -> Result<Option<u32>, Fail> {
+    let (most, driven, open, middle, last) = case;
+    let driver = Driver {
+        limit: driven,
+        ..DRIVER
+    };
+    let reps = [Rep { limit: most, ..BUF }];
+    let allowed = allowed(alloc, open)?;
+    let made = problem_with(alloc, &NODES, driver, &SINKS, &FREE, &reps, allowed)?;
+    let problem = made.ok_or("beyond the limits")?;
+    illegal_in(alloc, &problem, &[None, middle, last])
+}
+
+/// Each case, and the first illegal node.
+static CASES: [(Case, Option<u32>); 16] = [
+    ((None, None, true, None, None), None),
+    ((None, None, true, Some(0), None), None),
+    ((Some(202_000), None, true, Some(0), None), None),
+    ((Some(201_999), None, true, Some(0), None), Some(1)),
+    ((Some(201_999), None, true, None, None), None),
+    ((None, Some(202_000), true, None, None), None),
+    ((None, Some(201_999), true, None, None), Some(0)),
+    ((None, Some(201_999), true, Some(0), None), None),
+    ((None, Some(2_000), true, Some(0), None), None),
+    ((None, Some(1_999), true, Some(0), None), Some(0)),
+    ((Some(201_999), Some(201_999), true, None, None), Some(0)),
+    ((Some(201_999), Some(201_999), true, Some(0), None), Some(1)),
+    ((None, None, false, None, None), None),
+    ((None, None, false, Some(0), None), Some(1)),
+    ((Some(102_000), None, true, Some(0), Some(0)), Some(2)),
+    ((Some(101_999), None, true, Some(0), Some(0)), Some(1)),
+];
+
 #[test]
 fn finds_what_limits_forbid(rt: HostRuntime) -> Result<(), Fail> {
-    // The limits of the buffer and of the driver, whether the middle allows the buffer, whether it stands there and at the
-    // sink, the first illegal node.
-    let cases = [
-        (None, None, true, None, None, None),
-        (None, None, true, Some(0), None, None),
-        (Some(202_000), None, true, Some(0), None, None),
-        (Some(201_999), None, true, Some(0), None, Some(1)),
-        (Some(201_999), None, true, None, None, None),
-        (None, Some(202_000), true, None, None, None),
-        (None, Some(201_999), true, None, None, Some(0)),
-        (None, Some(201_999), true, Some(0), None, None),
-        (None, Some(2_000), true, Some(0), None, None),
-        (None, Some(1_999), true, Some(0), None, Some(0)),
-        (Some(201_999), Some(201_999), true, None, None, Some(0)),
-        (Some(201_999), Some(201_999), true, Some(0), None, Some(1)),
-        (None, None, false, None, None, None),
-        (None, None, false, Some(0), None, Some(1)),
-        (Some(102_000), None, true, Some(0), Some(0), Some(2)),
-        (Some(101_999), None, true, Some(0), Some(0), Some(1)),
-    ];
-    let nodes = [ROOT, TRUNK, LEAF];
-    let sinks = [None, None, SINK];
-    let free = [false, true, false];
-    for (most, driven, open, middle, last, illegal) in cases {
-        let cells = [None, middle, last];
-        let driver = Driver {
-            limit: driven,
-            ..DRIVER
-        };
-        let reps = [Rep { limit: most, ..BUF }];
-        let allowed = allowed(rt.alloc(), open)?;
-        let made = problem_with(rt.alloc(), &nodes, driver, &sinks, &free, &reps, allowed)?;
-        let problem = made.ok_or("beyond the limits")?;
-        let (n, count) = (problem.tree.nodes.len(), problem.reps.len());
-        let at = worked_placement(rt.alloc(), n, count, &cells)?;
-        let mut scratch = Scratch::new(rt.alloc(), n)?;
-        assert_eq!(rt; first_illegal(&problem, &at, &mut scratch), illegal);
+    for (case, illegal) in &CASES {
+        assert_eq!(rt; illegal_node(rt.alloc(), *case)?, *illegal);
     }
     Ok(())
 }

@@ -1,12 +1,12 @@
 //! Worked nets for tests, in mΩ, aF and zs.
 
-ghost use Rattle.std.specs.Prelude.{◌≡◌, ℕ, ◌<◌, true, false, Some, None, is_some, length, slice_index_or, IfOk};
+ghost use Rattle.std.specs.Prelude.{◌≡◌, ℕ, ◌<◌, true, false, Some, None, is_some, length, slice_index_or, IfOk, IsTrue};
 ghost use Rattle.std.specs.List.{list_any};
 ghost use Rattle.elmore.specs.Allowances.{AreAllowances};
 ghost use Rattle.elmore.specs.Placed.{IsPlacementOf};
 ghost use Rattle.elmore.specs.Problems.{is_sink, AreRising};
 
-use elmore::{Allowed, Driver, Node, Placement, Problem, Rep, Sink, Tree};
+use elmore::{Allowed, Driver, Node, Placement, Problem, Rep, Scratch, Sink, Tree, first_illegal};
 use std::alloc::Global;
 use std::test::Fail;
 use vg_num::Row;
@@ -97,23 +97,40 @@ pub(crate) fn problem_with(
 ) -> Result<Option<Problem>, Fail>
     requires { (reps : ℕ) → AreAllowances (length nodes.now) reps allowed }
 {
-    let tree = Tree::new(Row::from_vec(nodes.to_vec(alloc)?)).ok_or("no tree")?;
+    if !are_parts(nodes.len(), sinks, free, reps) {
+        return Err("not the parts of a problem".into());
+    }
+    let tree = tree_of(alloc, nodes)?;
     let sinks = Row::from_vec(sinks.to_vec(alloc)?);
     let reps = Row::from_vec(reps.to_vec(alloc)?);
-    if sinks.len() != tree.nodes.len() || free.len() != tree.nodes.len() {
-        return Err("not one element for each node".into());
-    }
-    if allowed.len() != tree.nodes.len() {
-        return Err("not one element for each node".into());
-    }
-    if free[0] || has_free_sink(sinks.as_slice(), free) {
-        return Err("no place to be".into());
-    }
-    if !has_sink(sinks.as_slice()) || !is_rising(reps.as_slice()) {
-        return Err("no sink, or repeaters that fall".into());
-    }
     let problem = Problem::new(alloc, tree, driver, sinks, free, reps, allowed)?;
     Ok(problem)
+}
+
+/// The tree of these nodes.
+pub(crate) fn tree_of(alloc: Global, nodes: &[Node]) -> Result<Tree, Fail>
+    ensures { IfOk result (λ tree. tree.nodes ≡ nodes.now) }
+{
+    let tree = Tree::new(Row::from_vec(nodes.to_vec(alloc)?)).ok_or("no tree")?;
+    Ok(tree)
+}
+
+/// Whether these parts belong to a net of `n` nodes.
+fn are_parts(n: usize, sinks: &[Option<Sink>], free: &[bool], reps: &[Rep]) -> bool
+    ensures sinks_each { IsTrue result → length sinks.now ≡ n }
+    ensures free_each { IsTrue result → length free.now ≡ n }
+    ensures some_sink { IsTrue result → list_any is_some sinks.now ≡ true }
+    ensures root { IsTrue result → slice_index_or free.now 0 false ≡ false }
+    ensures no_sink { IsTrue result → (v : ℕ) → is_sink sinks.now v ≡ true → slice_index_or free.now v false ≡ false }
+    ensures rising { IsTrue result → AreRising reps.now }
+{
+    n > 0
+        && sinks.len() == n
+        && free.len() == n
+        && !free[0]
+        && has_sink(sinks)
+        && !has_free_sink(sinks, free)
+        && is_rising(reps)
 }
 
 fn has_sink(sinks: &[Option<Sink>]) -> bool
@@ -174,4 +191,16 @@ fn are_named(reps: usize, cells: &[Option<u32>]) -> bool
         }
     }
     true
+}
+
+/// The first illegal node under the placement of these cells.
+pub(crate) fn illegal_in(
+    alloc: Global,
+    problem: &Problem,
+    cells: &[Option<u32>],
+) -> Result<Option<u32>, Fail> {
+    let n = problem.tree.nodes.len();
+    let at = worked_placement(alloc, n, problem.reps.len(), cells)?;
+    let mut scratch = Scratch::new(alloc, n)?;
+    Ok(first_illegal(problem, &at, &mut scratch))
 }

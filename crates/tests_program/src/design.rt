@@ -1,4 +1,6 @@
 //! Nets of whole files: their wire delays, and why they are refused.
+
+use crate::texts::HEADER;
 use spef_file::{SpefText, index};
 use spef_net::NetKind;
 use std::alloc::Global;
@@ -6,30 +8,18 @@ use std::test::Fail;
 use vg_design::{Refusal, Refused, WireNet, wire_net};
 use vg_scan::Name;
 
-/// Fourteen lines, with units of a thousand attofarads and a thousand milliohms.
-const HEADER: &str = "*SPEF \"IEEE 1481\"
-*DESIGN \"top\"
-*DATE \"now\"
-*VENDOR \"v\"
-*PROGRAM \"p\"
-*VERSION \"1\"
-*DESIGN_FLOW \"x\"
-*DIVIDER /
-*DELIMITER :
-*BUS_DELIMITER [ ]
-*T_UNIT 1 NS
-*C_UNIT 1 FF
-*R_UNIT 1 OHM
-*L_UNIT 1 HENRY
-";
-
-/// The wire delays of the net `n` of a file with these lines behind its header.
-fn wire(alloc: Global, lines: &str) -> Result<Result<WireNet, Refused>, Fail> {
+/// A file with these lines behind its header.
+fn file(alloc: Global, lines: &str) -> Result<SpefText, Fail> {
     let text = format!(in alloc; "{HEADER}{lines}")?;
     if text.len() > 2000 {
         return Err("a long text".into());
     }
-    let text = SpefText::new(Vec::from_slice(alloc, text.as_bytes())?);
+    Ok(SpefText::new(Vec::from_slice(alloc, text.as_bytes())?))
+}
+
+/// The wire delays of the net `n` of such a file.
+fn wire(alloc: Global, lines: &str) -> Result<Result<WireNet, Refused>, Fail> {
+    let text = file(alloc, lines)?;
     let index = index(alloc, &text)?;
     let net = Name::from_bytes(alloc, b"n")?;
     Ok(wire_net(alloc, &text, &index, &net))
@@ -44,9 +34,7 @@ fn refusal(alloc: Global, lines: &str) -> Result<Refusal, Fail> {
 }
 
 /// A fork behind a chain, whose sinks come in the order of the resistors and not of the connections.
-#[test]
-fn delays_of_sinks(rt: HostRuntime) -> Result<(), Fail> {
-    let lines = "*D_NET n 10
+const FORK: &str = "*D_NET n 10
 *CONN
 *P p O
 *I u1:y O
@@ -63,67 +51,184 @@ fn delays_of_sinks(rt: HostRuntime) -> Result<(), Fail> {
 3 n:1 p 11
 *END
 ";
-    let wire = wire(rt.alloc(), lines)?.map_err(|_| "no wire")?;
-    assert_eq!(rt; wire.total, 10_000);
-    let sinks: [(&[u8], &[u8], i128); 2] = [(b"u2", b"a", 66_000_000), (b"p", b"", 89_000_000)];
-    assert_eq!(rt; wire.sinks.len(), sinks.len());
-    for at in 0..wire.sinks.len() {
-        let (owner, leaf, delay) = sinks.get(at).ok_or("too many sinks")?;
-        assert_eq!(rt; wire.sinks.owner(at), *owner);
-        assert_eq!(rt; wire.sinks.leaf(at), *leaf);
-        assert_eq!(rt; wire.sinks.delay(at), *delay);
+
+static SINKS: [(&[u8], &[u8], i128); 2] = [(b"u2", b"a", 66_000_000), (b"p", b"", 89_000_000)];
+
+fn has_sinks(wire: &WireNet) -> bool {
+    for (at, (owner, leaf, delay)) in SINKS.iter().enumerate() {
+        if at >= wire.sinks.len()
+            || wire.sinks.owner(at) != *owner
+            || wire.sinks.leaf(at) != *leaf
+            || wire.sinks.delay(at) != *delay
+        {
+            return false;
+        }
     }
+    wire.sinks.len() == SINKS.len()
+}
+
+fn has_delays(alloc: Global) -> Result<bool, Fail> {
+    let Ok(wire) = wire(alloc, FORK)? else {
+        return Err("no wire".into());
+    };
+    Ok(wire.total == 10_000 && has_sinks(&wire))
+}
+
+#[test]
+fn delays_of_sinks(rt: HostRuntime) -> Result<(), Fail> {
+    assert!(rt; has_delays(rt.alloc())?);
     Ok(())
 }
 
 /// Each reason, with one that comes later where there is such a net.
+static REASONS: [(&str, u8); 11] = [
+    ("*D_NET m 1\n*END\n", 1),
+    (
+        "*D_NET n 1
+*INDUC
+*CONN
+*I u1:y X
+*END
+",
+        2,
+    ),
+    ("*R_NET n 1\n*END\n", 3),
+    (
+        "*D_NET n 1
+*CONN
+*I u1:y B
+*INDUC
+*END
+",
+        4,
+    ),
+    (
+        "*D_NET n 1
+*CONN
+*I u1:y B
+*END
+",
+        5,
+    ),
+    (
+        "*D_NET n 1
+*CONN
+*I u1:a I
+*P p O
+*END
+",
+        6,
+    ),
+    (
+        "*D_NET n 1
+*CONN
+*I u1:y O
+*P p I
+*END
+",
+        7,
+    ),
+    (
+        "*D_NET n 1
+*CONN
+*P p I
+*I u1:a I
+*END
+",
+        12,
+    ),
+    (
+        "*D_NET n 1
+*CONN
+*P p I
+*I u1:a I
+*RES
+1 p u1:a 1
+2 p u1:a 1
+*END
+",
+        13,
+    ),
+    (
+        "*D_NET n 1
+*CONN
+*I u1:y O
+*END
+",
+        14,
+    ),
+    (
+        "*D_NET n 1
+*CONN
+*P p I
+*I u1:a I
+*RES
+1 p u1:a 1000000001
+*END
+",
+        16,
+    ),
+];
+
+/// Each reason, with one that comes later where there is such a net.
+fn number_of(alloc: Global, lines: &str) -> Result<u8, Fail> {
+    Ok(refusal(alloc, lines)?.number())
+}
+
 #[test]
 fn numbers_of_refusals(rt: HostRuntime) -> Result<(), Fail> {
-    let rows = [
-        ("*D_NET m 1\n*END\n", 1),
-        ("*D_NET n 1\n*INDUC\n*CONN\n*I u1:y X\n*END\n", 2),
-        ("*R_NET n 1\n*END\n", 3),
-        ("*D_NET n 1\n*CONN\n*I u1:y B\n*INDUC\n*END\n", 4),
-        ("*D_NET n 1\n*CONN\n*I u1:y B\n*END\n", 5),
-        ("*D_NET n 1\n*CONN\n*I u1:a I\n*P p O\n*END\n", 6),
-        ("*D_NET n 1\n*CONN\n*I u1:y O\n*P p I\n*END\n", 7),
-        ("*D_NET n 1\n*CONN\n*P p I\n*I u1:a I\n*END\n", 12),
-        (
-            "*D_NET n 1\n*CONN\n*P p I\n*I u1:a I\n*RES\n1 p u1:a 1\n2 p u1:a 1\n*END\n",
-            13,
-        ),
-        ("*D_NET n 1\n*CONN\n*I u1:y O\n*END\n", 14),
-        (
-            "*D_NET n 1\n*CONN\n*P p I\n*I u1:a I\n*RES\n1 p u1:a 1000000001\n*END\n",
-            16,
-        ),
-    ];
-    for (lines, number) in rows {
-        assert_eq!(rt; refusal(rt.alloc(), lines)?.number(), number, "{lines}");
+    for (lines, number) in &REASONS {
+        assert!(rt; number_of(rt.alloc(), lines)? == *number, "{lines}");
     }
     Ok(())
 }
 
+const AT_LIMITS: &str = "*D_NET n 1
+*CONN
+*P p I
+*I u1:a I
+*CAP
+1 p 100000000
+*RES
+1 p u1:a 1000000000
+*END
+";
+
 #[test]
 fn limits(rt: HostRuntime) -> Result<(), Fail> {
-    let lines =
-        "*D_NET n 1\n*CONN\n*P p I\n*I u1:a I\n*CAP\n1 p 100000000\n*RES\n1 p u1:a 1000000000\n*END\n";
-    assert!(rt; wire(rt.alloc(), lines)?.is_ok());
+    assert!(rt; wire(rt.alloc(), AT_LIMITS)?.is_ok());
     Ok(())
+}
+
+const FAULTY: &str = "*D_NET n 1\n*CONN\n*I u1:y X\n*END\n";
+
+fn fault_of(alloc: Global, lines: &str) -> Result<(NetKind, usize), Fail> {
+    let Refusal::Section(fault) = refusal(alloc, lines)? else {
+        return Err("no fault".into());
+    };
+    Ok((fault.kind, fault.line))
+}
+
+const FLOATING: &str = "*D_NET n 1
+*CONN
+*P p I
+*I u1:a I
+*RES
+1 n:1 n:2 1
+2 p u1:a 1
+*END
+";
+
+fn is_floating(alloc: Global, lines: &str, owner: &[u8], leaf: &[u8]) -> Result<bool, Fail> {
+    let Refusal::Floating(node) = refusal(alloc, lines)? else {
+        return Err("no node floats".into());
+    };
+    Ok(node.owner.as_bytes() == owner && node.leaf.as_bytes() == leaf)
 }
 
 #[test]
 fn what_refusals_say(rt: HostRuntime) -> Result<(), Fail> {
-    let fault = refusal(rt.alloc(), "*D_NET n 1\n*CONN\n*I u1:y X\n*END\n")?;
-    let Refusal::Section(fault) = fault else {
-        return Err("no fault".into());
-    };
-    assert_eq!(rt; (fault.kind, fault.line), (NetKind::Conn, 17));
-    let floating = "*D_NET n 1\n*CONN\n*P p I\n*I u1:a I\n*RES\n1 n:1 n:2 1\n2 p u1:a 1\n*END\n";
-    let Refusal::Floating(node) = refusal(rt.alloc(), floating)? else {
-        return Err("no node floats".into());
-    };
-    assert_eq!(rt; node.owner.as_bytes(), b"n".as_slice());
-    assert_eq!(rt; node.leaf.as_bytes(), b"1".as_slice());
+    assert!(rt; fault_of(rt.alloc(), FAULTY)? == (NetKind::Conn, 17));
+    assert!(rt; is_floating(rt.alloc(), FLOATING, b"n", b"1")?);
     Ok(())
 }

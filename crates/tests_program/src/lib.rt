@@ -6,4 +6,6 @@ mod design;
 #[cfg(test)]
 mod program;
 #[cfg(test)]
+mod texts;
+#[cfg(test)]
 mod words;

@@ -1,104 +1,109 @@
 //! The words of the command line.
-use std::alloc::{AllocError, Global};
+
+use crate::texts::words_of;
+use std::alloc::Global;
 use std::test::Fail;
 use vg_words::{Mode, Opt, WordFault, read_words};
 
-/// The words of a line, parted at blanks; `~` is an empty word.
-fn words_of(alloc: Global, line: &str) -> Result<Vec<String>, AllocError> {
-    let mut words = Vec::new(alloc);
-    for word in line.split(' ') {
-        let word = if word == "~" { "" } else { word };
-        words.push(String::from_str(alloc, word)?)?;
-    }
-    Ok(words)
+/// Words, their mode, and the file of constraints.
+static REQUESTS: [(&str, Mode, Option<&str>); 5] = [
+    ("--mode wire --spef a --net n", Mode::Wire, None),
+    ("--net=n --spef=a --mode=wire", Mode::Wire, None),
+    (
+        "--cons c --net n --mode time --spef=a",
+        Mode::Time,
+        Some("c"),
+    ),
+    (
+        "--mode=time --cons=-c --spef=a --net=n",
+        Mode::Time,
+        Some("-c"),
+    ),
+    (
+        "--mode=time --cons==c --spef=a --net n",
+        Mode::Time,
+        Some("=c"),
+    ),
+];
+
+/// Whether the words ask for this, with the SPEF file `a` and the net `n`.
+fn asks(alloc: Global, line: &str, mode: Mode, cons: Option<&str>) -> Result<bool, Fail> {
+    let words = words_of(alloc, line)?;
+    let Ok(ask) = read_words(alloc, &words) else {
+        return Ok(false);
+    };
+    Ok(
+        ask.mode == mode
+            && ask.spef.as_ref().map(|name| name.as_str()) == Some("a")
+            && ask.cons.as_ref().map(|name| name.as_str()) == cons
+            && ask.net.as_ref().map(|name| name.as_str()) == Some("n"),
+    )
 }
 
 #[test]
 fn reads_each_spelling(rt: HostRuntime) -> Result<(), Fail> {
-    let rows = [
-        ("--mode wire --spef a --net n", Mode::Wire, None),
-        ("--net=n --spef=a --mode=wire", Mode::Wire, None),
-        (
-            "--cons c --net n --mode time --spef=a",
-            Mode::Time,
-            Some("c"),
-        ),
-        (
-            "--mode=time --cons=-c --spef=a --net=n",
-            Mode::Time,
-            Some("-c"),
-        ),
-        (
-            "--mode=time --cons==c --spef=a --net n",
-            Mode::Time,
-            Some("=c"),
-        ),
-    ];
-    for (line, mode, cons) in rows {
-        let ask = read_words(rt.alloc(), &words_of(rt.alloc(), line)?)
-            .ok()
-            .ok_or("refused")?;
-        assert_eq!(rt; ask.mode, mode);
-        assert_eq!(rt; ask.spef.as_ref().map(|name| name.as_str()), Some("a"));
-        assert_eq!(rt; ask.cons.as_ref().map(|name| name.as_str()), cons);
-        assert_eq!(rt; ask.net.as_ref().map(|name| name.as_str()), Some("n"));
+    for (line, mode, cons) in &REQUESTS {
+        assert!(rt; asks(rt.alloc(), line, *mode, *cons)?, "{line}");
     }
     Ok(())
 }
 
+static FAULTY: [(&str, WordFault); 21] = [
+    ("--mode wire --spef a --net n --fast", WordFault::Unread),
+    ("--mode wire --spef a --net n --", WordFault::Unread),
+    ("--mode wire --spef a --net n --net n", WordFault::Unread),
+    ("--mode wire --spef a --net", WordFault::Unread),
+    ("--mode wire --spef -a --net n", WordFault::Unread),
+    ("--mode wire --sp a --net n", WordFault::Unread),
+    (
+        "--mode=wire=x --spef a --net n",
+        WordFault::BadValue(Opt::Mode),
+    ),
+    ("wire", WordFault::Unread),
+    ("~", WordFault::Unread),
+    ("--help", WordFault::Unread),
+    ("--spef a", WordFault::Missing(Opt::Mode)),
+    ("--mode best", WordFault::BadValue(Opt::Mode)),
+    ("--mode ~ --spef a --net n", WordFault::BadValue(Opt::Mode)),
+    ("--mode wire --cons c", WordFault::Missing(Opt::Spef)),
+    ("--mode wire --spef a", WordFault::Missing(Opt::Net)),
+    (
+        "--mode time --spef a --net n",
+        WordFault::Missing(Opt::Cons),
+    ),
+    (
+        "--mode wire --spef ~ --net n --cons c",
+        WordFault::Excluded(Opt::Cons),
+    ),
+    (
+        "--mode wire --spef= --net ~",
+        WordFault::BadValue(Opt::Spef),
+    ),
+    (
+        "--mode time --spef ~ --cons= --net ~",
+        WordFault::BadValue(Opt::Spef),
+    ),
+    (
+        "--mode time --spef a --cons a --net ~",
+        WordFault::BadValue(Opt::Net),
+    ),
+    (
+        "--mode time --spef a --cons=a --net n",
+        WordFault::Equal(Opt::Spef, Opt::Cons),
+    ),
+];
+
+fn fault_of(alloc: Global, line: &str) -> Result<Option<WordFault>, Fail> {
+    let words = words_of(alloc, line)?;
+    Ok(read_words(alloc, &words).err())
+}
+
 #[test]
 fn refuses_in_order(rt: HostRuntime) -> Result<(), Fail> {
-    let rows = [
-        ("--mode wire --spef a --net n --fast", WordFault::Unread),
-        ("--mode wire --spef a --net n --", WordFault::Unread),
-        ("--mode wire --spef a --net n --net n", WordFault::Unread),
-        ("--mode wire --spef a --net", WordFault::Unread),
-        ("--mode wire --spef -a --net n", WordFault::Unread),
-        ("--mode wire --sp a --net n", WordFault::Unread),
-        (
-            "--mode=wire=x --spef a --net n",
-            WordFault::BadValue(Opt::Mode),
-        ),
-        ("wire", WordFault::Unread),
-        ("~", WordFault::Unread),
-        ("--help", WordFault::Unread),
-        ("--spef a", WordFault::Missing(Opt::Mode)),
-        ("--mode best", WordFault::BadValue(Opt::Mode)),
-        ("--mode ~ --spef a --net n", WordFault::BadValue(Opt::Mode)),
-        ("--mode wire --cons c", WordFault::Missing(Opt::Spef)),
-        ("--mode wire --spef a", WordFault::Missing(Opt::Net)),
-        (
-            "--mode time --spef a --net n",
-            WordFault::Missing(Opt::Cons),
-        ),
-        (
-            "--mode wire --spef ~ --net n --cons c",
-            WordFault::Excluded(Opt::Cons),
-        ),
-        (
-            "--mode wire --spef= --net ~",
-            WordFault::BadValue(Opt::Spef),
-        ),
-        (
-            "--mode time --spef ~ --cons= --net ~",
-            WordFault::BadValue(Opt::Spef),
-        ),
-        (
-            "--mode time --spef a --cons a --net ~",
-            WordFault::BadValue(Opt::Net),
-        ),
-        (
-            "--mode time --spef a --cons=a --net n",
-            WordFault::Equal(Opt::Spef, Opt::Cons),
-        ),
-    ];
-    for (line, fault) in rows {
-        let read = read_words(rt.alloc(), &words_of(rt.alloc(), line)?);
-        assert_eq!(rt; read.err(), Some(fault), "{line}");
+    for (line, fault) in &FAULTY {
+        assert!(rt; fault_of(rt.alloc(), line)? == Some(*fault), "{line}");
     }
-    assert_eq!(rt;
-        read_words(rt.alloc(), &[]).err(),
-        Some(WordFault::Missing(Opt::Mode))
-    );
+    let fault = read_words(rt.alloc(), &[]).err();
+    assert!(rt; fault == Some(WordFault::Missing(Opt::Mode)));
     Ok(())
 }

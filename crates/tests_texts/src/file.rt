@@ -1,10 +1,10 @@
 //! Files and their faults, taken from the format.
 
+use crate::texts::text_of;
 use spef_file::{SpefKind, SpefText, index, mapped, net_at, net_lines};
-use std::alloc::{AllocError, Global};
-use std::process::Abort;
+use std::alloc::Global;
 use std::test::Fail;
-use vg_scan::{Name, Span, text_at};
+use vg_scan::{Chars, Name, Span, text_at};
 
 const HEADER: &str = "*SPEF \"IEEE 1481\"
 *DESIGN \"top\"
@@ -23,28 +23,17 @@ const HEADER: &str = "*SPEF \"IEEE 1481\"
 *L_UNIT 1 HENRY
 ";
 
-fn text_of(rt: &impl Abort, alloc: Global, text: &str) -> Result<SpefText, AllocError> {
-    let bytes = Vec::from_slice(alloc, text.as_bytes())?;
-    assert!(rt; bytes.len() <= 2000);
-    Ok(SpefText::new(bytes))
+/// The kind of the text's fault and its line.
+fn fault(alloc: Global, text: &str) -> Result<Option<(SpefKind, usize)>, Fail> {
+    let text = text_of(alloc, text)?;
+    let Err(fault) = index(alloc, &text) else {
+        return Ok(None);
+    };
+    Ok(Some((fault.kind, fault.line)))
 }
 
-fn fault(
-    rt: &impl Abort,
-    alloc: Global,
-    text: &str,
-) -> Result<Option<(SpefKind, usize)>, AllocError> {
-    let text = text_of(rt, alloc, text)?;
-    match index(alloc, &text) {
-        Ok(_) => Ok(None),
-        Err(fault) => Ok(Some((fault.kind, fault.line))),
-    }
-}
-
-#[test]
-fn a_file(rt: HostRuntime) -> Result<(), Fail> {
-    let text = format!(in rt.alloc();
-        "{HEADER}
+/// What stands behind the header of a file.
+const BODY: &str = "
 *NAME_MAP
 *1 u1/d\\[3\\]
 *01 n<2>
@@ -56,140 +45,201 @@ fn a_file(rt: HostRuntime) -> Result<(), Fail> {
   *END
 *R_NET n\\/3 1
 *END more
-"
-    )?;
-    let text = text_of(&rt, rt.alloc(), text.as_str())?;
-    let index = index(rt.alloc(), &text)?;
-    let chars = index.header.chars;
-    assert_eq!(rt; (chars.divider, chars.delimiter), (b'/', b':'));
-    assert_eq!(rt; (chars.bus_left, chars.bus_right), (b'<', b'>'));
-    assert_eq!(rt; (index.header.c_places, index.header.r_places), (6, 6));
-    assert_eq!(rt; mapped(&index, b"1"), Some(b"u1/d[3]".as_slice()));
-    assert_eq!(rt; mapped(&index, b"2"), None);
-    assert_eq!(rt; index.map.len(), 2);
-    let nets = [
-        (
-            b"n[2]".as_slice(),
-            false,
-            22,
-            "*D_NET *01 0.5        \n                    \n*CONN\n  *END",
-        ),
-        (b"n/3", true, 26, "*R_NET n\\/3 1\n*END"),
-    ];
-    assert_eq!(rt; index.sections.len(), nets.len());
-    for (at, (name, reduced, line, part)) in nets.into_iter().enumerate() {
-        assert_eq!(rt;
-            net_at(&index, &Name::from_bytes(rt.alloc(), name)?),
-            Some(at)
-        );
-        assert!(rt; at < index.net_count());
-        assert_eq!(rt; index.sections.name(at), name);
-        let net = index.sections.get(at);
-        assert_eq!(rt; (net.reduced, net.line), (reduced, line));
-        let span = Span {
-            from: net.from as usize,
-            to: net.to as usize,
-        };
-        assert_eq!(rt; text_at(text.as_bytes(), span), part.as_bytes());
+";
+
+fn file(alloc: Global) -> Result<SpefText, Fail> {
+    let text = format!(in alloc; "{HEADER}{BODY}")?;
+    text_of(alloc, text.as_str())
+}
+
+fn is_header(alloc: Global) -> Result<bool, Fail> {
+    let header = index(alloc, &file(alloc)?)?.header;
+    let chars = Chars {
+        divider: b'/',
+        delimiter: b':',
+        bus_left: b'<',
+        bus_right: b'>',
+    };
+    Ok(header.chars == chars && header.c_places == 6 && header.r_places == 6)
+}
+
+fn is_map(alloc: Global) -> Result<bool, Fail> {
+    let index = index(alloc, &file(alloc)?)?;
+    Ok(
+        index.map.len() == 2
+            && mapped(&index, b"1") == Some(b"u1/d[3]".as_slice())
+            && mapped(&index, b"2").is_none(),
+    )
+}
+
+/// Where the net of this name stands among the nets.
+fn place_of(alloc: Global, name: &[u8]) -> Result<Option<usize>, Fail> {
+    let index = index(alloc, &file(alloc)?)?;
+    let name = Name::from_bytes(alloc, name)?;
+    Ok(net_at(&index, &name))
+}
+
+/// A net's name, whether it is reduced, the line of its head, and its part of the text.
+type Net = (&'static [u8], bool, u32, &'static str);
+
+static NETS: [Net; 2] = [
+    (
+        b"n[2]",
+        false,
+        22,
+        "*D_NET *01 0.5        \n                    \n*CONN\n  *END",
+    ),
+    (b"n/3", true, 26, "*R_NET n\\/3 1\n*END"),
+];
+
+fn is_net(alloc: Global, at: usize, net: &Net) -> Result<bool, Fail> {
+    let (name, reduced, line, part) = *net;
+    let text = file(alloc)?;
+    let index = index(alloc, &text)?;
+    if index.net_count() != 2 || at >= index.sections.len() {
+        return Err("not two nets".into());
     }
-    assert_eq!(rt;
-        net_at(&index, &Name::from_bytes(rt.alloc(), b"n<2>")?),
-        None
-    );
+    let section = index.sections.get(at);
+    let span = Span {
+        from: section.from as usize,
+        to: section.to as usize,
+    };
+    Ok(
+        index.sections.name(at) == name
+            && section.reduced == reduced
+            && section.line == line
+            && text_at(text.as_bytes(), span) == part.as_bytes(),
+    )
+}
+
+#[test]
+fn a_file(rt: HostRuntime) -> Result<(), Fail> {
+    assert!(rt; is_header(rt.alloc())?);
+    assert!(rt; is_map(rt.alloc())?);
+    for (at, net) in NETS.iter().enumerate() {
+        assert!(rt; place_of(rt.alloc(), net.0)? == Some(at));
+        assert!(rt; is_net(rt.alloc(), at, net)?);
+    }
+    assert!(rt; place_of(rt.alloc(), b"n<2>")?.is_none());
     Ok(())
+}
+
+const SPLIT: &str = "/* *D_NET b 1
+*END */ *D_NET a 1 // \"*END
+*CONN /* x
+*/ *END // more
+";
+
+/// Whether the file has one net, of these lines.
+fn has_lines(alloc: Global, text: &str, lines: &[u8]) -> Result<bool, Fail> {
+    let text = text_of(alloc, text)?;
+    let index = index(alloc, &text)?;
+    if index.sections.len() != 1 {
+        return Err("not one net".into());
+    }
+    let section = index.sections.get(0);
+    Ok(net_lines(&text, &section) == lines)
 }
 
 #[test]
 fn the_lines_of_a_net(rt: HostRuntime) -> Result<(), Fail> {
-    let text = format!(in rt.alloc();
-        "{HEADER}/* *D_NET b 1
-*END */ *D_NET a 1 // \"*END
-*CONN /* x
-*/ *END // more
-"
-    )?;
-    let text = text_of(&rt, rt.alloc(), text.as_str())?;
-    let index = index(rt.alloc(), &text)?;
-    assert!(rt; index.sections.len() == 1);
-    let lines = net_lines(&text, &index.sections.get(0));
-    assert_eq!(rt; lines, b"*CONN     \n".as_slice());
+    let text = format!(in rt.alloc(); "{HEADER}{SPLIT}")?;
+    assert!(rt; has_lines(rt.alloc(), text.as_str(), b"*CONN     \n")?);
     Ok(())
+}
+
+/// A part of the header, what stands in its place, and the fault.
+static HEADERS: [(&str, &str, SpefKind, usize); 14] = [
+    ("*DESIGN \"top\"", "*DESIGN", SpefKind::Header, 2),
+    ("*DESIGN \"top\"", "\"*DESIGN top", SpefKind::Header, 3),
+    ("*DIVIDER /", "*DIVIDER //", SpefKind::Header, 9),
+    ("*DIVIDER /", "*DIVIDER ,", SpefKind::Header, 9),
+    ("*DELIMITER :", "*DELIMITER : :", SpefKind::Header, 10),
+    ("< >", "< ]", SpefKind::Header, 11),
+    ("< >", "<> more", SpefKind::Header, 11),
+    ("1 PF", "1 NF", SpefKind::Unit, 13),
+    ("1 PF", "2 PF", SpefKind::Unit, 13),
+    ("1 PF", "10000 ff", SpefKind::Unit, 13),
+    ("1 KOHM", "1 KOHM x", SpefKind::Unit, 14),
+    ("*R_UNIT 1 KOHM", "*R_UNIT", SpefKind::Header, 14),
+    ("*L_UNIT 1 HENRY\n", "", SpefKind::Header, 14),
+    ("*SPEF", "\n\"*SPEF", SpefKind::Header, 2),
+];
+
+/// The fault of the header with one part in place of another.
+fn fault_with(alloc: Global, old: &str, new: &str) -> Result<Option<(SpefKind, usize)>, Fail> {
+    let text = HEADER.replace(alloc, old, new)?;
+    fault(alloc, text.as_str())
 }
 
 #[test]
 fn faulty_headers(rt: HostRuntime) -> Result<(), Fail> {
-    let rows = [
-        ("*DESIGN \"top\"", "*DESIGN", SpefKind::Header, 2),
-        ("*DESIGN \"top\"", "\"*DESIGN top", SpefKind::Header, 3),
-        ("*DIVIDER /", "*DIVIDER //", SpefKind::Header, 9),
-        ("*DIVIDER /", "*DIVIDER ,", SpefKind::Header, 9),
-        ("*DELIMITER :", "*DELIMITER : :", SpefKind::Header, 10),
-        ("< >", "< ]", SpefKind::Header, 11),
-        ("< >", "<> more", SpefKind::Header, 11),
-        ("1 PF", "1 NF", SpefKind::Unit, 13),
-        ("1 PF", "2 PF", SpefKind::Unit, 13),
-        ("1 PF", "10000 ff", SpefKind::Unit, 13),
-        ("1 KOHM", "1 KOHM x", SpefKind::Unit, 14),
-        ("*R_UNIT 1 KOHM", "*R_UNIT", SpefKind::Header, 14),
-        ("*L_UNIT 1 HENRY\n", "", SpefKind::Header, 14),
-        ("*SPEF", "\n\"*SPEF", SpefKind::Header, 2),
-    ];
-    for (old, new, kind, line) in rows {
-        let text = HEADER.replace(rt.alloc(), old, new)?;
-        assert_eq!(rt;
-            fault(&rt, rt.alloc(), text.as_str())?,
-            Some((kind, line)),
-            "{new}"
-        );
+    for (old, new, kind, line) in &HEADERS {
+        let found = fault_with(rt.alloc(), old, new)?;
+        assert!(rt; found == Some((*kind, *line)), "{new}");
     }
-    assert_eq!(rt; fault(&rt, rt.alloc(), "")?, Some((SpefKind::Header, 1)));
-    for (old, new) in [("1 PF", "1e3 fF"), ("1 PF", "0.001 PF"), ("< >", "{}")] {
-        let text = HEADER.replace(rt.alloc(), old, new)?;
-        assert_eq!(rt; fault(&rt, rt.alloc(), text.as_str())?, None, "{new}");
+    assert!(rt; fault(rt.alloc(), "")? == Some((SpefKind::Header, 1)));
+    Ok(())
+}
+
+static GOOD_HEADERS: [(&str, &str); 3] = [("1 PF", "1e3 fF"), ("1 PF", "0.001 PF"), ("< >", "{}")];
+
+#[test]
+fn good_headers(rt: HostRuntime) -> Result<(), Fail> {
+    for (old, new) in &GOOD_HEADERS {
+        assert!(rt; fault_with(rt.alloc(), old, new)?.is_none(), "{new}");
+    }
+    Ok(())
+}
+
+static LINES: [(&str, SpefKind, usize); 19] = [
+    ("*1 a", SpefKind::Stray, 16),
+    ("*NAME_MAP\n*1 a\n*1 b", SpefKind::MapTwice, 18),
+    ("*NAME_MAP\n*1 a\n*1 b c", SpefKind::Stray, 18),
+    ("*NAME_MAP\n*1 a\n*1 b\\", SpefKind::MapTwice, 18),
+    ("*NAME_MAP\n*1 a\\", SpefKind::Stray, 17),
+    ("*NAME_MAP\n*x a", SpefKind::Stray, 17),
+    (
+        "*NAME_MAP\n*D_NET *1 1\n*END\n*NAME_MAP\n*1 a",
+        SpefKind::MapUnknown,
+        17,
+    ),
+    ("*D_NET *foo 1\n", SpefKind::MapUnknown, 16),
+    ("*D_NET a 1\n*CONN\n*D_NET b 1\n*END", SpefKind::NoEnd, 16),
+    ("*D_NET\n*CONN\n", SpefKind::NoEnd, 16),
+    ("*D_NET\n*CONN\n*END", SpefKind::Stray, 16),
+    ("*D_NET *2 1\n*CONN", SpefKind::MapUnknown, 16),
+    ("*D_NET a\\\n*CONN", SpefKind::NoEnd, 16),
+    ("*D_NET a\\\n*END", SpefKind::Stray, 16),
+    ("*D_NET a 1\n*END\n*D_NET a 1\n", SpefKind::NoEnd, 18),
+    ("*D_NET a 1\n*END\n*END", SpefKind::Stray, 18),
+    (
+        "*NAME_MAP\n*1 a\n*D_NET a 1\n*END\n*R_NET *1 1\n*END",
+        SpefKind::NetTwice,
+        20,
+    ),
+    ("*PORTS\n*1 I\n*DEFINE a b", SpefKind::Unsupported, 18),
+    ("*R_PNET a 1", SpefKind::Unsupported, 16),
+];
+
+/// The fault of a file with these lines behind its header.
+fn fault_behind(alloc: Global, lines: &str) -> Result<Option<(SpefKind, usize)>, Fail> {
+    let text = format!(in alloc; "{HEADER}{lines}\n")?;
+    fault(alloc, text.as_str())
+}
+
+#[test]
+fn faulty_lines(rt: HostRuntime) -> Result<(), Fail> {
+    for (lines, kind, line) in &LINES {
+        let found = fault_behind(rt.alloc(), lines)?;
+        assert!(rt; found == Some((*kind, *line)), "{lines}");
     }
     Ok(())
 }
 
 #[test]
-fn faulty_lines(rt: HostRuntime) -> Result<(), Fail> {
-    let rows = [
-        ("*1 a", SpefKind::Stray, 16),
-        ("*NAME_MAP\n*1 a\n*1 b", SpefKind::MapTwice, 18),
-        ("*NAME_MAP\n*1 a\n*1 b c", SpefKind::Stray, 18),
-        ("*NAME_MAP\n*1 a\n*1 b\\", SpefKind::MapTwice, 18),
-        ("*NAME_MAP\n*1 a\\", SpefKind::Stray, 17),
-        ("*NAME_MAP\n*x a", SpefKind::Stray, 17),
-        (
-            "*NAME_MAP\n*D_NET *1 1\n*END\n*NAME_MAP\n*1 a",
-            SpefKind::MapUnknown,
-            17,
-        ),
-        ("*D_NET *foo 1\n", SpefKind::MapUnknown, 16),
-        ("*D_NET a 1\n*CONN\n*D_NET b 1\n*END", SpefKind::NoEnd, 16),
-        ("*D_NET\n*CONN\n", SpefKind::NoEnd, 16),
-        ("*D_NET\n*CONN\n*END", SpefKind::Stray, 16),
-        ("*D_NET *2 1\n*CONN", SpefKind::MapUnknown, 16),
-        ("*D_NET a\\\n*CONN", SpefKind::NoEnd, 16),
-        ("*D_NET a\\\n*END", SpefKind::Stray, 16),
-        ("*D_NET a 1\n*END\n*D_NET a 1\n", SpefKind::NoEnd, 18),
-        ("*D_NET a 1\n*END\n*END", SpefKind::Stray, 18),
-        (
-            "*NAME_MAP\n*1 a\n*D_NET a 1\n*END\n*R_NET *1 1\n*END",
-            SpefKind::NetTwice,
-            20,
-        ),
-        ("*PORTS\n*1 I\n*DEFINE a b", SpefKind::Unsupported, 18),
-        ("*R_PNET a 1", SpefKind::Unsupported, 16),
-    ];
-    for (body, kind, line) in rows {
-        let text = format!(in rt.alloc(); "{HEADER}{body}\n")?;
-        assert_eq!(rt;
-            fault(&rt, rt.alloc(), text.as_str())?,
-            Some((kind, line)),
-            "{body}"
-        );
-    }
-    let text = format!(in rt.alloc(); "{HEADER}*D_NET a 1\n*DEFINE b\n*NAME_MAP\n*END\n")?;
-    assert_eq!(rt; fault(&rt, rt.alloc(), text.as_str())?, None);
+fn good_lines(rt: HostRuntime) -> Result<(), Fail> {
+    let lines = "*D_NET a 1\n*DEFINE b\n*NAME_MAP\n*END";
+    assert!(rt; fault_behind(rt.alloc(), lines)?.is_none());
     Ok(())
 }

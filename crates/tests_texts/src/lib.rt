@@ -13,3 +13,5 @@ mod num;
 mod scan;
 #[cfg(test)]
 mod store;
+#[cfg(test)]
+mod texts;

@@ -2,9 +2,8 @@
 ghost use Rattle.std.specs.Prelude.{◌≤◌};
 
 use std::alloc::Global;
-use std::process::Abort;
 use std::test::Fail;
-use vg_store::{MemFiles, MemOut, Out, ReadAll, RealFiles, RealOut, put_all, read_all};
+use vg_store::{Files, MemFiles, MemOut, Out, ReadAll, RealFiles, RealOut, put_all, read_all};
 
 const TEXT: &[u8] = b"a file";
 
@@ -18,93 +17,127 @@ fn made_files(alloc: Global, chunk: usize, fails: &[u64]) -> Result<MemFiles, Fa
     Ok(files)
 }
 
-fn reads_both(rt: &impl Abort, alloc: Global, chunk: usize) -> Result<(), Fail>
+fn reads<F: Files>(alloc: Global, files: &mut F, name: &str, bytes: &[u8]) -> bool {
+    match read_all(alloc, files, name) {
+        Ok(read) => read.as_slice() == bytes,
+        Err(_) => false,
+    }
+}
+
+fn misses<F: Files>(alloc: Global, files: &mut F, name: &str) -> bool {
+    matches!(read_all(alloc, files, name), Err(ReadAll::Failed))
+}
+
+fn reads_at(alloc: Global, chunk: usize) -> Result<bool, Fail>
     requires { 1 ≤ chunk }
 {
     let mut files = made_files(alloc, chunk, &[])?;
-    for (name, bytes) in [("full", TEXT), ("empty", b""), ("full", TEXT)] {
-        assert_eq!(rt; read_all(alloc, &mut files, name)?.as_slice(), bytes);
-    }
-    Ok(())
+    Ok(
+        reads(alloc, &mut files, "full", TEXT)
+            && reads(alloc, &mut files, "empty", b"")
+            && reads(alloc, &mut files, "full", TEXT),
+    )
 }
 
 #[test]
 fn reads_in_pieces(rt: HostRuntime) -> Result<(), Fail> {
-    reads_both(&rt, rt.alloc(), 1)?;
-    reads_both(&rt, rt.alloc(), 4)?;
-    reads_both(&rt, rt.alloc(), 1 << 20)
+    for chunk in [1, 4, 1 << 20] {
+        assert!(rt; reads_at(rt.alloc(), chunk)?, "{chunk}");
+    }
+    Ok(())
+}
+
+fn misses_and_reads(alloc: Global) -> Result<bool, Fail> {
+    let mut files = made_files(alloc, 4, &[])?;
+    Ok(misses(alloc, &mut files, "fuller") && reads(alloc, &mut files, "full", TEXT))
+}
+
+fn gets(alloc: Global) -> Result<bool, Fail> {
+    let files = made_files(alloc, 4, &[])?;
+    Ok(files.get("full") == Some(TEXT) && files.get("fuller").is_none())
 }
 
 #[test]
 fn misses_a_name(rt: HostRuntime) -> Result<(), Fail> {
-    let mut files = made_files(rt.alloc(), 4, &[])?;
-    let missing = read_all(rt.alloc(), &mut files, "fuller");
-    assert_eq!(rt; missing.err(), Some(ReadAll::Failed));
-    assert_eq!(rt; read_all(rt.alloc(), &mut files, "full")?.as_slice(), TEXT);
-    assert_eq!(rt; files.get("full").unwrap_or(b""), TEXT);
-    assert!(rt; files.get("fuller").is_none());
+    assert!(rt; misses_and_reads(rt.alloc())?);
+    assert!(rt; gets(rt.alloc())?);
     Ok(())
+}
+
+/// Whether the call of this number fails, and the file can be read behind it.
+fn fails_and_reads(alloc: Global, failing: u64) -> Result<bool, Fail> {
+    let mut files = made_files(alloc, 4, &[failing])?;
+    Ok(misses(alloc, &mut files, "full") && reads(alloc, &mut files, "full", TEXT))
+}
+
+/// Whether the file can be read before the call of this number.
+fn reads_before(alloc: Global, failing: u64) -> Result<bool, Fail> {
+    let mut files = made_files(alloc, 4, &[failing])?;
+    Ok(reads(alloc, &mut files, "full", TEXT))
 }
 
 // At a chunk of 4 the file takes one call of `open` and three of `next`.
 #[test]
 fn reads_again_after_each_failing_call(rt: HostRuntime) -> Result<(), Fail> {
     for failing in 0..4 {
-        let mut files = made_files(rt.alloc(), 4, &[failing])?;
-        let failed = read_all(rt.alloc(), &mut files, "full");
-        assert_eq!(rt; failed.err(), Some(ReadAll::Failed), "call {failing}");
-        assert_eq!(rt; read_all(rt.alloc(), &mut files, "full")?.as_slice(), TEXT);
+        assert!(rt; fails_and_reads(rt.alloc(), failing)?, "{failing}");
     }
-    let mut files = made_files(rt.alloc(), 4, &[4])?;
-    assert_eq!(rt; read_all(rt.alloc(), &mut files, "full")?.as_slice(), TEXT);
+    assert!(rt; reads_before(rt.alloc(), 4)?);
     Ok(())
 }
 
-fn writes_all(rt: &impl Abort, alloc: Global, chunk: usize) -> Result<(), Fail>
+fn writes_at(alloc: Global, chunk: usize) -> Result<bool, Fail>
     requires { 1 ≤ chunk }
 {
     let mut out = MemOut::new(alloc, chunk, &[])?;
-    assert!(rt; put_all(&mut out, TEXT).is_ok());
-    assert!(rt; put_all(&mut out, b"").is_ok());
-    assert!(rt; put_all(&mut out, b"!").is_ok());
-    assert_eq!(rt; out.as_bytes(), b"a file!".as_slice());
-    Ok(())
+    let all_put = put_all(&mut out, TEXT).is_ok()
+        && put_all(&mut out, b"").is_ok()
+        && put_all(&mut out, b"!").is_ok();
+    Ok(all_put && out.as_bytes() == b"a file!".as_slice())
 }
 
 #[test]
 fn writes_in_pieces(rt: HostRuntime) -> Result<(), Fail> {
-    writes_all(&rt, rt.alloc(), 1)?;
-    writes_all(&rt, rt.alloc(), 3)?;
-    writes_all(&rt, rt.alloc(), 1 << 20)
+    for chunk in [1, 3, 1 << 20] {
+        assert!(rt; writes_at(rt.alloc(), chunk)?, "{chunk}");
+    }
+    Ok(())
+}
+
+/// Whether this is written where the call of this number fails, and whether all could be written.
+fn writes(alloc: Global, failing: u64, prefix: &[u8], all: bool) -> Result<bool, Fail> {
+    let mut out = MemOut::new(alloc, 3, &[failing])?;
+    let is_put = put_all(&mut out, TEXT).is_ok();
+    Ok(is_put == all && out.as_bytes() == prefix)
 }
 
 #[test]
 fn writes_a_prefix_where_a_call_fails(rt: HostRuntime) -> Result<(), Fail> {
-    for (failing, prefix) in [(0, b"".as_slice()), (1, b"a f"), (2, TEXT)] {
-        let mut out = MemOut::new(rt.alloc(), 3, &[failing])?;
-        let written = put_all(&mut out, TEXT);
-        assert_eq!(rt; written.is_ok(), failing == 2);
-        assert_eq!(rt; out.as_bytes(), prefix);
-    }
+    assert!(rt; writes(rt.alloc(), 0, b"", false)?);
+    assert!(rt; writes(rt.alloc(), 1, b"a f", false)?);
+    assert!(rt; writes(rt.alloc(), 2, TEXT, true)?);
     Ok(())
+}
+
+const GIVEN: &str = "vg_store_given.tmp";
+
+const WRITTEN: &str = "vg_store_written.tmp";
+
+fn write_both(rt: &HostRuntime) -> Result<bool, Fail> {
+    let mut out = RealOut::new(std::fs::create(rt, WRITTEN)?);
+    std::fs::write(rt, GIVEN, TEXT)?;
+    Ok(out.put(b"") == Ok(0) && put_all(&mut out, TEXT).is_ok())
 }
 
 // The files stand where the test runs, and are removed again.
 #[test]
 fn reads_and_writes_the_systems_files(rt: HostRuntime) -> Result<(), Fail> {
-    let (given, written) = ("vg_store_given.tmp", "vg_store_written.tmp");
-    let mut out = RealOut::new(std::fs::create(&rt, written)?);
-    assert_eq!(rt; out.put(b""), Ok(0));
-    assert!(rt; put_all(&mut out, TEXT).is_ok());
-    std::fs::write(&rt, given, TEXT)?;
-
+    assert!(rt; write_both(&rt)?);
     let mut files = RealFiles::new(&rt);
-    for name in [given, written] {
-        assert_eq!(rt; read_all(rt.alloc(), &mut files, name)?.as_slice(), TEXT);
-    }
-    std::fs::remove_file(&rt, given)?;
-    std::fs::remove_file(&rt, written)?;
-    let missing = read_all(rt.alloc(), &mut files, given);
-    assert_eq!(rt; missing.err(), Some(ReadAll::Failed));
+    assert!(rt; reads(rt.alloc(), &mut files, GIVEN, TEXT));
+    assert!(rt; reads(rt.alloc(), &mut files, WRITTEN, TEXT));
+    std::fs::remove_file(&rt, GIVEN)?;
+    std::fs::remove_file(&rt, WRITTEN)?;
+    assert!(rt; misses(rt.alloc(), &mut files, GIVEN));
     Ok(())
 }
