@@ -298,3 +298,34 @@ fn sections(rt: HostRuntime) -> Result<(), Fail> {
     }
     Ok(())
 }
+
+/// Lines of the net `n`, which has the index 1, and how many nodes it then has.
+static COUNTS: [(&str, usize); 7] = [
+    ("*CAP\n1 n:1 1\n2 *1:1 1\n3 n:1 1", 1),
+    ("*CAP\n1 *1:1 1\n2 *1:2 1\n3 n:2 1\n4 *1:1 1", 2),
+    ("*CAP\n1 n:1 1\n2 n:01 1\n3 n:001 1\n4 n:1 1", 3),
+    ("*CAP\n1 n:0 1\n2 n:00 1\n3 n:0 1", 2),
+    ("*CAP\n1 n:4294967297 1\n2 n:1 1\n3 n:4294967297 1", 2),
+    (
+        "*CAP\n1 n:999999999 1\n2 n:9999999999 1\n3 n:999999999 1",
+        2,
+    ),
+    ("*CONN\n*I n:7 I\n*CAP\n1 n:7 1\n2 *1:7 1\n3 n:8 1", 2),
+];
+
+fn count_of(alloc: Global, lines: &str) -> Result<Option<usize>, Fail> {
+    let text = format!(in alloc; "{HEADER}*D_NET *1 1\n{lines}\n*END\n")?;
+    Ok(
+        judged(alloc, text.as_str(), 0)?
+            .ok()
+            .map(|(nodes, _)| nodes),
+    )
+}
+
+#[test]
+fn nodes_by_their_numbers(rt: HostRuntime) -> Result<(), Fail> {
+    for (lines, count) in &COUNTS {
+        assert!(rt; count_of(rt.alloc(), lines)? == Some(*count), "{lines}");
+    }
+    Ok(())
+}
