@@ -20,3 +20,4 @@ pub mod SoundLemmas
 pub mod NetLemmas
 pub mod InnerLemmas
 pub mod PartLemmas
+pub mod PassLemmas

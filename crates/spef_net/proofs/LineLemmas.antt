@@ -2,6 +2,7 @@
 use Rattle.std.proofs.Common.{◌≡◌, ℕ, zero, suc, ◌+◌, ◌<◌, Bool, true, false, cond, ◌||◌, List, [], ◌∷◌, map, length, take, drop, get_or, refl, sym, ap, ◌∙◌, Option, Some, None, ◌⊎◌, inl, inr, Result, Ok, Err}
 use Rattle.std.proofs.lemmas.List.{append-nil}
 use Rattle.std.proofs.lemmas.Slice.Eq.{bytes_eq-Decides}
+use Rattle.std.specs.Str.Lines.{lines}
 use Rattle.std.specs.List.{fold, filter_map, cons_option}
 use Rattle.vg_num.specs.declared.fault.NumFault.{NumFault}
 use Rattle.vg_scan.specs.Lines.{Line}
@@ -145,6 +146,15 @@ gather_more file part next line others old new p n =
     ∙ ap (λ ns. fold with_node ns (connected_of (statements_from file (part_after part s) others))) n
     ∙ joined_first old (joined_in s) (filter_map joined_in (statements_from file (part_after part s) others))
     ∙ ap (λ ss. fold with_node old (connected_of ss)) (sym (left file part line others))
+
+-- the same of the line at a place of a text
+pub one_later : (file : File) (part opened : Part) (bytes : List ℕ) (at next : ℕ) (text line : List ℕ) (old new : List NodeName)
+    → opened ≡ part_after part (statement_of file part text) → new ≡ with_joined old (joined_in (statement_of file part text)) → text ≡ line → lines (drop at bytes) ≡ line ∷ lines (drop next bytes)
+    → fold with_node new (connected_of (statements_from file opened (lines (drop next bytes)))) ≡ fold with_node old (connected_of (statements_from file part (lines (drop at bytes))))
+one_later file part opened bytes at next text line old new p n is first =
+    gather_more file part opened text (lines (drop next bytes)) old new p n
+    ∙ ap (λ l. fold with_node old (connected_of (statements_from file part (l ∷ lines (drop next bytes))))) is
+    ∙ ap (λ ls. fold with_node old (connected_of (statements_from file part ls))) (sym first)
 
 -- a line whose form or names are bad
 bad_fault : (connected : List NodeName) (net : List ℕ) (before : List Stated) (line : Stated) (kind : NetKind) → fault_in line ≡ Some kind → fault_of connected net before line ≡ Some kind

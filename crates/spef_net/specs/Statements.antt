@@ -128,8 +128,8 @@ statement_in Ress file line line_words = res_line file line_words
 statement_in Inducs file line line_words = Ok Nothing
 
 abbrev pub statement_or_opens : Option Part → Stated → Stated
-statement_or_opens (Some part) statement_of = Ok (Opens part)
-statement_or_opens None statement_of = statement_of
+statement_or_opens (Some part) stated = Ok (Opens part)
+statement_or_opens None stated = stated
 
 -- a line, with its words
 unfoldable pub statement_of_words : File → Part → List ℕ → Line → Stated

@@ -1,6 +1,7 @@
 //! The connections of a section, before its lines are read in order.
 
-ghost use Rattle.std.specs.Prelude.{◌≡◌, ◌<◌, ◌≤◌, ◌^◌, false, None, IfOk, OnOk, length};
+ghost use Rattle.std.specs.Prelude.{◌≡◌, ◌<◌, ◌≤◌, ◌^◌, ℕ, codes, false, None, IfOk, OnOk, length};
+ghost use Rattle.memchr.specs.Find.{OccursAt};
 ghost use Rattle.std.specs.Str.Lines.{lines};
 ghost use Rattle.spef_file.specs.IndexFiles.{file_of};
 ghost use Rattle.spef_net.specs.Statements.{statement_of, statement_of_words, statements, conn_line};
@@ -14,9 +15,10 @@ ghost use Rattle.spef_net.specs.Connections.{Gathers, is_conns, is_memory, with_
 
 use crate::conn_line::{ConnLine, read_conn};
 use crate::fault::NetKind;
-use crate::line::{head_of, line_words};
+use crate::line::{head_of, line_words, text_from};
 use crate::node_reader::NodeReader;
 use crate::part::Part;
+use memchr::memmem;
 use spef_file::SpefIndex;
 use spef_nodes::NodeTable;
 use std::alloc::Global;
@@ -121,6 +123,16 @@ fn gather_line(
     Ok(next)
 }
 
+/// Whether a head of connections may stand in a text.
+fn may_connect(bytes: &[u8]) -> bool
+    ensures { result ≡ false → (k : ℕ) → OccursAt bytes.now (codes "*CONN") k → ⊥ }
+{
+    match memmem::find(bytes, b"*CONN") {
+        None => false,
+        Some(_) => true,
+    }
+}
+
 /// A table for the nodes of a section: so many bytes have at most about so many nodes.
 fn slots_for(bytes: usize) -> usize
     requires { bytes ≤ 2 ^ 28 }
@@ -149,14 +161,12 @@ fn find_connections(
     let mut part = Part::Nowhere;
     let mut at = 0usize;
     'line: while let Some((line, next)) = next_line(bytes, at) {
-        part = gather_line(
-            alloc,
-            index,
-            part,
-            text_at(bytes, line),
-            &mut found,
-            &mut nodes,
-        )?;
+        let text = text_at(bytes, line);
+        let opened = gather_line(alloc, index, part, text, &mut found, &mut nodes)?;
+        if is_conns(part) && !is_conns(opened) && !may_connect(text_from(bytes, next)) {
+            return Ok(nodes);
+        }
+        part = opened;
         at = next;
     }
     Ok(nodes)
