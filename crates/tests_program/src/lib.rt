@@ -4,6 +4,8 @@
 #[cfg(test)]
 mod design;
 #[cfg(test)]
+mod examples;
+#[cfg(test)]
 mod program;
 #[cfg(test)]
 mod texts;

@@ -33,7 +33,7 @@ const NO_FAILING: Failing<'static> = (&[], &[], &[]);
 type Given<'a> = (&'a str, &'a str, &'a str);
 
 /// The status of a run, what it printed and what it told.
-type Ending<'a> = (u8, &'a str, &'a str);
+pub(crate) type Ending<'a> = (u8, &'a str, &'a str);
 
 fn files_of(
     alloc: Global,
@@ -73,7 +73,8 @@ fn ends(
     )
 }
 
-fn ends_over(
+/// Whether a run over these files ends so, where the outputs move so many bytes a call and these calls fail.
+pub(crate) fn ends_over(
     alloc: Global,
     words: &[String],
     files: &mut MemFiles,
@@ -426,18 +427,29 @@ static OTHER_HEADERS: [(&str, &str, u8, &str); 5] = [
     ("1 OHM", "2 OHM", 4, "vginsert: a.spef: Unit line 13\n"),
 ];
 
-/// Whether the run for the net of a file ends so, with one part in place of another.
-fn ends_with(alloc: Global, old: &str, new: &str, wanted: Ending<'_>) -> Result<bool, Fail> {
-    let text = format!(in alloc; "{HEADER}{NET}")?;
+/// Whether a run over a text ends so, with one part in place of another.
+fn ends_with(
+    alloc: Global,
+    given: Given<'_>,
+    old: &str,
+    new: &str,
+    wanted: Ending<'_>,
+) -> Result<bool, Fail> {
+    let (words, text, cons) = given;
     let text = text.replace(alloc, old, new)?;
-    ends(alloc, (WORDS, text.as_str(), ""), 100, NO_FAILING, wanted)
+    ends(alloc, (words, text.as_str(), cons), 100, NO_FAILING, wanted)
+}
+
+fn is_read(alloc: Global, old: &str, new: &str, wanted: Ending<'_>) -> Result<bool, Fail> {
+    let text = format!(in alloc; "{HEADER}{NET}")?;
+    ends_with(alloc, (WORDS, text.as_str(), ""), old, new, wanted)
 }
 
 #[test]
 fn reads_other_headers(rt: HostRuntime) -> Result<(), Fail> {
     for (old, new, status, line) in &OTHER_HEADERS {
         assert!(rt;
-            ends_with(rt.alloc(), old, new, ending(*status, line))?,
+            is_read(rt.alloc(), old, new, ending(*status, line))?,
             "{new}"
         );
     }
@@ -487,22 +499,37 @@ in1 I *C 0.0 2.0
 *END
 ";
 
+fn extracted(alloc: Global) -> Result<String, Fail> {
+    let units = ("1 FF\n*R_UNIT 1 OHM", "1 PF\n*R_UNIT 1 KOHM");
+    let header = HEADER.replace(alloc, units.0, units.1)?;
+    let text = format!(in alloc; "{header}{EXTRACTED}")?;
+    Ok(text)
+}
+
 /// Whether the run for the extracted net ends so, with one part in place of another.
 fn extracted_ends(alloc: Global, old: &str, new: &str, wanted: Ending<'_>) -> Result<bool, Fail> {
-    let text = format!(in alloc; "{HEADER}{EXTRACTED}")?;
-    let text = text.replace(alloc, "1 FF", "1 PF")?;
-    let text = text.replace(alloc, "1 OHM", "1 KOHM")?;
-    let text = text.replace(alloc, old, new)?;
+    let text = extracted(alloc)?;
     let words = "--mode wire --spef a.spef --net n[3]";
-    ends(alloc, (words, text.as_str(), ""), 100, NO_FAILING, wanted)
+    ends_with(alloc, (words, text.as_str(), ""), old, new, wanted)
 }
+
+/// What a row of the name map becomes, and how the run ends.
+static MAPS: [(&str, Ending<'static>); 2] = [
+    (
+        "*4 other",
+        (0, "net n[3] total 250000\nsink u2:A 350000000000\n", ""),
+    ),
+    ("*3 other", (4, "", "vginsert: a.spef: MapTwice line 19\n")),
+];
 
 #[test]
 fn reads_an_extractors_file(rt: HostRuntime) -> Result<(), Fail> {
-    let printed = "net n[3] total 250000\nsink u2:A 350000000000\n";
-    assert!(rt; extracted_ends(rt.alloc(), "*4", "*4", (0, printed, ""))?);
-    let told = "vginsert: a.spef: MapTwice line 19\n";
-    assert!(rt; extracted_ends(rt.alloc(), "*4 other", "*3 other", (4, "", told))?);
+    for (row, wanted) in &MAPS {
+        assert!(rt;
+            extracted_ends(rt.alloc(), "*4 other", row, *wanted)?,
+            "{row}"
+        );
+    }
     Ok(())
 }
 
@@ -527,21 +554,30 @@ fn chain(alloc: Global, resistors: usize) -> Result<Vec<u8>, Fail> {
     Ok(text)
 }
 
+fn chain_files(alloc: Global, resistors: usize) -> Result<MemFiles, Fail> {
+    let mut files = MemFiles::new(alloc, 1 << 24, &[])?;
+    files.add("a.spef", &chain(alloc, resistors)?)?;
+    Ok(files)
+}
+
 /// Whether the run for such a chain ends so.
 fn chain_ends(alloc: Global, resistors: usize, wanted: Ending<'_>) -> Result<bool, Fail> {
     let words = words_of(alloc, "--mode wire --spef a.spef --net n")?;
-    let mut files = MemFiles::new(alloc, 1 << 24, &[])?;
-    files.add("a.spef", &chain(alloc, resistors)?)?;
+    let mut files = chain_files(alloc, resistors)?;
     ends_over(alloc, &words, &mut files, 1 << 24, (&[], &[]), wanted)
 }
 
 /// The greatest number of nodes of a net, and one more.
+static CHAINS: [(usize, Ending<'static>); 2] = [
+    (65_535, (0, "net n total 0\nsink z 0\n", "")),
+    (65_536, (2, "net n refused 16 TooLarge\n", "")),
+];
+
 #[test]
 fn counts_nodes(rt: HostRuntime) -> Result<(), Fail> {
-    let most = (0, "net n total 0\nsink z 0\n", "");
-    assert!(rt; chain_ends(rt.alloc(), 65_535, most)?);
-    let more = (2, "net n refused 16 TooLarge\n", "");
-    assert!(rt; chain_ends(rt.alloc(), 65_536, more)?);
+    for (resistors, wanted) in &CHAINS {
+        assert!(rt; chain_ends(rt.alloc(), *resistors, *wanted)?, "{resistors}");
+    }
     Ok(())
 }
 
@@ -559,32 +595,46 @@ fn net_ends(
     ends(alloc, (words, text.as_str(), ""), chunk, failing, wanted)
 }
 
+/// Whether the run for the net ends so where the files' call of this number fails.
+fn fails_at(alloc: Global, call: u64, wanted: Ending<'_>) -> Result<bool, Fail> {
+    net_ends(alloc, WORDS, 64, (&[call], &[], &[]), wanted)
+}
+
 /// At a chunk of 64 the file takes one call of `open` and then one of `next` a piece.
 #[test]
 fn fails_where_a_call_fails(rt: HostRuntime) -> Result<(), Fail> {
-    let answer = (0, DELAYS, "");
-    assert!(rt; net_ends(rt.alloc(), WORDS, 1, NO_FAILING, answer)?);
     let told = (5, "", "vginsert: read failed: a.spef\n");
     let calls = (HEADER.len() as u64 + NET.len() as u64) / 64 + 3;
     for call in 0..calls {
-        let failing = (&[call][..], &[][..], &[][..]);
-        assert!(rt; net_ends(rt.alloc(), WORDS, 64, failing, told)?, "{call}");
+        assert!(rt; fails_at(rt.alloc(), call, told)?, "{call}");
     }
-    let failing = (&[calls][..], &[][..], &[][..]);
-    assert!(rt; net_ends(rt.alloc(), WORDS, 64, failing, answer)?);
+    assert!(rt; fails_at(rt.alloc(), calls, (0, DELAYS, ""))?);
     Ok(())
 }
 
+/// The words, the calls of standard output and of standard error that fail, and how the run ends.
+static TOLD: [(&str, &[u64], &[u64], Ending<'static>); 3] = [
+    // The second piece of standard output fails.
+    (
+        WORDS,
+        &[1],
+        &[],
+        (6, "net n1 t", "vginsert: write failed: standard output\n"),
+    ),
+    // Standard error fails too, and the status stays.
+    (WORDS, &[1], &[2], (6, "net n1 t", "vginsert: write ")),
+    ("--help", &[], &[0], (3, "", "")),
+];
+
 #[test]
 fn tells_what_it_can(rt: HostRuntime) -> Result<(), Fail> {
-    // The second piece of standard output fails.
-    let told = (6, "net n1 t", "vginsert: write failed: standard output\n");
-    assert!(rt; net_ends(rt.alloc(), WORDS, 8, (&[], &[1], &[]), told)?);
-    // Standard error fails too, and the status stays.
-    let told = (6, "net n1 t", "vginsert: write ");
-    assert!(rt; net_ends(rt.alloc(), WORDS, 8, (&[], &[1], &[2]), told)?);
-    let told = (3, "", "");
-    assert!(rt; net_ends(rt.alloc(), "--help", 8, (&[], &[], &[0]), told)?);
+    for (words, out, err, wanted) in &TOLD {
+        let failing = (&[][..], *out, *err);
+        assert!(rt;
+            net_ends(rt.alloc(), words, 8, failing, *wanted)?,
+            "{words}"
+        );
+    }
     Ok(())
 }
 

@@ -1,7 +1,9 @@
 //! Files and their faults, taken from the format.
 
 use crate::texts::text_of;
-use spef_file::{SpefKind, SpefText, index, mapped, net_at, net_lines};
+use spef_file::{
+    Header, Sections, SpefIndex, SpefKind, SpefText, index, mapped, net_at, net_lines,
+};
 use std::alloc::Global;
 use std::test::Fail;
 use vg_scan::{Chars, Name, Span, text_at};
@@ -52,31 +54,34 @@ fn file(alloc: Global) -> Result<SpefText, Fail> {
     text_of(alloc, text.as_str())
 }
 
-fn is_header(alloc: Global) -> Result<bool, Fail> {
-    let header = index(alloc, &file(alloc)?)?.header;
+fn is_header(header: &Header) -> bool {
     let chars = Chars {
         divider: b'/',
         delimiter: b':',
         bus_left: b'<',
         bus_right: b'>',
     };
-    Ok(header.chars == chars && header.c_places == 6 && header.r_places == 6)
+    header.chars == chars && header.c_places == 6 && header.r_places == 6
 }
 
-fn is_map(alloc: Global) -> Result<bool, Fail> {
-    let index = index(alloc, &file(alloc)?)?;
-    Ok(
-        index.map.len() == 2
-            && mapped(&index, b"1") == Some(b"u1/d[3]".as_slice())
-            && mapped(&index, b"2").is_none(),
-    )
+fn is_map(index: &SpefIndex) -> bool {
+    index.map.len() == 2
+        && mapped(index, b"1") == Some(b"u1/d[3]".as_slice())
+        && mapped(index, b"2").is_none()
 }
 
-/// Where the net of this name stands among the nets.
-fn place_of(alloc: Global, name: &[u8]) -> Result<Option<usize>, Fail> {
-    let index = index(alloc, &file(alloc)?)?;
+/// Whether the net of this name stands at this place among the nets.
+fn is_at(alloc: Global, index: &SpefIndex, name: &[u8], at: Option<usize>) -> Result<bool, Fail> {
     let name = Name::from_bytes(alloc, name)?;
-    Ok(net_at(&index, &name))
+    Ok(net_at(index, &name) == at)
+}
+
+fn are_places(alloc: Global, index: &SpefIndex) -> Result<bool, Fail> {
+    Ok(
+        is_at(alloc, index, b"n[2]", Some(0))?
+            && is_at(alloc, index, b"n/3", Some(1))?
+            && is_at(alloc, index, b"n<2>", None)?,
+    )
 }
 
 /// A net's name, whether it is reduced, the line of its head, and its part of the text.
@@ -92,35 +97,46 @@ static NETS: [Net; 2] = [
     (b"n/3", true, 26, "*R_NET n\\/3 1\n*END"),
 ];
 
-fn is_net(alloc: Global, at: usize, net: &Net) -> Result<bool, Fail> {
+fn is_net(text: &SpefText, sections: &Sections, at: usize, net: &Net) -> bool {
     let (name, reduced, line, part) = *net;
-    let text = file(alloc)?;
-    let index = index(alloc, &text)?;
-    if index.net_count() != 2 || at >= index.sections.len() {
-        return Err("not two nets".into());
+    if at >= sections.len() {
+        return false;
     }
-    let section = index.sections.get(at);
+    let section = sections.get(at);
     let span = Span {
         from: section.from as usize,
         to: section.to as usize,
     };
-    Ok(
-        index.sections.name(at) == name
-            && section.reduced == reduced
-            && section.line == line
-            && text_at(text.as_bytes(), span) == part.as_bytes(),
-    )
+    sections.name(at) == name
+        && (section.reduced, section.line) == (reduced, line)
+        && text_at(text.as_bytes(), span) == part.as_bytes()
+}
+
+fn are_nets(text: &SpefText, index: &SpefIndex) -> bool {
+    for (at, net) in NETS.iter().enumerate() {
+        if !is_net(text, &index.sections, at, net) {
+            return false;
+        }
+    }
+    index.net_count() == NETS.len()
+}
+
+/// Whether the header, the map, the places of the nets and the nets are those of the file.
+fn is_file(alloc: Global) -> Result<[bool; 4], Fail> {
+    let text = file(alloc)?;
+    let index = index(alloc, &text)?;
+    let places = are_places(alloc, &index)?;
+    Ok([
+        is_header(&index.header),
+        is_map(&index),
+        places,
+        are_nets(&text, &index),
+    ])
 }
 
 #[test]
 fn a_file(rt: HostRuntime) -> Result<(), Fail> {
-    assert!(rt; is_header(rt.alloc())?);
-    assert!(rt; is_map(rt.alloc())?);
-    for (at, net) in NETS.iter().enumerate() {
-        assert!(rt; place_of(rt.alloc(), net.0)? == Some(at));
-        assert!(rt; is_net(rt.alloc(), at, net)?);
-    }
-    assert!(rt; place_of(rt.alloc(), b"n<2>")?.is_none());
+    assert_eq!(rt; is_file(rt.alloc())?, [true; 4]);
     Ok(())
 }
 

@@ -252,11 +252,15 @@ fn are_named(alloc: Global, nodes: &Nodes, names: &[(&[u8], &[u8])]) -> Result<b
     Ok(nodes.len() == names.len())
 }
 
+fn is_described(alloc: Global, text: &str, body: &Body) -> Result<bool, Fail> {
+    let net = read(alloc, text, 0)??;
+    let are_named = are_named(alloc, &net.nodes, body.1)?;
+    Ok(are_named && net.caps.as_slice() == body.2)
+}
+
 fn is_body(alloc: Global, body: &Body) -> Result<bool, Fail> {
-    let (lines, names, caps) = *body;
-    let text = format!(in alloc; "{HEADER}{lines}\n")?;
-    let net = read(alloc, text.as_str(), 0)??;
-    Ok(net.caps.as_slice() == caps && are_named(alloc, &net.nodes, names)?)
+    let text = format!(in alloc; "{HEADER}{}\n", body.0)?;
+    is_described(alloc, text.as_str(), body)
 }
 
 #[test]

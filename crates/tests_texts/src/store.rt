@@ -28,10 +28,21 @@ fn misses<F: Files>(alloc: Global, files: &mut F, name: &str) -> bool {
     matches!(read_all(alloc, files, name), Err(ReadAll::Failed))
 }
 
-fn reads_at(alloc: Global, chunk: usize) -> Result<bool, Fail>
+/// Whether the file of a name is missed, where one is given, and the two files can be read behind it.
+fn reads_behind(
+    alloc: Global,
+    chunk: usize,
+    fails: &[u64],
+    missed: Option<&str>,
+) -> Result<bool, Fail>
     requires { 1 ≤ chunk }
 {
-    let mut files = made_files(alloc, chunk, &[])?;
+    let mut files = made_files(alloc, chunk, fails)?;
+    if let Some(name) = missed {
+        if !misses(alloc, &mut files, name) {
+            return Ok(false);
+        }
+    }
     Ok(
         reads(alloc, &mut files, "full", TEXT)
             && reads(alloc, &mut files, "empty", b"")
@@ -42,14 +53,9 @@ fn reads_at(alloc: Global, chunk: usize) -> Result<bool, Fail>
 #[test]
 fn reads_in_pieces(rt: HostRuntime) -> Result<(), Fail> {
     for chunk in [1, 4, 1 << 20] {
-        assert!(rt; reads_at(rt.alloc(), chunk)?, "{chunk}");
+        assert!(rt; reads_behind(rt.alloc(), chunk, &[], None)?, "{chunk}");
     }
     Ok(())
-}
-
-fn misses_and_reads(alloc: Global) -> Result<bool, Fail> {
-    let mut files = made_files(alloc, 4, &[])?;
-    Ok(misses(alloc, &mut files, "fuller") && reads(alloc, &mut files, "full", TEXT))
 }
 
 fn gets(alloc: Global) -> Result<bool, Fail> {
@@ -59,30 +65,19 @@ fn gets(alloc: Global) -> Result<bool, Fail> {
 
 #[test]
 fn misses_a_name(rt: HostRuntime) -> Result<(), Fail> {
-    assert!(rt; misses_and_reads(rt.alloc())?);
+    assert!(rt; reads_behind(rt.alloc(), 4, &[], Some("fuller"))?);
     assert!(rt; gets(rt.alloc())?);
     Ok(())
 }
 
-/// Whether the call of this number fails, and the file can be read behind it.
-fn fails_and_reads(alloc: Global, failing: u64) -> Result<bool, Fail> {
-    let mut files = made_files(alloc, 4, &[failing])?;
-    Ok(misses(alloc, &mut files, "full") && reads(alloc, &mut files, "full", TEXT))
-}
-
-/// Whether the file can be read before the call of this number.
-fn reads_before(alloc: Global, failing: u64) -> Result<bool, Fail> {
-    let mut files = made_files(alloc, 4, &[failing])?;
-    Ok(reads(alloc, &mut files, "full", TEXT))
-}
-
-// At a chunk of 4 the file takes one call of `open` and three of `next`.
+// At a chunk of 4 the file `full` takes one call of `open` and three of `next`, and `empty` one of each.
 #[test]
 fn reads_again_after_each_failing_call(rt: HostRuntime) -> Result<(), Fail> {
     for failing in 0..4 {
-        assert!(rt; fails_and_reads(rt.alloc(), failing)?, "{failing}");
+        let is_read = reads_behind(rt.alloc(), 4, &[failing], Some("full"))?;
+        assert!(rt; is_read, "{failing}");
     }
-    assert!(rt; reads_before(rt.alloc(), 4)?);
+    assert!(rt; reads_behind(rt.alloc(), 4, &[10], None)?);
     Ok(())
 }
 
