@@ -103,22 +103,21 @@ follows_of r file of_builder net net_of_builder part line old new f n h =
     subst (λ (p : File × List ℕ). Follows r p.1 part old (statement_of p.0 part line) new) (λ i. (f i, n i)) h
 
 -- lines of four words
+four_words : {X : Type 0} (view : X → List ℕ) (ws : List X) (other : X) → length ws ≡ 4
+    → map view ws ≡ view (get_or ws 0 other) ∷ view (get_or ws 1 other) ∷ view (get_or ws 2 other) ∷ view (get_or ws 3 other) ∷ []
+four_words view [] other e = absurd (omega arith)
+four_words view (a ∷ []) other e = absurd (omega arith)
+four_words view (a ∷ b ∷ []) other e = absurd (omega arith)
+four_words view (a ∷ b ∷ c ∷ []) other e = absurd (omega arith)
+four_words view (a ∷ b ∷ c ∷ d ∷ []) other e = refl
+four_words view (a ∷ b ∷ c ∷ d ∷ x ∷ xs) other e = absurd (omega arith)
+
 pub cap_four : {X : Type 0} (file : File) (view : X → List ℕ) (ws : List X) (other : X) → length ws ≡ 4
     → cap_line file (map view ws) ≡ coupling (two_in file (view (get_or ws 1 other)) (view (get_or ws 2 other))) (value_in file.c_places (view (get_or ws 3 other)))
 unfolding cap_line
-cap_four file view [] other e = absurd (omega arith)
-cap_four file view (a ∷ []) other e = absurd (omega arith)
-cap_four file view (a ∷ b ∷ []) other e = absurd (omega arith)
-cap_four file view (a ∷ b ∷ c ∷ []) other e = absurd (omega arith)
-cap_four file view (a ∷ b ∷ c ∷ d ∷ []) other e = refl
-cap_four file view (a ∷ b ∷ c ∷ d ∷ x ∷ xs) other e = absurd (omega arith)
+cap_four file view ws other e = ap (cap_line file) (four_words view ws other e)
 
 pub res_four : {X : Type 0} (file : File) (view : X → List ℕ) (ws : List X) (other : X) → length ws ≡ 4
     → res_line file (map view ws) ≡ resistor (two_in file (view (get_or ws 1 other)) (view (get_or ws 2 other))) (value_in file.r_places (view (get_or ws 3 other)))
 unfolding res_line
-res_four file view [] other e = absurd (omega arith)
-res_four file view (a ∷ []) other e = absurd (omega arith)
-res_four file view (a ∷ b ∷ []) other e = absurd (omega arith)
-res_four file view (a ∷ b ∷ c ∷ []) other e = absurd (omega arith)
-res_four file view (a ∷ b ∷ c ∷ d ∷ []) other e = refl
-res_four file view (a ∷ b ∷ c ∷ d ∷ x ∷ xs) other e = absurd (omega arith)
+res_four file view ws other e = ap (res_line file) (four_words view ws other e)

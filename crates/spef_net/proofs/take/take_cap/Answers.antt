@@ -19,7 +19,7 @@ pub returns-clause-taken : goal.returns-clause-taken
 returns-clause-taken c =
     let file = c.args.builder.now.file in
     let four : length c.args.words.now ≡ 4 = omega (arith, c.in-len4.len_at_least, c.in-len4.len_below) in
-    let statement_of : coupling (two_in file c.text_at.result.now c.text_at-2.result.now) (value_in file.c_places c.text_at-3.result.now) ≡ cap_line file (words_at c.args.line.now c.args.words.now) =
+    let stated : coupling (two_in file c.text_at.result.now c.text_at-2.result.now) (value_in file.c_places c.text_at-3.result.now) ≡ cap_line file (words_at c.args.line.now c.args.words.now) =
     (λ i. coupling (two_in file (c.text_at.ensures i) (c.text_at-2.ensures i)) (value_in file.c_places (c.text_at-3.ensures i)))
     ∙ sym (cap_four file (part_at c.args.line.now) c.args.words.now (record { from = 0; to = 0 }) four) in
-    subst (λ (s : Stated). Takes c.take_coupling.result c.args.builder.now.net c.args.builder.now s c.take_coupling.new.builder) statement_of c.take_coupling.ensures.taken
+    subst (λ (s : Stated). Takes c.take_coupling.result c.args.builder.now.net c.args.builder.now s c.take_coupling.new.builder) stated c.take_coupling.ensures.taken
