@@ -128,9 +128,9 @@ requested words given mode g (e, h) =
     )
 
 -- where there is a request, memory may be wanted
-pub wanted : (words : List (List ℕ)) (r : Result Ask WordFault) → IsErrAnd r (λ fault. fault ≡ Memory) → (request : Request) × IsRequest words request → ReadsWords r words
-wanted words (Ok ask) h is = absurd h
-wanted words (Err fault) h is = subst (λ f. ReadsWords (Err f) words) (sym h) is
+pub wanted : (words : List (List ℕ)) (r : Result Ask WordFault) → IsErrAnd r (λ fault. fault ≡ Memory) → ReadsWords r words
+wanted words (Ok ask) h = absurd h
+wanted words (Err fault) h = subst (λ f. ReadsWords (Err f) words) (sym h) tt
 
 -- words ask for one thing at most
 some_name : (a b : List ℕ) → Some a ≡ Some b → a ≡ b

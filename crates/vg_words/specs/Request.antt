@@ -168,8 +168,8 @@ pub record IsAskFor (ask : Ask) (request : Request) : Type 0 where
   pub cons : ask.cons ≡ request.cons
   pub net : ask.net ≡ Some request.net
 
--- what reading the words may answer: the request, why there is none, or want of memory where there is one
+-- what reading the words may answer: the request, why there is none, or want of memory
 abbrev pub ReadsWords : Result Ask WordFault → List (List ℕ) → Type 0
 ReadsWords (Ok ask) words = (request : Request) × IsRequest words request × IsAskFor ask request
-ReadsWords (Err Memory) words = (request : Request) × IsRequest words request
+ReadsWords (Err Memory) words = Unit {0}
 ReadsWords (Err fault) words = IsRefused words fault

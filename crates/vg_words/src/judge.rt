@@ -158,8 +158,8 @@ fn copied(alloc: Global, mode: Mode, given: &Given<'_>) -> Result<Ask, Memory>
 ///
 /// Each option is `--name value` or `--name=value`, in any order, at most once; a value that stands in a word of its
 /// own does not begin with `-`. Mode `wire` asks for `--spef` and `--net`, mode `time` for `--cons` too. The faults
-/// come in the order of `WordFault`, and of one kind the first option in the order of `Opt`; `Memory` comes only where
-/// there is no other.
+/// come in the order of `WordFault`, and of one kind the first option in the order of `Opt`. Answers `Memory` where
+/// there is no room.
 pub fn read_words(alloc: Global, words: &[String]) -> Result<Ask, WordFault>
     ensures reads { ReadsWords result (texts words.now) }
     ensures cons { IfOk result (λ ask. HasCons ask.mode ask.cons) }

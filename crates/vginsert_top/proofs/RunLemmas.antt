@@ -45,14 +45,6 @@ fault_is words (BadValue o) reads = (λ _. reads, inr reads)
 fault_is words (Equal a b) reads = (λ _. reads, inr reads)
 fault_is words NoRoom reads = (λ seven. absurd (omega arith), inl refl)
 
-pub fault_three : (words : List Bytes) (fault : WordFault) → ReadsWords (Err fault) words → ((request : Request) → IsRequest words request → ⊥) → fault_status fault ≡ 3
-fault_three words Unread reads none = refl
-fault_three words (Missing o) reads none = refl
-fault_three words (Excluded o) reads none = refl
-fault_three words (BadValue o) reads none = refl
-fault_three words (Equal a b) reads none = refl
-fault_three words NoRoom (request, is) none = absurd (none request is)
-
 pub fault_two : (fault : WordFault) → (fault_status fault ≡ 3) ⊎ (fault_status fault ≡ 7)
 fault_two Unread = inl refl
 fault_two (Missing o) = inl refl
@@ -233,7 +225,7 @@ module _ (holds : Bytes → Option Bytes) (request : Request) (old new : Option 
   exact_is (Faulty input name text) (_, (a, read, faulty), _) has b told five six seven =
       let e = agree holds request.mode request.spef request.net request.cons a b read told has in
       faulty_status request b input text.items (faulty_as request.mode a b input text.items e faulty)
-  exact_is (TooLong name) ((input, named, long), _) has b told five six seven =
+  exact_is (TooLong name) ((input, named, long, _), _) has b told five six seven =
       long_status request b (λ short. not_short holds request b input (input_name request input) refl long (told input) (short input) name.now named)
   exact_is (ReadFault name) ends has b told five six seven = absurd (five refl)
   exact_is WriteFault ends has b told five six seven = absurd (six refl)
@@ -280,7 +272,7 @@ module _ (holds : Bytes → Option Bytes) (request : Request) (old new : Option 
     pub unreadable_is : (ending : Ending) → status_of ending ≡ 4 → Ends holds request old new read_before read_now blame before now ending → Tells err_old err_new err_before err_now ending
         → IsUnreadable holds (Says err_old err_new err_before err_now) request
     unreadable_is (Faulty input name text) e (named, (a, read, faulty), _) tells = (input, name.now, named, inr (a, read, (text.items, faulty, tells)))
-    unreadable_is (TooLong name) e ((input, named, long), _) tells = (input, name.now, named, inl (long, tells))
+    unreadable_is (TooLong name) e ((input, named, long, before), _) tells = (input, name.now, named, inl (long, before, tells))
     unreadable_is Done e ends tells = absurd (omega arith)
     unreadable_is Refused e ends tells = absurd (omega arith)
     unreadable_is (ReadFault name) e ends tells = absurd (omega arith)
@@ -288,8 +280,8 @@ module _ (holds : Bytes → Option Bytes) (request : Request) (old new : Option 
     unreadable_is Memory e ends tells = absurd (omega arith)
 
     pub read_fault_is : (ending : Ending) → status_of ending ≡ 5 → Ends holds request old new read_before read_now blame before now ending → Tells err_old err_new err_before err_now ending
-        → Rose read_before read_now × IsUnread blame (Says err_old err_new err_before err_now) request
-    read_fault_is (ReadFault name) e (rose, (input, named, blamed), _) tells = (rose, (input, name.now, named, blamed, tells))
+        → Rose read_before read_now × IsUnread holds blame (Says err_old err_new err_before err_now) request
+    read_fault_is (ReadFault name) e (rose, (input, named, blamed, before), _) tells = (rose, (input, name.now, named, blamed, before, tells))
     read_fault_is Done e ends tells = absurd (omega arith)
     read_fault_is Refused e ends tells = absurd (omega arith)
     read_fault_is (Faulty input name text) e ends tells = absurd (omega arith)

@@ -9,7 +9,7 @@ use Rattle.vg_words.specs.declared.ask.WordFault.{WordFault}
 use Rattle.vg_words.specs.declared.ask.WordFault.TheVariants.{Unread, Missing, Excluded, BadValue, Equal, Memory as NoRoom}
 use Rattle.vg_words.specs.declared.ask.Mode.{Mode}
 use Rattle.vg_words.specs.declared.ask.Mode.TheVariants.{Wire as WireMode, Time as TimeMode}
-use Rattle.vginsert_top.specs.Run.{Texts, AreRead, WasRead, IsShort, IsFaultyFor, IsTooLong, PrintsReport, PrintsRefusal, Says, input_name, file_line, read_failed_line}
+use Rattle.vginsert_top.specs.Run.{Texts, AreRead, WasRead, IsShort, IsFaultyFor, IsTooLong, AreReadBefore, PrintsReport, PrintsRefusal, Says, input_name, file_line, read_failed_line}
 use Rattle.vginsert_top.specs.declared.input.Input.{Input}
 use Rattle.vginsert_top.specs.declared.program.Job.{Job}
 use Rattle.vginsert_top.specs.declared.program.Task.{Task}
@@ -51,9 +51,9 @@ Ends holds request old new read_before read_now blame before now Refused = Print
 Ends holds request old new read_before read_now blame before now (Faulty input name text) =
     (input_name request input ≡ Some name.now) × ((texts : Texts) × AreRead holds request texts × IsFaultyFor request.mode texts input text.items) × (new ≡ old)
 Ends holds request old new read_before read_now blame before now (TooLong name) =
-    ((input : Input) × (input_name request input ≡ Some name.now) × IsTooLong holds request input) × (new ≡ old)
+    ((input : Input) × (input_name request input ≡ Some name.now) × IsTooLong holds request input × AreReadBefore holds request input) × (new ≡ old)
 Ends holds request old new read_before read_now blame before now (ReadFault name) =
-    Rose read_before read_now × ((input : Input) × (input_name request input ≡ Some name.now) × IfSome blame (λ blamed. blamed ≡ name.now)) × (new ≡ old)
+    Rose read_before read_now × ((input : Input) × (input_name request input ≡ Some name.now) × IfSome blame (λ blamed. blamed ≡ name.now) × AreReadBefore holds request input) × (new ≡ old)
 Ends holds request old new read_before read_now blame before now WriteFault =
     Rose before now × (PrintsReport holds (GainsPrefix old new) request ⊎ PrintsRefusal holds (GainsPrefix old new) request)
 Ends holds request old new read_before read_now blame before now Memory = new ≡ old

@@ -1,5 +1,5 @@
 -- What a run of the program promises.
-use Rattle.std.specs.Prelude.{◌≡◌, ◌⊎◌, ℕ, ◌^◌, ◌<◌, ◌≤◌, List, [], ◌∷◌, ◌++◌, ◌==◌, Bool, length, codes, Option, Some, IfSome}
+use Rattle.std.specs.Prelude.{◌≡◌, ◌⊎◌, ℕ, ◌^◌, ◌<◌, ◌≤◌, List, [], ◌∷◌, ◌++◌, ◌==◌, Bool, true, false, length, codes, Option, Some, IfSome}
 use Rattle.std.specs.List.{list_any}
 use Rattle.vg_store.specs.Causes.{Rose}
 use Rattle.vg_store.specs.Writing.{Gains, GainsPrefix}
@@ -105,21 +105,30 @@ PrintsReport holds Gained request = (texts : Texts) × AreRead holds request tex
 abbrev pub PrintsRefusal : (List ℕ → Option (List ℕ)) → (List ℕ → Type 0) → Request → Type 0
 PrintsRefusal holds Gained request = (texts : Texts) × AreRead holds request texts × ((text : List ℕ) × IsRefusalFor request.mode texts request.net text × Gained text)
 
+-- whether an input is read before another
+abbrev pub is_before : Input → Input → Bool
+is_before Spef Cons = true
+is_before _ _ = false
+
+-- each input that is read before this one was read: where it is told, it is short
+abbrev pub AreReadBefore : (List ℕ → Option (List ℕ)) → Request → Input → Type 0
+AreReadBefore holds request input = (earlier : Input) → is_before earlier input ≡ true → IfSome (input_name request earlier) (λ name. IfSome (holds name) IsShort)
+
 -- an input has too many bytes, and this tells so
 abbrev pub IsTooLong : (List ℕ → Option (List ℕ)) → Request → Input → Type 0
 IsTooLong holds request input = IfSome (input_name request input) (λ name. IfSome (holds name) (λ file. 2 ^ 28 < length file))
 
--- an input has too many bytes, or is not in its form, and a line tells which
+-- an input has too many bytes and those before it were read, or an input is not in its form, and a line tells which
 abbrev pub IsUnreadable : (List ℕ → Option (List ℕ)) → (List ℕ → Type 0) → Request → Type 0
 IsUnreadable holds Said request =
     (input : Input) × (name : List ℕ) × (input_name request input ≡ Some name)
-    × ((IsTooLong holds request input × Said (file_line name (codes "TooLong")))
+    × ((IsTooLong holds request input × AreReadBefore holds request input × Said (file_line name (codes "TooLong")))
     ⊎ ((texts : Texts) × AreRead holds request texts × ((kind : List ℕ) × IsFaultyFor request.mode texts input kind × Said (file_line name kind))))
 
--- reading an input failed, at the file that is blamed, and a line tells its name
-abbrev pub IsUnread : Option (List ℕ) → (List ℕ → Type 0) → Request → Type 0
-IsUnread blame Said request =
-    (input : Input) × (name : List ℕ) × (input_name request input ≡ Some name) × IfSome blame (λ blamed. blamed ≡ name) × Said (read_failed_line name)
+-- reading an input failed, at the file that is blamed, those before it were read, and a line tells its name
+abbrev pub IsUnread : (List ℕ → Option (List ℕ)) → Option (List ℕ) → (List ℕ → Type 0) → Request → Type 0
+IsUnread holds blame Said request =
+    (input : Input) × (name : List ℕ) × (input_name request input ≡ Some name) × IfSome blame (λ blamed. blamed ≡ name) × AreReadBefore holds request input × Said (read_failed_line name)
 
 -- the words are no request, for this first reason, and a line tells it
 abbrev pub AreRefused : List (List ℕ) → (List ℕ → Type 0) → Type 0

@@ -341,10 +341,11 @@ pub fn run<F: Files, O: Out, E: Out>(
 ) -> u8
     ensures done { result ≡ 0 → ForRequest (texts words.now) (PrintsReport (F.holds files.old) (Gains (O.written out.old) (O.written out.new))) }
     ensures refused { result ≡ 2 → ForRequest (texts words.now) (PrintsRefusal (F.holds files.old) (Gains (O.written out.old) (O.written out.new))) }
-    ensures unread { (result ≡ 3) ↔ ((request : Request) → IsRequest (texts words.now) request → ⊥) }
+    ensures unread { result ≡ 3 → (request : Request) → IsRequest (texts words.now) request → ⊥ }
+    ensures no_request { ((request : Request) → IsRequest (texts words.now) request → ⊥) → (result ≡ 3) ⊎ (result ≡ 7) }
     ensures unread_line { result ≡ 3 → AreRefused (texts words.now) (Says (E.written err.old) (E.written err.new) (E.faults err.old) (E.faults err.new)) }
     ensures unreadable { result ≡ 4 → ForRequest (texts words.now) (IsUnreadable (F.holds files.old) (Says (E.written err.old) (E.written err.new) (E.faults err.old) (E.faults err.new))) }
-    ensures read_fault { result ≡ 5 → Rose (F.read_faults files.old) (F.read_faults files.new) × ForRequest (texts words.now) (IsUnread (F.read_blame files.new) (Says (E.written err.old) (E.written err.new) (E.faults err.old) (E.faults err.new))) }
+    ensures read_fault { result ≡ 5 → Rose (F.read_faults files.old) (F.read_faults files.new) × ForRequest (texts words.now) (IsUnread (F.holds files.old) (F.read_blame files.new) (Says (E.written err.old) (E.written err.new) (E.faults err.old) (E.faults err.new))) }
     ensures write_fault { result ≡ 6 → Rose (O.faults out.old) (O.faults out.new) × ForRequest (texts words.now) (λ request. PrintsReport (F.holds files.old) (GainsPrefix (O.written out.old) (O.written out.new)) request ⊎ PrintsRefusal (F.holds files.old) (GainsPrefix (O.written out.old) (O.written out.new)) request) }
     ensures statuses { IsTrue (is_status result) }
     ensures nothing_printed { IsTrue (prints_nothing result) → O.written out.new ≡ O.written out.old }

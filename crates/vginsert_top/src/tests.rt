@@ -468,6 +468,21 @@ fn times_each_row(rt: HostRuntime) -> Result<(), Fail> {
             5,
             "vginsert: read failed: d.txt\n",
         ),
+        // the first missing file is told, and a missing one before a faulty one
+        (
+            "--mode time --spef b.spef --cons d.txt --net p",
+            PORTS,
+            "",
+            5,
+            "vginsert: read failed: b.spef\n",
+        ),
+        (
+            "--mode time --spef a.spef --cons d.txt --net p",
+            "*END\n",
+            "",
+            5,
+            "vginsert: read failed: d.txt\n",
+        ),
         (
             "--mode time --spef a.spef --cons a.spef --net p",
             PORTS,

@@ -5,9 +5,7 @@ use Rattle.vg_words.proofs.JudgeLemmas.{refused, requested, wanted, named_cons}
 use Rattle.vg_words.proofs.judge.read_words.Goals as goal
 
 pub returns-in_err-copied-in-Ok-clause-reads : goal.returns-in_err-copied-in-Ok-clause-reads
-returns-in_err-copied-in-Ok-clause-reads c =
-    let (request, is, mode, spef, cons, net) = requested (texts c.args.words.now) (given_by c.in-Some.given) c.in-Ok.mode c.in-Some.ensures c.in-Ok.ensures in
-    wanted (texts c.args.words.now) c.from_residual.result c.from_residual.ensures.1 (request, is)
+returns-in_err-copied-in-Ok-clause-reads c = wanted (texts c.args.words.now) c.from_residual.result c.from_residual.ensures.1
 
 pub returns-in_ok-copied-in-Ok-clause-reads : goal.returns-in_ok-copied-in-Ok-clause-reads
 returns-in_ok-copied-in-Ok-clause-reads c =

@@ -1,6 +1,8 @@
-use Rattle.std.proofs.Common.{[], None, refl}
+use Rattle.std.proofs.Common.{[], None, arith, refl}
+use Rattle.vg_words.specs.Request.{Request}
 use Rattle.vg_words.specs.declared.ask.Mode.TheVariants.{Wire}
-use Rattle.vginsert_top.proofs.EndingLemmas.{wire_read, report_ends, refusal_ends}
+use Rattle.vginsert_top.specs.declared.input.Input.TheVariants.{Spef}
+use Rattle.vginsert_top.proofs.EndingLemmas.{none_before, reading_ends, wire_read, report_ends, refusal_ends}
 use Rattle.vginsert_top.proofs.program.wire.Goals as goal
 
 pub returns-in-Ok-Report-clause-ends : goal.returns-in-Ok-Report-clause-ends
@@ -33,3 +35,10 @@ returns-in-Err-Spef-clause-ends g c = (
   ),
   refl,
 )
+
+pub returns-in-Err-clause-ends : goal.returns-in-Err-clause-ends
+returns-in-Err-clause-ends g c =
+    let request : Request = record { mode = Wire; spef = c.args.spef.now; cons = None; net = c.args.net.now } in
+    let holds = g.F.Files.holds c.args.files.now in
+    reading_ends holds request (g.O.Out.written c.args.out.now) (g.F.Files.read_faults c.args.files.now) (g.F.Files.read_faults c.args.files.now) (g.F.Files.read_faults c.read_input.new.files) (g.F.Files.read_blame c.read_input.new.files)
+    (g.O.Out.faults c.args.out.now) Spef c.args.spef.now c.in-Err.ending refl (none_before holds request) (omega arith) c.in-Err.ensures.reads
