@@ -12,7 +12,7 @@ use Rattle.vg_design.specs.Refusals.{number_of, Refuses, PassesUpTo}
 use Rattle.vg_design.specs.Nets.{head_named, IsHeadOf, IsNetNamed, IsNetRefused}
 use Rattle.vg_design.specs.Laws.{OneNet, OneTree, PassedOrRefused}
 use Rattle.vg_design.specs.declared.refusal.Refusal.{Refusal}
-use Rattle.vg_design.specs.declared.refusal.Refusal.TheVariants.{UnknownNet, Section as Faulty, Reduced, Inductive, Bidirectional, NoDriver, ManyDrivers, Floating, Loop, NoSink, TooLarge}
+use Rattle.vg_design.specs.declared.refusal.Refusal.TheVariants.{NotYet, UnknownNet, Section as Faulty, Reduced, Inductive, Bidirectional, NoDriver, ManyDrivers, Floating, Loop, NoSink, Unconstrained, TooLarge}
 
 same_head : (a b : NetHead) → Some a ≡ Some b → a ≡ b
 same_head a b e = cc
@@ -48,6 +48,8 @@ passed text name net n refusal named passes refused low =
     passes refusal low (subst (λ (m : ParNet). Refuses m refusal) (nets_are text name refused.net net refused.named named) refused.refused.holds)
 
 pub passed_is : PassedOrRefused
+passed_is text name net n NotYet named passes some refused low = refused
+passed_is text name net n (Unconstrained node) named passes some refused low = refused
 passed_is text name net n UnknownNet named passes some missing low =
     let same : named.file ≡ missing.file = named.head_of.said.says ∙ sym missing.said.says in
     let none : None ≡ Some named.head = sym missing.none ∙ ap (λ f. head_named f name) (sym same) ∙ named.head_of.named in

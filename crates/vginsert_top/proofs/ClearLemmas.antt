@@ -19,13 +19,15 @@ use Rattle.spef_net.specs.declared.net.ParNet.{ParNet}
 use Rattle.vg_design.specs.Nets.{IsHeadOf, IsNetNamed, IsNetRefused, IsRefusalOf}
 use Rattle.vg_design.specs.Wires.{IsWireOf}
 use Rattle.vg_design.specs.declared.refusal.Refusal.{Refusal}
-use Rattle.vg_design.specs.declared.refusal.Refusal.TheVariants.{UnknownNet, Section as Faulty, Reduced, Inductive, Bidirectional, NoDriver, ManyDrivers, Floating, Loop, NoSink, TooLarge}
+use Rattle.vg_design.specs.declared.refusal.Refusal.TheVariants.{NotYet, UnknownNet, Section as Faulty, Reduced, Inductive, Bidirectional, NoDriver, ManyDrivers, Floating, Loop, NoSink, Unconstrained, TooLarge}
 use Rattle.vg_design.specs.declared.wire.WireNet.{WireNet}
 use Rattle.vg_design.specs.Wires.{IsTreeNamed}
 use Rattle.elmore.specs.declared.tree.Node.{Node}
 use Rattle.vginsert_top.specs.Answer.{Answers}
 use Rattle.vginsert_top.specs.TimeAnswer.{AnswersTime}
-use Rattle.vginsert_top.specs.Timing.{IsTimed, IsTimeRefusal}
+use Rattle.vg_cons.specs.Rows.{Rows}
+use Rattle.vg_design.specs.Timings.{IsTimedOf, IsTimeRefusalOf}
+use Rattle.vg_design.specs.declared.time.slack.Timed.{Timed}
 use Rattle.vginsert_top.specs.declared.answer.Answer.{Answer}
 use Rattle.vginsert_top.specs.declared.answer.Answer.TheVariants.{Report, Refused}
 use Rattle.vginsert_top.specs.declared.answer.AskFault.{AskFault}
@@ -63,6 +65,8 @@ module _ (raw clear : List ℕ) (same : without_comments Spef clear ≡ without_
   refused_same name refusal h = record { net = h.net; named = named_same name h.net h.named; refused = h.refused }
 
   pub refusal_same : (name : List ℕ) (refusal : Refusal) → IsRefusalOf clear name refusal → IsRefusalOf raw name refusal
+  refusal_same name NotYet h = h
+  refusal_same name (Unconstrained node) h = h
   refusal_same name UnknownNet h = record { file = h.file; said = file_same h.file h.said; none = h.none }
   refusal_same name (Faulty fault) h = record { file = h.file; head = h.head; head_of = head_same name h.file h.head h.head_of; first = fault_same h.file h.head fault h.first }
   refusal_same name Reduced h = refused_same name Reduced h
@@ -89,19 +93,18 @@ module _ (raw clear : List ℕ) (same : without_comments Spef clear ≡ without_
   tree_same : (name : List ℕ) (net : ParNet) (tree : List Node) (order : List ℕ) → IsTreeNamed clear name net tree order → IsTreeNamed raw name net tree order
   tree_same name net tree order h = record { named = named_same name net h.named; accepted = h.accepted; a_tree = h.a_tree }
 
-  timed_same : (cons name text : List ℕ) → IsTimed clear cons name text → IsTimed raw cons name text
-  timed_same cons name text h = record { net = h.net; tree = h.tree; order = h.order; named = tree_same name h.net h.tree h.order h.named; rows = h.rows; constraints = h.constraints; timed = h.timed }
+  timed_same : (name : List ℕ) (rows : Rows) (timed : Timed) → IsTimedOf clear name rows timed → IsTimedOf raw name rows timed
+  timed_same name rows timed h = record { net = h.net; tree = h.tree; order = h.order; named = tree_same name h.net h.tree h.order h.named; timing = h.timing }
 
-  time_refusal_same : (cons name text : List ℕ) → IsTimeRefusal clear cons name text → IsTimeRefusal raw cons name text
-  time_refusal_same cons name text (inl h) =
-      inl (record { refusal = h.refusal; refused = refusal_same name h.refusal h.refused; low = h.low; rows = h.rows; constraints = h.constraints; text_is = h.text_is })
-  time_refusal_same cons name text (inr h) =
-      inr (record { net = h.net; tree = h.tree; order = h.order; named = tree_same name h.net h.tree h.order h.named; rows = h.rows; constraints = h.constraints; untimed = h.untimed })
+  time_refusal_same : (name : List ℕ) (rows : Rows) (refusal : Refusal) → IsTimeRefusalOf clear name rows refusal → IsTimeRefusalOf raw name rows refusal
+  time_refusal_same name rows refusal (inl h) = inl (refusal_same name refusal h.0, h.1)
+  time_refusal_same name rows refusal (inr h) = inr (record { net = h.net; tree = h.tree; order = h.order; named = tree_same name h.net h.tree h.order h.named; untimed = h.untimed })
 
   -- the same of timing
   pub times_same : (result : Result Answer AskFault) (cons name : List ℕ) → AnswersTime result clear cons name → AnswersTime result raw cons name
-  times_same (Ok (Report text)) cons name h = timed_same cons name text.items h
-  times_same (Ok (Refused text)) cons name h = time_refusal_same cons name text.items h
+  times_same (Ok (Report text)) cons name h = record { rows = h.rows; constraints = h.constraints; timed = h.timed; timed_of = timed_same name h.rows h.timed h.timed_of; text_is = h.text_is }
+  times_same (Ok (Refused text)) cons name h =
+      record { rows = h.rows; constraints = h.constraints; refusal = h.refusal; refused = time_refusal_same name h.rows h.refusal h.refused; text_is = h.text_is }
   times_same (Err (SpefFaulty text)) cons name h = record { fault = h.fault; found = fault_of_file_same h.fault h.found; text_is = h.text_is }
   times_same (Err (Cons text)) cons name h = ((h.0.0, file_same h.0.0 h.0.1), h.1)
   times_same (Err Memory) cons name h = tt

@@ -2,7 +2,5 @@ pub mod GainLemmas
 pub mod EndingLemmas
 pub mod RunLemmas
 pub mod AnswerLemmas
-pub mod TimeLemmas
-pub mod TimeAnswers
 pub mod ClearLemmas
 pub mod ReportLemmas

@@ -13,20 +13,19 @@ use Rattle.vg_words.specs.declared.ask.Mode.TheVariants.{Wire, Time}
 use Rattle.vg_words.specs.declared.ask.WordFault.{WordFault}
 use Rattle.vg_words.specs.declared.ask.WordFault.TheVariants.{Unread, Missing, Excluded, BadValue, Equal, Memory as NoRoom}
 use Rattle.vg_words.proofs.JudgeLemmas.{refused_none, one}
-use Rattle.elmore.specs.declared.tree.Node.{Node}
 use Rattle.spef_file.specs.Files.{File, IsFileOf, IsFileFault}
 use Rattle.spef_file.proofs.LawLemmas.{file_or_fault}
 use Rattle.spef_file.specs.declared.fault.SpefKind.{SpefKind}
-use Rattle.spef_net.specs.declared.net.ParNet.{ParNet}
-use Rattle.vg_design.specs.Refusals.{number_of, IsNetTree}
+use Rattle.vg_design.specs.Refusals.{number_of}
 use Rattle.vg_design.specs.Nets.{IsRefusalOf}
 use Rattle.vg_design.specs.declared.refusal.Refusal.{Refusal}
-use Rattle.vg_design.specs.declared.refusal.Refusal.TheVariants.{UnknownNet, Section, Reduced, Inductive, Bidirectional, NoDriver, ManyDrivers, Floating, Loop, NoSink, TooLarge}
-use Rattle.vg_design.proofs.AnswerLemmas.{nets_are, trees_are, passed_is}
+use Rattle.vg_design.specs.declared.refusal.Refusal.TheVariants.{NotYet, UnknownNet, Section, Reduced, Inductive, Bidirectional, NoDriver, ManyDrivers, Floating, Loop, NoSink, Unconstrained, TooLarge}
+use Rattle.vg_design.specs.Timings.{IsTimedOf, IsTimeRefusalOf}
+use Rattle.vg_design.proofs.AnswerLemmas.{passed_is}
+use Rattle.vg_design.proofs.TimeLaws.{timed_is}
 use Rattle.vg_cons.specs.Rows.{Rows}
-use Rattle.vginsert_top.specs.Outcome.{IsDelays, IsRefusal, IsSpefFault}
-use Rattle.vginsert_top.specs.Timing.{IsTimed, IsTimedNet, IsTimeRefusal, IsUntimed, IsUntimedNet}
-use Rattle.vginsert_top.specs.Run.{Texts, AreRead, AreTold, AreShort, IsShort, IsSpef, IsReportFor, IsRefusalFor, IsFaultyFor, IsStatusFor, IsUnreadable, IsUnread, PrintsReport, PrintsRefusal, Says, input_name, text_of}
+use Rattle.vginsert_top.specs.Outcome.{IsDelays, IsRefusal, IsTimes, IsTimeRefusal, IsSpef, IsSpefFault}
+use Rattle.vginsert_top.specs.Run.{Texts, AreRead, AreTold, AreShort, IsShort, IsReportFor, IsRefusalFor, IsFaultyFor, IsStatusFor, IsUnreadable, IsUnread, PrintsReport, PrintsRefusal, Says, input_name, text_of}
 use Rattle.vginsert_top.specs.Ending.{Ends, Tells, status_of, fault_status}
 use Rattle.vginsert_top.specs.declared.input.Input.{Input}
 use Rattle.vginsert_top.specs.declared.input.Input.TheVariants.{Spef, Cons}
@@ -63,6 +62,8 @@ no_both file fault text said found = file_or_fault text file fault said found
 
 -- a net is refused of a file that is in its form
 has_file : (text name : Bytes) (refusal : Refusal) → IsRefusalOf text name refusal → IsSpef text
+has_file text name NotYet r = absurd r
+has_file text name (Unconstrained node) r = absurd r
 has_file text name UnknownNet r = (r.file, r.said)
 has_file text name (Section fault) r = (r.file, r.head_of.said)
 has_file text name Reduced r = (r.named.file, r.named.head_of.said)
@@ -75,7 +76,13 @@ has_file text name Loop r = (r.named.file, r.named.head_of.said)
 has_file text name NoSink r = (r.named.file, r.named.head_of.said)
 has_file text name TooLarge r = (r.named.file, r.named.head_of.said)
 
+has_time_file : (text name : Bytes) (rows : Rows) (refusal : Refusal) → IsTimeRefusalOf text name rows refusal → IsSpef text
+has_time_file text name rows refusal (inl r) = has_file text name refusal r.0
+has_time_file text name rows refusal (inr u) = (u.named.named.file, u.named.named.head_of.said)
+
 few_refusals : (refusal : Refusal) → number_of refusal < 17
+few_refusals NotYet = omega arith
+few_refusals (Unconstrained node) = omega arith
 few_refusals UnknownNet = omega arith
 few_refusals (Section fault) = omega arith
 few_refusals Reduced = omega arith
@@ -89,41 +96,24 @@ few_refusals NoSink = omega arith
 few_refusals TooLarge = omega arith
 
 -- an answer is a report, a refusal, or that an input is faulty
-timed_apart : (rows : Rows) (net : ParNet) (tree : List Node) (order : List ℕ) (name t u : Bytes) → IsTimedNet rows net tree order name t → IsUntimedNet rows net tree order name u → ⊥
-timed_apart rows net tree order name t u timed (inl pin) = false≢true (sym timed.ports ∙ pin.pins)
-timed_apart rows net tree order name t u timed (inr (inl free)) = let none : None ≡ Some free.sink = sym timed.constrained ∙ free.first in absurd (cc)
-timed_apart rows net tree order name t u timed (inr (inr large)) = large.past timed.limits
-
-timed_not_untimed : (spef cons name t u : Bytes) → IsTimed spef cons name t → IsUntimed spef cons name u → ⊥
-timed_not_untimed spef cons name t u d un =
-    let same_net = nets_are spef name d.net un.net d.named.named un.named.named in
-    let (same_tree, same_order) = trees_are un.net d.tree un.tree d.order un.order (subst (λ (m : ParNet). IsNetTree m d.tree d.order) same_net d.named.a_tree) un.named.a_tree in
-    let same_rows = d.constraints.rows_are ∙ sym un.constraints.rows_are in
-    timed_apart un.rows un.net un.tree un.order name t u
-    (subst (λ (rows : Rows). IsTimedNet rows un.net un.tree un.order name t) same_rows
-    (subst (λ (o : List ℕ). IsTimedNet d.rows un.net un.tree o name t) same_order
-    (subst (λ (ns : List Node). IsTimedNet d.rows un.net ns d.order name t) same_tree
-    (subst (λ (m : ParNet). IsTimedNet d.rows m d.tree d.order name t) same_net d.timed)))) un.untimed
-
 module _ (net : Bytes) (texts : Texts) where
   report_not_refusal : (mode : Mode) (t u : Bytes) → IsReportFor mode texts net t → IsRefusalFor mode texts net u → ⊥
   report_not_refusal Wire t u d r = passed_is texts.spef net d.wire_of.net 17 r.refusal d.wire_of.named d.wire_of.accepted (omega arith) r.refused (few_refusals r.refusal)
-  report_not_refusal Time t u d (inl r) = passed_is texts.spef net d.net 15 r.refusal d.named.named d.named.accepted (omega arith) r.refused r.low
-  report_not_refusal Time t u d (inr un) = timed_not_untimed texts.spef texts.cons net t u d un
+  report_not_refusal Time t u d r =
+      let same : d.rows ≡ r.rows = d.constraints.rows_are ∙ sym r.constraints.rows_are in
+      timed_is texts.spef net r.rows d.timed r.refusal (subst (λ (rows : Rows). IsTimedOf texts.spef net rows d.timed) same d.timed_of) r.refused
 
   report_not_faulty : (mode : Mode) (t : Bytes) (input : Input) (kind : Bytes) → IsReportFor mode texts net t → IsFaultyFor mode texts input kind → ⊥
   report_not_faulty Wire t Spef kind d f = no_both d.wire_of.named.file f.fault texts.spef d.wire_of.named.head_of.said f.found
-  report_not_faulty Time t Spef kind d f = no_both d.named.named.file f.fault texts.spef d.named.named.head_of.said f.found
+  report_not_faulty Time t Spef kind d f = no_both d.timed_of.named.named.file f.fault texts.spef d.timed_of.named.named.head_of.said f.found
   report_not_faulty Wire t Cons kind d f = f
   report_not_faulty Time t Cons kind d (_, f) = apart_faults _ f.fault d.constraints.faultless f.found
 
   refusal_not_faulty : (mode : Mode) (t : Bytes) (input : Input) (kind : Bytes) → IsRefusalFor mode texts net t → IsFaultyFor mode texts input kind → ⊥
   refusal_not_faulty Wire t Spef kind r f = (let file = has_file texts.spef net r.refusal r.refused in no_both file.0 f.fault texts.spef file.1 f.found)
-  refusal_not_faulty Time t Spef kind (inl r) f = (let file = has_file texts.spef net r.refusal r.refused in no_both file.0 f.fault texts.spef file.1 f.found)
-  refusal_not_faulty Time t Spef kind (inr u) f = no_both u.named.named.file f.fault texts.spef u.named.named.head_of.said f.found
+  refusal_not_faulty Time t Spef kind r f = (let file = has_time_file texts.spef net r.rows r.refusal r.refused in no_both file.0 f.fault texts.spef file.1 f.found)
   refusal_not_faulty Wire t Cons kind r f = f
-  refusal_not_faulty Time t Cons kind (inl r) (_, f) = apart_faults _ f.fault r.constraints.faultless f.found
-  refusal_not_faulty Time t Cons kind (inr u) (_, f) = apart_faults _ f.fault u.constraints.faultless f.found
+  refusal_not_faulty Time t Cons kind r (_, f) = apart_faults _ f.fault r.constraints.faultless f.found
 
 report_status : (request : Request) (texts : Texts) → AreShort request texts → (t : Bytes) → IsReportFor request.mode texts request.net t → IsStatusFor request texts 0
 report_status request texts short t is = record {
@@ -183,7 +173,7 @@ agree holds Time spef net (Some name) a b read told has =
 
 report_as : (mode : Mode) (a b : Texts) (net t : Bytes) → Agree mode a b → IsReportFor mode a net t → IsReportFor mode b net t
 report_as Wire a b net t e is = subst (λ (s : Bytes). IsDelays s net t) e is
-report_as Time a b net t e is = subst (λ x. IsTimed x.spef x.cons net t) e is
+report_as Time a b net t e is = subst (λ x. IsTimes x.spef x.cons net t) e is
 
 refusal_as : (mode : Mode) (a b : Texts) (net t : Bytes) → Agree mode a b → IsRefusalFor mode a net t → IsRefusalFor mode b net t
 refusal_as Wire a b net t e is = subst (λ (s : Bytes). IsRefusal s net t) e is

@@ -3,20 +3,13 @@ use Rattle.std.specs.Prelude.{◌≡◌, ◌⊎◌, ℕ, ◌^◌, ◌<◌, ◌�
 use Rattle.std.specs.List.{list_any}
 use Rattle.vg_store.specs.Causes.{Rose}
 use Rattle.vg_store.specs.Writing.{Gains, GainsPrefix}
-use Rattle.spef_file.specs.Files.{File, IsFileOf}
-use Rattle.vg_cons.specs.Lines.{lines_of as cons_lines}
-use Rattle.vg_cons.specs.Faults.{IsFaultIn}
-use Rattle.vg_scan.specs.declared.fault.LineFault.{LineFault}
-use Rattle.vg_cons.specs.declared.fault.ConsKind.{ConsKind}
 use Rattle.vg_words.specs.Options.{name_of as option_name}
 use Rattle.vg_words.specs.Request.{Request, IsRequest, IsRefused}
 use Rattle.vg_words.specs.declared.ask.Mode.{Mode}
 use Rattle.vg_words.specs.declared.ask.Mode.TheVariants.{Wire, Time}
 use Rattle.vg_words.specs.declared.ask.WordFault.{WordFault}
 use Rattle.vg_words.specs.declared.ask.WordFault.TheVariants.{Unread, Missing, Excluded, BadValue, Equal, Memory as NoRoom}
-use Rattle.vginsert_top.specs.Faults.{cons_fault}
-use Rattle.vginsert_top.specs.Outcome.{IsDelays, IsRefusal, IsSpefFault}
-use Rattle.vginsert_top.specs.Timing.{IsTimed, IsTimeRefusal}
+use Rattle.vginsert_top.specs.Outcome.{IsDelays, IsRefusal, IsTimes, IsTimeRefusal, IsSpef, IsSpefFault, IsConsFault}
 use Rattle.vginsert_top.specs.declared.input.Input.{Input}
 use Rattle.vginsert_top.specs.declared.input.Input.TheVariants.{Spef, Cons}
 
@@ -53,22 +46,12 @@ AreRead holds request texts = (input : Input) → IfSome (input_name request inp
 -- the text is the report that is asked for
 abbrev pub IsReportFor : Mode → Texts → List ℕ → List ℕ → Type 0
 IsReportFor Wire texts net text = IsDelays texts.spef net text
-IsReportFor Time texts net text = IsTimed texts.spef texts.cons net text
+IsReportFor Time texts net text = IsTimes texts.spef texts.cons net text
 
 -- the text refuses the net that is asked for
 abbrev pub IsRefusalFor : Mode → Texts → List ℕ → List ℕ → Type 0
 IsRefusalFor Wire texts net text = IsRefusal texts.spef net text
 IsRefusalFor Time texts net text = IsTimeRefusal texts.spef texts.cons net text
-
--- the constraints have a fault, and the text tells it
-pub record IsConsFault (cons text : List ℕ) : Type 0 where
-  pub fault : LineFault ConsKind
-  pub found : IsFaultIn (cons_lines cons) fault
-  pub text_is : text ≡ cons_fault fault
-
--- the file is in its form
-abbrev pub IsSpef : List ℕ → Type 0
-IsSpef file = (said : File) × IsFileOf file said
 
 -- the first input that is not in its form, and what is wrong with it
 abbrev pub IsFaultyFor : Mode → Texts → Input → List ℕ → Type 0

@@ -1,9 +1,7 @@
 -- What is said of a net that is to be timed.
 use Rattle.std.specs.Prelude.{ℕ, List, Result, Ok, Err}
 use Rattle.vg_cons.specs.declared.constraints.Constraints.{Constraints}
-use Rattle.vginsert_top.specs.Outcome.{IsSpefFault}
-use Rattle.vginsert_top.specs.Run.{IsSpef, IsConsFault}
-use Rattle.vginsert_top.specs.Timing.{AreRowsOf, IsTimed, IsTimeRefusal}
+use Rattle.vginsert_top.specs.Outcome.{AreRowsOf, IsTimes, IsTimeRefusal, IsSpef, IsSpefFault, IsConsFault}
 use Rattle.vginsert_top.specs.declared.answer.Answer.{Answer}
 use Rattle.vginsert_top.specs.declared.answer.Answer.TheVariants.{Report, Refused}
 use Rattle.vginsert_top.specs.declared.answer.AskFault.{AskFault}
@@ -11,7 +9,7 @@ use Rattle.vginsert_top.specs.declared.answer.AskFault.TheVariants.{Spef, Cons, 
 
 -- what judging two texts may answer
 abbrev pub AnswersTime : Result Answer AskFault → List ℕ → List ℕ → List ℕ → Type 0
-AnswersTime (Ok (Report text)) spef cons name = IsTimed spef cons name text.items
+AnswersTime (Ok (Report text)) spef cons name = IsTimes spef cons name text.items
 AnswersTime (Ok (Refused text)) spef cons name = IsTimeRefusal spef cons name text.items
 AnswersTime (Err (Spef text)) spef cons name = IsSpefFault spef text.items
 AnswersTime (Err (Cons text)) spef cons name = IsSpef spef × IsConsFault cons text.items

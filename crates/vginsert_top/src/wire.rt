@@ -40,6 +40,7 @@ fn print_kind(refusal: &Refusal, to: &mut Vec<u8>) -> Result<(), Memory>
     ensures { OnOk result (to.new.items ≡ to.old.items ++ refusal_kind refusal.now) }
 {
     match refusal {
+        Refusal::NotYet => push(b"NotYet", to)?,
         Refusal::UnknownNet => push(b"UnknownNet", to)?,
         Refusal::Section(fault) => {
             push(b"Section ", to)?;
@@ -56,6 +57,10 @@ fn print_kind(refusal: &Refusal, to: &mut Vec<u8>) -> Result<(), Memory>
         }
         Refusal::Loop => push(b"Loop", to)?,
         Refusal::NoSink => push(b"NoSink", to)?,
+        Refusal::Unconstrained(node) => {
+            push(b"Unconstrained ", to)?;
+            print_node(node, to)?;
+        }
         Refusal::TooLarge => push(b"TooLarge", to)?,
     }
     Ok(())
