@@ -12,8 +12,8 @@ use Rattle.std.proofs.lemmas.List.Quantifiers.{position-Some}
 use Rattle.std.proofs.lemmas.Option.{slice_get-get_or, slice_get-map}
 use Rattle.std.proofs.lemmas.Slice.Eq.{bytes_eq-Decides}
 use Rattle.indexmap.specs.IndexMap.{IndexMap, get, index_of_by, insert_entry, keys}
-use Rattle.vg_store.specs.Reading.{read_file}
-use Rattle.vg_store.specs.MemFiles.{held, left_of, named, source_of}
+use Rattle.vg_store.specs.Reading.{file_named, read_file}
+use Rattle.vg_store.specs.MemFiles.{held, left_of, named, state_of}
 use Rattle.vg_store.specs.declared.mem_files.MemFiles.{MemFiles}
 
 abbrev is_name : List ℕ → String Global → Bool
@@ -55,10 +55,10 @@ name_stays eq old new k v (Some n) is within =
 
 -- the file of a number
 file_at : (files : MemFiles) (n : ℕ) (key : String Global) (bytes : List ℕ) → files.source ≡ Some n → slice_get files.files.entries n ≡ Some (key, bytes) → get string_eq files.files key ≡ Some bytes
-    → read_file (held files) (source_of files) ≡ Some bytes
+    → read_file (state_of files) ≡ Some bytes
 file_at files n key bytes is entry value =
-    ap (λ number. read_file (held files) (named files.files number)) is
-    ∙ ap (λ o. read_file (held files) (option_map string_bytes o)) (slice_get-map (λ e. e.0) files.files.entries n ∙ ap (option_map (λ e. e.0)) entry)
+    ap (λ number. file_named (held files) (named files.files number)) is
+    ∙ ap (λ o. file_named (held files) (option_map string_bytes o)) (slice_get-map (λ e. e.0) files.files.entries n ∙ ap (option_map (λ e. e.0)) entry)
     ∙ value
 
 rest_from : (bytes : List ℕ) (place at : ℕ) → at ≡ min place (length bytes) → take (length bytes - at) (drop at bytes) ≡ drop place bytes

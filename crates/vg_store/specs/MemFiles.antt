@@ -2,7 +2,7 @@
 use Rattle.std.specs.Prelude.{ℕ, Bool, List, [], drop, slice_get, string_bytes, String, Option, Some, None, option_map, unwrap_or}
 use Rattle.std.specs.declared.alloc.Global.{Global}
 use Rattle.indexmap.specs.IndexMap.{IndexMap, get_by_text, keys}
-use Rattle.vg_store.specs.Reading.{read_file}
+use Rattle.vg_store.specs.Reading.{FilesState, read_file}
 use Rattle.vg_store.specs.declared.mem_files.MemFiles.{MemFiles}
 
 -- the bytes of the file of this name
@@ -21,10 +21,6 @@ source_of files = named files.files files.source
 -- the name of the file at which the last fault came
 abbrev pub blame_of : MemFiles → Option (List ℕ)
 blame_of files = named files.files files.blamed
-
--- what was not taken yet of the file that is read
-abbrev pub left_of : MemFiles → List ℕ
-left_of files = drop files.place (unwrap_or (read_file (held files) (source_of files)) [])
 
 -- how many bytes were taken since the last open
 abbrev pub taken_of : MemFiles → ℕ
@@ -49,3 +45,11 @@ fails_of files = files.calls.fails.items
 -- how many calls failed
 abbrev pub faults_of : MemFiles → ℕ
 faults_of files = files.calls.faults
+
+-- what contracts see of them as files
+abbrev pub state_of : MemFiles → FilesState
+state_of files = record { holds = held files; read_faults = faults_of files; read_blame = blame_of files; source = source_of files; taken = taken_of files; reading = is_reading files }
+
+-- what was not taken yet of the file that is read
+abbrev pub left_of : MemFiles → List ℕ
+left_of files = drop files.place (unwrap_or (read_file (state_of files)) [])

@@ -106,24 +106,14 @@ impl MemFiles {
 }
 
 impl Files for MemFiles {
-    ghost use Rattle.vg_store.specs.MemFiles.{held, left_of, taken_of, is_reading, source_of, blame_of, chunk_of, calls_of, fails_of, faults_of};
+    ghost use Rattle.vg_store.specs.MemFiles.{state_of, held, left_of, taken_of, is_reading, source_of, blame_of, chunk_of, calls_of, fails_of, faults_of};
 
-    ghost holds = { λ files. held files };
-
-    ghost read_faults = { λ files. faults_of files };
-
-    ghost taken = { λ files. taken_of files };
-
-    ghost reading = { λ files. is_reading files };
-
-    ghost source = { λ files. source_of files };
-
-    ghost read_blame = { λ files. blame_of files };
+    ghost state = { λ files. state_of files };
 
     /// Begins to read a file at its first byte. It fails exactly where the call's number stands in the list or there is
     /// no such file. A name that no file has is not told as the one to blame. It takes no memory.
     fn open(&mut self, name: &str) -> Result<(), Failed>
-        ensures begun { OnOk result (Begins name.now (held self.old) (taken_of self.new) (is_reading self.new) (source_of self.new)) }
+        ensures begun { OnOk result (Begins name.now (state_of self.new)) }
         ensures shut { OnErr result (is_reading self.new ≡ false) }
         ensures kept { (file : List ℕ) → held self.new file ≡ held self.old file }
         ensures cause { HasCause (faults_of self.old) (faults_of self.new) result }
@@ -159,7 +149,7 @@ impl Files for MemFiles {
         requires is_open { is_reading self.old ≡ true }
         requires countable { taken_of self.old + length buf.old < 2 ^ 64 }
         ensures count { IfOk result (λ count. (count ≤ length buf.old) × (taken_of self.new ≡ taken_of self.old + count)) }
-        ensures bytes { IfOk result (λ count. IfSome (read_file (held self.old) (source_of self.old)) (λ file. IsNextPiece file (taken_of self.old) count buf.new)) }
+        ensures bytes { IfOk result (λ count. IfSome (read_file (state_of self.old)) (λ file. IsNextPiece file (taken_of self.old) count buf.new)) }
         ensures unmoved { OnErr result (taken_of self.new ≡ taken_of self.old) }
         ensures still_open { is_reading self.new ≡ true }
         ensures same_source { source_of self.new ≡ source_of self.old }

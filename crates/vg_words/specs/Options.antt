@@ -36,3 +36,7 @@ options = Mode ∷ Spef ∷ Cons ∷ Net ∷ []
 -- the mode that a text names
 abbrev pub mode_of : List ℕ → Option ModeSpec
 mode_of text = if bytes_eq text (codes "wire") then Some Wire else (if bytes_eq text (codes "time") then Some Time else None)
+
+abbrev pub mode_name : ModeSpec → List ℕ
+mode_name Wire = codes "wire"
+mode_name Time = codes "time"

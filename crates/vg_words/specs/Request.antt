@@ -1,14 +1,14 @@
 -- What words ask for, or the first reason why they ask for nothing.
-use Rattle.std.specs.Prelude.{◌≡◌, ◌⊎◌, ℕ, nat_lt, ◌&&◌, Bool, true, false, not, List, [], ◌∷◌, ◌++◌, length, codes, Option, Some, None, is_some, Result, Ok, Err, map, string_bytes, String, if◌then◌else◌}
+use Rattle.std.specs.Prelude.{◌≡◌, ◌⊎◌, ℕ, nat_lt, ◌&&◌, Bool, true, false, not, List, [], ◌∷◌, ◌++◌, length, codes, Option, Some, None, is_some, unwrap_or, Result, Ok, Err, map, string_bytes, String, if◌then◌else◌}
 use Rattle.std.specs.List.{count_by, list_all, find}
 use Rattle.std.specs.Str.{bytes_eq}
 use Rattle.std.specs.Str.Parse.{starts_with_minus}
 use Rattle.std.specs.declared.alloc.Global.{Global}
-use Rattle.vg_words.specs.Options.{name_of, mode_of, is_same, options}
+use Rattle.vg_words.specs.Options.{name_of, mode_of, mode_name, is_same, options}
 use Rattle.vg_words.specs.declared.option.Opt.{Opt}
 use Rattle.vg_words.specs.declared.option.Opt.TheVariants.{Mode, Spef, Cons, Net}
 use Rattle.vg_words.specs.declared.ask.Mode.{Mode as ModeSpec}
-use Rattle.vg_words.specs.declared.ask.Mode.TheVariants.{Wire, Time}
+use Rattle.vg_words.specs.declared.ask.Mode.TheVariants.{Wire}
 use Rattle.vg_words.specs.declared.ask.Ask.{Ask}
 use Rattle.vg_words.specs.declared.ask.WordFault.{WordFault}
 use Rattle.vg_words.specs.declared.ask.WordFault.TheVariants.{Unread, Missing, Excluded, BadValue, Equal, Memory}
@@ -127,29 +127,23 @@ abbrev pub Judges : Result ModeSpec WordFault → Given → Type 0
 Judges (Ok mode) given = (fault_of given ≡ None) × HasMode given.mode mode
 Judges (Err fault) given = fault_of given ≡ Some fault
 
--- a request: the mode, the names of the SPEF file and of the net, and that of the constraints where the mode has use for them
-pub record Request : Type 0 where
-  pub mode : ModeSpec
-  pub spef : List ℕ
-  pub cons : Option (List ℕ)
-  pub net : List ℕ
+-- the value of an option in a request, if it has one
+abbrev pub value : Ask → Opt → Option (List ℕ)
+value ask Mode = Some (mode_name ask.mode)
+value ask Spef = ask.spef
+value ask Cons = ask.cons
+value ask Net = ask.net
 
--- a mode that needs constraints has their name, and the other has none
-abbrev pub HasCons : ModeSpec → Option (List ℕ) → Type 0
-HasCons Wire None = Unit {0}
-HasCons Wire (Some name) = ⊥
-HasCons Time None = ⊥
-HasCons Time (Some name) = Unit {0}
+-- that value as a text, empty where there is none
+abbrev pub text_for : Ask → Opt → List ℕ
+text_for ask option = unwrap_or (value ask option) []
 
--- the words denote the request
-pub record IsRequest (words : List (List ℕ)) (request : Request) : Type 0 where
+-- the words denote the request: they give each option its value, and no reason is against them
+pub record IsRequest (words : List (List ℕ)) (ask : Ask) : Type 0 where
   pub given : Given
   pub gives : Gives words given
   pub faultless : fault_of given ≡ None
-  pub mode : HasMode given.mode request.mode
-  pub spef : given.spef ≡ Some request.spef
-  pub cons : given.cons ≡ request.cons
-  pub net : given.net ≡ Some request.net
+  pub values : (option : Opt) → given_for given option ≡ value ask option
 
 -- the words are no settings, or set some option twice
 abbrev pub AreUnread : List (List ℕ) → Type 0
@@ -161,15 +155,8 @@ IsRefused words Unread = AreUnread words
 IsRefused words Memory = ⊥
 IsRefused words fault = (given : Given) × Gives words given × (fault_of given ≡ Some fault)
 
--- what was read is the request
-pub record IsAskFor (ask : Ask) (request : Request) : Type 0 where
-  pub mode : ask.mode ≡ request.mode
-  pub spef : ask.spef ≡ Some request.spef
-  pub cons : ask.cons ≡ request.cons
-  pub net : ask.net ≡ Some request.net
-
 -- what reading the words may answer: the request, why there is none, or want of memory
 abbrev pub ReadsWords : Result Ask WordFault → List (List ℕ) → Type 0
-ReadsWords (Ok ask) words = (request : Request) × IsRequest words request × IsAskFor ask request
+ReadsWords (Ok ask) words = IsRequest words ask
 ReadsWords (Err Memory) words = Unit {0}
 ReadsWords (Err fault) words = IsRefused words fault

@@ -1,4 +1,6 @@
 ghost use Rattle.std.specs.Prelude.{◌≡◌};
+ghost use Rattle.vg_words.specs.Options.{mode_name};
+ghost use Rattle.vg_words.specs.Request.{text_for};
 ghost use Rattle.vg_words.specs.declared.ask.WordFault.TheVariants.{Memory as out_of_memory};
 
 use crate::option::Opt;
@@ -13,6 +15,18 @@ pub enum Mode {
     Time,
 }
 
+impl Mode {
+    /// The mode's name in the words.
+    pub fn name(self) -> &'static str
+        ensures { result.now ≡ mode_name self }
+    {
+        match self {
+            Mode::Wire => "wire",
+            Mode::Time => "time",
+        }
+    }
+}
+
 /// What the words ask for.
 #[derive(Drop)]
 pub struct Ask {
@@ -23,6 +37,24 @@ pub struct Ask {
     pub cons: Option<Text>,
     /// The name of the net.
     pub net: Option<Text>,
+}
+
+impl Ask {
+    /// The value of an option as a text, empty where it has none.
+    pub fn text(&self, option: Opt) -> &str
+        ensures { result.now ≡ text_for self.now option }
+    {
+        let value = match option {
+            Opt::Mode => return self.mode.name(),
+            Opt::Spef => &self.spef,
+            Opt::Cons => &self.cons,
+            Opt::Net => &self.net,
+        };
+        match value {
+            Some(text) => text.as_str(),
+            None => "",
+        }
+    }
 }
 
 /// Why the words ask for nothing: the first of these, in this order.

@@ -2,7 +2,7 @@
 ghost use Rattle.std.specs.Prelude.{◌≡◌, Some, None, IfOk, option_map};
 ghost use Rattle.std.specs.List.{find};
 ghost use Rattle.vg_words.specs.Options.{mode_of, options};
-ghost use Rattle.vg_words.specs.Request.{texts, needs, is_missing, is_excluded, is_bad, are_equal, fault_in, Judges, HasCons, ReadsWords};
+ghost use Rattle.vg_words.specs.Request.{texts, needs, is_missing, is_excluded, is_bad, are_equal, fault_in, Judges, ReadsWords};
 ghost use Rattle.vg_words.specs.Views.{given_by};
 
 use crate::ask::{Ask, Mode, WordFault};
@@ -161,8 +161,7 @@ fn copied(alloc: Global, mode: Mode, given: &Given<'_>) -> Result<Ask, Memory>
 /// come in the order of `WordFault`, and of one kind the first option in the order of `Opt`. Answers `Memory` where
 /// there is no room.
 pub fn read_words(alloc: Global, words: &[String]) -> Result<Ask, WordFault>
-    ensures reads { ReadsWords result (texts words.now) }
-    ensures cons { IfOk result (λ ask. HasCons ask.mode ask.cons) }
+    ensures { ReadsWords result (texts words.now) }
 {
     let Some(given) = Given::of(words) else {
         return Err(WordFault::Unread);

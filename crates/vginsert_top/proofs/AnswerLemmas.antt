@@ -1,33 +1,46 @@
 -- Answers that refuse a net, and faults that are handed on.
-use Rattle.std.proofs.Common.{ℕ, ◌≡◌, List, sym, subst, Result, Ok, Err}
+use Rattle.std.proofs.Common.{◌≡◌, ℕ, List, [], inl, inr, refl, sym, subst, Result, Ok, Err}
 use Rattle.std.specs.Result.{IsErrAnd}
 use Rattle.vg_cons.specs.Rows.{Rows}
 use Rattle.vg_design.specs.Nets.{IsRefusalOf}
 use Rattle.vg_design.specs.Timings.{IsTimeRefusalOf}
 use Rattle.vg_design.specs.declared.refusal.Refusal.{Refusal}
-use Rattle.vginsert_top.specs.Answer.{Answers, IsRefusedWith}
-use Rattle.vginsert_top.specs.Outcome.{AreRowsOf, IsSpef}
+use Rattle.vg_words.specs.declared.ask.Mode.TheVariants.{Wire, Time}
+use Rattle.vginsert_top.specs.Answer.{AnswersFor, Indexes, ReadsCons, IsRefusedWith, texts_of}
 use Rattle.vginsert_top.specs.Reports.{refusal_line}
-use Rattle.vginsert_top.specs.TimeAnswer.{AnswersTime, ReadsCons}
+use Rattle.vginsert_top.specs.Results.{AreRowsOf, IsSpef}
 use Rattle.vginsert_top.specs.declared.answer.Answer.{Answer}
 use Rattle.vginsert_top.specs.declared.answer.Answer.TheVariants.{Report, Refused}
-use Rattle.vginsert_top.specs.declared.answer.AskFault.{AskFault}
-use Rattle.vginsert_top.specs.declared.answer.AskFault.TheVariants.{Spef, Cons, Memory}
+use Rattle.vginsert_top.specs.declared.answer.NoAnswer.{NoAnswer}
+use Rattle.vginsert_top.specs.declared.answer.NoAnswer.TheVariants.{Faulty, Memory}
+use Rattle.vginsert_top.specs.declared.input.Input.TheVariants.{Spef, Cons}
 
-pub refused_answer : (file name : List ℕ) (refusal : Refusal) (answer : Answer) → IsRefusalOf file name refusal → IsRefusedWith (refusal_line name refusal) answer → Answers (Ok answer) file name
+pub refused_answer : (file name : List ℕ) (refusal : Refusal) (answer : Answer) → IsRefusalOf file name refusal → IsRefusedWith (refusal_line name refusal) answer → AnswersFor Wire (texts_of file []) name (Ok answer)
 refused_answer file name refusal (Refused text) of is = record { refusal = refusal; refused = of; text_is = is }
 refused_answer file name refusal (Report text) of is = absurd is
 
 pub untimed_answer : (spef cons name : List ℕ) (rows : Rows) (refusal : Refusal) (answer : Answer) → AreRowsOf cons rows → IsTimeRefusalOf spef name rows refusal → IsRefusedWith (refusal_line name refusal) answer
-    → AnswersTime (Ok answer) spef cons name
+    → AnswersFor Time (texts_of spef cons) name (Ok answer)
 untimed_answer spef cons name rows refusal (Refused text) are of is = record { rows = rows; constraints = are; refusal = refusal; refused = of; text_is = is }
 untimed_answer spef cons name rows refusal (Report text) are of is = absurd is
 
-pub handed_cons : (spef cons name : List ℕ) (fault : AskFault) → IsSpef spef → ReadsCons (Err fault) cons → AnswersTime (Err fault) spef cons name
-handed_cons spef cons name (Spef text) said reads = absurd reads
-handed_cons spef cons name (Cons text) said reads = (said, reads)
-handed_cons spef cons name Memory said reads = tt
+-- a fault of the SPEF file, and one of the constraints
+pub wire_spef : (spef name : List ℕ) (fault : NoAnswer) → Indexes (Err fault) spef → AnswersFor Wire (texts_of spef []) name (Err fault)
+wire_spef spef name (Faulty Spef line) is = inl (refl, is)
+wire_spef spef name (Faulty Cons line) is = absurd is
+wire_spef spef name Memory is = tt
 
-pub same_fault : (spef cons name : List ℕ) (answered : Result Answer AskFault) (fault : AskFault) → IsErrAnd answered (λ f. f ≡ fault) → AnswersTime (Err fault) spef cons name → AnswersTime answered spef cons name
-same_fault spef cons name (Ok answer) fault is answers = absurd is
-same_fault spef cons name (Err f) fault is answers = subst (λ (x : AskFault). AnswersTime (Err x) spef cons name) (sym is) answers
+pub time_spef : (spef cons name : List ℕ) (fault : NoAnswer) → Indexes (Err fault) spef → AnswersFor Time (texts_of spef cons) name (Err fault)
+time_spef spef cons name (Faulty Spef line) is = inl (refl, is)
+time_spef spef cons name (Faulty Cons line) is = absurd is
+time_spef spef cons name Memory is = tt
+
+pub time_cons : (spef cons name : List ℕ) (fault : NoAnswer) → IsSpef spef → ReadsCons (Err fault) cons → AnswersFor Time (texts_of spef cons) name (Err fault)
+time_cons spef cons name (Faulty Spef line) said is = absurd is
+time_cons spef cons name (Faulty Cons line) said is = inr (said, inl (refl, is))
+time_cons spef cons name Memory said is = tt
+
+-- a fault that is handed on
+pub handed : (P : Result Answer NoAnswer → Type 0) (answered : Result Answer NoAnswer) (fault : NoAnswer) → IsErrAnd answered (λ f. f ≡ fault) → P (Err fault) → P answered
+handed P (Ok answer) fault is answers = absurd is
+handed P (Err f) fault is answers = subst (λ (x : NoAnswer). P (Err x)) (sym is) answers

@@ -1,5 +1,6 @@
 pub mod GainLemmas
-pub mod EndingLemmas
+pub mod InputLemmas
+pub mod OutcomeLemmas
 pub mod RunLemmas
 pub mod AnswerLemmas
 pub mod ClearLemmas

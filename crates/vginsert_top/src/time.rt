@@ -1,15 +1,14 @@
 //! The slack of a net, as text.
 ghost use Rattle.std.specs.Prelude.{◌≡◌, ◌≤◌, ◌^◌, length, IfOk};
 ghost use Rattle.vginsert_top.specs.Reports.{slack_line};
-ghost use Rattle.vginsert_top.specs.TimeAnswer.{AnswersTime, ReadsCons};
+ghost use Rattle.vginsert_top.specs.Answer.{AnswersFor, texts_of};
+ghost use Rattle.vg_words.specs.declared.ask.Mode.{Mode};
 
-use crate::answer::{Answer, AskFault, index_of};
-use crate::faults::cons_fault;
+use crate::answer::{Answer, NoAnswer, constraints_of, index_of};
 use crate::report::{print_node, print_slack};
 use crate::wire::refuse;
 use spef_file::SpefText;
 use std::alloc::Global;
-use vg_cons::{ConsKind, Constraints, read_constraints};
 use vg_design::{Refused, Timed, time_net};
 use vg_num::Memory;
 use vg_scan::Name;
@@ -30,29 +29,15 @@ fn report_slack(alloc: Global, name: &[u8], timed: &Timed) -> Result<Vec<u8>, Me
     Ok(text)
 }
 
-/// Reads constraints, or tells their fault.
-fn constraints_of(alloc: Global, cons: &[u8]) -> Result<Constraints, AskFault>
-    requires { length cons.now ≤ 2 ^ 28 }
-    ensures { ReadsCons result cons.now }
-{
-    match read_constraints(alloc, cons) {
-        Ok(rows) => Ok(rows),
-        Err(fault) => match fault.kind {
-            ConsKind::Memory => Err(AskFault::Memory),
-            _ => Err(AskFault::Cons(cons_fault(alloc, fault)?)),
-        },
-    }
-}
-
 /// What is said of the slack of the net of this name under constraints.
 pub fn time_for(
     alloc: Global,
     spef: &SpefText,
     cons: &[u8],
     name: &[u8],
-) -> Result<Answer, AskFault>
+) -> Result<Answer, NoAnswer>
     requires { length cons.now ≤ 2 ^ 28 }
-    ensures { AnswersTime result spef.now cons.now name.now }
+    ensures { AnswersFor Mode.Time (texts_of spef.now cons.now) name.now result }
 {
     let index = index_of(alloc, spef)?;
     let rows = constraints_of(alloc, cons)?;
@@ -60,6 +45,6 @@ pub fn time_for(
     match time_net(alloc, spef, &index, &rows, &net) {
         Ok(timed) => Ok(Answer::Report(report_slack(alloc, name, &timed)?)),
         Err(Refused::Net(refusal)) => Ok(refuse(alloc, name, &refusal)?),
-        Err(Refused::Memory) => Err(AskFault::Memory),
+        Err(Refused::Memory) => Err(NoAnswer::Memory),
     }
 }
