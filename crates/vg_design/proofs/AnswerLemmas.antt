@@ -6,13 +6,13 @@ use Rattle.spef_file.specs.Files.{File}
 use Rattle.spef_file.specs.Nets.{NetHead}
 use Rattle.spef_net.specs.declared.net.ParConn.{ParConn}
 use Rattle.spef_net.specs.declared.net.ParNet.{ParNet}
-use Rattle.spef_net.specs.Sections.{sayings_in, IsNetOf}
+use Rattle.spef_net.specs.Sections.{statements_in, IsNetOf}
 use Rattle.spef_net.proofs.OneNetLemmas.{one_net, fault_or_none}
 use Rattle.vg_design.specs.Refusals.{number_of, Refuses, PassesUpTo}
 use Rattle.vg_design.specs.Nets.{head_named, IsHeadOf, IsNetNamed, IsNetRefused}
 use Rattle.vg_design.specs.Laws.{OneNet, OneTree, PassedOrRefused}
 use Rattle.vg_design.specs.declared.refusal.Refusal.{Refusal}
-use Rattle.vg_design.specs.declared.refusal.Refusal.TheVariants.{UnknownNet, Section as Faulty, Reduced, Inductive, Bidirectional, NoDriver, ManyDrivers, Floating, Loop, NoSink, TooLarge}
+use Rattle.vg_design.specs.declared.refusal.Refusal.TheVariants.{NotYet, UnknownNet, Section as Faulty, Reduced, Inductive, Bidirectional, NoDriver, ManyDrivers, Floating, Loop, NoSink, Unconstrained, TooLarge}
 
 same_head : (a b : NetHead) → Some a ≡ Some b → a ≡ b
 same_head a b e = cc
@@ -32,7 +32,7 @@ read_as text name file other head heads net a b is =
 pub nets_are : OneNet
 nets_are text name net other a b =
     let mine = read_as text name a.file b.file a.head b.head net a.head_of b.head_of a.read in
-    one_net b.head.name b.head.reduced (sayings_in text b.file b.head) net other mine.denoted b.read.denoted
+    one_net b.head.name b.head.reduced (statements_in text b.file b.head) net other mine.denoted b.read.denoted
 
 one_driver : (a b : ParConn) → ◌≡◌ {A = List ParConn} (a ∷ []) (b ∷ []) → a ≡ b
 one_driver a b e = cc
@@ -48,13 +48,15 @@ passed text name net n refusal named passes refused low =
     passes refusal low (subst (λ (m : ParNet). Refuses m refusal) (nets_are text name refused.net net refused.named named) refused.refused.holds)
 
 pub passed_is : PassedOrRefused
+passed_is text name net n NotYet named passes some refused low = refused
+passed_is text name net n (Unconstrained node) named passes some refused low = refused
 passed_is text name net n UnknownNet named passes some missing low =
     let same : named.file ≡ missing.file = named.head_of.said.says ∙ sym missing.said.says in
     let none : None ≡ Some named.head = sym missing.none ∙ ap (λ f. head_named f name) (sym same) ∙ named.head_of.named in
     cc
 passed_is text name net n (Faulty fault) named passes some faulty low =
     let mine = read_as text name named.file faulty.file named.head faulty.head net named.head_of faulty.head_of named.read in
-    fault_or_none faulty.head.name (sayings_in text faulty.file faulty.head) (faulty.head.line + 1) fault mine.faultless faulty.first
+    fault_or_none faulty.head.name (statements_in text faulty.file faulty.head) (faulty.head.line + 1) fault mine.faultless faulty.first
 passed_is text name net n Reduced named passes some refused low = passed text name net n Reduced named passes refused low
 passed_is text name net n Inductive named passes some refused low = passed text name net n Inductive named passes refused low
 passed_is text name net n Bidirectional named passes some refused low = passed text name net n Bidirectional named passes refused low

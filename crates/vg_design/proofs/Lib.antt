@@ -1,7 +1,10 @@
-pub mod PassLemmas
+mod TimeAnswerLemmas
+mod TimeLemmas
+pub mod AnswerLemmas
 pub mod EndLemmas
 pub mod NamedLemmas
-pub mod WireLemmas
-pub mod AnswerLemmas
-pub mod SinkLemmas
+pub mod PassLemmas
 pub mod RefusedLemmas
+pub mod SinkLemmas
+pub mod WireLemmas
+pub mod TimeLawLemmas

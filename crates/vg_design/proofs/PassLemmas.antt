@@ -10,7 +10,7 @@ use Rattle.rc_tree.proofs.OneTreeLemmas.{one_tree}
 use Rattle.vg_scan.specs.declared.name.NodeName.{NodeName}
 use Rattle.spef_net.specs.declared.net.ParConn.{ParConn}
 use Rattle.spef_net.specs.declared.net.ParNet.{ParNet}
-use Rattle.vg_design.specs.declared.refusal.Refusal.TheVariants.{UnknownNet, Section, Reduced, Inductive, Bidirectional, NoDriver, ManyDrivers, Floating, Loop, NoSink, TooLarge}
+use Rattle.vg_design.specs.declared.refusal.Refusal.TheVariants.{NotYet, UnknownNet, Section, Reduced, Inductive, Bidirectional, NoDriver, ManyDrivers, Floating, Loop, NoSink, Unconstrained, TooLarge}
 use Rattle.vg_design.specs.Refusals.{is_sink, IsDrivenAt, IsNetTree, IsWithinNetLimits, IsFirstFloating, IsLooped, IsPastLimits, IsFirstRefusal, PassesUpTo}
 
 -- no refusal from k on, but below n, has its condition; k is at least 12
@@ -21,6 +21,8 @@ record Rest (k n : ℕ) (net : ParNet) : Type 0 where
   too_large : k ≤ 16 → 16 < n → IsPastLimits net → ⊥
 
 passes_on : (k n : ℕ) (net : ParNet) → 12 ≤ k → PassesUpTo k net → Rest k n net → PassesUpTo n net
+passes_on k n net late passed rest NotYet h r = r
+passes_on k n net late passed rest (Unconstrained node) h r = r
 passes_on k n net late passed rest UnknownNet h r = r
 passes_on k n net late passed rest (Section fault) h r = r
 passes_on k n net late passed rest Reduced h r = passed Reduced (omega arith) r

@@ -5,10 +5,12 @@ use Rattle.vg_design.specs.Nets.{IsNetNamed, IsRefusedBelow}
 use Rattle.vg_design.specs.Steps.{IsRefusedFirst}
 use Rattle.vg_design.specs.declared.refusal.Refused.{Refused}
 use Rattle.vg_design.specs.declared.refusal.Refused.TheVariants.{Net, Memory}
-use Rattle.vg_design.specs.declared.refusal.Refusal.TheVariants.{UnknownNet, Section, Reduced, Inductive, Bidirectional, NoDriver, ManyDrivers, Floating, Loop, NoSink, TooLarge}
+use Rattle.vg_design.specs.declared.refusal.Refusal.TheVariants.{NotYet, UnknownNet, Section, Reduced, Inductive, Bidirectional, NoDriver, ManyDrivers, Floating, Loop, NoSink, Unconstrained, TooLarge}
 
 pub refused_below : (n : ℕ) (text name : List ℕ) (net : ParNet) (refused : Refused) → IsNetNamed text name net → IsRefusedFirst n net refused → IsRefusedBelow n text name refused
 refused_below n text name net Memory named h = tt
+refused_below n text name net (Net NotYet) named h = absurd h.0.holds
+refused_below n text name net (Net (Unconstrained node)) named h = absurd h.0.holds
 refused_below n text name net (Net UnknownNet) named h = absurd h.0.holds
 refused_below n text name net (Net (Section fault)) named h = absurd h.0.holds
 refused_below n text name net (Net Reduced) named h = (record { net = net; named = named; refused = h.0 }, h.1)

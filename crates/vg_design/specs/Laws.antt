@@ -3,8 +3,11 @@ use Rattle.std.specs.Prelude.{◌≡◌, ℕ, ◌<◌, ◌≤◌, List}
 use Rattle.elmore.specs.declared.tree.Node.{Node}
 use Rattle.spef_net.specs.declared.net.ParNet.{ParNet}
 use Rattle.vg_design.specs.Refusals.{number_of, IsNetTree, PassesUpTo}
+use Rattle.vg_cons.specs.Rows.{Rows}
 use Rattle.vg_design.specs.Nets.{IsNetNamed, IsRefusalOf}
+use Rattle.vg_design.specs.Timings.{IsTimedOf, IsTimeRefusalOf}
 use Rattle.vg_design.specs.declared.refusal.Refusal.{Refusal}
+use Rattle.vg_design.specs.declared.time.slack.Timed.{Timed}
 
 -- a file has at most one net of a name
 abbrev pub OneNet : Type 0
@@ -17,3 +20,7 @@ OneTree = (net : ParNet) (tree other : List Node) (order places : List ℕ) → 
 -- where all refusals below a number are passed, none of them refuses the net
 abbrev pub PassedOrRefused : Type 0
 PassedOrRefused = (text name : List ℕ) (net : ParNet) (n : ℕ) (refusal : Refusal) → IsNetNamed text name net → PassesUpTo n net → 3 ≤ n → IsRefusalOf text name refusal → number_of refusal < n → ⊥
+
+-- a net that is timed is not refused
+abbrev pub TimedOrRefused : Type 0
+TimedOrRefused = (text name : List ℕ) (rows : Rows) (timed : Timed) (refusal : Refusal) → IsTimedOf text name rows timed → IsTimeRefusalOf text name rows refusal → ⊥

@@ -4,3 +4,5 @@ pub mod Wires
 pub mod Steps
 pub mod Laws
 pub mod SinkRows
+pub mod Timings
+pub mod TimeSteps

@@ -12,7 +12,7 @@ use Rattle.vg_design.specs.Refusals.{number_of, IsFirstRefusal}
 use Rattle.vg_design.specs.declared.refusal.Refused.{Refused}
 use Rattle.vg_design.specs.declared.refusal.Refused.TheVariants.{Net, Memory}
 use Rattle.vg_design.specs.declared.refusal.Refusal.{Refusal}
-use Rattle.vg_design.specs.declared.refusal.Refusal.TheVariants.{UnknownNet, Section as Faulty, Reduced, Inductive, Bidirectional, NoDriver, ManyDrivers, Floating, Loop, NoSink, TooLarge}
+use Rattle.vg_design.specs.declared.refusal.Refusal.TheVariants.{NotYet, UnknownNet, Section as Faulty, Reduced, Inductive, Bidirectional, NoDriver, ManyDrivers, Floating, Loop, NoSink, Unconstrained, TooLarge}
 
 -- the head of the net of this name, if the file has one
 abbrev pub head_named : File → List ℕ → Option NetHead
@@ -48,8 +48,10 @@ pub record IsNetRefused (text name : List ℕ) (refusal : Refusal) : Type 0 wher
   pub named : IsNetNamed text name net
   pub refused : IsFirstRefusal net refusal
 
--- why the net of this name is refused
+-- why the net of this name is refused, by its parasitics alone
 abbrev pub IsRefusalOf : List ℕ → List ℕ → Refusal → Type 0
+IsRefusalOf text name NotYet = ⊥
+IsRefusalOf text name (Unconstrained node) = ⊥
 IsRefusalOf text name UnknownNet = IsMissing text name
 IsRefusalOf text name (Faulty fault) = IsFaultNamed text name fault
 IsRefusalOf text name Reduced = IsNetRefused text name Reduced

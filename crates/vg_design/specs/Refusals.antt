@@ -14,10 +14,11 @@ use Rattle.spef_net.specs.declared.net.ParConn.{ParConn}
 use Rattle.spef_nodes.specs.Nodes.{ParNode}
 use Rattle.spef_net.specs.declared.net.ParNet.{ParNet}
 use Rattle.vg_design.specs.declared.refusal.Refusal.{Refusal}
-use Rattle.vg_design.specs.declared.refusal.Refusal.TheVariants.{UnknownNet, Section, Reduced, Inductive, Bidirectional, NoDriver, ManyDrivers, Floating, Loop, NoSink, TooLarge}
+use Rattle.vg_design.specs.declared.refusal.Refusal.TheVariants.{NotYet, UnknownNet, Section, Reduced, Inductive, Bidirectional, NoDriver, ManyDrivers, Floating, Loop, NoSink, Unconstrained, TooLarge}
 
 -- the order of refusals; numbers between are those of reasons that other files give
 abbrev pub number_of : Refusal → ℕ
+number_of NotYet = 0
 number_of UnknownNet = 1
 number_of (Section _) = 2
 number_of Reduced = 3
@@ -28,7 +29,15 @@ number_of ManyDrivers = 7
 number_of (Floating _) = 12
 number_of Loop = 13
 number_of NoSink = 14
+number_of (Unconstrained _) = 15
 number_of TooLarge = 16
+
+-- the most nodes of a net, and the most capacitors
+abbrev pub most_nodes : ℕ
+most_nodes = 65536
+
+abbrev pub most_capacitors : ℕ
+most_capacitors = 2 ^ 20
 
 -- a connection drives the net: the output of an instance, or an input of the design
 abbrev pub drives_at : ConnKind → Direction → Bool
@@ -72,8 +81,8 @@ pub record IsNamed (net : ParNet) (v : ℕ) (name : NodeName) : Type 0 where
 
 -- at most 65,536 nodes and 2^20 capacitors, and a tree within the limits of resistance and capacitance
 pub record IsWithinNetLimits (net : ParNet) (tree : List Node) : Type 0 where
-  pub nodes : length net.nodes ≤ 65536
-  pub capacitors : length net.caps ≤ 2 ^ 20
+  pub nodes : length net.nodes ≤ most_nodes
+  pub capacitors : length net.caps ≤ most_capacitors
   pub sums : IsWithinLimits tree
 
 -- the first node that floats has this name
@@ -97,8 +106,10 @@ pub record IsPastLimits (net : ParNet) : Type 0 where
   pub a_tree : IsNetTree net tree order
   pub past : IsWithinNetLimits net tree → ⊥
 
--- the condition of a refusal, for a net that is there and whose lines have no fault
+-- the condition of a refusal by the parasitics alone, for a net that is there and whose lines have no fault
 abbrev pub Refuses : ParNet → Refusal → Type 0
+Refuses net NotYet = ⊥
+Refuses net (Unconstrained _) = ⊥
 Refuses net UnknownNet = ⊥
 Refuses net (Section _) = ⊥
 Refuses net Reduced = net.reduced ≡ true

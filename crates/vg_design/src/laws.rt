@@ -1,10 +1,11 @@
 //! Laws of the nets of a file. Their function does nothing: its contract is the laws, which a proof may cite.
 
-ghost use Rattle.vg_design.specs.Laws.{OneNet, OneTree, PassedOrRefused};
+ghost use Rattle.vg_design.specs.Laws.{OneNet, OneTree, PassedOrRefused, TimedOrRefused};
 
-/// A name has at most one net, a net at most one tree, and a net that passes is not refused.
+/// A name has at most one net, a net at most one tree, and a net that passes or is timed is not refused.
 pub fn one_answer()
     ensures net { OneNet }
     ensures tree { OneTree }
     ensures passed { PassedOrRefused }
+    ensures timed { TimedOrRefused }
 {}

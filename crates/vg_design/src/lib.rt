@@ -1,20 +1,20 @@
-//! What the files of a design say together: the tree and the wire delays of a net.
+//! What the files of a design say together: the tree, the wire delays and the slack of a net.
 //!
 //! Resistances are whole milliohms (mΩ), capacitances whole attofarads (aF), times whole zeptoseconds (zs).
 #![tactic(auto)]
 
 mod ends;
 mod laws;
+mod limits;
 mod marks;
 mod refusal;
 mod sink_delays;
+mod time;
 mod tree;
 mod wire;
 
-pub use ends::is_sink;
 pub use laws::one_answer;
-pub use marks::sink_marks;
 pub use refusal::{Refusal, Refused};
 pub use sink_delays::SinkDelays;
-pub use tree::{NetTree, net_tree};
+pub use time::{Timed, time_net};
 pub use wire::{WireNet, wire_net};

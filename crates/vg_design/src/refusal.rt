@@ -6,9 +6,12 @@ use spef_net::NetFault;
 use vg_num::Memory;
 use vg_scan::NodeName;
 
-/// Why a net is refused. Of several reasons the first counts, in the order of their numbers.
+/// Why a net is refused. Of several reasons the first counts, in the order of their numbers; `NotYet` comes after those
+/// up to 14.
 #[derive(Debug, Drop)]
 pub enum Refusal {
+    /// 0: the net is to be timed, and a connection is a pin, whose times a library tells.
+    NotYet,
     /// 1: the file has no net of this name.
     UnknownNet,
     /// 2: the lines of the net have a fault; it is never want of memory.
@@ -29,8 +32,11 @@ pub enum Refusal {
     Loop,
     /// 14: no connection is a sink.
     NoSink,
+    /// 15: the net is to be timed, and this sink has no required time; it is the first such one in the order of the
+    /// connections.
+    Unconstrained(NodeName),
     /// 16: the net has more than 65,536 nodes or 2^20 capacitors, or all its resistors together have more than 10^12 mΩ, or
-    /// all its capacitors more than 10^11 aF.
+    /// all its capacitors more than 10^11 aF; or, where it is to be timed, it passes a limit of problems.
     TooLarge,
 }
 
@@ -40,6 +46,7 @@ impl Refusal {
         ensures { result ≡ number_of self.now }
     {
         match self {
+            Refusal::NotYet => 0,
             Refusal::UnknownNet => 1,
             Refusal::Section(_) => 2,
             Refusal::Reduced => 3,
@@ -50,6 +57,7 @@ impl Refusal {
             Refusal::Floating(_) => 12,
             Refusal::Loop => 13,
             Refusal::NoSink => 14,
+            Refusal::Unconstrained(_) => 15,
             Refusal::TooLarge => 16,
         }
     }

@@ -9,6 +9,7 @@ ghost use Rattle.vg_design.specs.Refusals.{IsNetTree, IsWithinNetLimits, PassesU
 ghost use Rattle.vg_design.specs.Steps.{IsRefusedFirst, IsSinkPushed};
 ghost use Rattle.vg_design.specs.Wires.{AreMarks, sinks_in, IsDelay, IsWire, IsWireOf};
 
+use crate::limits::{MOST_CAPACITORS, MOST_NODES};
 use crate::marks::sink_marks;
 use crate::refusal::{Refusal, Refused};
 use crate::sink_delays::SinkDelays;
@@ -28,10 +29,6 @@ pub struct WireNet {
     /// Each sink and the wire delay to it (zs), in tree order.
     pub sinks: SinkDelays,
 }
-
-const MOST_NODES: usize = 65_536;
-
-const MOST_CAPACITORS: usize = 1_048_576;
 
 /// Whether a net and its tree pass no limit.
 fn is_within_limits(found: &NetTree) -> bool

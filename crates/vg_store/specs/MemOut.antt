@@ -1,5 +1,6 @@
 -- What an output in memory holds.
-use Rattle.std.specs.Prelude.{ℕ, ◌-◌, List, vec_len, vec_capacity}
+use Rattle.std.specs.Prelude.{ℕ, ◌-◌, List, vec_len, vec_capacity, Some}
+use Rattle.vg_store.specs.Writing.{OutState}
 use Rattle.vg_store.specs.declared.mem_out.MemOut.{MemOut}
 
 -- what was written
@@ -25,3 +26,7 @@ fails_of out = out.calls.fails.items
 -- how many calls failed
 abbrev pub faults_of : MemOut → ℕ
 faults_of out = out.calls.faults
+
+-- what contracts see of it as an output
+abbrev pub state_of : MemOut → OutState
+state_of out = record { written = Some (written_to out); faults = faults_of out }

@@ -1,17 +1,30 @@
 -- Files that are read, by name.
 use Rattle.std.specs.Prelude.{◌≡◌, ◌↔◌, ℕ, ◌≤◌, List, length, take, drop, Bool, true, Option, Some, None, IfSome, IsSome}
 
+-- what contracts see of files: the bytes of each by its name, where they are told; how often reading failed, and the file
+-- at which it failed last; the file that was opened last, how many of its bytes were taken, and whether it is open
+pub record FilesState : Type 0 where
+  pub holds : List ℕ → Option (List ℕ)
+  pub read_faults : ℕ
+  pub read_blame : Option (List ℕ)
+  pub source : Option (List ℕ)
+  pub taken : ℕ
+  pub reading : Bool
+
+abbrev pub file_named : (List ℕ → Option (List ℕ)) → Option (List ℕ) → Option (List ℕ)
+file_named holds None = None
+file_named holds (Some name) = holds name
+
 -- the bytes of the file that is read, where its name and they are told
-abbrev pub read_file : (List ℕ → Option (List ℕ)) → Option (List ℕ) → Option (List ℕ)
-read_file holds None = None
-read_file holds (Some name) = holds name
+abbrev pub read_file : FilesState → Option (List ℕ)
+read_file files = file_named files.holds files.source
 
 -- reading this file has begun at its first byte
-pub record Begins (name : List ℕ) (holds : List ℕ → Option (List ℕ)) (taken : ℕ) (reading : Bool) (source : Option (List ℕ)) : Type 0 where
-  pub open_now : reading ≡ true
-  pub first : taken ≡ 0
-  pub named : IfSome source (λ told. told ≡ name)
-  pub told : IsSome (holds name) → IsSome source
+pub record Begins (name : List ℕ) (files : FilesState) : Type 0 where
+  pub open_now : files.reading ≡ true
+  pub first : files.taken ≡ 0
+  pub named : IfSome files.source (λ told. told ≡ name)
+  pub told : IsSome (files.holds name) → IsSome files.source
 
 -- so many bytes are the next ones of the file from a place on; there are none exactly at its end
 pub record IsNextPiece (file : List ℕ) (at count : ℕ) (bytes : List ℕ) : Type 0 where
@@ -20,7 +33,7 @@ pub record IsNextPiece (file : List ℕ) (at count : ℕ) (bytes : List ℕ) : T
   pub ended : (count ≡ 0) ↔ (length file ≤ at)
 
 -- these bytes of the open file were taken, all that stand before its place
-pub record HasRead (file : Option (List ℕ)) (taken : ℕ) (reading : Bool) (bytes : List ℕ) : Type 0 where
-  pub open_now : reading ≡ true
-  pub counted : taken ≡ length bytes
-  pub first : IfSome file (λ whole. (bytes ≡ take taken whole) × (taken ≤ length whole))
+pub record HasRead (files : FilesState) (bytes : List ℕ) : Type 0 where
+  pub open_now : files.reading ≡ true
+  pub counted : files.taken ≡ length bytes
+  pub first : IfSome (read_file files) (λ whole. (bytes ≡ take files.taken whole) × (files.taken ≤ length whole))

@@ -1,27 +1,33 @@
 //! Files in memory.
 ghost use Rattle.std.specs.Prelude.{◌≡◌, ◌≢◌, ◌↔◌, ◌⊎◌, ℕ, ◌+◌, ◌-◌, ◌^◌, ◌<◌, ◌≤◌, min, List, length, take, [], Bool, true, false, Option, Some, None, Contains, MatchOption, IfOk, IfSome, IsErr, IsSome, OnOk, OnErr};
+ghost use Rattle.indexmap.specs.IndexMap.{index_map_len};
 ghost use Rattle.vg_store.specs.Causes.{HasCause};
 ghost use Rattle.vg_store.specs.Reading.{Begins, IsNextPiece, read_file};
 
 use crate::calls::Calls;
 use crate::files::{Failed, Files};
+use indexmap::IndexMap;
 use std::alloc::Global;
-use std::collections::HashMap;
-use vg_num::{Memory, Row, Text};
+use vg_num::{Memory, Row};
 
 /// Files in memory, which tell all that they hold. Calls of given numbers fail, and a call takes no more bytes than
 /// a given number.
+///
+/// The files are numbered in the order in which they were added. The file that is read and the one that is to blame are
+/// kept by their numbers, so that no call of `Files` takes memory.
 #[derive(Drop)]
 pub struct MemFiles {
     alloc: Global,
-    files: HashMap<String, Row<u8>>,
+    files: IndexMap<String, Row<u8>>,
     chunk: usize,
     calls: Calls,
-    source: Option<Text>,
+    source: Option<usize>,
     place: usize,
     reading: bool,
-    blamed: Option<Text>,
+    blamed: Option<usize>,
     ghost takes_some: { 1 ≤ chunk },
+    ghost source_stands: { (n : ℕ) → source ≡ Some n → n < index_map_len files },
+    ghost blamed_stands: { (n : ℕ) → blamed ≡ Some n → n < index_map_len files },
 }
 
 impl MemFiles {
@@ -43,7 +49,7 @@ impl MemFiles {
     {
         Ok(MemFiles {
             alloc,
-            files: HashMap::new(alloc),
+            files: IndexMap::new(alloc),
             chunk,
             calls: Calls::new(alloc, fails)?,
             source: None,
@@ -88,55 +94,26 @@ impl MemFiles {
     fn rest(&self) -> &[u8]
         ensures { result.now ≡ left_of self.now }
     {
-        let Some(source) = &self.source else {
+        let Some(source) = self.source else {
             return &[];
         };
-        match self.get(source.as_str()) {
-            Some(bytes) if self.place < bytes.len() => &bytes[self.place..],
-            _ => &[],
-        }
-    }
-
-    // The name of the file that is read, if there is memory for it.
-    fn copy_source(&self) -> Option<Text>
-        ensures { IfSome result (λ copy. self.now.source ≡ Some copy) }
-    {
-        match &self.source {
-            Some(source) => copy_text(self.alloc, source.as_str()),
-            None => None,
-        }
-    }
-}
-
-// A copy of a text, if there is memory for it.
-fn copy_text(alloc: Global, text: &str) -> Option<Text>
-    ensures { IfSome result (λ copy. copy ≡ text.now) }
-{
-    match String::from_str(alloc, text) {
-        Ok(copy) => Some(Text::from_string(copy)),
-        Err(_) => None,
+        let Some((_, row)) = self.files.get_index(source) else {
+            return &[];
+        };
+        let bytes = row.as_slice();
+        &bytes[self.place.min(bytes.len())..]
     }
 }
 
 impl Files for MemFiles {
-    ghost use Rattle.vg_store.specs.MemFiles.{held, left_of, taken_of, is_reading, source_of, blame_of, chunk_of, calls_of, fails_of, faults_of};
+    ghost use Rattle.vg_store.specs.MemFiles.{state_of, held, left_of, taken_of, is_reading, source_of, blame_of, chunk_of, calls_of, fails_of, faults_of};
 
-    ghost holds = { λ files. held files };
+    ghost state = { λ files. state_of files };
 
-    ghost read_faults = { λ files. faults_of files };
-
-    ghost taken = { λ files. taken_of files };
-
-    ghost reading = { λ files. is_reading files };
-
-    ghost source = { λ files. source_of files };
-
-    ghost read_blame = { λ files. blame_of files };
-
-    /// Begins to read a file at its first byte. It fails where the call's number stands in the list, where there is
-    /// no such file, and where there is no memory for the name, which is then not told.
+    /// Begins to read a file at its first byte. It fails exactly where the call's number stands in the list or there is
+    /// no such file. A name that no file has is not told as the one to blame. It takes no memory.
     fn open(&mut self, name: &str) -> Result<(), Failed>
-        ensures begun { OnOk result (Begins name.now (held self.old) (taken_of self.new) (is_reading self.new) (source_of self.new)) }
+        ensures begun { OnOk result (Begins name.now (state_of self.new)) }
         ensures shut { OnErr result (is_reading self.new ≡ false) }
         ensures kept { (file : List ℕ) → held self.new file ≡ held self.old file }
         ensures cause { HasCause (faults_of self.old) (faults_of self.new) result }
@@ -144,9 +121,8 @@ impl Files for MemFiles {
         ensures same_blame { OnOk result (blame_of self.new ≡ blame_of self.old) }
 
         ensures told { OnOk result (source_of self.new ≡ Some name.now) }
-        ensures listed { Contains (fails_of self.old) (calls_of self.old) → IsErr result }
-        ensures missing { held self.old name.now ≡ None → IsErr result }
-        ensures failed { OnErr result (Contains (fails_of self.old) (calls_of self.old) ⊎ (held self.old name.now ≡ None) ⊎ (blame_of self.new ≡ None)) }
+        ensures failed { IsErr result ↔ (Contains (fails_of self.old) (calls_of self.old) ⊎ (held self.old name.now ≡ None)) }
+        ensures told_blame { OnErr result (IsSome (held self.old name.now) → blame_of self.new ≡ Some name.now) }
         ensures counted { calls_of self.new ≡ min (calls_of self.old + 1) (2 ^ 64 - 1) }
         ensures ok_faults { OnOk result (faults_of self.new ≡ faults_of self.old) }
         ensures err_faults { OnErr result (faults_of self.new ≡ min (faults_of self.old + 1) (2 ^ 64 - 1)) }
@@ -154,20 +130,16 @@ impl Files for MemFiles {
         ensures same_chunk { chunk_of self.new ≡ chunk_of self.old }
     {
         self.reading = false;
-        let fails = self.calls.count_call() || !self.files.contains_key(name);
-        match copy_text(self.alloc, name) {
-            Some(copy) if !fails => {
-                self.source = Some(copy);
-                self.place = 0;
-                self.reading = true;
-                Ok(())
-            }
-            blamed => {
-                self.calls.count_fault();
-                self.blamed = blamed;
-                Err(Failed)
-            }
+        let number = self.files.get_index_of(name);
+        if self.calls.count_call() || number.is_none() {
+            self.calls.count_fault();
+            self.blamed = number;
+            return Err(Failed);
         }
+        self.source = number;
+        self.place = 0;
+        self.reading = true;
+        Ok(())
     }
 
     /// Takes the next bytes of the open file: as many as the chunk, the buffer and the file's rest allow. It fails
@@ -177,7 +149,7 @@ impl Files for MemFiles {
         requires is_open { is_reading self.old ≡ true }
         requires countable { taken_of self.old + length buf.old < 2 ^ 64 }
         ensures count { IfOk result (λ count. (count ≤ length buf.old) × (taken_of self.new ≡ taken_of self.old + count)) }
-        ensures bytes { IfOk result (λ count. IfSome (read_file (held self.old) (source_of self.old)) (λ file. IsNextPiece file (taken_of self.old) count buf.new)) }
+        ensures bytes { IfOk result (λ count. IfSome (read_file (state_of self.old)) (λ file. IsNextPiece file (taken_of self.old) count buf.new)) }
         ensures unmoved { OnErr result (taken_of self.new ≡ taken_of self.old) }
         ensures still_open { is_reading self.new ≡ true }
         ensures same_source { source_of self.new ≡ source_of self.old }
@@ -197,7 +169,7 @@ impl Files for MemFiles {
     {
         if self.calls.count_call() {
             self.calls.count_fault();
-            self.blamed = self.copy_source();
+            self.blamed = self.source;
             return Err(Failed);
         }
         let rest = self.rest();

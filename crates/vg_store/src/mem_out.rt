@@ -51,18 +51,16 @@ impl MemOut {
 }
 
 impl Out for MemOut {
-    ghost use Rattle.vg_store.specs.MemOut.{written_to, room_of, chunk_of, calls_of, fails_of, faults_of};
+    ghost use Rattle.vg_store.specs.MemOut.{state_of, written_to, room_of, chunk_of, calls_of, fails_of, faults_of};
 
-    ghost written = { λ out. Some (written_to out) };
-
-    ghost faults = { λ out. faults_of out };
+    ghost state = { λ out. state_of out };
 
     /// Appends the first bytes of a piece: as many as the chunk and the piece allow. It fails where the call's
     /// number stands in the list, and where memory is wanted and not given. Then nothing is appended.
     fn put(&mut self, bytes: &[u8]) -> Result<usize, Failed>
         ensures bound { IfOk result (λ count. (count ≤ length bytes.now) × (0 < length bytes.now → 0 < count)) }
-        ensures gained { IfOk result (λ count. Gains (Some (written_to self.old)) (Some (written_to self.new)) (take count bytes.now)) }
-        ensures prefix { OnErr result (GainsPrefix (Some (written_to self.old)) (Some (written_to self.new)) bytes.now) }
+        ensures gained { IfOk result (λ count. Gains (state_of self.old) (state_of self.new) (take count bytes.now)) }
+        ensures prefix { OnErr result (GainsPrefix (state_of self.old) (state_of self.new) bytes.now) }
         ensures cause { HasCause (faults_of self.old) (faults_of self.new) result }
 
         ensures appended { IfOk result (λ count. written_to self.new ≡ written_to self.old ++ take count bytes.now) }

@@ -53,17 +53,17 @@ fn take_piece<F: Files>(
 ) -> Result<usize, ReadAll>
     requires some_room { 0 < length buf.old }
     requires short { vec_len bytes.old ≤ 2 ^ 28 }
-    requires begun { HasRead (read_file (F.holds files.old) (F.source files.old)) (F.taken files.old) (F.reading files.old) bytes.old.items }
-    ensures more { OnOk result (HasRead (read_file (F.holds files.old) (F.source files.old)) (F.taken files.new) (F.reading files.new) bytes.new.items) }
+    requires begun { HasRead (F.state files.old) bytes.old.items }
+    ensures more { OnOk result (HasRead (F.state files.new) bytes.new.items) }
     ensures count { IfOk result (λ count. vec_len bytes.new ≡ vec_len bytes.old + count) }
     ensures bound { OnOk result (vec_len bytes.new ≤ 2 ^ 28 + 1) }
-    ensures ended { IfOk result (λ count. count ≡ 0 → IfSome (read_file (F.holds files.old) (F.source files.old)) (λ file. bytes.new.items ≡ file)) }
-    ensures failed { IsErrOf result ReadAll.Failed → Rose (F.read_faults files.old) (F.read_faults files.new) × IfSome (F.read_blame files.new) (λ blamed. F.source files.old ≡ Some blamed) }
+    ensures ended { IfOk result (λ count. count ≡ 0 → IfSome (read_file (F.state files.old)) (λ file. bytes.new.items ≡ file)) }
+    ensures failed { IsErrOf result ReadAll.Failed → Rose (F.state files.old).read_faults (F.state files.new).read_faults × IfSome (F.state files.new).read_blame (λ blamed. (F.state files.old).source ≡ Some blamed) }
     ensures never_too_long { IsErrOf result ReadAll.TooLong → ⊥ }
-    ensures never_falls { F.read_faults files.old ≤ F.read_faults files.new }
-    ensures same_source { F.source files.new ≡ F.source files.old }
-    ensures same_file { read_file (F.holds files.new) (F.source files.new) ≡ read_file (F.holds files.old) (F.source files.old) }
-    ensures kept { (file : List ℕ) → F.holds files.new file ≡ F.holds files.old file }
+    ensures never_falls { (F.state files.old).read_faults ≤ (F.state files.new).read_faults }
+    ensures same_source { (F.state files.new).source ≡ (F.state files.old).source }
+    ensures same_file { read_file (F.state files.new) ≡ read_file (F.state files.old) }
+    ensures kept { (file : List ℕ) → (F.state files.new).holds file ≡ (F.state files.old).holds file }
 {
     let room = buf.len().min(MOST_BYTES + 1 - bytes.len());
     let piece = &mut buf[..room];
@@ -75,13 +75,13 @@ fn take_piece<F: Files>(
 // Takes the pieces of a file that was just opened, until its end, a fault, or too many bytes.
 fn take_pieces<F: Files>(alloc: Global, files: &mut F, buf: &mut [u8]) -> Result<Vec<u8>, ReadAll>
     requires some_room { 0 < length buf.old }
-    requires begun { HasRead (read_file (F.holds files.old) (F.source files.old)) (F.taken files.old) (F.reading files.old) [] }
-    ensures whole { IfOk result (λ bytes. IfSome (read_file (F.holds files.old) (F.source files.old)) (λ file. bytes.items ≡ file)) }
-    ensures all_taken { IfOk result (λ bytes. (length bytes.items ≡ F.taken files.new) × (F.taken files.new ≤ 2 ^ 28)) }
-    ensures too_long { IsErrOf result ReadAll.TooLong → (F.taken files.new ≡ 2 ^ 28 + 1) × IfSome (read_file (F.holds files.old) (F.source files.old)) (λ file. 2 ^ 28 < length file) }
-    ensures failed { IsErrOf result ReadAll.Failed → Rose (F.read_faults files.old) (F.read_faults files.new) × IfSome (F.read_blame files.new) (λ blamed. F.source files.old ≡ Some blamed) }
-    ensures never_falls { F.read_faults files.old ≤ F.read_faults files.new }
-    ensures kept { (file : List ℕ) → F.holds files.new file ≡ F.holds files.old file }
+    requires begun { HasRead (F.state files.old) [] }
+    ensures whole { IfOk result (λ bytes. IfSome (read_file (F.state files.old)) (λ file. bytes.items ≡ file)) }
+    ensures all_taken { IfOk result (λ bytes. (length bytes.items ≡ (F.state files.new).taken) × ((F.state files.new).taken ≤ 2 ^ 28)) }
+    ensures too_long { IsErrOf result ReadAll.TooLong → ((F.state files.new).taken ≡ 2 ^ 28 + 1) × IfSome (read_file (F.state files.old)) (λ file. 2 ^ 28 < length file) }
+    ensures failed { IsErrOf result ReadAll.Failed → Rose (F.state files.old).read_faults (F.state files.new).read_faults × IfSome (F.state files.new).read_blame (λ blamed. (F.state files.old).source ≡ Some blamed) }
+    ensures never_falls { (F.state files.old).read_faults ≤ (F.state files.new).read_faults }
+    ensures kept { (file : List ℕ) → (F.state files.new).holds file ≡ (F.state files.old).holds file }
 {
     let mut bytes = Vec::new(alloc);
     'pieces: while bytes.len() <= MOST_BYTES {
@@ -107,12 +107,12 @@ fn make_buffer(alloc: Global) -> Result<Vec<u8>, AllocError>
 /// - `TooLong`: 2^28 + 1 bytes were taken.
 /// - `Memory`: there was no room for the bytes.
 pub fn read_all<F: Files>(alloc: Global, files: &mut F, name: &str) -> Result<Vec<u8>, ReadAll>
-    ensures whole { IfOk result (λ bytes. IfSome (F.holds files.old name.now) (λ file. bytes.items ≡ file)) }
-    ensures all_taken { IfOk result (λ bytes. (length bytes.items ≡ F.taken files.new) × (F.taken files.new ≤ 2 ^ 28)) }
-    ensures too_long { IsErrOf result ReadAll.TooLong → (F.taken files.new ≡ 2 ^ 28 + 1) × IfSome (F.holds files.old name.now) (λ file. 2 ^ 28 < length file) }
-    ensures failed { IsErrOf result ReadAll.Failed → Rose (F.read_faults files.old) (F.read_faults files.new) × IfSome (F.read_blame files.new) (λ blamed. blamed ≡ name.now) }
-    ensures never_falls { F.read_faults files.old ≤ F.read_faults files.new }
-    ensures kept { (file : List ℕ) → F.holds files.new file ≡ F.holds files.old file }
+    ensures whole { IfOk result (λ bytes. IfSome ((F.state files.old).holds name.now) (λ file. bytes.items ≡ file)) }
+    ensures all_taken { IfOk result (λ bytes. (length bytes.items ≡ (F.state files.new).taken) × ((F.state files.new).taken ≤ 2 ^ 28)) }
+    ensures too_long { IsErrOf result ReadAll.TooLong → ((F.state files.new).taken ≡ 2 ^ 28 + 1) × IfSome ((F.state files.old).holds name.now) (λ file. 2 ^ 28 < length file) }
+    ensures failed { IsErrOf result ReadAll.Failed → Rose (F.state files.old).read_faults (F.state files.new).read_faults × IfSome (F.state files.new).read_blame (λ blamed. blamed ≡ name.now) }
+    ensures never_falls { (F.state files.old).read_faults ≤ (F.state files.new).read_faults }
+    ensures kept { (file : List ℕ) → (F.state files.new).holds file ≡ (F.state files.old).holds file }
 {
     files.open(name)?;
     let mut buf = make_buffer(alloc)?;

@@ -43,17 +43,7 @@ impl<'a, R: std::rt::Files> RealFiles<'a, R> {
 }
 
 impl<R: std::rt::Files> Files for RealFiles<'_, R> {
-    ghost holds = { λ _ _. None };
-
-    ghost read_faults = { λ files. files.faults };
-
-    ghost taken = { λ files. files.taken };
-
-    ghost reading = { λ files. is_some files.file };
-
-    ghost source = { λ _. None };
-
-    ghost read_blame = { λ _. None };
+    ghost state = { λ files. record { holds = λ _. None; read_faults = files.faults; read_blame = None; source = None; taken = files.taken; reading = is_some files.file } };
 
     /// Opens the file of this path. After `Failed` no file is open.
     fn open(&mut self, name: &str) -> Result<(), Failed> {

@@ -1,5 +1,5 @@
 //! An output of the system.
-ghost use Rattle.std.specs.Prelude.{◌≡◌, ◌<◌, ◌≤◌, length, take, None, IfOk, OnErr};
+ghost use Rattle.std.specs.Prelude.{◌≡◌, ◌<◌, ◌≤◌, length, take, None, IfOk, OnErr, ℕ};
 ghost use Rattle.std.specs.Io.KnownBytes.{WriteAppends};
 ghost use Rattle.vg_store.specs.Causes.{HasCause};
 ghost use Rattle.vg_store.specs.Writing.{Gains, GainsPrefix};
@@ -27,15 +27,14 @@ impl<W: Write + Drop> RealOut<W> {
 }
 
 impl<W: Write + Drop> Out for RealOut<W> {
-    ghost written = { λ _. None };
-
-    ghost faults = { λ out. out.faults };
+    ghost state = { λ out. record { written = None; faults = out.faults } };
 
     /// One write of a piece that is not empty.
     fn put(&mut self, bytes: &[u8]) -> Result<usize, Failed>
         ensures bound { IfOk result (λ count. (count ≤ length bytes.now) × (0 < length bytes.now → 0 < count)) }
-        ensures gained { IfOk result (λ count. Gains None None (take count bytes.now)) }
-        ensures prefix { OnErr result (GainsPrefix None None bytes.now) }
+        // What was written is not told, so the trait's clauses on it claim nothing.
+        ensures gained { IfOk result (λ _. Unit {0}) }
+        ensures prefix { OnErr result ((count : ℕ) × (count ≤ length bytes.now) × Unit {0}) }
         ensures cause { HasCause self.old.faults self.new.faults result }
 
         // What the writer is known to hold grew by the bytes that were taken, and after a fault by none.

@@ -1,13 +1,15 @@
 -- What a judgment of the given values says of the words.
-use Rattle.std.proofs.Common.{◌≡◌, ℕ, true, false, List, refl, sym, ap, ◌∙◌, subst, Option, Some, None, Result, Ok, Err, if◌then◌else◌}
+use Rattle.std.proofs.Common.{◌≡◌, ℕ, true, false, List, refl, sym, ap, ◌∙◌, subst, Option, Some, None, Result, Ok, Err, codes, if◌then◌else◌}
 use Rattle.std.specs.List.{find}
 use Rattle.std.specs.Result.{IsErrAnd}
-use Rattle.vg_words.proofs.SpellingLemmas.{given_once}
+use Rattle.std.specs.Str.{bytes_eq}
+use Rattle.std.proofs.lemmas.Slice.Eq.{bytes_eq-Decides}
+use Rattle.vg_words.proofs.SpellingLemmas.{set_once}
 use Rattle.vg_words.specs.declared.ask.Ask.{Ask}
-use Rattle.vg_words.specs.Options.{options, mode_of}
-use Rattle.vg_words.specs.Request.{Given, Gives, Request, IsRequest, is_missing, is_excluded, is_bad, are_equal, or_else, of_first, equal_files, fault_in, fault_of_mode, fault_of_name, fault_of, HasMode, HasCons, IsRefused, ReadsWords}
+use Rattle.vg_words.specs.Options.{options, file_options, required, mode_of, mode_name}
+use Rattle.vg_words.specs.Request.{Setting, Sets, Values, values_in, value_of, IsRequest, is_unset, is_excluded, is_bad, or_else, of_first, of_pair, first_equal, fault_in, fault_of_mode, fault_of_name, fault_of, HasMode, IsRefused, ReadsWords, value}
 use Rattle.vg_words.specs.declared.option.Opt.{Opt}
-use Rattle.vg_words.specs.declared.option.Opt.TheVariants.{Spef, Cons}
+use Rattle.vg_words.specs.declared.option.Opt.TheVariants.{Mode, Spef, Cons, Net}
 use Rattle.vg_words.specs.declared.ask.Mode.{Mode as ModeSpec}
 use Rattle.vg_words.specs.declared.ask.Mode.TheVariants.{Wire, Time}
 use Rattle.vg_words.specs.declared.ask.WordFault.{WordFault}
@@ -39,136 +41,109 @@ told_bad : (o : Option Opt) → IsTold (of_first BadValue o)
 told_bad None = tt
 told_bad (Some o) = tt
 
-told_equal : (a b : Option (List ℕ)) → IsTold (if are_equal a b then Some (Equal Spef Cons) else None)
-told_equal a b = elim (are_equal a b) as (λ t. IsTold (if t then Some (Equal Spef Cons) else None)) [ true ↦ tt | false ↦ tt ]
+told_pair : (o : Option (Opt × Opt)) → IsTold (of_pair o)
+told_pair None = tt
+told_pair (Some (one, other)) = tt
 
-told_in : (mode : ModeSpec) (given : Given) → IsTold (fault_in mode given)
-told_in mode given =
-    told_or (of_first Missing (find (is_missing mode given) options))
-    (or_else (of_first Excluded (find (is_excluded mode given) options))
-    (or_else (of_first BadValue (find (is_bad given) options)) (equal_files given)))
-    (told_missing (find (is_missing mode given) options))
-    (told_or (of_first Excluded (find (is_excluded mode given) options))
-    (or_else (of_first BadValue (find (is_bad given) options)) (equal_files given))
-    (told_excluded (find (is_excluded mode given) options))
-    (told_or (of_first BadValue (find (is_bad given) options)) (equal_files given)
-    (told_bad (find (is_bad given) options)) (told_equal given.spef given.cons)))
+told_in : (mode : ModeSpec) (values : Values) → IsTold (fault_in mode values)
+told_in mode values =
+    let equal = of_pair (first_equal values file_options) in
+    let bad = of_first BadValue (find (is_bad values) options) in
+    let excluded = of_first Excluded (find (is_excluded mode values) options) in
+    told_or (of_first Missing (find (is_unset values) (required mode))) (or_else excluded (or_else bad equal)) (told_missing (find (is_unset values) (required mode)))
+    (told_or excluded (or_else bad equal) (told_excluded (find (is_excluded mode values) options)) (told_or bad equal (told_bad (find (is_bad values) options)) (told_pair (first_equal values file_options))))
 
-told_mode : (given : Given) (mode : Option ModeSpec) → IsTold (fault_of_mode given mode)
-told_mode given None = tt
-told_mode given (Some mode) = told_in mode given
+told_mode : (values : Values) (mode : Option ModeSpec) → IsTold (fault_of_mode values mode)
+told_mode values None = tt
+told_mode values (Some mode) = told_in mode values
 
-told_name : (given : Given) (name : Option (List ℕ)) → IsTold (fault_of_name given name)
-told_name given None = tt
-told_name given (Some name) = told_mode given (mode_of name)
+told_name : (values : Values) (name : Option (List ℕ)) → IsTold (fault_of_name values name)
+told_name values None = tt
+told_name values (Some name) = told_mode values (mode_of name)
 
-told : (given : Given) → IsTold (fault_of given)
+told : (values : Values) → IsTold (fault_of values)
 unfolding fault_of
-told given = told_name given given.mode
+told values = told_name values (values Mode)
 
-refused_for : (words : List (List ℕ)) (given : Given) (fault : WordFault) → IsTold (Some fault) → Gives words given → fault_of given ≡ Some fault → ReadsWords (Err fault) words
-refused_for words given (Missing o) t g e = (given, g, e)
-refused_for words given (Excluded o) t g e = (given, g, e)
-refused_for words given (BadValue o) t g e = (given, g, e)
-refused_for words given (Equal a b) t g e = (given, g, e)
-refused_for words given Unread t g e = absurd t
-refused_for words given Memory t g e = absurd t
+refused_for : (words : List (List ℕ)) (ss : List Setting) (fault : WordFault) → IsTold (Some fault) → Sets words ss → fault_of (values_in ss) ≡ Some fault → ReadsWords (Err fault) words
+refused_for words ss (Missing o) t g e = (ss, g, e)
+refused_for words ss (Excluded o) t g e = (ss, g, e)
+refused_for words ss (BadValue o) t g e = (ss, g, e)
+refused_for words ss (Equal a b) t g e = (ss, g, e)
+refused_for words ss Unread t g e = absurd t
+refused_for words ss Memory t g e = absurd t
 
-pub refused : (words : List (List ℕ)) (given : Given) (fault : WordFault) → Gives words given → fault_of given ≡ Some fault → ReadsWords (Err fault) words
-refused words given fault g e = refused_for words given fault (subst IsTold e (told given)) g e
+pub refused : (words : List (List ℕ)) (ss : List Setting) (fault : WordFault) → Sets words ss → fault_of (values_in ss) ≡ Some fault → ReadsWords (Err fault) words
+refused words ss fault g e = refused_for words ss fault (subst IsTold e (told (values_in ss))) g e
 
--- without a fault the names of the file and of the net are given
-names_in : (mode : ModeSpec) (name : List ℕ) (spef cons net : Option (List ℕ)) → fault_in mode (record { mode = Some name; spef = spef; cons = cons; net = net }) ≡ None
-    → ((x : List ℕ) × (spef ≡ Some x)) × ((x : List ℕ) × (net ≡ Some x))
-names_in mode name (Some a) cons (Some b) e = ((a, refl), (b, refl))
-names_in Wire name None cons net e = absurd (cc)
-names_in Time name None cons net e = absurd (cc)
-names_in Wire name (Some a) cons None e = absurd (cc)
-names_in Time name (Some a) None None e = absurd (cc)
-names_in Time name (Some a) (Some k) None e = absurd (cc)
+some_mode : (a b : ModeSpec) → Some a ≡ Some b → a ≡ b
+some_mode a b e = cc
 
-faultless_names : (given : Given) (mode : ModeSpec) (name : Option (List ℕ)) → name ≡ given.mode → fault_of_name given name ≡ None → HasMode name mode
-    → ((x : List ℕ) × (given.spef ≡ Some x)) × ((x : List ℕ) × (given.net ≡ Some x))
-faultless_names given mode None n e h = absurd h
-faultless_names given mode (Some name) n e h =
-    names_in mode name given.spef given.cons given.net
-    (ap (λ m. fault_in mode (record { mode = m; spef = given.spef; cons = given.cons; net = given.net })) n ∙ ap (fault_of_mode given) (sym h) ∙ e)
+requested_values : (values : Values) (ask : Ask) → values Mode ≡ Some (mode_name ask.mode) → values Spef ≡ ask.spef → values Cons ≡ ask.cons → values Net ≡ ask.net → (option : Opt) → values option ≡ value ask option
+requested_values values ask m s c n Mode = m
+requested_values values ask m s c n Spef = s
+requested_values values ask m s c n Cons = c
+requested_values values ask m s c n Net = n
 
--- and that of constraints where the mode needs them
-cons_in : (mode : ModeSpec) (name : List ℕ) (spef cons net : Option (List ℕ)) → fault_in mode (record { mode = Some name; spef = spef; cons = cons; net = net }) ≡ None → HasCons mode cons
-cons_in Wire name spef None net e = tt
-cons_in Time name spef (Some k) net e = tt
-cons_in Wire name None (Some k) net e = absurd (cc)
-cons_in Wire name (Some a) (Some k) None e = absurd (cc)
-cons_in Wire name (Some a) (Some k) (Some b) e = absurd (cc)
-cons_in Time name None None net e = absurd (cc)
-cons_in Time name (Some a) None net e = absurd (cc)
+-- a text that names a mode is its name
+mode_named : (text : List ℕ) (mode : ModeSpec) → mode_of text ≡ Some mode → text ≡ mode_name mode
+mode_named text mode e = elim (bytes_eq text (codes "wire")) as (λ t. bytes_eq text (codes "wire") ≡ t → (if t then Some Wire else (if bytes_eq text (codes "time") then Some Time else None)) ≡ Some mode → text ≡ mode_name mode) [
+  | true ↦ λ is same. (bytes_eq-Decides text (codes "wire")).0 is ∙ ap mode_name (some_mode Wire mode same)
+  | false ↦ λ no. elim (bytes_eq text (codes "time")) as (λ t. bytes_eq text (codes "time") ≡ t → (if t then Some Time else None) ≡ Some mode → text ≡ mode_name mode) [
+    | true ↦ λ is same. (bytes_eq-Decides text (codes "time")).0 is ∙ ap mode_name (some_mode Time mode same)
+    | false ↦ λ _ none. absurd (cc)
+  ] refl
+] refl e
 
-faultless_cons : (given : Given) (mode : ModeSpec) (name : Option (List ℕ)) → name ≡ given.mode → fault_of_name given name ≡ None → HasMode name mode → HasCons mode given.cons
-faultless_cons given mode None n e h = absurd h
-faultless_cons given mode (Some name) n e h =
-    cons_in mode name given.spef given.cons given.net
-    (ap (λ m. fault_in mode (record { mode = m; spef = given.spef; cons = given.cons; net = given.net })) n ∙ ap (fault_of_mode given) (sym h) ∙ e)
+mode_given : (name : Option (List ℕ)) (mode : ModeSpec) → HasMode name mode → name ≡ Some (mode_name mode)
+mode_given None mode h = absurd h
+mode_given (Some name) mode h = ap (λ text. Some text) (mode_named name mode h)
 
-pub named_cons : (given : Given) (mode : ModeSpec) → (fault_of given ≡ None) × HasMode given.mode mode → HasCons mode given.cons
-unfolding fault_of
-named_cons given mode (e, h) = faultless_cons given mode given.mode refl e h
+-- what is kept of the given values is the request
+pub requested : (words : List (List ℕ)) (ss : List Setting) (mode : ModeSpec) (ask : Ask) → Sets words ss → (fault_of (values_in ss) ≡ None) × HasMode (value_of Mode ss) mode
+    → ask.mode ≡ mode → ask.spef ≡ value_of Spef ss → ask.cons ≡ value_of Cons ss → ask.net ≡ value_of Net ss → IsRequest words ask
+requested words ss mode ask g (e, h) m s c n = record {
+  settings = ss;
+  set = g;
+  faultless = e;
+  values = requested_values (values_in ss) ask (mode_given (value_of Mode ss) mode h ∙ ap (λ x. Some (mode_name x)) (sym m)) (sym s) (sym c) (sym n);
+}
 
-pub requested : (words : List (List ℕ)) (given : Given) (mode : ModeSpec) → Gives words given → (fault_of given ≡ None) × HasMode given.mode mode
-    → (request : Request) × IsRequest words request × (request.mode ≡ mode) × (given.spef ≡ Some request.spef) × (given.cons ≡ request.cons) × (given.net ≡ Some request.net)
-unfolding fault_of
-requested words given mode g (e, h) =
-    let ((spef, s), (net, n)) = faultless_names given mode given.mode refl e h in (
-      record { mode = mode; spef = spef; cons = given.cons; net = net },
-      record { given = given; gives = g; faultless = e; mode = h; spef = s; cons = refl; net = n },
-      refl,
-      s,
-      refl,
-      n,
-    )
-
--- where there is a request, memory may be wanted
-pub wanted : (words : List (List ℕ)) (r : Result Ask WordFault) → IsErrAnd r (λ fault. fault ≡ Memory) → (request : Request) × IsRequest words request → ReadsWords r words
-wanted words (Ok ask) h is = absurd h
-wanted words (Err fault) h is = subst (λ f. ReadsWords (Err f) words) (sym h) is
+-- memory may be wanted
+pub wanted : (words : List (List ℕ)) (r : Result Ask WordFault) → IsErrAnd r (λ fault. fault ≡ Memory) → ReadsWords r words
+wanted words (Ok ask) h = absurd h
+wanted words (Err fault) h = subst (λ f. ReadsWords (Err f) words) (sym h) tt
 
 -- words ask for one thing at most
-some_name : (a b : List ℕ) → Some a ≡ Some b → a ≡ b
-some_name a b e = ap (or_name a) e
-  where
-    or_name : List ℕ → Option (List ℕ) → List ℕ
-    or_name d None = d
-    or_name d (Some x) = x
+named_mode : (mode : ModeSpec) → mode_of (mode_name mode) ≡ Some mode
+named_mode Wire = refl
+named_mode Time = refl
 
-one_mode : (name : Option (List ℕ)) (a b : ModeSpec) → HasMode name a → HasMode name b → a ≡ b
-one_mode None a b h k = absurd h
-one_mode (Some name) a b h k = ap (or_mode a) (sym h ∙ k)
-  where
-    or_mode : ModeSpec → Option ModeSpec → ModeSpec
-    or_mode d None = d
-    or_mode d (Some x) = x
+one_mode : (a b : ModeSpec) → mode_name a ≡ mode_name b → a ≡ b
+one_mode a b e = some_mode a b (sym (named_mode a) ∙ ap mode_of e ∙ named_mode b)
 
-pub one : (words : List (List ℕ)) (a b : Request) → IsRequest words a → IsRequest words b → a ≡ b
+some_text : (a b : List ℕ) → Some a ≡ Some b → a ≡ b
+some_text a b e = cc
+
+pub one : (words : List (List ℕ)) (a b : Ask) → IsRequest words a → IsRequest words b → a ≡ b
 one words a b x y =
-    let (_, _, u) = given_once words x.given x.gives in
-    let (_, _, v) = given_once words y.given y.gives in
-    let same : x.given ≡ y.given = u ∙ sym v in
-    let mode : a.mode ≡ b.mode = one_mode y.given.mode a.mode b.mode (subst (λ g. HasMode g.mode a.mode) same x.mode) y.mode in
-    let spef : a.spef ≡ b.spef = some_name a.spef b.spef (sym x.spef ∙ ap (λ g. g.spef) same ∙ y.spef) in
-    let cons : a.cons ≡ b.cons = sym x.cons ∙ ap (λ g. g.cons) same ∙ y.cons in
-    let net : a.net ≡ b.net = some_name a.net b.net (sym x.net ∙ ap (λ g. g.net) same ∙ y.net) in
-    λ i. record { mode = mode i; spef = spef i; cons = cons i; net = net i }
+    let (_, _, u) = set_once words x.settings x.set in
+    let (_, _, v) = set_once words y.settings y.set in
+    let same : x.settings ≡ y.settings = sym u ∙ v in
+    let values : (option : Opt) → value a option ≡ value b option = λ option. sym (x.values option) ∙ ap (value_of option) same ∙ y.values option in
+    let mode = one_mode a.mode b.mode (some_text (mode_name a.mode) (mode_name b.mode) (values Mode)) in
+    λ i. record { mode = mode i; spef = values Spef i; cons = values Cons i; net = values Net i }
 
 -- words that are refused are no request
-fault_apart : (words : List (List ℕ)) (fault : WordFault) → (given : Given) × Gives words given × (fault_of given ≡ Some fault) → (request : Request) → IsRequest words request → ⊥
-fault_apart words fault (given, gives, e) request is =
-    let (_, _, u) = given_once words given gives in
-    let (_, _, v) = given_once words is.given is.gives in
-    let none : None ≡ Some fault = sym is.faultless ∙ ap fault_of (v ∙ sym u) ∙ e in
+fault_apart : (words : List (List ℕ)) (fault : WordFault) → (ss : List Setting) × Sets words ss × (fault_of (values_in ss) ≡ Some fault) → (request : Ask) → IsRequest words request → ⊥
+fault_apart words fault (ss, set, e) request is =
+    let (_, _, u) = set_once words ss set in
+    let (_, _, v) = set_once words is.settings is.set in
+    let none : None ≡ Some fault = sym is.faultless ∙ ap (λ ss. fault_of (values_in ss)) (sym v ∙ u) ∙ e in
     cc
 
-pub refused_none : (words : List (List ℕ)) (fault : WordFault) → IsRefused words fault → (request : Request) → IsRequest words request → ⊥
-refused_none words Unread refused request is = refused is.given is.gives
+pub refused_none : (words : List (List ℕ)) (fault : WordFault) → IsRefused words fault → (request : Ask) → IsRequest words request → ⊥
+refused_none words Unread refused request is = refused is.settings is.set
 refused_none words (Missing o) refused request is = fault_apart words (Missing o) refused request is
 refused_none words (Excluded o) refused request is = fault_apart words (Excluded o) refused request is
 refused_none words (BadValue o) refused request is = fault_apart words (BadValue o) refused request is

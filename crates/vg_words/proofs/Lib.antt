@@ -1,3 +1,4 @@
 pub mod SettingLemmas
 pub mod SpellingLemmas
 pub mod JudgeLemmas
+pub mod EqualLemmas

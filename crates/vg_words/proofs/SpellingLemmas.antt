@@ -6,7 +6,7 @@ use Rattle.std.specs.List.{list_any, before_first, after_first, position_or_len}
 use Rattle.std.specs.Str.{bytes_eq}
 use Rattle.std.specs.Str.Parse.{starts_with_minus}
 use Rattle.vg_words.specs.Options.{name_of, option_of}
-use Rattle.vg_words.specs.Request.{Setting, Spells, AreSpelled, Given, Gives, given_in, are_once}
+use Rattle.vg_words.specs.Request.{Setting, Spells, AreSpelled, Sets, are_once}
 use Rattle.vg_words.specs.Settings.{is_equals, with_value, joined, apart, one_more, one_or_two, one_or_two_spelled, settings, is_spelled}
 use Rattle.vg_words.specs.declared.option.Opt.{Opt}
 use Rattle.vg_words.specs.declared.option.Opt.TheVariants.{Mode, Spef, Cons, Net}
@@ -151,11 +151,11 @@ spelled_read words ((o, v) ∷ ss) (rest, spells, more) =
     let (set_more, spelled_more) = spelled_read rest ss more in
     (set ∙ ap (λ (ss : List Setting). (o, v) ∷ ss) set_more, spelled ∙ spelled_more)
 
--- words that give something are settings, each once, and give one thing
-pub given_once : (words : List (List ℕ)) (given : Given) → Gives words given → (is_spelled words ≡ true) × (are_once (settings words) ≡ true) × (given ≡ given_in (settings words))
-given_once words given g =
-    let (set, spelled) = spelled_read words g.settings g.spelled in
-    (spelled, ap are_once set ∙ g.once, g.values ∙ ap given_in (sym set))
+-- words that are settings are read as these, each once
+pub set_once : (words : List (List ℕ)) (ss : List Setting) → Sets words ss → (is_spelled words ≡ true) × (are_once (settings words) ≡ true) × (settings words ≡ ss)
+set_once words ss s =
+    let (set, spelled) = spelled_read words ss s.spelled in
+    (spelled, ap are_once set ∙ s.once, set)
 
-pub gives : (words : List (List ℕ)) (given : Given) → is_spelled words ≡ true → are_once (settings words) ≡ true → given ≡ given_in (settings words) → Gives words given
-gives words given spelled once values = record { settings = settings words; spelled = spelled_by words spelled; once = once; values = values }
+pub sets : (words : List (List ℕ)) → is_spelled words ≡ true → are_once (settings words) ≡ true → Sets words (settings words)
+sets words spelled once = record { spelled = spelled_by words spelled; once = once }

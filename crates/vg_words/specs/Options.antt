@@ -33,6 +33,23 @@ is_same a b = place_of a == place_of b
 abbrev pub options : List Opt
 options = Mode ∷ Spef ∷ Cons ∷ Net ∷ []
 
+-- the options that name files
+abbrev pub file_options : List Opt
+file_options = Spef ∷ Cons ∷ []
+
 -- the mode that a text names
 abbrev pub mode_of : List ℕ → Option ModeSpec
 mode_of text = if bytes_eq text (codes "wire") then Some Wire else (if bytes_eq text (codes "time") then Some Time else None)
+
+abbrev pub mode_name : ModeSpec → List ℕ
+mode_name Wire = codes "wire"
+mode_name Time = codes "time"
+
+-- the options that a mode asks for
+abbrev pub required : ModeSpec → List Opt
+required Wire = Spef ∷ Net ∷ []
+required Time = Spef ∷ Cons ∷ Net ∷ []
+
+-- those that it may be given; it has no use for others
+abbrev pub allowed : ModeSpec → List Opt
+allowed mode = Mode ∷ required mode

@@ -1,14 +1,13 @@
 -- What words ask for, or the first reason why they ask for nothing.
-use Rattle.std.specs.Prelude.{◌≡◌, ◌⊎◌, ℕ, nat_lt, ◌&&◌, Bool, true, false, not, List, [], ◌∷◌, ◌++◌, length, codes, Option, Some, None, is_some, Result, Ok, Err, map, string_bytes, String, if◌then◌else◌}
-use Rattle.std.specs.List.{count_by, list_all, find}
+use Rattle.std.specs.Prelude.{◌≡◌, ◌⊎◌, ℕ, nat_lt, ◌&&◌, Bool, true, false, not, List, [], ◌∷◌, ◌++◌, length, codes, Option, Some, None, is_some, unwrap_or, Result, Ok, Err, map, string_bytes, String, if◌then◌else◌}
+use Rattle.std.specs.List.{count_by, list_all, list_any, find}
 use Rattle.std.specs.Str.{bytes_eq}
 use Rattle.std.specs.Str.Parse.{starts_with_minus}
 use Rattle.std.specs.declared.alloc.Global.{Global}
-use Rattle.vg_words.specs.Options.{name_of, mode_of, is_same, options}
+use Rattle.vg_words.specs.Options.{name_of, mode_of, mode_name, is_same, options, file_options, required, allowed}
 use Rattle.vg_words.specs.declared.option.Opt.{Opt}
 use Rattle.vg_words.specs.declared.option.Opt.TheVariants.{Mode, Spef, Cons, Net}
 use Rattle.vg_words.specs.declared.ask.Mode.{Mode as ModeSpec}
-use Rattle.vg_words.specs.declared.ask.Mode.TheVariants.{Wire, Time}
 use Rattle.vg_words.specs.declared.ask.Ask.{Ask}
 use Rattle.vg_words.specs.declared.ask.WordFault.{WordFault}
 use Rattle.vg_words.specs.declared.ask.WordFault.TheVariants.{Unread, Missing, Excluded, BadValue, Equal, Memory}
@@ -43,46 +42,30 @@ abbrev pub value_of : Opt → List Setting → Option (List ℕ)
 value_of option [] = None
 value_of option ((other, value) ∷ settings) = if is_same other option then Some value else value_of option settings
 
--- what was given for each option, if anything
-pub record Given : Type 0 where
-  pub mode : Option (List ℕ)
-  pub spef : Option (List ℕ)
-  pub cons : Option (List ℕ)
-  pub net : Option (List ℕ)
-
-abbrev pub given_in : List Setting → Given
-given_in settings = record { mode = value_of Mode settings; spef = value_of Spef settings; cons = value_of Cons settings; net = value_of Net settings }
-
-abbrev pub given_for : Given → Opt → Option (List ℕ)
-given_for given Mode = given.mode
-given_for given Spef = given.spef
-given_for given Cons = given.cons
-given_for given Net = given.net
-
--- the words give these values, and each option once
-pub record Gives (words : List (List ℕ)) (given : Given) : Type 0 where
-  pub settings : List Setting
+-- the words are these settings, and set each option at most once
+pub record Sets (words : List (List ℕ)) (settings : List Setting) : Type 0 where
   pub spelled : AreSpelled words settings
   pub once : are_once settings ≡ true
-  pub values : given ≡ given_in settings
 
--- the options that a mode asks for; it has no use for others
-abbrev pub needs : ModeSpec → Opt → Bool
-needs Wire Cons = false
-needs _ _ = true
+-- the value of each option, if it has one
+abbrev pub Values : Type 0
+Values = Opt → Option (List ℕ)
 
-abbrev pub is_missing : ModeSpec → Given → Opt → Bool
-is_missing mode given option = needs mode option && not (is_some (given_for given option))
+abbrev pub values_in : List Setting → Values
+values_in settings option = value_of option settings
 
-abbrev pub is_excluded : ModeSpec → Given → Opt → Bool
-is_excluded mode given option = is_some (given_for given option) && not (needs mode option)
+abbrev pub is_unset : Values → Opt → Bool
+is_unset values option = not (is_some (values option))
+
+abbrev pub is_excluded : ModeSpec → Values → Opt → Bool
+is_excluded mode values option = is_some (values option) && not (list_any (is_same option) (allowed mode))
 
 abbrev pub is_empty_value : Option (List ℕ) → Bool
 is_empty_value None = false
 is_empty_value (Some value) = not (nat_lt 0 (length value))
 
-abbrev pub is_bad : Given → Opt → Bool
-is_bad given option = is_empty_value (given_for given option)
+abbrev pub is_bad : Values → Opt → Bool
+is_bad values option = is_empty_value (values option)
 
 abbrev pub are_equal : Option (List ℕ) → Option (List ℕ) → Bool
 are_equal (Some a) (Some b) = bytes_eq a b
@@ -96,80 +79,77 @@ abbrev pub of_first : (Opt → WordFault) → Option Opt → Option WordFault
 of_first fault None = None
 of_first fault (Some option) = Some (fault option)
 
-abbrev pub equal_files : Given → Option WordFault
-equal_files given = if are_equal given.spef given.cons then Some (Equal Spef Cons) else None
+abbrev pub of_pair : Option (Opt × Opt) → Option WordFault
+of_pair None = None
+of_pair (Some (one, other)) = Some (Equal one other)
+
+abbrev pub with_one : Opt → Option Opt → Option (Opt × Opt) → Option (Opt × Opt)
+with_one one None later = later
+with_one one (Some other) later = Some (one, other)
+
+-- the first two options of a list that have equal values: the first one, and then the first that equals it
+unfoldable pub first_equal : Values → List Opt → Option (Opt × Opt)
+first_equal values [] = None
+first_equal values (one ∷ others) = with_one one (find (λ other. are_equal (values one) (values other)) others) (first_equal values others)
 
 -- the first missing option, else the first that the mode has no use for, else the first bad value, else equal names
-abbrev pub fault_in : ModeSpec → Given → Option WordFault
-fault_in mode given =
-    or_else (of_first Missing (find (is_missing mode given) options))
-    (or_else (of_first Excluded (find (is_excluded mode given) options))
-    (or_else (of_first BadValue (find (is_bad given) options)) (equal_files given)))
+abbrev pub fault_in : ModeSpec → Values → Option WordFault
+fault_in mode values =
+    or_else (of_first Missing (find (is_unset values) (required mode)))
+    (or_else (of_first Excluded (find (is_excluded mode values) options))
+    (or_else (of_first BadValue (find (is_bad values) options)) (of_pair (first_equal values file_options))))
 
-abbrev pub fault_of_mode : Given → Option ModeSpec → Option WordFault
-fault_of_mode given None = Some (BadValue Mode)
-fault_of_mode given (Some mode) = fault_in mode given
+abbrev pub fault_of_mode : Values → Option ModeSpec → Option WordFault
+fault_of_mode values None = Some (BadValue Mode)
+fault_of_mode values (Some mode) = fault_in mode values
 
 -- the mode comes first: whether it is given, and whether there is such a mode
-abbrev pub fault_of_name : Given → Option (List ℕ) → Option WordFault
-fault_of_name given None = Some (Missing Mode)
-fault_of_name given (Some name) = fault_of_mode given (mode_of name)
+abbrev pub fault_of_name : Values → Option (List ℕ) → Option WordFault
+fault_of_name values None = Some (Missing Mode)
+fault_of_name values (Some name) = fault_of_mode values (mode_of name)
 
-unfoldable pub fault_of : Given → Option WordFault
-fault_of given = fault_of_name given given.mode
+unfoldable pub fault_of : Values → Option WordFault
+fault_of values = fault_of_name values (values Mode)
 
 abbrev pub HasMode : Option (List ℕ) → ModeSpec → Type 0
 HasMode None mode = ⊥
 HasMode (Some name) mode = mode_of name ≡ Some mode
 
 -- the mode that is asked for where there is no fault, else the first fault
-abbrev pub Judges : Result ModeSpec WordFault → Given → Type 0
-Judges (Ok mode) given = (fault_of given ≡ None) × HasMode given.mode mode
-Judges (Err fault) given = fault_of given ≡ Some fault
+abbrev pub Judges : Result ModeSpec WordFault → Values → Type 0
+Judges (Ok mode) values = (fault_of values ≡ None) × HasMode (values Mode) mode
+Judges (Err fault) values = fault_of values ≡ Some fault
 
--- a request: the mode, the names of the SPEF file and of the net, and that of the constraints where the mode has use for them
-pub record Request : Type 0 where
-  pub mode : ModeSpec
-  pub spef : List ℕ
-  pub cons : Option (List ℕ)
-  pub net : List ℕ
+-- the value of an option in a request, if it has one
+abbrev pub value : Ask → Opt → Option (List ℕ)
+value ask Mode = Some (mode_name ask.mode)
+value ask Spef = ask.spef
+value ask Cons = ask.cons
+value ask Net = ask.net
 
--- a mode that needs constraints has their name, and the other has none
-abbrev pub HasCons : ModeSpec → Option (List ℕ) → Type 0
-HasCons Wire None = Unit {0}
-HasCons Wire (Some name) = ⊥
-HasCons Time None = ⊥
-HasCons Time (Some name) = Unit {0}
+-- that value as a text, empty where there is none
+abbrev pub text_for : Ask → Opt → List ℕ
+text_for ask option = unwrap_or (value ask option) []
 
--- the words denote the request
-pub record IsRequest (words : List (List ℕ)) (request : Request) : Type 0 where
-  pub given : Given
-  pub gives : Gives words given
-  pub faultless : fault_of given ≡ None
-  pub mode : HasMode given.mode request.mode
-  pub spef : given.spef ≡ Some request.spef
-  pub cons : given.cons ≡ request.cons
-  pub net : given.net ≡ Some request.net
+-- the words denote the request: they give each option its value, and no reason is against them
+pub record IsRequest (words : List (List ℕ)) (ask : Ask) : Type 0 where
+  pub settings : List Setting
+  pub set : Sets words settings
+  pub faultless : fault_of (values_in settings) ≡ None
+  pub values : (option : Opt) → value_of option settings ≡ value ask option
 
 -- the words are no settings, or set some option twice
 abbrev pub AreUnread : List (List ℕ) → Type 0
-AreUnread words = (given : Given) → Gives words given → ⊥
+AreUnread words = (settings : List Setting) → Sets words settings → ⊥
 
 -- the words are refused for this first reason
 abbrev pub IsRefused : List (List ℕ) → WordFault → Type 0
 IsRefused words Unread = AreUnread words
 IsRefused words Memory = ⊥
-IsRefused words fault = (given : Given) × Gives words given × (fault_of given ≡ Some fault)
+IsRefused words fault = (settings : List Setting) × Sets words settings × (fault_of (values_in settings) ≡ Some fault)
 
--- what was read is the request
-pub record IsAskFor (ask : Ask) (request : Request) : Type 0 where
-  pub mode : ask.mode ≡ request.mode
-  pub spef : ask.spef ≡ Some request.spef
-  pub cons : ask.cons ≡ request.cons
-  pub net : ask.net ≡ Some request.net
-
--- what reading the words may answer: the request, why there is none, or want of memory where there is one
+-- what reading the words may answer: the request, why there is none, or want of memory
 abbrev pub ReadsWords : Result Ask WordFault → List (List ℕ) → Type 0
-ReadsWords (Ok ask) words = (request : Request) × IsRequest words request × IsAskFor ask request
-ReadsWords (Err Memory) words = (request : Request) × IsRequest words request
+ReadsWords (Ok ask) words = IsRequest words ask
+ReadsWords (Err Memory) words = Unit {0}
 ReadsWords (Err fault) words = IsRefused words fault

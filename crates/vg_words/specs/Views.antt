@@ -1,12 +1,7 @@
 -- What the code keeps of the words.
-use Rattle.std.specs.Prelude.{option_map}
-use Rattle.vg_words.specs.Request.{Given}
-use Rattle.vg_words.specs.declared.given.Given.{Given as Kept}
+use Rattle.vg_words.specs.Request.{texts, Values, values_in}
+use Rattle.vg_words.specs.Settings.{settings}
+use Rattle.vg_words.specs.declared.given.Given.{Given}
 
-abbrev pub given_by : Kept → Given
-given_by kept = record {
-  mode = option_map (λ text. text.now) kept.mode;
-  spef = option_map (λ text. text.now) kept.spef;
-  cons = option_map (λ text. text.now) kept.cons;
-  net = option_map (λ text. text.now) kept.net;
-}
+abbrev pub given_by : Given → Values
+given_by given = values_in (settings (texts given.words.now))

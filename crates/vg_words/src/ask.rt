@@ -1,4 +1,7 @@
 ghost use Rattle.std.specs.Prelude.{◌≡◌};
+ghost use Rattle.std.specs.List.{list_any};
+ghost use Rattle.vg_words.specs.Options.{allowed, is_same, mode_name, required};
+ghost use Rattle.vg_words.specs.Request.{text_for};
 ghost use Rattle.vg_words.specs.declared.ask.WordFault.TheVariants.{Memory as out_of_memory};
 
 use crate::option::Opt;
@@ -13,6 +16,39 @@ pub enum Mode {
     Time,
 }
 
+const WIRE_OPTIONS: [Opt; 2] = [Opt::Spef, Opt::Net];
+
+const TIME_OPTIONS: [Opt; 3] = [Opt::Spef, Opt::Cons, Opt::Net];
+
+impl Mode {
+    /// The options that the mode asks for.
+    pub(crate) fn required(self) -> &'static [Opt]
+        ensures { result.now ≡ required self }
+    {
+        match self {
+            Mode::Wire => &WIRE_OPTIONS,
+            Mode::Time => &TIME_OPTIONS,
+        }
+    }
+
+    /// Whether the mode may be given an option.
+    pub(crate) fn allows(self, option: Opt) -> bool
+        ensures { result ≡ list_any (is_same option) (allowed self) }
+    {
+        option == Opt::Mode || self.required().iter().any(|other| option.is_same(*other))
+    }
+
+    /// The mode's name in the words.
+    pub fn name(self) -> &'static str
+        ensures { result.now ≡ mode_name self }
+    {
+        match self {
+            Mode::Wire => "wire",
+            Mode::Time => "time",
+        }
+    }
+}
+
 /// What the words ask for.
 #[derive(Drop)]
 pub struct Ask {
@@ -23,6 +59,24 @@ pub struct Ask {
     pub cons: Option<Text>,
     /// The name of the net.
     pub net: Option<Text>,
+}
+
+impl Ask {
+    /// The value of an option as a text, empty where it has none.
+    pub fn text(&self, option: Opt) -> &str
+        ensures { result.now ≡ text_for self.now option }
+    {
+        let value = match option {
+            Opt::Mode => return self.mode.name(),
+            Opt::Spef => &self.spef,
+            Opt::Cons => &self.cons,
+            Opt::Net => &self.net,
+        };
+        match value {
+            Some(text) => text.as_str(),
+            None => "",
+        }
+    }
 }
 
 /// Why the words ask for nothing: the first of these, in this order.

@@ -1,20 +1,17 @@
 //! The values that words give to options.
-ghost use Rattle.std.specs.Prelude.{◌≡◌, true, option_map, MatchOption, IsTrue};
+ghost use Rattle.std.specs.Prelude.{◌≡◌, true, option_map, MatchOption, IfSome, IsTrue};
 ghost use Rattle.std.specs.List.{count_by};
-ghost use Rattle.vg_words.specs.Request.{texts, is_of, value_of, are_once, given_for, AreUnread, Gives};
+ghost use Rattle.vg_words.specs.Request.{texts, is_of, value_of, are_once, AreUnread, Sets};
 ghost use Rattle.vg_words.specs.Settings.{settings, is_spelled};
 ghost use Rattle.vg_words.specs.Views.{given_by};
 
 use crate::option::{OPTIONS, Opt};
 use crate::setting::setting_at;
 
-/// What was given for each option, if anything.
+/// Words that are settings, with no option set twice.
 #[derive(Clone, Copy)]
 pub struct Given<'a> {
-    pub mode: Option<&'a str>,
-    pub spef: Option<&'a str>,
-    pub cons: Option<&'a str>,
-    pub net: Option<&'a str>,
+    words: &'a [String],
 }
 
 /// Whether the words are settings, one after another.
@@ -85,28 +82,19 @@ fn are_once(words: &[String]) -> bool
 impl<'a> Given<'a> {
     /// What the words give. `None`: they are no settings, or set some option twice.
     pub fn of(words: &'a [String]) -> Option<Given<'a>>
-        ensures { MatchOption result (AreUnread (texts words.now)) (λ given. Gives (texts words.now) (given_by given)) }
+        ensures given { MatchOption result (AreUnread (texts words.now)) (λ given. Sets (texts words.now) (settings (texts words.now))) }
+        ensures words { IfSome result (λ given. given.words.now ≡ words.now) }
     {
         if !is_spelled(words) || !are_once(words) {
             return None;
         }
-        Some(Given {
-            mode: value_of(words, Opt::Mode),
-            spef: value_of(words, Opt::Spef),
-            cons: value_of(words, Opt::Cons),
-            net: value_of(words, Opt::Net),
-        })
+        Some(Given { words })
     }
 
-    /// What is given for an option.
+    /// The value of an option.
     pub fn get(&self, option: Opt) -> Option<&'a str>
-        ensures { option_map (λ value. value.now) result ≡ given_for (given_by self.now) option }
+        ensures { option_map (λ value. value.now) result ≡ given_by self.now option }
     {
-        match option {
-            Opt::Mode => self.mode,
-            Opt::Spef => self.spef,
-            Opt::Cons => self.cons,
-            Opt::Net => self.net,
-        }
+        value_of(self.words, option)
     }
 }

@@ -1,13 +1,14 @@
 //! What is asked for, or the first reason against it.
 ghost use Rattle.std.specs.Prelude.{◌≡◌, Some, None, IfOk, option_map};
 ghost use Rattle.std.specs.List.{find};
-ghost use Rattle.vg_words.specs.Options.{mode_of, options};
-ghost use Rattle.vg_words.specs.Request.{texts, needs, is_missing, is_excluded, is_bad, are_equal, fault_in, Judges, HasCons, ReadsWords};
+ghost use Rattle.vg_words.specs.Options.{mode_of, options, file_options, required};
+ghost use Rattle.vg_words.specs.Request.{texts, is_unset, is_excluded, is_bad, are_equal, first_equal, fault_in, Judges, ReadsWords};
+ghost use Rattle.vg_words.specs.declared.option.Opt.{Opt};
 ghost use Rattle.vg_words.specs.Views.{given_by};
 
 use crate::ask::{Ask, Mode, WordFault};
 use crate::given::Given;
-use crate::option::{OPTIONS, Opt};
+use crate::option::{FILE_OPTIONS, OPTIONS, Opt};
 use std::alloc::Global;
 use vg_num::{Memory, Text};
 
@@ -24,14 +25,16 @@ fn mode_of(name: &str) -> Option<Mode>
     }
 }
 
-/// Whether a mode asks for an option. It has no use for others.
-fn needs(mode: Mode, option: Opt) -> bool
-    ensures { result ≡ needs mode option }
+fn is_unset(given: &Given<'_>, option: Opt) -> bool
+    ensures { result ≡ is_unset (given_by given.now) option }
 {
-    match (mode, option) {
-        (Mode::Wire, Opt::Cons) => false,
-        _ => true,
-    }
+    given.get(option).is_none()
+}
+
+fn is_excluded(mode: Mode, given: &Given<'_>, option: Opt) -> bool
+    ensures { result ≡ is_excluded mode (given_by given.now) option }
+{
+    given.get(option).is_some() && !mode.allows(option)
 }
 
 fn is_bad(given: &Given<'_>, option: Opt) -> bool
@@ -43,25 +46,13 @@ fn is_bad(given: &Given<'_>, option: Opt) -> bool
     }
 }
 
-fn is_missing(mode: Mode, given: &Given<'_>, option: Opt) -> bool
-    ensures { result ≡ is_missing mode (given_by given.now) option }
-{
-    needs(mode, option) && given.get(option).is_none()
-}
-
-fn is_excluded(mode: Mode, given: &Given<'_>, option: Opt) -> bool
-    ensures { result ≡ is_excluded mode (given_by given.now) option }
-{
-    given.get(option).is_some() && !needs(mode, option)
-}
-
 fn first_missing(mode: Mode, given: &Given<'_>) -> Option<Opt>
-    ensures { result ≡ find (is_missing mode (given_by given.now)) options }
+    ensures { result ≡ find (is_unset (given_by given.now)) (required mode) }
 {
-    OPTIONS
+    mode.required()
         .iter()
         .copied()
-        .find(|option| is_missing(mode, given, *option))
+        .find(|option| is_unset(given, *option))
 }
 
 fn first_excluded(mode: Mode, given: &Given<'_>) -> Option<Opt>
@@ -91,6 +82,35 @@ fn are_equal(a: Option<&str>, b: Option<&str>) -> bool
     }
 }
 
+fn have_equal(given: &Given<'_>, one: Opt, other: Opt) -> bool
+    ensures { result ≡ are_equal (given_by given.now one) (given_by given.now other) }
+{
+    are_equal(given.get(one), given.get(other))
+}
+
+/// The first of these options that has the same value as one.
+fn equal_to(given: &Given<'_>, one: Opt, others: &[Opt]) -> Option<Opt>
+    ensures { result ≡ find (λ other. are_equal (given_by given.now one) (given_by given.now other)) others.now }
+{
+    others
+        .iter()
+        .copied()
+        .find(|other| have_equal(given, one, *other))
+}
+
+/// The first two file options that name one file.
+fn first_equal(given: &Given<'_>) -> Option<(Opt, Opt)>
+    ensures { result ≡ first_equal (given_by given.now) file_options }
+{
+    let files = FILE_OPTIONS.as_slice();
+    'file: for at in 0..files.len() {
+        if let Some(other) = equal_to(given, files[at], &files[at + 1..]) {
+            return Some((files[at], other));
+        }
+    }
+    None
+}
+
 /// The first reason against what is given for a mode.
 fn fault_in(mode: Mode, given: &Given<'_>) -> Option<WordFault>
     ensures { result ≡ fault_in mode (given_by given.now) }
@@ -104,10 +124,10 @@ fn fault_in(mode: Mode, given: &Given<'_>) -> Option<WordFault>
     if let Some(option) = first_bad(given) {
         return Some(WordFault::BadValue(option));
     }
-    if are_equal(given.spef, given.cons) {
-        return Some(WordFault::Equal(Opt::Spef, Opt::Cons));
+    match first_equal(given) {
+        Some((one, other)) => Some(WordFault::Equal(one, other)),
+        None => None,
     }
-    None
 }
 
 /// The mode that is asked for, or the first reason against what is given.
@@ -115,7 +135,7 @@ fn fault_in(mode: Mode, given: &Given<'_>) -> Option<WordFault>
 fn judge(given: &Given<'_>) -> Result<Mode, WordFault>
     ensures { Judges result (given_by given.now) }
 {
-    let Some(name) = given.mode else {
+    let Some(name) = given.get(Opt::Mode) else {
         return Err(WordFault::Missing(Opt::Mode));
     };
     let Some(mode) = mode_of(name) else {
@@ -139,13 +159,13 @@ fn text_of(alloc: Global, text: Option<&str>) -> Result<Option<Text>, Memory>
 
 fn copied(alloc: Global, mode: Mode, given: &Given<'_>) -> Result<Ask, Memory>
     ensures mode { IfOk result (λ ask. ask.mode ≡ mode) }
-    ensures spef { IfOk result (λ ask. ask.spef ≡ (given_by given.now).spef) }
-    ensures cons { IfOk result (λ ask. ask.cons ≡ (given_by given.now).cons) }
-    ensures net { IfOk result (λ ask. ask.net ≡ (given_by given.now).net) }
+    ensures spef { IfOk result (λ ask. ask.spef ≡ given_by given.now Opt.Spef) }
+    ensures cons { IfOk result (λ ask. ask.cons ≡ given_by given.now Opt.Cons) }
+    ensures net { IfOk result (λ ask. ask.net ≡ given_by given.now Opt.Net) }
 {
-    let spef = text_of(alloc, given.spef)?;
-    let cons = text_of(alloc, given.cons)?;
-    let net = text_of(alloc, given.net)?;
+    let spef = text_of(alloc, given.get(Opt::Spef))?;
+    let cons = text_of(alloc, given.get(Opt::Cons))?;
+    let net = text_of(alloc, given.get(Opt::Net))?;
     Ok(Ask {
         mode,
         spef,
@@ -158,11 +178,10 @@ fn copied(alloc: Global, mode: Mode, given: &Given<'_>) -> Result<Ask, Memory>
 ///
 /// Each option is `--name value` or `--name=value`, in any order, at most once; a value that stands in a word of its
 /// own does not begin with `-`. Mode `wire` asks for `--spef` and `--net`, mode `time` for `--cons` too. The faults
-/// come in the order of `WordFault`, and of one kind the first option in the order of `Opt`; `Memory` comes only where
-/// there is no other.
+/// come in the order of `WordFault`, and of one kind the first option in the order of `Opt`. Answers `Memory` where
+/// there is no room.
 pub fn read_words(alloc: Global, words: &[String]) -> Result<Ask, WordFault>
-    ensures reads { ReadsWords result (texts words.now) }
-    ensures cons { IfOk result (λ ask. HasCons ask.mode ask.cons) }
+    ensures { ReadsWords result (texts words.now) }
 {
     let Some(given) = Given::of(words) else {
         return Err(WordFault::Unread);

@@ -17,6 +17,9 @@ pub enum Opt {
 /// All options, in order.
 pub const OPTIONS: [Opt; 4] = [Opt::Mode, Opt::Spef, Opt::Cons, Opt::Net];
 
+/// Those that name files.
+pub const FILE_OPTIONS: [Opt; 2] = [Opt::Spef, Opt::Cons];
+
 impl Opt {
     /// The option as a word.
     pub fn name(self) -> &'static str

@@ -1,12 +1,46 @@
--- Answers that refuse a net.
-use Rattle.std.proofs.Common.{ℕ, List, Ok}
+-- Answers that refuse a net, and faults that are handed on.
+use Rattle.std.proofs.Common.{◌≡◌, ℕ, List, [], inl, inr, refl, sym, subst, Result, Ok, Err}
+use Rattle.std.specs.Result.{IsErrAnd}
+use Rattle.vg_cons.specs.Rows.{Rows}
 use Rattle.vg_design.specs.Nets.{IsRefusalOf}
+use Rattle.vg_design.specs.Timings.{IsTimeRefusalOf}
 use Rattle.vg_design.specs.declared.refusal.Refusal.{Refusal}
-use Rattle.vginsert_top.specs.Answer.{Answers, IsRefusedWith}
+use Rattle.vg_words.specs.declared.ask.Mode.TheVariants.{Wire, Time}
+use Rattle.vginsert_top.specs.Answer.{AnswersFor, Indexes, ReadsCons, IsRefusedWith, texts_of}
 use Rattle.vginsert_top.specs.Reports.{refusal_line}
+use Rattle.vginsert_top.specs.Results.{AreRowsOf, IsSpef}
 use Rattle.vginsert_top.specs.declared.answer.Answer.{Answer}
 use Rattle.vginsert_top.specs.declared.answer.Answer.TheVariants.{Report, Refused}
+use Rattle.vginsert_top.specs.declared.answer.NoAnswer.{NoAnswer}
+use Rattle.vginsert_top.specs.declared.answer.NoAnswer.TheVariants.{Faulty, Memory}
+use Rattle.vginsert_top.specs.declared.input.Input.TheVariants.{Spef, Cons}
 
-pub refused_answer : (file name : List ℕ) (refusal : Refusal) (answer : Answer) → IsRefusalOf file name refusal → IsRefusedWith (refusal_line name refusal) answer → Answers (Ok answer) file name
+pub refused_answer : (file name : List ℕ) (refusal : Refusal) (answer : Answer) → IsRefusalOf file name refusal → IsRefusedWith (refusal_line name refusal) answer → AnswersFor Wire (texts_of file []) name (Ok answer)
 refused_answer file name refusal (Refused text) of is = record { refusal = refusal; refused = of; text_is = is }
 refused_answer file name refusal (Report text) of is = absurd is
+
+pub untimed_answer : (spef cons name : List ℕ) (rows : Rows) (refusal : Refusal) (answer : Answer) → AreRowsOf cons rows → IsTimeRefusalOf spef name rows refusal → IsRefusedWith (refusal_line name refusal) answer
+    → AnswersFor Time (texts_of spef cons) name (Ok answer)
+untimed_answer spef cons name rows refusal (Refused text) are of is = record { rows = rows; constraints = are; refusal = refusal; refused = of; text_is = is }
+untimed_answer spef cons name rows refusal (Report text) are of is = absurd is
+
+-- a fault of the SPEF file, and one of the constraints
+pub wire_spef : (spef name : List ℕ) (fault : NoAnswer) → Indexes (Err fault) spef → AnswersFor Wire (texts_of spef []) name (Err fault)
+wire_spef spef name (Faulty Spef line) is = inl (refl, is)
+wire_spef spef name (Faulty Cons line) is = absurd is
+wire_spef spef name Memory is = tt
+
+pub time_spef : (spef cons name : List ℕ) (fault : NoAnswer) → Indexes (Err fault) spef → AnswersFor Time (texts_of spef cons) name (Err fault)
+time_spef spef cons name (Faulty Spef line) is = inl (refl, is)
+time_spef spef cons name (Faulty Cons line) is = absurd is
+time_spef spef cons name Memory is = tt
+
+pub time_cons : (spef cons name : List ℕ) (fault : NoAnswer) → IsSpef spef → ReadsCons (Err fault) cons → AnswersFor Time (texts_of spef cons) name (Err fault)
+time_cons spef cons name (Faulty Spef line) said is = absurd is
+time_cons spef cons name (Faulty Cons line) said is = inr (said, inl (refl, is))
+time_cons spef cons name Memory said is = tt
+
+-- a fault that is handed on
+pub handed : (P : Result Answer NoAnswer → Type 0) (answered : Result Answer NoAnswer) (fault : NoAnswer) → IsErrAnd answered (λ f. f ≡ fault) → P (Err fault) → P answered
+handed P (Ok answer) fault is answers = absurd is
+handed P (Err f) fault is answers = subst (λ (x : NoAnswer). P (Err x)) (sym is) answers

@@ -11,25 +11,28 @@ use Rattle.spef_file.specs.Nets.{NetHead}
 use Rattle.spef_file.specs.Files.{File, IsFileOf, IsFileFault}
 use Rattle.spef_file.proofs.LawLemmas.{file_along, fault_along, lines_along}
 use Rattle.spef_file.specs.Indexes.{lines_after}
-use Rattle.spef_net.specs.Sections.{sayings_in, IsNetOf, IsFaultOf}
-use Rattle.spef_net.specs.Statements.{sayings}
+use Rattle.spef_net.specs.Sections.{statements_in, IsNetOf, IsFaultOf}
+use Rattle.spef_net.specs.Statements.{statements}
 use Rattle.spef_net.specs.Faults.{IsFaultless, IsFirstFaultIn}
 use Rattle.spef_net.specs.Denoted.{IsNet}
 use Rattle.spef_net.specs.declared.net.ParNet.{ParNet}
 use Rattle.vg_design.specs.Nets.{IsHeadOf, IsNetNamed, IsNetRefused, IsRefusalOf}
 use Rattle.vg_design.specs.Wires.{IsWireOf}
 use Rattle.vg_design.specs.declared.refusal.Refusal.{Refusal}
-use Rattle.vg_design.specs.declared.refusal.Refusal.TheVariants.{UnknownNet, Section as Faulty, Reduced, Inductive, Bidirectional, NoDriver, ManyDrivers, Floating, Loop, NoSink, TooLarge}
+use Rattle.vg_design.specs.declared.refusal.Refusal.TheVariants.{NotYet, UnknownNet, Section as Faulty, Reduced, Inductive, Bidirectional, NoDriver, ManyDrivers, Floating, Loop, NoSink, Unconstrained, TooLarge}
 use Rattle.vg_design.specs.declared.wire.WireNet.{WireNet}
 use Rattle.vg_design.specs.Wires.{IsTreeNamed}
 use Rattle.elmore.specs.declared.tree.Node.{Node}
-use Rattle.vginsert_top.specs.Answer.{Answers}
-use Rattle.vginsert_top.specs.TimeAnswer.{AnswersTime}
-use Rattle.vginsert_top.specs.Timing.{IsTimed, IsTimeRefusal}
+use Rattle.vg_words.specs.declared.ask.Mode.TheVariants.{Wire, Time}
+use Rattle.vginsert_top.specs.Answer.{AnswersFor, texts_of}
+use Rattle.vginsert_top.specs.Results.{IsSpefFault}
+use Rattle.vg_cons.specs.Rows.{Rows}
+use Rattle.vg_design.specs.Timings.{IsTimedOf, IsTimeRefusalOf}
+use Rattle.vg_design.specs.declared.time.slack.Timed.{Timed}
 use Rattle.vginsert_top.specs.declared.answer.Answer.{Answer}
 use Rattle.vginsert_top.specs.declared.answer.Answer.TheVariants.{Report, Refused}
-use Rattle.vginsert_top.specs.declared.answer.AskFault.{AskFault}
-use Rattle.vginsert_top.specs.declared.answer.AskFault.TheVariants.{Spef as SpefFaulty, Cons, Memory}
+use Rattle.vginsert_top.specs.declared.answer.NoAnswer.{NoAnswer}
+use Rattle.vginsert_top.specs.declared.answer.NoAnswer.TheVariants.{Faulty as FaultyInput, Memory}
 
 module _ (raw clear : List ℕ) (same : without_comments Spef clear ≡ without_comments Spef raw) where
   file_same : (file : File) → IsFileOf clear file → IsFileOf raw file
@@ -41,8 +44,8 @@ module _ (raw clear : List ℕ) (same : without_comments Spef clear ≡ without_
   after_same : (line : ℕ) → lines_after clear line ≡ lines_after raw line
   after_same line = lines_along clear raw line same
 
-  says_same : (file : File) (head : NetHead) → sayings_in clear file head ≡ sayings_in raw file head
-  says_same file head = ap (λ ls. if head.reduced then [] else sayings file ls) (after_same head.line)
+  says_same : (file : File) (head : NetHead) → statements_in clear file head ≡ statements_in raw file head
+  says_same file head = ap (λ ls. if head.reduced then [] else statements file ls) (after_same head.line)
 
   net_same : (file : File) (head : NetHead) (net : ParNet) → IsNetOf clear file head net → IsNetOf raw file head net
   net_same file head net h = record {
@@ -63,6 +66,8 @@ module _ (raw clear : List ℕ) (same : without_comments Spef clear ≡ without_
   refused_same name refusal h = record { net = h.net; named = named_same name h.net h.named; refused = h.refused }
 
   pub refusal_same : (name : List ℕ) (refusal : Refusal) → IsRefusalOf clear name refusal → IsRefusalOf raw name refusal
+  refusal_same name NotYet h = h
+  refusal_same name (Unconstrained node) h = h
   refusal_same name UnknownNet h = record { file = h.file; said = file_same h.file h.said; none = h.none }
   refusal_same name (Faulty fault) h = record { file = h.file; head = h.head; head_of = head_same name h.file h.head h.head_of; first = fault_same h.file h.head fault h.first }
   refusal_same name Reduced h = refused_same name Reduced h
@@ -78,30 +83,31 @@ module _ (raw clear : List ℕ) (same : without_comments Spef clear ≡ without_
   wire_same : (name : List ℕ) (wire : WireNet) → IsWireOf clear name wire → IsWireOf raw name wire
   wire_same name wire h = record { net = h.net; named = named_same name h.net h.named; accepted = h.accepted; wire_is = h.wire_is }
 
-  -- an answer of the one is an answer of the other
-  pub answers_same : (result : Result Answer AskFault) (name : List ℕ) → Answers result clear name → Answers result raw name
-  answers_same (Ok (Report text)) name h = record { wire = h.wire; wire_of = wire_same name h.wire h.wire_of; text_is = h.text_is }
-  answers_same (Ok (Refused text)) name h = record { refusal = h.refusal; refused = refusal_same name h.refusal h.refused; text_is = h.text_is }
-  answers_same (Err (SpefFaulty text)) name h = record { fault = h.fault; found = fault_of_file_same h.fault h.found; text_is = h.text_is }
-  answers_same (Err (Cons text)) name h = absurd h
-  answers_same (Err Memory) name h = tt
-
   tree_same : (name : List ℕ) (net : ParNet) (tree : List Node) (order : List ℕ) → IsTreeNamed clear name net tree order → IsTreeNamed raw name net tree order
   tree_same name net tree order h = record { named = named_same name net h.named; accepted = h.accepted; a_tree = h.a_tree }
 
-  timed_same : (cons name text : List ℕ) → IsTimed clear cons name text → IsTimed raw cons name text
-  timed_same cons name text h = record { net = h.net; tree = h.tree; order = h.order; named = tree_same name h.net h.tree h.order h.named; rows = h.rows; constraints = h.constraints; timed = h.timed }
+  timed_same : (name : List ℕ) (rows : Rows) (timed : Timed) → IsTimedOf clear name rows timed → IsTimedOf raw name rows timed
+  timed_same name rows timed h = record { net = h.net; tree = h.tree; order = h.order; named = tree_same name h.net h.tree h.order h.named; timing = h.timing }
 
-  time_refusal_same : (cons name text : List ℕ) → IsTimeRefusal clear cons name text → IsTimeRefusal raw cons name text
-  time_refusal_same cons name text (inl h) =
-      inl (record { refusal = h.refusal; refused = refusal_same name h.refusal h.refused; low = h.low; rows = h.rows; constraints = h.constraints; text_is = h.text_is })
-  time_refusal_same cons name text (inr h) =
-      inr (record { net = h.net; tree = h.tree; order = h.order; named = tree_same name h.net h.tree h.order h.named; rows = h.rows; constraints = h.constraints; untimed = h.untimed })
+  time_refusal_same : (name : List ℕ) (rows : Rows) (refusal : Refusal) → IsTimeRefusalOf clear name rows refusal → IsTimeRefusalOf raw name rows refusal
+  time_refusal_same name rows refusal (inl h) = inl (refusal_same name refusal h.0, h.1)
+  time_refusal_same name rows refusal (inr h) = inr (record { net = h.net; tree = h.tree; order = h.order; named = tree_same name h.net h.tree h.order h.named; untimed = h.untimed })
 
-  -- the same of timing
-  pub times_same : (result : Result Answer AskFault) (cons name : List ℕ) → AnswersTime result clear cons name → AnswersTime result raw cons name
-  times_same (Ok (Report text)) cons name h = timed_same cons name text.items h
-  times_same (Ok (Refused text)) cons name h = time_refusal_same cons name text.items h
-  times_same (Err (SpefFaulty text)) cons name h = record { fault = h.fault; found = fault_of_file_same h.fault h.found; text_is = h.text_is }
-  times_same (Err (Cons text)) cons name h = ((h.0.0, file_same h.0.0 h.0.1), h.1)
-  times_same (Err Memory) cons name h = tt
+  spef_same : (line : List ℕ) → IsSpefFault clear line → IsSpefFault raw line
+  spef_same line h = record { fault = h.fault; found = fault_of_file_same h.fault h.found; text_is = h.text_is }
+
+  -- an answer of the one is an answer of the other
+  pub wire_answers : (cons name : List ℕ) (result : Result Answer NoAnswer) → AnswersFor Wire (texts_of clear []) name result → AnswersFor Wire (texts_of raw cons) name result
+  wire_answers cons name (Ok (Report text)) h = record { wire = h.wire; wire_of = wire_same name h.wire h.wire_of; text_is = h.text_is }
+  wire_answers cons name (Ok (Refused text)) h = record { refusal = h.refusal; refused = refusal_same name h.refusal h.refused; text_is = h.text_is }
+  wire_answers cons name (Err (FaultyInput input line)) (inl (is, fault)) = inl (is, spef_same line fault)
+  wire_answers cons name (Err (FaultyInput input line)) (inr (good, none)) = absurd none
+  wire_answers cons name (Err Memory) h = tt
+
+  pub time_answers : (cons name : List ℕ) (result : Result Answer NoAnswer) → AnswersFor Time (texts_of clear cons) name result → AnswersFor Time (texts_of raw cons) name result
+  time_answers cons name (Ok (Report text)) h = record { rows = h.rows; constraints = h.constraints; timed = h.timed; timed_of = timed_same name h.rows h.timed h.timed_of; text_is = h.text_is }
+  time_answers cons name (Ok (Refused text)) h =
+      record { rows = h.rows; constraints = h.constraints; refusal = h.refusal; refused = time_refusal_same name h.rows h.refusal h.refused; text_is = h.text_is }
+  time_answers cons name (Err (FaultyInput input line)) (inl (is, fault)) = inl (is, spef_same line fault)
+  time_answers cons name (Err (FaultyInput input line)) (inr (good, more)) = inr ((good.0, file_same good.0 good.1), more)
+  time_answers cons name (Err Memory) h = tt

@@ -1,8 +1,7 @@
 pub mod GainLemmas
-pub mod EndingLemmas
+pub mod InputLemmas
+pub mod OutcomeLemmas
 pub mod RunLemmas
 pub mod AnswerLemmas
-pub mod TimeLemmas
-pub mod TimeAnswerLemmas
 pub mod ClearLemmas
 pub mod ReportLemmas

@@ -1,9 +1,7 @@
 pub mod Faults
 pub mod Reports
-pub mod Outcome
-pub mod Timing
-pub mod Run
+pub mod Results
+pub mod Inputs
 pub mod Answer
-pub mod TimeAnswer
-pub mod TimeSteps
-pub mod Ending
+pub mod Run
+pub mod Outcomes

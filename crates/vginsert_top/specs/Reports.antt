@@ -1,10 +1,11 @@
 -- The lines of reports.
-use Rattle.std.specs.Prelude.{ℕ, ◌==◌, ℤ, pos, List, ◌∷◌, ◌++◌, length, codes, decimal, if◌then◌else◌}
+use Rattle.std.specs.Prelude.{ℕ, ◌==◌, ℤ, pos, List, ◌∷◌, ◌++◌, length, codes, decimal, if◌then◌else◌, Option, Some, None}
 use Rattle.std.specs.Fmt.{signed_decimal}
 use Rattle.std.specs.List.{flat_map}
 use Rattle.vg_scan.specs.declared.name.NodeName.{NodeName}
 use Rattle.vg_design.specs.declared.refusal.Refusal.{Refusal}
-use Rattle.vg_design.specs.declared.refusal.Refusal.TheVariants.{UnknownNet, Section, Reduced, Inductive, Bidirectional, NoDriver, ManyDrivers, Floating, Loop, NoSink, TooLarge}
+use Rattle.vg_design.specs.declared.refusal.Refusal.TheVariants.{NotYet, UnknownNet, Section, Reduced, Inductive, Bidirectional, NoDriver, ManyDrivers, Floating, Loop, NoSink, Unconstrained, TooLarge}
+use Rattle.vg_design.specs.declared.time.slack.Timed.{Timed}
 use Rattle.vg_design.specs.declared.wire.WireNet.{WireNet}
 use Rattle.vg_design.specs.Refusals.{number_of}
 use Rattle.vginsert_top.specs.Faults.{net_fault}
@@ -25,8 +26,18 @@ sink_line row = codes "sink " ++ printed_node row.0 ++ codes " " ++ signed_decim
 abbrev pub wire_report : List ℕ → WireNet → List ℕ
 wire_report name wire = total_line name wire.total ++ flat_map sink_line wire.sinks
 
+-- `right`, or `wrong NODE`
+abbrev pub polarity_text : Option NodeName → List ℕ
+polarity_text None = codes "right"
+polarity_text (Some node) = codes "wrong " ++ printed_node node
+
+-- `net NAME slack S polarity right`, or `net NAME slack S polarity wrong NODE` (zs)
+abbrev pub slack_line : List ℕ → Timed → List ℕ
+slack_line name timed = codes "net " ++ (name ++ (codes " slack " ++ (signed_decimal timed.slack ++ (codes " polarity " ++ (polarity_text timed.wrong ++ codes "\n")))))
+
 -- the kind of a refusal, and what it tells
 abbrev pub refusal_kind : Refusal → List ℕ
+refusal_kind NotYet = codes "NotYet"
 refusal_kind UnknownNet = codes "UnknownNet"
 refusal_kind (Section fault) = codes "Section " ++ net_fault fault
 refusal_kind Reduced = codes "Reduced"
@@ -37,6 +48,7 @@ refusal_kind ManyDrivers = codes "ManyDrivers"
 refusal_kind (Floating node) = codes "Floating " ++ printed_node node
 refusal_kind Loop = codes "Loop"
 refusal_kind NoSink = codes "NoSink"
+refusal_kind (Unconstrained node) = codes "Unconstrained " ++ printed_node node
 refusal_kind TooLarge = codes "TooLarge"
 
 -- `net NAME refused NUMBER KIND`

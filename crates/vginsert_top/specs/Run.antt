@@ -1,84 +1,28 @@
 -- What a run of the program promises.
-use Rattle.std.specs.Prelude.{◌≡◌, ◌⊎◌, ℕ, ◌^◌, ◌<◌, ◌≤◌, List, [], ◌∷◌, ◌++◌, ◌==◌, Bool, length, codes, Option, Some, IfSome}
-use Rattle.std.specs.List.{list_any}
+use Rattle.std.specs.Prelude.{◌≡◌, ◌⊎◌, ℕ, List, [], ◌∷◌, ◌++◌, ◌==◌, Bool, codes, Some}
+use Rattle.std.specs.List.{All, list_any}
 use Rattle.vg_store.specs.Causes.{Rose}
-use Rattle.vg_store.specs.Writing.{Gains, GainsPrefix}
-use Rattle.spef_file.specs.Files.{File, IsFileOf}
-use Rattle.vg_cons.specs.Lines.{lines_of as cons_lines}
-use Rattle.vg_cons.specs.Faults.{IsFaultIn}
-use Rattle.vg_scan.specs.declared.fault.LineFault.{LineFault}
-use Rattle.vg_cons.specs.declared.fault.ConsKind.{ConsKind}
+use Rattle.vg_store.specs.Reading.{FilesState}
+use Rattle.vg_store.specs.Writing.{OutState, Gains, GainsPrefix}
 use Rattle.vg_words.specs.Options.{name_of as option_name}
-use Rattle.vg_words.specs.Request.{Request, IsRequest, IsRefused}
-use Rattle.vg_words.specs.declared.ask.Mode.{Mode}
-use Rattle.vg_words.specs.declared.ask.Mode.TheVariants.{Wire, Time}
+use Rattle.vg_words.specs.Request.{text_for, IsRequest, IsRefused}
+use Rattle.vg_words.specs.declared.ask.Ask.{Ask}
 use Rattle.vg_words.specs.declared.ask.WordFault.{WordFault}
 use Rattle.vg_words.specs.declared.ask.WordFault.TheVariants.{Unread, Missing, Excluded, BadValue, Equal, Memory as NoRoom}
-use Rattle.vginsert_top.specs.Faults.{cons_fault}
-use Rattle.vginsert_top.specs.Outcome.{IsDelays, IsRefusal, IsSpefFault}
-use Rattle.vginsert_top.specs.Timing.{IsTimed, IsTimeRefusal}
+use Rattle.vg_words.specs.declared.option.Opt.TheVariants.{Net}
+use Rattle.vginsert_top.specs.Answer.{IsReportFor, IsRefusalFor}
+use Rattle.vginsert_top.specs.Inputs.{inputs, name_of, told, Change, IsShort, AreRead, IsFirstFault, IsFlawed}
 use Rattle.vginsert_top.specs.declared.input.Input.{Input}
-use Rattle.vginsert_top.specs.declared.input.Input.TheVariants.{Spef, Cons}
+use Rattle.vginsert_top.specs.declared.input.Flaw.{Flaw}
+use Rattle.vginsert_top.specs.declared.input.Flaw.TheVariants.{Failed, TooLong, Faulty}
 
 -- the words are a request, and this holds of it
-abbrev pub ForRequest : List (List ℕ) → (Request → Type 0) → Type 0
-ForRequest words P = (request : Request) × IsRequest words request × P request
-
--- the texts of the input files; where the words name no constraints, nothing is said of theirs
-pub record Texts : Type 0 where
-  pub spef : List ℕ
-  pub cons : List ℕ
-
-abbrev pub text_of : Texts → Input → List ℕ
-text_of texts Spef = texts.spef
-text_of texts Cons = texts.cons
-
--- the name of an input file, if the words name one
-abbrev pub input_name : Request → Input → Option (List ℕ)
-input_name request Spef = Some request.spef
-input_name request Cons = request.cons
-
--- a file of at most 2^28 bytes is read whole
-abbrev pub IsShort : List ℕ → Type 0
-IsShort file = length file ≤ 2 ^ 28
-
--- these bytes were read: they are the file's, where it is told
-abbrev pub WasRead : Option (List ℕ) → List ℕ → Type 0
-WasRead told bytes = IfSome told (λ file. bytes ≡ file)
-
--- the texts were read of the files that the words name
-abbrev pub AreRead : (List ℕ → Option (List ℕ)) → Request → Texts → Type 0
-AreRead holds request texts = (input : Input) → IfSome (input_name request input) (λ name. WasRead (holds name) (text_of texts input) × IsShort (text_of texts input))
-
--- the text is the report that is asked for
-abbrev pub IsReportFor : Mode → Texts → List ℕ → List ℕ → Type 0
-IsReportFor Wire texts net text = IsDelays texts.spef net text
-IsReportFor Time texts net text = IsTimed texts.spef texts.cons net text
-
--- the text refuses the net that is asked for
-abbrev pub IsRefusalFor : Mode → Texts → List ℕ → List ℕ → Type 0
-IsRefusalFor Wire texts net text = IsRefusal texts.spef net text
-IsRefusalFor Time texts net text = IsTimeRefusal texts.spef texts.cons net text
-
--- the constraints have a fault, and the text tells it
-pub record IsConsFault (cons text : List ℕ) : Type 0 where
-  pub fault : LineFault ConsKind
-  pub found : IsFaultIn (cons_lines cons) fault
-  pub text_is : text ≡ cons_fault fault
-
--- the file is in its form
-abbrev pub IsSpef : List ℕ → Type 0
-IsSpef file = (said : File) × IsFileOf file said
-
--- the first input that is not in its form, and what is wrong with it
-abbrev pub IsFaultyFor : Mode → Texts → Input → List ℕ → Type 0
-IsFaultyFor mode texts Spef kind = IsSpefFault texts.spef kind
-IsFaultyFor Wire texts Cons kind = ⊥
-IsFaultyFor Time texts Cons kind = IsSpef texts.spef × IsConsFault texts.cons kind
+abbrev pub ForRequest : List (List ℕ) → (Ask → Type 0) → Type 0
+ForRequest words P = (ask : Ask) × IsRequest words ask × P ask
 
 -- an output gained all of these bytes, or some first ones and a fault
-abbrev pub Says : Option (List ℕ) → Option (List ℕ) → ℕ → ℕ → List ℕ → Type 0
-Says old new before now line = Gains old new line ⊎ (Rose before now × GainsPrefix old new line)
+abbrev pub Says : OutState → OutState → List ℕ → Type 0
+Says old new line = Gains old new line ⊎ (Rose old.faults new.faults × GainsPrefix old new line)
 
 -- `vginsert: FILE: KIND`
 abbrev pub file_line : List ℕ → List ℕ → List ℕ
@@ -87,6 +31,18 @@ file_line name kind = codes "vginsert: " ++ (name ++ (codes ": " ++ (kind ++ cod
 -- `vginsert: read failed: FILE`
 abbrev pub read_failed_line : List ℕ → List ℕ
 read_failed_line name = codes "vginsert: read failed: " ++ (name ++ codes "\n")
+
+-- the line that tells a flaw of the file of this name
+abbrev pub flaw_line : List ℕ → Flaw → List ℕ
+flaw_line name Failed = read_failed_line name
+flaw_line name TooLong = file_line name (codes "TooLong")
+flaw_line name (Faulty line) = file_line name line
+
+-- the status where an input has a flaw
+abbrev pub flaw_status : Flaw → ℕ
+flaw_status Failed = 5
+flaw_status TooLong = 4
+flaw_status (Faulty line) = 4
 
 -- `vginsert: words refused`, and the reason
 abbrev pub refused_line : WordFault → List ℕ
@@ -98,46 +54,34 @@ refused_line (Equal one other) = codes "vginsert: words refused: equal names " +
 refused_line NoRoom = codes "vginsert: out of memory\n"
 
 -- of the texts that were read an output gained the report
-abbrev pub PrintsReport : (List ℕ → Option (List ℕ)) → (List ℕ → Type 0) → Request → Type 0
-PrintsReport holds Gained request = (texts : Texts) × AreRead holds request texts × ((text : List ℕ) × IsReportFor request.mode texts request.net text × Gained text)
+abbrev pub PrintsReport : FilesState → (List ℕ → Type 0) → Ask → Type 0
+PrintsReport files Gained ask = (texts : Input → List ℕ) × AreRead files ask texts × ((text : List ℕ) × IsReportFor ask.mode texts (text_for ask Net) text × Gained text)
 
 -- or the refusal
-abbrev pub PrintsRefusal : (List ℕ → Option (List ℕ)) → (List ℕ → Type 0) → Request → Type 0
-PrintsRefusal holds Gained request = (texts : Texts) × AreRead holds request texts × ((text : List ℕ) × IsRefusalFor request.mode texts request.net text × Gained text)
+abbrev pub PrintsRefusal : FilesState → (List ℕ → Type 0) → Ask → Type 0
+PrintsRefusal files Gained ask = (texts : Input → List ℕ) × AreRead files ask texts × ((text : List ℕ) × IsRefusalFor ask.mode texts (text_for ask Net) text × Gained text)
 
--- an input has too many bytes, and this tells so
-abbrev pub IsTooLong : (List ℕ → Option (List ℕ)) → Request → Input → Type 0
-IsTooLong holds request input = IfSome (input_name request input) (λ name. IfSome (holds name) (λ file. 2 ^ 28 < length file))
-
--- an input has too many bytes, or is not in its form, and a line tells which
-abbrev pub IsUnreadable : (List ℕ → Option (List ℕ)) → (List ℕ → Type 0) → Request → Type 0
-IsUnreadable holds Said request =
-    (input : Input) × (name : List ℕ) × (input_name request input ≡ Some name)
-    × ((IsTooLong holds request input × Said (file_line name (codes "TooLong")))
-    ⊎ ((texts : Texts) × AreRead holds request texts × ((kind : List ℕ) × IsFaultyFor request.mode texts input kind × Said (file_line name kind))))
-
--- reading an input failed, at the file that is blamed, and a line tells its name
-abbrev pub IsUnread : Option (List ℕ) → (List ℕ → Type 0) → Request → Type 0
-IsUnread blame Said request =
-    (input : Input) × (name : List ℕ) × (input_name request input ≡ Some name) × IfSome blame (λ blamed. blamed ≡ name) × Said (read_failed_line name)
+-- an input has the first flaw, its flaw gives this status, and a line tells it
+abbrev pub TellsFlaw : ℕ → Change FilesState → (List ℕ → Type 0) → Ask → Type 0
+TellsFlaw status files Said ask = (input : Input) × (flaw : Flaw) × (flaw_status flaw ≡ status) × IsFlawed ask files input flaw × Said (flaw_line (name_of ask input) flaw)
 
 -- the words are no request, for this first reason, and a line tells it
 abbrev pub AreRefused : List (List ℕ) → (List ℕ → Type 0) → Type 0
 AreRefused words Said = (fault : WordFault) × IsRefused words fault × Said (refused_line fault)
 
 -- the texts are those of the files
-abbrev pub AreTold : (List ℕ → Option (List ℕ)) → Request → Texts → Type 0
-AreTold holds request texts = (input : Input) → IfSome (input_name request input) (λ name. holds name ≡ Some (text_of texts input))
+abbrev pub AreTold : FilesState → Ask → (Input → List ℕ) → Type 0
+AreTold files ask texts = All (λ input. told files ask input ≡ Some (texts input)) (inputs ask.mode)
 
-abbrev pub AreShort : Request → Texts → Type 0
-AreShort request texts = (input : Input) → IfSome (input_name request input) (λ _. IsShort (text_of texts input))
+abbrev pub AreShort : Ask → (Input → List ℕ) → Type 0
+AreShort ask texts = All (λ input. IsShort (texts input)) (inputs ask.mode)
 
 -- the status that the texts and the request ask for, where nothing fails
-pub record IsStatusFor (request : Request) (texts : Texts) (status : ℕ) : Type 0 where
-  pub too_long : (AreShort request texts → ⊥) → status ≡ 4
-  pub faulty : AreShort request texts → (input : Input) (kind : List ℕ) → IsFaultyFor request.mode texts input kind → status ≡ 4
-  pub report : AreShort request texts → (text : List ℕ) → IsReportFor request.mode texts request.net text → status ≡ 0
-  pub refusal : AreShort request texts → (text : List ℕ) → IsRefusalFor request.mode texts request.net text → status ≡ 2
+pub record IsStatusFor (ask : Ask) (texts : Input → List ℕ) (status : ℕ) : Type 0 where
+  pub too_long : (AreShort ask texts → ⊥) → status ≡ 4
+  pub faulty : AreShort ask texts → (line : List ℕ) (input : Input) → IsFirstFault texts (inputs ask.mode) line input → status ≡ 4
+  pub report : AreShort ask texts → (text : List ℕ) → IsReportFor ask.mode texts (text_for ask Net) text → status ≡ 0
+  pub refusal : AreShort ask texts → (text : List ℕ) → IsRefusalFor ask.mode texts (text_for ask Net) text → status ≡ 2
 
 -- a run ends with one of these
 abbrev pub is_status : ℕ → Bool

@@ -1,15 +1,17 @@
 //! What is said of a net that is asked for.
 
-ghost use Rattle.std.specs.Prelude.{◌≡◌, IfOk};
-ghost use Rattle.vginsert_top.specs.Answer.{IsRefusedWith, Indexes};
+ghost use Rattle.std.specs.Prelude.{◌≡◌, ◌≤◌, ◌^◌, length, IfOk};
+ghost use Rattle.vginsert_top.specs.Answer.{IsRefusedWith, Indexes, ReadsCons};
 ghost use Rattle.vginsert_top.specs.Reports.{refused_line};
-ghost use Rattle.vginsert_top.specs.declared.answer.AskFault.TheVariants.{Memory as out_of_memory};
+ghost use Rattle.vginsert_top.specs.declared.answer.NoAnswer.TheVariants.{Memory as out_of_memory};
 
-use crate::faults::spef_fault;
+use crate::faults::{cons_fault, spef_fault};
+use crate::input::Input;
 use crate::report::print_refused;
 use spef_file::{SpefIndex, SpefKind, SpefText, index};
 use std::alloc::Global;
-use vg_num::Memory;
+use vg_cons::{ConsKind, Constraints, read_constraints};
+use vg_num::{Memory, Row};
 
 /// What is said of a net, as text.
 #[derive(Drop)]
@@ -21,21 +23,19 @@ pub enum Answer {
 }
 
 /// Why nothing is said of a net.
-#[derive(Debug, Drop)]
-pub enum AskFault {
-    /// The SPEF file has a fault: its kind and its line, as text.
-    Spef(Vec<u8>),
-    /// The constraints have one.
-    Cons(Vec<u8>),
+#[derive(Drop)]
+pub enum NoAnswer {
+    /// An input has a fault: its kind and its line, as text.
+    Faulty(Input, Row<u8>),
     /// Memory was wanted and not given.
     Memory,
 }
 
-impl From<Memory> for AskFault {
+impl From<Memory> for NoAnswer {
     ghost from_gives = { λ _ fault. fault ≡ out_of_memory };
 
     fn from(_: Memory) -> Self {
-        AskFault::Memory
+        NoAnswer::Memory
     }
 }
 
@@ -49,14 +49,28 @@ pub fn refused(alloc: Global, name: &[u8], number: u8, kind: &[u8]) -> Result<An
 }
 
 /// The index of a SPEF file, or the text of its fault.
-pub fn index_of(alloc: Global, file: &SpefText) -> Result<SpefIndex, AskFault>
+pub fn index_of(alloc: Global, file: &SpefText) -> Result<SpefIndex, NoAnswer>
     ensures { Indexes result file.now }
 {
     match index(alloc, file) {
         Ok(index) => Ok(index),
         Err(fault) => match fault.kind {
-            SpefKind::Memory => Err(AskFault::Memory),
-            _ => Err(AskFault::Spef(spef_fault(alloc, fault)?)),
+            SpefKind::Memory => Err(NoAnswer::Memory),
+            _ => Err(NoAnswer::Faulty(Input::Spef, spef_fault(alloc, fault)?)),
+        },
+    }
+}
+
+/// Constraints, or the text of their fault.
+pub fn constraints_of(alloc: Global, cons: &[u8]) -> Result<Constraints, NoAnswer>
+    requires { length cons.now ≤ 2 ^ 28 }
+    ensures { ReadsCons result cons.now }
+{
+    match read_constraints(alloc, cons) {
+        Ok(rows) => Ok(rows),
+        Err(fault) => match fault.kind {
+            ConsKind::Memory => Err(NoAnswer::Memory),
+            _ => Err(NoAnswer::Faulty(Input::Cons, cons_fault(alloc, fault)?)),
         },
     }
 }

@@ -8,7 +8,7 @@ use spef_file::{SpefFault, SpefKind};
 use spef_net::{NetFault, NetKind};
 use std::alloc::Global;
 use vg_cons::{ConsFault, ConsKind};
-use vg_num::{Memory, NumFault, print_signed};
+use vg_num::{Memory, NumFault, Row, print_signed};
 
 /// The name of a fault of constraints.
 fn cons_kind(kind: ConsKind) -> &'static [u8]
@@ -70,21 +70,21 @@ fn print_fault(kind: &[u8], line: usize, to: &mut Vec<u8>) -> Result<(), Memory>
 }
 
 /// A fault of constraints as text: `KIND line L`.
-pub fn cons_fault(alloc: Global, fault: ConsFault) -> Result<Vec<u8>, Memory>
-    ensures { IfOk result (λ text. text.items ≡ cons_fault fault) }
+pub fn cons_fault(alloc: Global, fault: ConsFault) -> Result<Row<u8>, Memory>
+    ensures { IfOk result (λ text. text ≡ cons_fault fault) }
 {
     let mut text = Vec::new(alloc);
     print_fault(cons_kind(fault.kind), fault.line, &mut text)?;
-    Ok(text)
+    Ok(Row::from_vec(text))
 }
 
 /// A fault of a SPEF file as text: `KIND line L`.
-pub fn spef_fault(alloc: Global, fault: SpefFault) -> Result<Vec<u8>, Memory>
-    ensures { IfOk result (λ text. text.items ≡ spef_fault fault) }
+pub fn spef_fault(alloc: Global, fault: SpefFault) -> Result<Row<u8>, Memory>
+    ensures { IfOk result (λ text. text ≡ spef_fault fault) }
 {
     let mut text = Vec::new(alloc);
     print_fault(spef_kind(fault.kind), fault.line, &mut text)?;
-    Ok(text)
+    Ok(Row::from_vec(text))
 }
 
 /// Appends a fault of a net's lines: `KIND line L`.

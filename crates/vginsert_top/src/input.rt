@@ -1,3 +1,14 @@
+//! The inputs of a request, read in order.
+ghost use Rattle.std.specs.Prelude.{◌≡◌, ◌⊎◌, ◌≤◌, ℕ, List, [], IfOk, IfErr};
+ghost use Rattle.vginsert_top.specs.Answer.{texts_in};
+ghost use Rattle.vginsert_top.specs.Inputs.{inputs as inputs_in, option_of, AreRead};
+ghost use Rattle.vginsert_top.specs.Outcomes.{IsUnread};
+
+use std::alloc::Global;
+use vg_num::Row;
+use vg_store::{Files, ReadAll, read_all};
+use vg_words::{Ask, Mode, Opt};
+
 /// An input file that words may name.
 #[derive(Clone, Copy, Debug, PartialEq, Eq)]
 pub enum Input {
@@ -5,4 +16,93 @@ pub enum Input {
     Spef,
     /// The constraints.
     Cons,
+}
+
+/// What is wrong with an input.
+#[derive(Drop)]
+pub enum Flaw {
+    /// It could not be read.
+    Failed,
+    /// It has more than 2^28 bytes.
+    TooLong,
+    /// It is not in its form: its fault and the line, as text.
+    Faulty(Row<u8>),
+}
+
+/// The texts of the inputs, each empty until it is read.
+#[derive(Drop)]
+pub struct Texts {
+    pub spef: Vec<u8>,
+    pub cons: Vec<u8>,
+}
+
+const WIRE_INPUTS: [Input; 1] = [Input::Spef];
+
+const TIME_INPUTS: [Input; 2] = [Input::Spef, Input::Cons];
+
+impl Input {
+    /// The option that names the input.
+    pub fn option(self) -> Opt
+        ensures { result ≡ option_of self }
+    {
+        match self {
+            Input::Spef => Opt::Spef,
+            Input::Cons => Opt::Cons,
+        }
+    }
+}
+
+/// The inputs of a mode, in the order in which they are read and judged.
+fn inputs(mode: Mode) -> &'static [Input]
+    ensures { result.now ≡ inputs_in mode }
+{
+    match mode {
+        Mode::Wire => &WIRE_INPUTS,
+        Mode::Time => &TIME_INPUTS,
+    }
+}
+
+impl Texts {
+    fn new(alloc: Global) -> Texts
+        ensures spef { result.spef.items ≡ [] }
+        ensures cons { result.cons.items ≡ [] }
+    {
+        Texts {
+            spef: Vec::new(alloc),
+            cons: Vec::new(alloc),
+        }
+    }
+
+    /// Puts the text of an input there.
+    fn set(&mut self, input: Input, text: Vec<u8>)
+        ensures own { texts_in self.new input ≡ text.items }
+        ensures each { (other : Input) → (other ≡ input) ⊎ (texts_in self.new other ≡ texts_in self.old other) }
+    {
+        match input {
+            Input::Spef => self.spef = text,
+            Input::Cons => self.cons = text,
+        }
+    }
+}
+
+/// Reads the inputs of a request in order. An error tells at which of them reading ended, and why.
+pub fn read_inputs<F: Files>(
+    alloc: Global,
+    ask: &Ask,
+    files: &mut F,
+) -> Result<Texts, (Input, ReadAll)>
+    ensures read { IfOk result (λ texts. AreRead (F.state files.old) ask.now (texts_in texts)) }
+    ensures unread { IfErr result (IsUnread ask.now (F.state files.old, F.state files.new)) }
+    ensures kept { (file : List ℕ) → (F.state files.new).holds file ≡ (F.state files.old).holds file }
+    ensures never_falls { (F.state files.old).read_faults ≤ (F.state files.new).read_faults }
+{
+    let mut texts = Texts::new(alloc);
+    let order = inputs(ask.mode);
+    'input: for input in order {
+        match read_all(alloc, files, ask.text(input.option())) {
+            Ok(text) => texts.set(*input, text),
+            Err(cause) => return Err((*input, cause)),
+        }
+    }
+    Ok(texts)
 }

@@ -4,10 +4,11 @@
 mod answer;
 mod faults;
 mod input;
+mod outcome;
 mod program;
 mod report;
+mod tell;
 mod time;
 mod wire;
 
-pub use input::Input;
 pub use program::run;

@@ -1,280 +1,85 @@
 //! The top call: from the words to the bytes that are written.
-ghost use Rattle.std.specs.Prelude.{◌≡◌, ◌≢◌, ◌⊎◌, ◌↔◌, ◌≤◌, ◌^◌, length, ◌++◌, [], Some, None, ℕ, List, IfSome, OnOk, OnErr, IsTrue};
-ghost use Rattle.vg_store.specs.Causes.{Rose, HasCause};
+ghost use Rattle.std.specs.Prelude.{◌≡◌, ◌≢◌, ◌⊎◌, ◌≤◌, ◌^◌, length, ℕ, List, IsTrue};
+ghost use Rattle.vg_store.specs.Causes.{Rose};
 ghost use Rattle.vg_store.specs.Writing.{Gains, GainsPrefix};
-ghost use Rattle.vg_words.specs.Request.{texts, Request, IsRequest, HasCons};
-ghost use Rattle.vg_words.specs.declared.ask.Mode.{Mode};
-ghost use Rattle.vginsert_top.specs.Run.{ForRequest, Texts, PrintsReport, PrintsRefusal, IsUnreadable, IsUnread, AreRefused, AreTold, Says, refused_line, IsStatusFor, ErrorLine, is_status, prints_nothing};
-ghost use Rattle.vginsert_top.specs.Answer.{Answers};
-ghost use Rattle.vginsert_top.specs.TimeAnswer.{AnswersTime};
-ghost use Rattle.vginsert_top.specs.Ending.{request_of, mode_in, cons_in, IsPrinted, IsReadingOf, Ends, Tells, IsStatusOf, status_of, fault_status};
+ghost use Rattle.vg_words.specs.Request.{texts, IsRequest};
+ghost use Rattle.vg_words.specs.declared.ask.Ask.{Ask as Request};
+ghost use Rattle.vginsert_top.specs.Answer.{AnswersFor, texts_in, texts_of};
+ghost use Rattle.vg_words.specs.declared.ask.Mode.{Mode as ModeSpec};
+ghost use Rattle.vginsert_top.specs.declared.input.Input.{Input};
+ghost use Rattle.vginsert_top.specs.Inputs.{IsShort, inputs};
+ghost use Rattle.std.specs.List.{All};
+ghost use Rattle.vginsert_top.specs.Outcomes.{Ends, IsPrinted, IsStatusOf, fault_status};
+ghost use Rattle.vginsert_top.specs.Run.{AreRefused, AreTold, ErrorLine, ForRequest, IsStatusFor, PrintsRefusal, PrintsReport, Says, TellsFlaw, is_status, prints_nothing};
 
-use crate::answer::{Answer, AskFault};
-use crate::input::Input;
+use crate::answer::{Answer, NoAnswer};
+use crate::input::{Flaw, Texts, read_inputs};
+use crate::outcome::Outcome;
+use crate::tell::{tell, tell_words};
 use crate::time::time_for;
 use crate::wire::wire_for;
 use spef_file::SpefText;
 use std::alloc::Global;
-use vg_store::{Failed, Files, Out, ReadAll, put_all, read_all};
-use vg_words::{Ask, WordFault, read_words};
-
-/// What is to be done.
-#[derive(Clone, Copy)]
-pub enum Task<'a> {
-    /// Wire delays.
-    Wire,
-    /// The slack under these constraints.
-    Time(&'a str),
-}
-
-/// A request, as texts.
-#[derive(Clone, Copy)]
-pub struct Job<'a> {
-    pub task: Task<'a>,
-    pub spef: &'a str,
-    pub net: &'a str,
-}
-
-/// How a request ended. An input is told by its name.
-#[derive(Drop)]
-pub enum Ending<'a> {
-    /// The report was printed.
-    Done,
-    /// A refusal was printed.
-    Refused,
-    /// An input has a fault: its kind and its line, as text.
-    Faulty(Input, &'a str, Vec<u8>),
-    /// An input has more than 2^28 bytes.
-    TooLong(&'a str),
-    /// Reading an input failed.
-    ReadFault(&'a str),
-    /// Writing standard output failed.
-    WriteFault,
-    /// Memory was wanted and not given.
-    Memory,
-}
-
-impl Ending<'_> {
-    fn status(&self) -> u8
-        ensures { result ≡ status_of self.now }
-    {
-        match self {
-            Ending::Done => 0,
-            Ending::Refused => 2,
-            Ending::Faulty(_, _, _) | Ending::TooLong(_) => 4,
-            Ending::ReadFault(_) => 5,
-            Ending::WriteFault => 6,
-            Ending::Memory => 7,
-        }
-    }
-}
-
-/// Writes a text to an output, which makes the ending that is given.
-fn print<'a, O: Out>(out: &mut O, text: &[u8], ending: Ending<'a>) -> Ending<'a>
-    ensures { IsPrinted (O.written out.old) (O.written out.new) (O.faults out.old) (O.faults out.new) text.now ending.entry result }
-{
-    match put_all(out, text) {
-        Ok(()) => ending,
-        Err(Failed) => Ending::WriteFault,
-    }
-}
-
-/// Reads an input whole, or ends.
-fn read_input<'a, F: Files>(
-    alloc: Global,
-    files: &mut F,
-    name: &'a str,
-) -> Result<Vec<u8>, Ending<'a>>
-    ensures reads { IsReadingOf (F.holds files.old name.now) name.now (F.read_faults files.old) (F.read_faults files.new) (F.read_blame files.new) result }
-    ensures kept { (file : List ℕ) → F.holds files.new file ≡ F.holds files.old file }
-    ensures never_falls { F.read_faults files.old ≤ F.read_faults files.new }
-{
-    match read_all(alloc, files, name) {
-        Ok(bytes) => Ok(bytes),
-        Err(ReadAll::Failed) => Err(Ending::ReadFault(name)),
-        Err(ReadAll::TooLong) => Err(Ending::TooLong(name)),
-        Err(ReadAll::Memory) => Err(Ending::Memory),
-    }
-}
+use vg_store::{Failed, Files, Out, ReadAll, put_all};
+use vg_words::{Ask, Mode, Opt, WordFault, read_words};
 
 /// What is said of the wire delays of a net of the file of these bytes.
-fn wire_in(alloc: Global, bytes: Vec<u8>, net: &[u8]) -> Result<Answer, AskFault>
-    requires { length bytes.items ≤ 2 ^ 28 }
-    ensures { Answers result bytes.items net.now }
+fn wire_in(alloc: Global, spef: Vec<u8>, net: &[u8]) -> Result<Answer, NoAnswer>
+    requires { length spef.items ≤ 2 ^ 28 }
+    ensures { (cons : List ℕ) → AnswersFor ModeSpec.Wire (texts_of spef.items cons) net.now result }
 {
-    let text = SpefText::new(bytes);
+    let text = SpefText::new(spef);
     wire_for(alloc, &text, net)
 }
 
 /// What is said of the slack of a net of the file of these bytes, under constraints.
-fn time_in(alloc: Global, bytes: Vec<u8>, cons: &[u8], net: &[u8]) -> Result<Answer, AskFault>
-    requires spef { length bytes.items ≤ 2 ^ 28 }
+fn time_in(alloc: Global, spef: Vec<u8>, cons: &[u8], net: &[u8]) -> Result<Answer, NoAnswer>
+    requires spef { length spef.items ≤ 2 ^ 28 }
     requires cons { length cons.now ≤ 2 ^ 28 }
-    ensures { AnswersTime result bytes.items cons.now net.now }
+    ensures { AnswersFor ModeSpec.Time (texts_of spef.items cons.now) net.now result }
 {
-    let text = SpefText::new(bytes);
+    let text = SpefText::new(spef);
     time_for(alloc, &text, cons, net)
 }
 
-/// Prints the wire delays of a net.
-fn wire<'a, F: Files, O: Out>(
-    alloc: Global,
-    spef: &'a str,
-    net: &str,
-    files: &mut F,
-    out: &mut O,
-) -> Ending<'a>
-    ensures ends { Ends (F.holds files.old) (record { mode = Mode.Wire; spef = spef.now; cons = None; net = net.now }) (O.written out.old) (O.written out.new) (F.read_faults files.old) (F.read_faults files.new) (F.read_blame files.new) (O.faults out.old) (O.faults out.new) result }
-    ensures kept { (file : List ℕ) → F.holds files.new file ≡ F.holds files.old file }
+/// What is said of a net of the inputs that a mode has read.
+fn answer(alloc: Global, mode: Mode, texts: Texts, net: &[u8]) -> Result<Answer, NoAnswer>
+    requires { All (λ input. IsShort (texts_in texts input)) (inputs mode) }
+    ensures { AnswersFor mode (texts_in texts) net.now result }
 {
-    let bytes = match read_input(alloc, files, spef) {
-        Ok(bytes) => bytes,
-        Err(ending) => return ending,
+    let Texts { spef, cons } = texts;
+    match mode {
+        Mode::Wire => wire_in(alloc, spef, net),
+        Mode::Time => time_in(alloc, spef, &cons, net),
+    }
+}
+
+/// Writes a text to an output, which makes the outcome that is given.
+fn print<O: Out>(out: &mut O, text: &[u8], outcome: Outcome) -> Outcome
+    ensures { IsPrinted (O.state out.old, O.state out.new) text.now outcome result }
+{
+    match put_all(out, text) {
+        Ok(()) => outcome,
+        Err(Failed) => Outcome::WriteFault,
+    }
+}
+
+/// Reads the inputs of a request, judges them and prints what there is to say.
+fn execute<F: Files, O: Out>(alloc: Global, ask: &Ask, files: &mut F, out: &mut O) -> Outcome
+    ensures ends { Ends ask.now (F.state files.old, F.state files.new) (O.state out.old, O.state out.new) result }
+    ensures kept { (file : List ℕ) → (F.state files.new).holds file ≡ (F.state files.old).holds file }
+{
+    let texts = match read_inputs(alloc, ask, files) {
+        Ok(texts) => texts,
+        Err((input, ReadAll::Failed)) => return Outcome::Flawed(input, Flaw::Failed),
+        Err((input, ReadAll::TooLong)) => return Outcome::Flawed(input, Flaw::TooLong),
+        Err((_, ReadAll::Memory)) => return Outcome::Memory,
     };
-    match wire_in(alloc, bytes, net.as_bytes()) {
-        Ok(Answer::Report(text)) => print(out, &text, Ending::Done),
-        Ok(Answer::Refused(text)) => print(out, &text, Ending::Refused),
-        Err(AskFault::Spef(text)) => Ending::Faulty(Input::Spef, spef, text),
-        Err(AskFault::Cons(_)) => unreachable!(),
-        Err(AskFault::Memory) => Ending::Memory,
-    }
-}
-
-/// Prints the slack of a net under constraints.
-fn time<'a, F: Files, O: Out>(
-    alloc: Global,
-    spef: &'a str,
-    cons: &'a str,
-    net: &str,
-    files: &mut F,
-    out: &mut O,
-) -> Ending<'a>
-    ensures ends { Ends (F.holds files.old) (record { mode = Mode.Time; spef = spef.now; cons = Some cons.now; net = net.now }) (O.written out.old) (O.written out.new) (F.read_faults files.old) (F.read_faults files.new) (F.read_blame files.new) (O.faults out.old) (O.faults out.new) result }
-    ensures kept { (file : List ℕ) → F.holds files.new file ≡ F.holds files.old file }
-{
-    let bytes = match read_input(alloc, files, spef) {
-        Ok(bytes) => bytes,
-        Err(ending) => return ending,
-    };
-    let rows = match read_input(alloc, files, cons) {
-        Ok(rows) => rows,
-        Err(ending) => return ending,
-    };
-    match time_in(alloc, bytes, &rows, net.as_bytes()) {
-        Ok(Answer::Report(text)) => print(out, &text, Ending::Done),
-        Ok(Answer::Refused(text)) => print(out, &text, Ending::Refused),
-        Err(AskFault::Spef(text)) => Ending::Faulty(Input::Spef, spef, text),
-        Err(AskFault::Cons(text)) => Ending::Faulty(Input::Cons, cons, text),
-        Err(AskFault::Memory) => Ending::Memory,
-    }
-}
-
-/// Does what is asked.
-fn fulfil<'a, F: Files, O: Out>(
-    alloc: Global,
-    job: Job<'a>,
-    files: &mut F,
-    out: &mut O,
-) -> Ending<'a>
-    ensures ends { Ends (F.holds files.old) (request_of job.entry) (O.written out.old) (O.written out.new) (F.read_faults files.old) (F.read_faults files.new) (F.read_blame files.new) (O.faults out.old) (O.faults out.new) result }
-    ensures kept { (file : List ℕ) → F.holds files.new file ≡ F.holds files.old file }
-{
-    match job.task {
-        Task::Wire => wire(alloc, job.spef, job.net, files, out),
-        Task::Time(cons) => time(alloc, job.spef, cons, job.net, files, out),
-    }
-}
-
-/// Writes three pieces to an output, one after another, until a fault.
-fn put_three<E: Out>(err: &mut E, front: &[u8], name: &[u8], back: &[u8]) -> Result<(), Failed>
-    ensures all { OnOk result (Gains (E.written err.old) (E.written err.new) (front.now ++ (name.now ++ back.now))) }
-    ensures prefix { OnErr result (GainsPrefix (E.written err.old) (E.written err.new) (front.now ++ (name.now ++ back.now))) }
-    ensures cause { HasCause (E.faults err.old) (E.faults err.new) result }
-{
-    put_all(err, front)?;
-    put_all(err, name)?;
-    put_all(err, back)?;
-    Ok(())
-}
-
-/// Writes five pieces.
-fn put_five<E: Out>(
-    err: &mut E,
-    front: &[u8],
-    name: &[u8],
-    middle: &[u8],
-    kind: &[u8],
-    back: &[u8],
-) -> Result<(), Failed>
-    ensures all { OnOk result (Gains (E.written err.old) (E.written err.new) (front.now ++ (name.now ++ (middle.now ++ (kind.now ++ (back.now ++ [])))))) }
-    ensures prefix { OnErr result (GainsPrefix (E.written err.old) (E.written err.new) (front.now ++ (name.now ++ (middle.now ++ (kind.now ++ (back.now ++ [])))))) }
-    ensures cause { HasCause (E.faults err.old) (E.faults err.new) result }
-{
-    put_three(err, front, name, middle)?;
-    put_three(err, kind, back, b"")?;
-    Ok(())
-}
-
-/// Writes a line to standard error in pieces, as far as it takes it.
-fn say<E: Out>(err: &mut E, front: &[u8], name: &[u8], middle: &[u8], kind: &[u8], back: &[u8])
-    ensures { Says (E.written err.old) (E.written err.new) (E.faults err.old) (E.faults err.new) (front.now ++ (name.now ++ (middle.now ++ (kind.now ++ (back.now ++ []))))) }
-{
-    let _ = put_five(err, front, name, middle, kind, back);
-}
-
-/// Writes a fixed line to standard error.
-fn say_line<E: Out>(err: &mut E, line: &[u8])
-    ensures { Says (E.written err.old) (E.written err.new) (E.faults err.old) (E.faults err.new) line.now }
-{
-    let _ = put_all(err, line);
-}
-
-/// Tells standard error of an ending.
-fn tell<E: Out>(err: &mut E, ending: &Ending<'_>)
-    ensures { Tells (E.written err.old) (E.written err.new) (E.faults err.old) (E.faults err.new) ending.now }
-{
-    let front = b"vginsert: ".as_slice();
-    match ending {
-        Ending::Done | Ending::Refused => {}
-        Ending::Faulty(_, file, text) => say(err, front, file.as_bytes(), b": ", text, b"\n"),
-        Ending::TooLong(file) => say(err, front, file.as_bytes(), b": ", b"TooLong", b"\n"),
-        Ending::ReadFault(file) => say(
-            err,
-            b"vginsert: read failed: ",
-            file.as_bytes(),
-            b"\n",
-            b"",
-            b"",
-        ),
-        Ending::WriteFault => say_line(err, b"vginsert: write failed: standard output\n"),
-        Ending::Memory => say_line(err, b"vginsert: out of memory\n"),
-    }
-}
-
-/// Tells standard error why the words ask for nothing.
-fn tell_words<E: Out>(err: &mut E, fault: WordFault)
-    ensures { Says (E.written err.old) (E.written err.new) (E.faults err.old) (E.faults err.new) (refused_line fault) }
-{
-    match fault {
-        WordFault::Unread => say_line(err, b"vginsert: words refused\n"),
-        WordFault::Missing(option) => {
-            let front = b"vginsert: words refused: missing option ";
-            say(err, front, option.name().as_bytes(), b"\n", b"", b"");
-        }
-        WordFault::Excluded(option) => {
-            let front = b"vginsert: words refused: excluded option ";
-            say(err, front, option.name().as_bytes(), b"\n", b"", b"");
-        }
-        WordFault::BadValue(option) => {
-            let front = b"vginsert: words refused: bad value ";
-            say(err, front, option.name().as_bytes(), b"\n", b"", b"");
-        }
-        WordFault::Equal(one, other) => {
-            let front = b"vginsert: words refused: equal names ";
-            let (one, other) = (one.name().as_bytes(), other.name().as_bytes());
-            say(err, front, one, b" ", other, b"\n");
-        }
-        WordFault::Memory => say_line(err, b"vginsert: out of memory\n"),
+    match answer(alloc, ask.mode, texts, ask.text(Opt::Net).as_bytes()) {
+        Ok(Answer::Report(text)) => print(out, &text, Outcome::Done),
+        Ok(Answer::Refused(text)) => print(out, &text, Outcome::Refused),
+        Err(NoAnswer::Faulty(input, line)) => Outcome::Flawed(input, Flaw::Faulty(line)),
+        Err(NoAnswer::Memory) => Outcome::Memory,
     }
 }
 
@@ -289,31 +94,19 @@ fn fault_status(fault: WordFault) -> u8
 }
 
 /// Does what a request asks, tells standard error how that ended, and answers the status.
-fn obey<F: Files, O: Out, E: Out>(
+fn run_request<F: Files, O: Out, E: Out>(
     alloc: Global,
-    job: Job<'_>,
+    ask: &Ask,
     files: &mut F,
     out: &mut O,
     err: &mut E,
 ) -> u8
-    ensures ends { IsStatusOf (F.holds files.old) (request_of job.entry) (O.written out.old) (O.written out.new) (F.read_faults files.old) (F.read_faults files.new) (F.read_blame files.new) (O.faults out.old) (O.faults out.new) (E.written err.old) (E.written err.new) (E.faults err.old) (E.faults err.new) result }
-    ensures kept { (file : List ℕ) → F.holds files.new file ≡ F.holds files.old file }
+    ensures ends { IsStatusOf ask.now (F.state files.old, F.state files.new) (O.state out.old, O.state out.new) (E.state err.old, E.state err.new) result }
+    ensures kept { (file : List ℕ) → (F.state files.new).holds file ≡ (F.state files.old).holds file }
 {
-    let ending = fulfil(alloc, job, files, out);
-    tell(err, &ending);
-    ending.status()
-}
-
-/// The task of a request.
-fn task_of(ask: &Ask) -> Task<'_>
-    requires { HasCons ask.now.mode ask.now.cons }
-    ensures mode { mode_in result ≡ ask.now.mode }
-    ensures cons { cons_in result ≡ ask.now.cons }
-{
-    match &ask.cons {
-        None => Task::Wire,
-        Some(cons) => Task::Time(cons.as_str()),
-    }
+    let outcome = execute(alloc, ask, files, out);
+    tell(err, ask, &outcome);
+    outcome.status()
 }
 
 /// Does all that the program does, and answers its status.
@@ -339,35 +132,25 @@ pub fn run<F: Files, O: Out, E: Out>(
     out: &mut O,
     err: &mut E,
 ) -> u8
-    ensures done { result ≡ 0 → ForRequest (texts words.now) (PrintsReport (F.holds files.old) (Gains (O.written out.old) (O.written out.new))) }
-    ensures refused { result ≡ 2 → ForRequest (texts words.now) (PrintsRefusal (F.holds files.old) (Gains (O.written out.old) (O.written out.new))) }
-    ensures unread { (result ≡ 3) ↔ ((request : Request) → IsRequest (texts words.now) request → ⊥) }
-    ensures unread_line { result ≡ 3 → AreRefused (texts words.now) (Says (E.written err.old) (E.written err.new) (E.faults err.old) (E.faults err.new)) }
-    ensures unreadable { result ≡ 4 → ForRequest (texts words.now) (IsUnreadable (F.holds files.old) (Says (E.written err.old) (E.written err.new) (E.faults err.old) (E.faults err.new))) }
-    ensures read_fault { result ≡ 5 → Rose (F.read_faults files.old) (F.read_faults files.new) × ForRequest (texts words.now) (IsUnread (F.read_blame files.new) (Says (E.written err.old) (E.written err.new) (E.faults err.old) (E.faults err.new))) }
-    ensures write_fault { result ≡ 6 → Rose (O.faults out.old) (O.faults out.new) × ForRequest (texts words.now) (λ request. PrintsReport (F.holds files.old) (GainsPrefix (O.written out.old) (O.written out.new)) request ⊎ PrintsRefusal (F.holds files.old) (GainsPrefix (O.written out.old) (O.written out.new)) request) }
+    ensures done { result ≡ 0 → ForRequest (texts words.now) (PrintsReport (F.state files.old) (Gains (O.state out.old) (O.state out.new))) }
+    ensures refused { result ≡ 2 → ForRequest (texts words.now) (PrintsRefusal (F.state files.old) (Gains (O.state out.old) (O.state out.new))) }
+    ensures unread { result ≡ 3 → (request : Request) → IsRequest (texts words.now) request → ⊥ }
+    ensures no_request { ((request : Request) → IsRequest (texts words.now) request → ⊥) → (result ≡ 3) ⊎ (result ≡ 7) }
+    ensures unread_line { result ≡ 3 → AreRefused (texts words.now) (Says (E.state err.old) (E.state err.new)) }
+    ensures unreadable { result ≡ 4 → ForRequest (texts words.now) (TellsFlaw 4 (F.state files.old, F.state files.new) (Says (E.state err.old) (E.state err.new))) }
+    ensures read_fault { result ≡ 5 → Rose (F.state files.old).read_faults (F.state files.new).read_faults × ForRequest (texts words.now) (TellsFlaw 5 (F.state files.old, F.state files.new) (Says (E.state err.old) (E.state err.new))) }
+    ensures write_fault { result ≡ 6 → Rose (O.state out.old).faults (O.state out.new).faults × ForRequest (texts words.now) (λ ask. PrintsReport (F.state files.old) (GainsPrefix (O.state out.old) (O.state out.new)) ask ⊎ PrintsRefusal (F.state files.old) (GainsPrefix (O.state out.old) (O.state out.new)) ask) }
     ensures statuses { IsTrue (is_status result) }
-    ensures nothing_printed { IsTrue (prints_nothing result) → O.written out.new ≡ O.written out.old }
-    // Standard error has exactly its line, or a prefix of it after a fault of its own.
-    ensures error_line { ErrorLine result (Says (E.written err.old) (E.written err.new) (E.faults err.old) (E.faults err.new)) (E.written err.new ≡ E.written err.old) }
-    ensures kept { (file : List ℕ) → F.holds files.new file ≡ F.holds files.old file }
-    // Where nothing failed, the status is exactly the one that the files and the request ask for.
-    ensures exact { (request : Request) → IsRequest (texts words.now) request → (read : Texts) → AreTold (F.holds files.old) request read → result ≢ 5 → result ≢ 6 → result ≢ 7 → IsStatusFor request read result }
+    ensures nothing_printed { IsTrue (prints_nothing result) → (O.state out.new).written ≡ (O.state out.old).written }
+    ensures error_line { ErrorLine result (Says (E.state err.old) (E.state err.new)) ((E.state err.new).written ≡ (E.state err.old).written) }
+    ensures kept { (file : List ℕ) → (F.state files.new).holds file ≡ (F.state files.old).holds file }
+    ensures exact { (ask : Request) → IsRequest (texts words.now) ask → (read : Input → List ℕ) → AreTold (F.state files.old) ask read → result ≢ 5 → result ≢ 6 → result ≢ 7 → IsStatusFor ask read result }
 {
-    let ask = match read_words(alloc, words) {
-        Ok(ask) => ask,
+    match read_words(alloc, words) {
+        Ok(ask) => run_request(alloc, &ask, files, out, err),
         Err(fault) => {
             tell_words(err, fault);
-            return fault_status(fault);
+            fault_status(fault)
         }
-    };
-    let (Some(spef), Some(net)) = (&ask.spef, &ask.net) else {
-        unreachable!();
-    };
-    let job = Job {
-        task: task_of(&ask),
-        spef: spef.as_str(),
-        net: net.as_str(),
-    };
-    obey(alloc, job, files, out, err)
+    }
 }

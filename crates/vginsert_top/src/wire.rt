@@ -1,11 +1,12 @@
 //! The wire delays of a net, as text.
 
-ghost use Rattle.std.specs.Prelude.{◌≡◌, ◌<◌, ◌≤◌, ◌^◌, ◌++◌, length, OnOk, IfOk};
+ghost use Rattle.std.specs.Prelude.{◌≡◌, ◌<◌, ◌≤◌, ◌^◌, ◌++◌, [], length, OnOk, IfOk};
 ghost use Rattle.std.specs.List.{flat_map};
-ghost use Rattle.vginsert_top.specs.Answer.{Answers, IsRefusedWith};
+ghost use Rattle.vg_words.specs.declared.ask.Mode.{Mode};
+ghost use Rattle.vginsert_top.specs.Answer.{AnswersFor, IsRefusedWith, texts_of};
 ghost use Rattle.vginsert_top.specs.Reports.{sink_line, wire_report, refusal_kind, refusal_line};
 
-use crate::answer::{Answer, AskFault, index_of, refused};
+use crate::answer::{Answer, NoAnswer, index_of, refused};
 use crate::faults::print_net_fault;
 use crate::report::{print_node, print_sink, print_total, push};
 use spef_file::SpefText;
@@ -40,6 +41,7 @@ fn print_kind(refusal: &Refusal, to: &mut Vec<u8>) -> Result<(), Memory>
     ensures { OnOk result (to.new.items ≡ to.old.items ++ refusal_kind refusal.now) }
 {
     match refusal {
+        Refusal::NotYet => push(b"NotYet", to)?,
         Refusal::UnknownNet => push(b"UnknownNet", to)?,
         Refusal::Section(fault) => {
             push(b"Section ", to)?;
@@ -56,6 +58,10 @@ fn print_kind(refusal: &Refusal, to: &mut Vec<u8>) -> Result<(), Memory>
         }
         Refusal::Loop => push(b"Loop", to)?,
         Refusal::NoSink => push(b"NoSink", to)?,
+        Refusal::Unconstrained(node) => {
+            push(b"Unconstrained ", to)?;
+            print_node(node, to)?;
+        }
         Refusal::TooLarge => push(b"TooLarge", to)?,
     }
     Ok(())
@@ -72,14 +78,14 @@ pub fn refuse(alloc: Global, name: &[u8], refusal: &Refusal) -> Result<Answer, M
 }
 
 /// What is said of the wire delays of the net of this name.
-pub fn wire_for(alloc: Global, file: &SpefText, name: &[u8]) -> Result<Answer, AskFault>
-    ensures { Answers result file.now name.now }
+pub fn wire_for(alloc: Global, file: &SpefText, name: &[u8]) -> Result<Answer, NoAnswer>
+    ensures { AnswersFor Mode.Wire (texts_of file.now []) name.now result }
 {
     let index = index_of(alloc, file)?;
     let net = Name::from_bytes(alloc, name)?;
     match wire_net(alloc, file, &index, &net) {
         Ok(wire) => Ok(Answer::Report(report_wire(alloc, name, &wire)?)),
         Err(Refused::Net(refusal)) => Ok(refuse(alloc, name, &refusal)?),
-        Err(Refused::Memory) => Err(AskFault::Memory),
+        Err(Refused::Memory) => Err(NoAnswer::Memory),
     }
 }

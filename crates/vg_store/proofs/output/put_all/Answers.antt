@@ -6,7 +6,7 @@ use Rattle.vg_store.proofs.output.put_all.Goals as goal
 pub returns-in_err-done-clause-prefix : goal.returns-in_err-done-clause-prefix
 returns-in_err-done-clause-prefix g c =
     let p = err_from_is_err_and c.from_residual.result c.from_residual.ensures.1 in
-    rw p.1 (gains_then_prefix (g.O.Out.written c.args.out.now) (g.O.Out.written c.pieces.out) (g.O.Out.written c.put.new.self) c.pieces.done c.args.bytes.now c.pieces.invariant.within c.pieces.invariant.gained c.in_err-done.ensures.prefix)
+    rw p.1 (gains_then_prefix (g.O.Out.state c.args.out.now) (g.O.Out.state c.pieces.out) (g.O.Out.state c.put.new.self) c.pieces.done c.args.bytes.now c.pieces.invariant.within c.pieces.invariant.gained c.in_err-done.ensures.prefix)
 
 pub pieces-preserved : goal.pieces-preserved
 pieces-preserved g c =
@@ -14,6 +14,6 @@ pieces-preserved g c =
     let left = length-drop c.pieces.done c.args.bytes.now in
     record {
       within = omega (arith, c.in_ok-done.ensures.bound.0);
-      gained = gains_next (g.O.Out.written c.args.out.now) (g.O.Out.written c.pieces.out) (g.O.Out.written c.put.new.self) c.pieces.done c.in_ok-done.field-0 c.args.bytes.now c.pieces.invariant.gained c.in_ok-done.ensures.gained;
+      gained = gains_next (g.O.Out.state c.args.out.now) (g.O.Out.state c.pieces.out) (g.O.Out.state c.put.new.self) c.pieces.done c.in_ok-done.field-0 c.args.bytes.now c.pieces.invariant.gained c.in_ok-done.ensures.gained;
       later = omega (arith, c.in_ok-done.ensures.cause.later);
     }

@@ -6,8 +6,8 @@ use Rattle.vg_store.proofs.output.put_all.Given as goal
 abbrev pub invariant-pieces : goal.invariant-pieces
 invariant-pieces g l = record {
   within : l.done ≤ length l.bytes;
-  gained : Gains (g.O.Out.written l.fn.out) (g.O.Out.written l.out) (take l.done l.bytes);
-  later : g.O.Out.faults l.fn.out ≤ g.O.Out.faults l.out;
+  gained : Gains (g.O.Out.state l.fn.out) (g.O.Out.state l.out) (take l.done l.bytes);
+  later : (g.O.Out.state l.fn.out).faults ≤ (g.O.Out.state l.out).faults;
 }
 
 abbrev pub decreases-pieces : goal.decreases-pieces

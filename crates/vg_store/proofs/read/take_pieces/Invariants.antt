@@ -4,12 +4,12 @@ use Rattle.vg_store.proofs.read.take_pieces.Given as goal
 
 abbrev pub invariant-pieces : goal.invariant-pieces
 invariant-pieces g l = record {
-  read : HasRead (read_file (g.F.Files.holds l.fn.files) (g.F.Files.source l.fn.files)) (g.F.Files.taken l.files) (g.F.Files.reading l.files) l.bytes.items;
+  read : HasRead (g.F.Files.state l.files) l.bytes.items;
   bound : vec_len l.bytes ≤ 2 ^ 28 + 1;
-  same_source : g.F.Files.source l.files ≡ g.F.Files.source l.fn.files;
-  same_file : read_file (g.F.Files.holds l.files) (g.F.Files.source l.files) ≡ read_file (g.F.Files.holds l.fn.files) (g.F.Files.source l.fn.files);
-  later : g.F.Files.read_faults l.fn.files ≤ g.F.Files.read_faults l.files;
-  kept : (file : List ℕ) → g.F.Files.holds l.files file ≡ g.F.Files.holds l.fn.files file;
+  same_source : (g.F.Files.state l.files).source ≡ (g.F.Files.state l.fn.files).source;
+  same_file : read_file (g.F.Files.state l.files) ≡ read_file (g.F.Files.state l.fn.files);
+  later : (g.F.Files.state l.fn.files).read_faults ≤ (g.F.Files.state l.files).read_faults;
+  kept : (file : List ℕ) → (g.F.Files.state l.files).holds file ≡ (g.F.Files.state l.fn.files).holds file;
 }
 
 abbrev pub decreases-pieces : goal.decreases-pieces

@@ -1,25 +1,19 @@
-use Rattle.std.proofs.Common.{sym, subst, ◌∙◌}
-use Rattle.vg_words.specs.Request.{texts, HasCons}
-use Rattle.vg_words.specs.Views.{given_by}
-use Rattle.vg_words.proofs.JudgeLemmas.{refused, requested, wanted, named_cons}
+use Rattle.std.proofs.Common.{sym, ap, subst}
+use Rattle.vg_words.specs.Request.{texts, Sets}
+use Rattle.vg_words.specs.Settings.{settings}
+use Rattle.vg_words.proofs.JudgeLemmas.{refused, requested, wanted}
 use Rattle.vg_words.proofs.judge.read_words.Goals as goal
 
-pub returns-in_err-copied-in-Ok-clause-reads : goal.returns-in_err-copied-in-Ok-clause-reads
-returns-in_err-copied-in-Ok-clause-reads c =
-    let (request, is, mode, spef, cons, net) = requested (texts c.args.words.now) (given_by c.in-Some.given) c.in-Ok.mode c.in-Some.ensures c.in-Ok.ensures in
-    wanted (texts c.args.words.now) c.from_residual.result c.from_residual.ensures.1 (request, is)
+pub returns-in_err-copied-in-Ok : goal.returns-in_err-copied-in-Ok
+returns-in_err-copied-in-Ok c = wanted (texts c.args.words.now) c.from_residual.result c.from_residual.ensures.1
 
-pub returns-in_ok-copied-in-Ok-clause-reads : goal.returns-in_ok-copied-in-Ok-clause-reads
-returns-in_ok-copied-in-Ok-clause-reads c =
-    let (request, is, mode, spef, cons, net) = requested (texts c.args.words.now) (given_by c.in-Some.given) c.in-Ok.mode c.in-Some.ensures c.in-Ok.ensures in
+pub returns-in_ok-copied-in-Ok : goal.returns-in_ok-copied-in-Ok
+returns-in_ok-copied-in-Ok c =
     let told = c.in_ok-copied-in-Ok.ensures in
-    (request, is, record { mode = told.mode ∙ sym mode; spef = told.spef ∙ spef; cons = told.cons ∙ cons; net = told.net ∙ net })
+    let set = subst (Sets (texts c.args.words.now)) (sym (ap (λ words. settings (texts words)) c.in-Some.ensures.words)) c.in-Some.ensures.given in
+    requested (texts c.args.words.now) (settings (texts c.in-Some.given.words.now)) c.in-Ok.mode c.in_ok-copied-in-Ok.field-0 set c.in-Ok.ensures told.mode told.spef told.cons told.net
 
-pub returns-in-Err-clause-reads : goal.returns-in-Err-clause-reads
-returns-in-Err-clause-reads c = refused (texts c.args.words.now) (given_by c.in-Some.given) c.in-Err.fault c.in-Some.ensures c.in-Err.ensures
-
-pub returns-in_ok-copied-in-Ok-clause-cons : goal.returns-in_ok-copied-in-Ok-clause-cons
-returns-in_ok-copied-in-Ok-clause-cons c =
-    let told = c.in_ok-copied-in-Ok.ensures in
-    subst (λ m. HasCons m c.in_ok-copied-in-Ok.field-0.cons) (sym told.mode)
-    (subst (λ k. HasCons c.in-Ok.mode k) (sym told.cons) (named_cons (given_by c.in-Some.given) c.in-Ok.mode c.in-Ok.ensures))
+pub returns-in-Err : goal.returns-in-Err
+returns-in-Err c =
+    let set = subst (Sets (texts c.args.words.now)) (sym (ap (λ words. settings (texts words)) c.in-Some.ensures.words)) c.in-Some.ensures.given in
+    refused (texts c.args.words.now) (settings (texts c.in-Some.given.words.now)) c.in-Err.fault set c.in-Err.ensures

@@ -2,8 +2,8 @@ use Rattle.std.proofs.Common.{◌∙◌, ap}
 use Rattle.vg_scan.specs.Comments.{without_comments}
 use Rattle.vg_scan.specs.declared.comments.Comments.TheVariants.{Spef}
 use Rattle.vg_scan.proofs.AgainLemmas.{without_again}
-use Rattle.vginsert_top.proofs.ClearLemmas.{answers_same}
+use Rattle.vginsert_top.proofs.ClearLemmas.{wire_answers}
 use Rattle.vginsert_top.proofs.program.wire_in.Goals as goal
 
 pub returns : goal.returns
-returns c = answers_same c.args.bytes.items c.new-text.result (ap (without_comments Spef) c.new-text.ensures ∙ without_again Spef c.args.bytes.items) c.wire_for.result c.args.net.now c.wire_for.ensures
+returns c = λ cons. wire_answers c.args.spef.items c.new-text.result (ap (without_comments Spef) c.new-text.ensures ∙ without_again Spef c.args.spef.items) cons c.args.net.now c.wire_for.result c.wire_for.ensures

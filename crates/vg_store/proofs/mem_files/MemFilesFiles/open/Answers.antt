@@ -1,0 +1,27 @@
+use Rattle.std.proofs.Common.{◌≡◌, ◌∙◌, ap, rules, refl, true}
+use Rattle.std.specs.Prelude.{is_some}
+use Rattle.vg_store.proofs.NumberLemmas.{name_is, name_if}
+use Rattle.vg_store.proofs.mem_files.MemFilesFiles.open.Goals as goal
+
+pub returns-then-count_call-clause-blamed : goal.returns-then-count_call-clause-blamed
+returns-then-count_call-clause-blamed c = name_if c.args.self.now.files c.args.name.now c.get_index_of-number.result c.get_index_of-number.ensures.index
+
+pub returns-then-count_call-clause-told_blame : goal.returns-then-count_call-clause-told_blame
+returns-then-count_call-clause-told_blame c = λ held.
+    name_is c.args.self.now.files c.args.name.now c.get_index_of-number.result c.get_index_of-number.ensures.index (c.get_index_of-number.ensures.found ∙ held)
+
+pub returns-clause-begun : goal.returns-clause-begun
+returns-clause-begun c =
+    let some : is_some c.get_index_of-number.result ≡ true = search rules in
+    let told = name_is c.args.self.now.files c.args.name.now c.get_index_of-number.result c.get_index_of-number.ensures.index some in
+    record {
+      open_now = refl;
+      first = refl;
+      named = name_if c.args.self.now.files c.args.name.now c.get_index_of-number.result c.get_index_of-number.ensures.index;
+      told = λ _. ap is_some told;
+    }
+
+pub returns-clause-told : goal.returns-clause-told
+returns-clause-told c =
+    let some : is_some c.get_index_of-number.result ≡ true = search rules in
+    name_is c.args.self.now.files c.args.name.now c.get_index_of-number.result c.get_index_of-number.ensures.index some

@@ -1,6 +1,0 @@
-use Rattle.std.proofs.Common.{sym, ◌∙◌}
-use Rattle.vginsert_top.proofs.TimeAnswerLemmas.{free_within}
-use Rattle.vginsert_top.proofs.time.answer.judge.Goals as goal
-
-pub name_of-requires : goal.name_of-requires
-name_of-requires c = free_within c.args.cons.now c.args.found.now.net c.in-Some.sink (sym c.in_ok-sink.ensures ∙ c.in-Some.is)

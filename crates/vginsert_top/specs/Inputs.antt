@@ -1,0 +1,91 @@
+-- The inputs of a request, and the first flaw along them.
+use Rattle.std.specs.Prelude.{◌≡◌, ◌⊎◌, ℕ, ◌^◌, ◌<◌, ◌≤◌, List, [], ◌∷◌, length, Option, IfSome}
+use Rattle.std.specs.List.{All}
+use Rattle.vg_store.specs.Causes.{Rose}
+use Rattle.vg_store.specs.Reading.{FilesState}
+use Rattle.vg_cons.specs.Lines.{lines_of as cons_lines}
+use Rattle.vg_cons.specs.Faults.{IsFaultless}
+use Rattle.vg_words.specs.Request.{text_for}
+use Rattle.vg_words.specs.declared.ask.Ask.{Ask}
+use Rattle.vg_words.specs.declared.ask.Mode.{Mode}
+use Rattle.vg_words.specs.declared.ask.Mode.TheVariants.{Wire, Time}
+use Rattle.vg_words.specs.declared.option.Opt.{Opt}
+use Rattle.vg_words.specs.declared.option.Opt.TheVariants.{Spef as SpefOption, Cons as ConsOption}
+use Rattle.vginsert_top.specs.Results.{IsSpef, IsSpefFault, IsConsFault}
+use Rattle.vginsert_top.specs.declared.input.Input.{Input}
+use Rattle.vginsert_top.specs.declared.input.Input.TheVariants.{Spef, Cons}
+use Rattle.vginsert_top.specs.declared.input.Flaw.{Flaw}
+use Rattle.vginsert_top.specs.declared.input.Flaw.TheVariants.{Failed, TooLong, Faulty}
+
+-- the inputs of a mode, in the order in which they are read and judged
+abbrev pub inputs : Mode → List Input
+inputs Wire = Spef ∷ []
+inputs Time = Spef ∷ Cons ∷ []
+
+-- the option that names an input
+abbrev pub option_of : Input → Opt
+option_of Spef = SpefOption
+option_of Cons = ConsOption
+
+-- an input is in its form
+abbrev pub IsInForm : Input → List ℕ → Type 0
+IsInForm Spef text = IsSpef text
+IsInForm Cons text = IsFaultless (cons_lines text)
+
+-- it is not, and a line tells its fault
+abbrev pub IsFault : Input → List ℕ → List ℕ → Type 0
+IsFault Spef text line = IsSpefFault text line
+IsFault Cons text line = IsConsFault text line
+
+-- the name of an input in the words
+abbrev pub name_of : Ask → Input → List ℕ
+name_of ask input = text_for ask (option_of input)
+
+-- the bytes of an input, where the files tell them
+abbrev pub told : FilesState → Ask → Input → Option (List ℕ)
+told files ask input = files.holds (name_of ask input)
+
+-- a file of at most 2^28 bytes is read whole
+abbrev pub IsShort : List ℕ → Type 0
+IsShort text = length text ≤ 2 ^ 28
+
+-- this text was read: it is the file's, where that is told, and short
+pub record IsRead (file : Option (List ℕ)) (text : List ℕ) : Type 0 where
+  pub is_file : IfSome file (λ bytes. text ≡ bytes)
+  pub short : IsShort text
+
+-- the inputs of a mode were read as these texts
+abbrev pub AreRead : FilesState → Ask → (Input → List ℕ) → Type 0
+AreRead files ask texts = All (λ input. IsRead (told files ask input) (texts input)) (inputs ask.mode)
+
+-- of a list the first input that is bad: those before it are good
+abbrev pub IsFirst : (Input → Type 0) → (Input → Type 0) → List Input → Input → Type 0
+IsFirst Good Bad [] input = ⊥
+IsFirst Good Bad (head ∷ tail) input = ((head ≡ input) × Bad head) ⊎ (Good head × IsFirst Good Bad tail input)
+
+-- the first fault of the texts
+abbrev pub IsFirstFault : (Input → List ℕ) → List Input → List ℕ → Input → Type 0
+IsFirstFault texts list line input = IsFirst (λ i. IsInForm i (texts i)) (λ i. IsFault i (texts i) line) list input
+
+-- the first flaw: an input could not be read or is too long, and those before it were read; or all were read, one has a
+-- fault, and those before it are in their form
+abbrev pub IsFirstFlaw : FilesState → Ask → (Input → List ℕ) → Flaw → Input → Type 0
+IsFirstFlaw files ask texts Failed input = IsFirst (λ i. IsRead (told files ask i) (texts i)) (λ i. Unit {0}) (inputs ask.mode) input
+IsFirstFlaw files ask texts TooLong input = IsFirst (λ i. IsRead (told files ask i) (texts i)) (λ i. IfSome (told files ask i) (λ bytes. 2 ^ 28 < length bytes)) (inputs ask.mode) input
+IsFirstFlaw files ask texts (Faulty line) input = AreRead files ask texts × IsFirstFault texts (inputs ask.mode) line input
+
+-- the states before and after
+abbrev pub Change : Type 0 → Type 0
+Change S = S × S
+
+-- where the input could not be read, a fault rose, and that input is blamed
+abbrev pub IsCaused : Change FilesState → List ℕ → Flaw → Type 0
+IsCaused files name Failed = Rose files.0.read_faults files.1.read_faults × IfSome files.1.read_blame (λ blamed. blamed ≡ name)
+IsCaused files name TooLong = Unit {0}
+IsCaused files name (Faulty line) = Unit {0}
+
+-- this input has the first flaw
+pub record IsFlawed (ask : Ask) (files : Change FilesState) (input : Input) (flaw : Flaw) : Type 0 where
+  pub texts : Input → List ℕ
+  pub first : IsFirstFlaw files.0 ask texts flaw input
+  pub caused : IsCaused files (name_of ask input) flaw

@@ -1,0 +1,70 @@
+-- How a request ends, and what there is to tell of it.
+use Rattle.std.specs.Prelude.{◌≡◌, ◌⊎◌, ℕ, List, codes}
+use Rattle.vg_store.specs.Causes.{Rose}
+use Rattle.vg_store.specs.Reading.{FilesState}
+use Rattle.vg_store.specs.Writing.{OutState, Gains, GainsPrefix}
+use Rattle.vg_store.specs.declared.read.ReadAll.{ReadAll}
+use Rattle.vg_store.specs.declared.read.ReadAll.TheVariants.{Failed as ReadFailed, TooLong as ReadTooLong, Memory as ReadMemory}
+use Rattle.vg_words.specs.declared.ask.Ask.{Ask}
+use Rattle.vg_words.specs.declared.ask.WordFault.{WordFault}
+use Rattle.vg_words.specs.declared.ask.WordFault.TheVariants.{Unread, Missing, Excluded, BadValue, Equal, Memory as NoRoom}
+use Rattle.vginsert_top.specs.Inputs.{Change, name_of, IsFlawed}
+use Rattle.vginsert_top.specs.Run.{PrintsReport, PrintsRefusal, Says, flaw_line, flaw_status}
+use Rattle.vginsert_top.specs.declared.input.Input.{Input}
+use Rattle.vginsert_top.specs.declared.input.Flaw.TheVariants.{Failed, TooLong}
+use Rattle.vginsert_top.specs.declared.outcome.Outcome.{Outcome}
+use Rattle.vginsert_top.specs.declared.outcome.Outcome.TheVariants.{Done, Refused, Flawed, WriteFault, Memory}
+
+-- how printing ends
+abbrev pub IsPrinted : Change OutState → List ℕ → Outcome → Outcome → Type 0
+IsPrinted out text wanted outcome =
+    (outcome ≡ wanted × Gains out.0 out.1 text)
+    ⊎ (outcome ≡ WriteFault × Rose out.0.faults out.1.faults × GainsPrefix out.0 out.1 text)
+
+-- why the inputs were not read, and at which of them reading ended
+abbrev pub IsUnread : Ask → Change FilesState → Input × ReadAll → Type 0
+IsUnread ask files (input, ReadFailed) = IsFlawed ask files input Failed
+IsUnread ask files (input, ReadTooLong) = IsFlawed ask files input TooLong
+IsUnread ask files (input, ReadMemory) = Unit {0}
+
+-- what an outcome says of the files and of standard output
+abbrev pub Ends : Ask → Change FilesState → Change OutState → Outcome → Type 0
+Ends ask files out Done = PrintsReport files.0 (Gains out.0 out.1) ask
+Ends ask files out Refused = PrintsRefusal files.0 (Gains out.0 out.1) ask
+Ends ask files out (Flawed input flaw) = IsFlawed ask files input flaw × (out.1.written ≡ out.0.written)
+Ends ask files out WriteFault =
+    Rose out.0.faults out.1.faults
+    × (PrintsReport files.0 (GainsPrefix out.0 out.1) ask ⊎ PrintsRefusal files.0 (GainsPrefix out.0 out.1) ask)
+Ends ask files out Memory = out.1.written ≡ out.0.written
+
+-- its status
+abbrev pub status_of : Outcome → ℕ
+status_of Done = 0
+status_of Refused = 2
+status_of (Flawed input flaw) = flaw_status flaw
+status_of WriteFault = 6
+status_of Memory = 7
+
+-- the status where words ask for nothing
+abbrev pub fault_status : WordFault → ℕ
+fault_status Unread = 3
+fault_status (Missing option) = 3
+fault_status (Excluded option) = 3
+fault_status (BadValue option) = 3
+fault_status (Equal one other) = 3
+fault_status NoRoom = 7
+
+-- what standard error gained for an outcome
+abbrev pub Tells : Ask → Change OutState → Outcome → Type 0
+Tells ask err Done = err.1.written ≡ err.0.written
+Tells ask err Refused = err.1.written ≡ err.0.written
+Tells ask err (Flawed input flaw) = Says err.0 err.1 (flaw_line (name_of ask input) flaw)
+Tells ask err WriteFault = Says err.0 err.1 (codes "vginsert: write failed: standard output\n")
+Tells ask err Memory = Says err.0 err.1 (codes "vginsert: out of memory\n")
+
+-- the status is that of an outcome of which all this is true
+pub record IsStatusOf (ask : Ask) (files : Change FilesState) (out err : Change OutState) (status : ℕ) : Type 0 where
+  pub outcome : Outcome
+  pub ends : Ends ask files out outcome
+  pub tells : Tells ask err outcome
+  pub status_is : status ≡ status_of outcome
