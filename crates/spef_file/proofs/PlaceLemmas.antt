@@ -78,9 +78,9 @@ placed_at clear all section e span at =
     let there : position is_newline text ≡ Some e = position_take is_newline text k e at in
     let newline : get_or whole e 0 ≡ 10 = ap (λ n. get_or whole n 0) (let z : e ≡ e + 1 - 1 = omega arith in z) ∙ newline_found whole e at in
     let last : e ≡ k - 1 → ⊥ = λ same.
-        no_solid (get_or clear (section.to - 1) 0)
-        (ap (λ n. get_or clear n 0) (let z : section.to - 1 ≡ from + e = omega (arith, same, span.order) in z) ∙ sym (get_part clear from section.to e (omega (arith, f.1, long))) ∙ newline)
-        span.last in
+    no_solid (get_or clear (section.to - 1) 0)
+    (ap (λ n. get_or clear n 0) (let z : section.to - 1 ≡ from + e = omega (arith, same, span.order) in z) ∙ sym (get_part clear from section.to e (omega (arith, f.1, long))) ∙ newline)
+    span.last in
     let short : e + 1 < k = omega (arith, f.1, long, last) in
     let rest : drop (e + 1) text ≡ drop next clear = drop-drop (e + 1) from clear in
     let (head, lines_are) = lines_ended text e there in

@@ -6,8 +6,8 @@ ghost use Rattle.spef_file.specs.Words.{first_word};
 ghost use Rattle.spef_file.specs.Headers.{is_header_word, header_line, divider_line, delimiter_line, bus_line, with_chars, with_c_places, with_r_places, value_line, is_idle, IsSmall};
 
 use crate::fault::SpefKind;
-use crate::heading::Heading;
 use crate::header_chars::{bus_bytes, lone, with_bus, with_delimiter, with_divider};
+use crate::heading::Heading;
 use crate::keyword::same;
 use crate::units::unit_places;
 use vg_scan::{Chars, Span, text_at};

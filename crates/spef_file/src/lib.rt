@@ -1,17 +1,17 @@
 //! The index of a SPEF file (IEEE Std 1481): its header, its name map, and where its nets stand.
 #![tactic(auto)]
 
-mod net_end;
 mod fault;
 mod header;
+mod header_chars;
 mod header_line;
 mod heading;
+mod keyword;
 mod laws;
 mod lines;
 mod lookup;
-mod header_chars;
 mod name_map;
-mod keyword;
+mod net_end;
 mod read;
 mod reader;
 mod section;

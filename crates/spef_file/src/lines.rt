@@ -12,11 +12,11 @@ ghost use Rattle.std.specs.Prelude.{Ok, Some, None};
 ghost use Rattle.vg_scan.specs.Names.{canonical};
 ghost use Rattle.spef_file.specs.Machine.{given_fault};
 
-use crate::net_end::find_end;
 use crate::fault::SpefKind;
 use crate::header_line::{first_word, header_line, is_idle};
-use crate::name_map::NameMap;
 use crate::keyword::{Keyword, Region, keyword_of, same};
+use crate::name_map::NameMap;
+use crate::net_end::find_end;
 use crate::reader::Reader;
 use crate::section::Section;
 use vg_scan::{

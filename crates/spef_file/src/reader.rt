@@ -1,6 +1,6 @@
 use crate::heading::Heading;
-use crate::name_map::NameMap;
 use crate::keyword::Region;
+use crate::name_map::NameMap;
 use crate::sections::Sections;
 
 /// What the lines of a file have said so far.

@@ -6,9 +6,9 @@
 mod ends;
 mod laws;
 mod limits;
-mod marks;
 mod refusal;
 mod sink_delays;
+mod sink_marks;
 mod time;
 mod tree;
 mod wire;

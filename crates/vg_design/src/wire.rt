@@ -10,9 +10,9 @@ ghost use Rattle.vg_design.specs.Steps.{IsRefusedFirst, IsSinkPushed};
 ghost use Rattle.vg_design.specs.Wires.{AreMarks, sinks_in, IsDelay, IsWire, IsWireOf};
 
 use crate::limits::{MOST_CAPACITORS, MOST_NODES};
-use crate::marks::sink_marks;
 use crate::refusal::{Refusal, Refused};
 use crate::sink_delays::SinkDelays;
+use crate::sink_marks::sink_marks;
 use crate::tree::{NetTree, net_tree};
 use elmore::{Scratch, wire_delays};
 use spef_file::{SpefIndex, SpefText};

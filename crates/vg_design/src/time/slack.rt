@@ -7,8 +7,8 @@ ghost use Rattle.vg_design.specs.Wires.{AreMarks};
 ghost use Rattle.vg_design.specs.Timings.{first_free, name_of as name_in, timed_tree, IsBareTiming, IsTimed, IsTimedOf, IsTimeRefused};
 
 use crate::limits::MOST_CAPACITORS;
-use crate::marks::sink_marks;
 use crate::refusal::{Refusal, Refused};
+use crate::sink_marks::sink_marks;
 use crate::time::ends::{loaded_nodes, sinks_of};
 use crate::time::ports::{driver_at, first_free, has_pin, name_of};
 use crate::tree::{NetTree, net_tree};

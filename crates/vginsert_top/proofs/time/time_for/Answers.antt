@@ -1,5 +1,5 @@
 use Rattle.std.proofs.Common.{ℕ, List, subst}
-use Rattle.spef_file.specs.Shown.{shown}
+use Rattle.spef_file.specs.IndexFiles.{file_of}
 use Rattle.vg_design.specs.Timings.{IsTimeRefusalOf}
 use Rattle.vg_words.specs.declared.ask.Mode.TheVariants.{Time}
 use Rattle.vginsert_top.specs.Answer.{AnswersFor, texts_of}
@@ -12,7 +12,7 @@ returns-in_err-rows c =
     let cons = c.args.cons.now in
     let name = c.args.name.now in
     handed (AnswersFor Time (texts_of spef cons) name) c.from_residual-in_err-rows.result c.in_err-rows.field-0.0 c.from_residual-in_err-rows.ensures.1
-    (time_cons spef cons name c.in_err-rows.field-0.0 (shown c.in_ok-index.index, c.in_ok-index.ensures.said) c.in_err-rows.ensures)
+    (time_cons spef cons name c.in_err-rows.field-0.0 (file_of c.in_ok-index.index, c.in_ok-index.ensures.said) c.in_err-rows.ensures)
 
 pub returns-in-Err-Net : goal.returns-in-Err-Net
 returns-in-Err-Net c =

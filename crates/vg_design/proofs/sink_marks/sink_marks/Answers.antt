@@ -3,7 +3,7 @@ use Rattle.spef_net.specs.declared.net.ParConn.{ParConn}
 use Rattle.spef_net.specs.declared.net.ConnKind.TheVariants.{Pin}
 use Rattle.spef_net.specs.declared.net.Direction.TheVariants.{In}
 use Rattle.spef_net.proofs.NetLemmas.{conns_within}
-use Rattle.vg_design.proofs.marks.sink_marks.Goals as goal
+use Rattle.vg_design.proofs.sink_marks.sink_marks.Goals as goal
 
 pub mark-requires : goal.mark-requires
 mark-requires c =

@@ -1,7 +1,7 @@
 use Rattle.std.proofs.Common.{◌≡◌, ◌==◌, ◌&&◌, ℕ, false, length, get_or, take}
 use Rattle.std.specs.List.{list_any}
 use Rattle.vg_design.specs.Refusals.{is_sink}
-use Rattle.vg_design.proofs.marks.sink_marks.Given as goal
+use Rattle.vg_design.proofs.sink_marks.sink_marks.Given as goal
 
 abbrev pub invariant-connection : goal.invariant-connection
 invariant-connection l =
