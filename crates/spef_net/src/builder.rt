@@ -46,18 +46,21 @@ fn is_inductance(part: Part) -> bool
 }
 
 impl<'a> NetBuilder<'a> {
-    /// A net of these nodes, before the first line.
-    pub fn new(alloc: Global, nodes: NodeReader<'a>) -> NetBuilder<'a>
-        ensures { result ≡ start_of nodes.entry }
+    /// A net of these nodes, before the first line, with room for so many capacitors and resistors. Answers `Memory` where
+    /// there is no room.
+    pub fn new(alloc: Global, nodes: NodeReader<'a>, room: usize) -> Result<NetBuilder<'a>, Memory>
+        ensures { IfOk result (λ builder. builder ≡ start_of nodes.entry) }
     {
-        NetBuilder {
+        let caps = Vec::with_capacity(alloc, room)?;
+        let ress = Vec::with_capacity(alloc, room)?;
+        Ok(NetBuilder {
             nodes,
             notes: Notes::new(alloc),
             conns: Vec::new(alloc),
-            caps: Vec::new(alloc),
-            ress: Vec::new(alloc),
+            caps,
+            ress,
             inductive: false,
-        }
+        })
     }
 
     /// The number of the node that a text names, if it is the net's; it is put last where it is new.

@@ -74,7 +74,12 @@ pub(crate) fn read_lines<'a>(
     ensures builder { IfOk result (λ builder. IsPartialNet (connected_of (statement_about nodes.entry bytes.now)) nodes.entry.net (statement_about nodes.entry bytes.now) builder) }
     ensures fault { IfErr result (λ fault. (fault.kind ≡ Memory) ⊎ IsFirstFaultIn nodes.entry.net (statement_about nodes.entry bytes.now) first fault) }
 {
-    let mut builder = NetBuilder::new(alloc, nodes);
+    let Ok(mut builder) = NetBuilder::new(alloc, nodes, bytes.len() / 64) else {
+        return Err(NetFault {
+            kind: NetKind::Memory,
+            line: first,
+        });
+    };
     let mut found = Vec::new(alloc);
     let mut part = Part::Nowhere;
     let mut count = 0usize;

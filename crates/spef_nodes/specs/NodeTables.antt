@@ -9,11 +9,11 @@ use Rattle.spef_nodes.specs.declared.node_table.Table.{Table}
 
 -- a hash, with one byte more
 abbrev pub hash_with : ℕ → ℕ → ℕ
-hash_with hash byte = (hash * 31 + byte) % 2 ^ 32
+hash_with hash byte = (hash * 10 + byte) % 2 ^ 32
 
--- a node's bucket among so many is that of the low bits of the hash of its owner and its leaf
+-- a node's bucket among so many is that of the low bits of the hashes of its owner and its leaf
 unfoldable pub bucket_of : ℕ → NodeName → ℕ
-bucket_of buckets node = bit_and (fold hash_with (fold hash_with 0 node.owner) node.leaf) (buckets - 1)
+bucket_of buckets node = bit_and (fold hash_with 0 node.owner * 31 + fold hash_with 0 node.leaf) (buckets - 1)
 
 -- the nodes of these owners and leaves
 unfoldable pub nodes_in : List (List ℕ) → List (List ℕ) → List NodeName

@@ -42,16 +42,14 @@ impl Model for NodeTable {
     ghost invariant = { λ nodes. IsTable (nodes_in nodes.table.owners nodes.table.leaves) nodes.table.rows.items nodes.table.chains };
 }
 
-/// A hash, with some bytes more: nodes of one owner whose leaves are numbers close to each other are in buckets close to each
-/// other.
-fn hash_more(start: u64, text: &[u8]) -> u64
-    requires { start < 2 ^ 32 }
-    ensures hash { result ≡ fold hash_with start text.now }
+/// The hash of a text: texts that end with numbers close to each other have hashes as close.
+fn hash_of(text: &[u8]) -> u64
+    ensures hash { result ≡ fold hash_with 0 text.now }
     ensures within { result < 2 ^ 32 }
 {
-    let mut hash = start;
+    let mut hash = 0u64;
     'byte: for byte in text {
-        hash = (hash * 31 + u64::from(*byte)) % 0x1_0000_0000;
+        hash = (hash * 10 + u64::from(*byte)) % 0x1_0000_0000;
     }
     hash
 }
@@ -62,8 +60,7 @@ fn bucket_of(buckets: usize, owner: &[u8], leaf: &[u8]) -> usize
     ensures bucket { result ≡ bucket_of buckets (node_named owner.now leaf.now) }
     ensures within { result < buckets }
 {
-    let start = hash_more(0, owner);
-    let hash = hash_more(start, leaf);
+    let hash = hash_of(owner) * 31 + hash_of(leaf);
     hash as usize & (buckets - 1)
 }
 
@@ -175,11 +172,12 @@ impl NodeTable {
         ensures { IfOk result (λ nodes. nodes ≡ []) }
     {
         let chains = Chains::new(alloc, buckets)?;
+        let rows = Vec::with_capacity(alloc, buckets)?;
         Ok(NodeTable {
             table: Table {
                 owners: Texts::new(alloc),
                 leaves: Texts::new(alloc),
-                rows: Vec::new(alloc),
+                rows,
                 chains,
             },
         })
