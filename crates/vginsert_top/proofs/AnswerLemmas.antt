@@ -6,7 +6,7 @@ use Rattle.vg_design.specs.Nets.{IsRefusalOf}
 use Rattle.vg_design.specs.Timings.{IsTimeRefusalOf}
 use Rattle.vg_design.specs.declared.refusal.Refusal.{Refusal}
 use Rattle.vg_words.specs.declared.ask.Mode.TheVariants.{Wire, Time}
-use Rattle.vginsert_top.specs.Answer.{AnswersFor, Indexes, ReadsCons, IsRefusedWith, texts_of}
+use Rattle.vginsert_top.specs.Answer.{AnswersFor, ReadsCons, IsRefusedWith, texts_of}
 use Rattle.vginsert_top.specs.Reports.{refusal_line}
 use Rattle.vginsert_top.specs.Results.{AreRowsOf, IsSpef}
 use Rattle.vginsert_top.specs.declared.answer.Answer.{Answer}
@@ -24,17 +24,7 @@ pub untimed_answer : (spef cons name : List ℕ) (rows : Rows) (refusal : Refusa
 untimed_answer spef cons name rows refusal (Refused text) are of is = record { rows = rows; constraints = are; refusal = refusal; refused = of; text_is = is }
 untimed_answer spef cons name rows refusal (Report text) are of is = absurd is
 
--- a fault of the SPEF file, and one of the constraints
-pub wire_spef : (spef name : List ℕ) (fault : NoAnswer) → Indexes (Err fault) spef → AnswersFor Wire (texts_of spef []) name (Err fault)
-wire_spef spef name (Faulty Spef line) is = inl (refl, is)
-wire_spef spef name (Faulty Cons line) is = absurd is
-wire_spef spef name Memory is = tt
-
-pub time_spef : (spef cons name : List ℕ) (fault : NoAnswer) → Indexes (Err fault) spef → AnswersFor Time (texts_of spef cons) name (Err fault)
-time_spef spef cons name (Faulty Spef line) is = inl (refl, is)
-time_spef spef cons name (Faulty Cons line) is = absurd is
-time_spef spef cons name Memory is = tt
-
+-- a fault of the constraints
 pub time_cons : (spef cons name : List ℕ) (fault : NoAnswer) → IsSpef spef → ReadsCons (Err fault) cons → AnswersFor Time (texts_of spef cons) name (Err fault)
 time_cons spef cons name (Faulty Spef line) said is = absurd is
 time_cons spef cons name (Faulty Cons line) said is = inr (said, inl (refl, is))

@@ -1,6 +1,5 @@
 pub mod GainLemmas
 pub mod InputLemmas
-pub mod OutcomeLemmas
 pub mod RunLemmas
 pub mod AnswerLemmas
 pub mod ClearLemmas

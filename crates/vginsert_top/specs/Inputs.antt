@@ -49,6 +49,10 @@ told files ask input = files.holds (name_of ask input)
 abbrev pub IsShort : List ℕ → Type 0
 IsShort text = length text ≤ 2 ^ 28
 
+-- a longer one is not, where it is told
+abbrev pub IsLong : Option (List ℕ) → Type 0
+IsLong file = IfSome file (λ bytes. 2 ^ 28 < length bytes)
+
 -- this text was read: it is the file's, where that is told, and short
 pub record IsRead (file : Option (List ℕ)) (text : List ℕ) : Type 0 where
   pub is_file : IfSome file (λ bytes. text ≡ bytes)
@@ -71,7 +75,7 @@ IsFirstFault texts list line input = IsFirst (λ i. IsInForm i (texts i)) (λ i.
 -- fault, and those before it are in their form
 abbrev pub IsFirstFlaw : FilesState → Ask → (Input → List ℕ) → Flaw → Input → Type 0
 IsFirstFlaw files ask texts Failed input = IsFirst (λ i. IsRead (told files ask i) (texts i)) (λ i. Unit {0}) (inputs ask.mode) input
-IsFirstFlaw files ask texts TooLong input = IsFirst (λ i. IsRead (told files ask i) (texts i)) (λ i. IfSome (told files ask i) (λ bytes. 2 ^ 28 < length bytes)) (inputs ask.mode) input
+IsFirstFlaw files ask texts TooLong input = IsFirst (λ i. IsRead (told files ask i) (texts i)) (λ i. IsLong (told files ask i)) (inputs ask.mode) input
 IsFirstFlaw files ask texts (Faulty line) input = AreRead files ask texts × IsFirstFault texts (inputs ask.mode) line input
 
 -- the states before and after

@@ -1,5 +1,5 @@
 -- What a run of the program promises.
-use Rattle.std.specs.Prelude.{◌≡◌, ◌⊎◌, ℕ, List, [], ◌∷◌, ◌++◌, ◌==◌, Bool, codes, Some}
+use Rattle.std.specs.Prelude.{◌≡◌, ◌≢◌, ◌⊎◌, ℕ, List, [], ◌∷◌, ◌++◌, ◌==◌, Bool, codes, Some}
 use Rattle.std.specs.List.{All, list_any}
 use Rattle.vg_store.specs.Causes.{Rose}
 use Rattle.vg_store.specs.Reading.{FilesState}
@@ -55,15 +55,21 @@ refused_line NoRoom = codes "vginsert: out of memory\n"
 
 -- of the texts that were read an output gained the report
 abbrev pub PrintsReport : FilesState → (List ℕ → Type 0) → Ask → Type 0
-PrintsReport files Gained ask = (texts : Input → List ℕ) × AreRead files ask texts × ((text : List ℕ) × IsReportFor ask.mode texts (text_for ask Net) text × Gained text)
+PrintsReport files Gained ask =
+    (texts : Input → List ℕ) × AreRead files ask texts × ((text : List ℕ) × IsReportFor ask.mode texts (text_for ask Net) text × Gained text)
 
 -- or the refusal
 abbrev pub PrintsRefusal : FilesState → (List ℕ → Type 0) → Ask → Type 0
-PrintsRefusal files Gained ask = (texts : Input → List ℕ) × AreRead files ask texts × ((text : List ℕ) × IsRefusalFor ask.mode texts (text_for ask Net) text × Gained text)
+PrintsRefusal files Gained ask =
+    (texts : Input → List ℕ) × AreRead files ask texts × ((text : List ℕ) × IsRefusalFor ask.mode texts (text_for ask Net) text × Gained text)
+
+abbrev pub PrintsEither : FilesState → (List ℕ → Type 0) → Ask → Type 0
+PrintsEither files Gained ask = PrintsReport files Gained ask ⊎ PrintsRefusal files Gained ask
 
 -- an input has the first flaw, its flaw gives this status, and a line tells it
 abbrev pub TellsFlaw : ℕ → Change FilesState → (List ℕ → Type 0) → Ask → Type 0
-TellsFlaw status files Said ask = (input : Input) × (flaw : Flaw) × (flaw_status flaw ≡ status) × IsFlawed ask files input flaw × Said (flaw_line (name_of ask input) flaw)
+TellsFlaw status files Said ask =
+    (input : Input) × (flaw : Flaw) × (flaw_status flaw ≡ status) × IsFlawed ask files input flaw × Said (flaw_line (name_of ask input) flaw)
 
 -- the words are no request, for this first reason, and a line tells it
 abbrev pub AreRefused : List (List ℕ) → (List ℕ → Type 0) → Type 0
@@ -82,6 +88,12 @@ pub record IsStatusFor (ask : Ask) (texts : Input → List ℕ) (status : ℕ) :
   pub faulty : AreShort ask texts → (line : List ℕ) (input : Input) → IsFirstFault texts (inputs ask.mode) line input → status ≡ 4
   pub report : AreShort ask texts → (text : List ℕ) → IsReportFor ask.mode texts (text_for ask Net) text → status ≡ 0
   pub refusal : AreShort ask texts → (text : List ℕ) → IsRefusalFor ask.mode texts (text_for ask Net) text → status ≡ 2
+
+-- where nothing failed, the status is exactly the one that the files and the request ask for
+abbrev pub IsExact : List (List ℕ) → FilesState → ℕ → Type 0
+IsExact words files status =
+    (ask : Ask) → IsRequest words ask → (texts : Input → List ℕ) → AreTold files ask texts
+    → status ≢ 5 → status ≢ 6 → status ≢ 7 → IsStatusFor ask texts status
 
 -- a run ends with one of these
 abbrev pub is_status : ℕ → Bool

@@ -10,7 +10,7 @@ ghost use Rattle.vginsert_top.specs.declared.input.Input.{Input};
 ghost use Rattle.vginsert_top.specs.Inputs.{IsShort, inputs};
 ghost use Rattle.std.specs.List.{All};
 ghost use Rattle.vginsert_top.specs.Outcomes.{Ends, IsPrinted, IsStatusOf, fault_status};
-ghost use Rattle.vginsert_top.specs.Run.{AreRefused, AreTold, ErrorLine, ForRequest, IsStatusFor, PrintsRefusal, PrintsReport, Says, TellsFlaw, is_status, prints_nothing};
+ghost use Rattle.vginsert_top.specs.Run.{AreRefused, ErrorLine, ForRequest, IsExact, PrintsEither, PrintsRefusal, PrintsReport, Says, TellsFlaw, is_status, prints_nothing};
 
 use crate::answer::{Answer, NoAnswer};
 use crate::input::{Flaw, Texts, read_inputs};
@@ -139,12 +139,14 @@ pub fn run<F: Files, O: Out, E: Out>(
     ensures unread_line { result ≡ 3 → AreRefused (texts words.now) (Says (E.state err.old) (E.state err.new)) }
     ensures unreadable { result ≡ 4 → ForRequest (texts words.now) (TellsFlaw 4 (F.state files.old, F.state files.new) (Says (E.state err.old) (E.state err.new))) }
     ensures read_fault { result ≡ 5 → Rose (F.state files.old).read_faults (F.state files.new).read_faults × ForRequest (texts words.now) (TellsFlaw 5 (F.state files.old, F.state files.new) (Says (E.state err.old) (E.state err.new))) }
-    ensures write_fault { result ≡ 6 → Rose (O.state out.old).faults (O.state out.new).faults × ForRequest (texts words.now) (λ ask. PrintsReport (F.state files.old) (GainsPrefix (O.state out.old) (O.state out.new)) ask ⊎ PrintsRefusal (F.state files.old) (GainsPrefix (O.state out.old) (O.state out.new)) ask) }
+    ensures write_fault { result ≡ 6 → Rose (O.state out.old).faults (O.state out.new).faults × ForRequest (texts words.now) (PrintsEither (F.state files.old) (GainsPrefix (O.state out.old) (O.state out.new))) }
     ensures statuses { IsTrue (is_status result) }
     ensures nothing_printed { IsTrue (prints_nothing result) → (O.state out.new).written ≡ (O.state out.old).written }
+    // Standard error has exactly its line, or a prefix of it after a fault of its own.
     ensures error_line { ErrorLine result (Says (E.state err.old) (E.state err.new)) ((E.state err.new).written ≡ (E.state err.old).written) }
     ensures kept { (file : List ℕ) → (F.state files.new).holds file ≡ (F.state files.old).holds file }
-    ensures exact { (ask : Request) → IsRequest (texts words.now) ask → (read : Input → List ℕ) → AreTold (F.state files.old) ask read → result ≢ 5 → result ≢ 6 → result ≢ 7 → IsStatusFor ask read result }
+    // Where nothing failed, the status is exactly the one that the files and the request ask for.
+    ensures exact { IsExact (texts words.now) (F.state files.old) result }
 {
     match read_words(alloc, words) {
         Ok(ask) => run_request(alloc, &ask, files, out, err),

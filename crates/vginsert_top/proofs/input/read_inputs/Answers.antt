@@ -13,8 +13,9 @@ use Rattle.vginsert_top.proofs.input.read_inputs.Goals as goal
 pub returns-in-Err-clause-unread : goal.returns-in-Err-clause-unread
 returns-in-Err-clause-unread g c =
     let low : c.input.input-index < length c.inputs-order.result.now = omega (arith, c.input-test.true) in
+    let named = c.text.ensures ∙ ap (text_for c.args.ask.now) c.option.ensures in
     unread_is c.args.ask.now (g.F.Files.state c.args.files.now) (g.F.Files.state c.input.files) (g.F.Files.state c.read_all.new.files) (texts_in c.input.texts) c.inputs-order.result.now c.input.input-index Spef c.in-Err.cause c.text.result.now
-    c.inputs-order.ensures low c.input.invariant.read c.input.invariant.kept c.input.invariant.later (c.text.ensures ∙ ap (text_for c.args.ask.now) c.option.ensures) c.in-Err.ensures.failed
+    c.inputs-order.ensures low c.input.invariant.read c.input.invariant.kept c.input.invariant.later named c.in-Err.ensures.failed
     (λ is. (c.in-Err.ensures.too_long is).1)
 
 pub input-preserved : goal.input-preserved
