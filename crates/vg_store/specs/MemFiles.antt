@@ -48,7 +48,14 @@ faults_of files = files.calls.faults
 
 -- what contracts see of them as files
 abbrev pub state_of : MemFiles → FilesState
-state_of files = record { holds = held files; read_faults = faults_of files; read_blame = blame_of files; source = source_of files; taken = taken_of files; reading = is_reading files }
+state_of files = record {
+  holds = held files;
+  read_faults = faults_of files;
+  read_blame = blame_of files;
+  source = source_of files;
+  taken = taken_of files;
+  reading = is_reading files;
+}
 
 -- what was not taken yet of the file that is read
 abbrev pub left_of : MemFiles → List ℕ

@@ -1,5 +1,6 @@
 -- Files that are read, by name.
-use Rattle.std.specs.Prelude.{◌≡◌, ◌↔◌, ℕ, ◌≤◌, List, length, take, drop, Bool, true, Option, Some, None, IfSome, IsSome}
+use Rattle.std.specs.Prelude.{◌≡◌, ◌↔◌, ℕ, ◌+◌, ◌^◌, ◌<◌, ◌≤◌, List, length, take, drop, Bool, true, Option, Some, None, IfSome, IsSome}
+use Rattle.vg_store.specs.Causes.{Rose}
 
 -- what contracts see of files: the bytes of each by its name, where they are told; how often reading failed, and the file
 -- at which it failed last; the file that was opened last, how many of its bytes were taken, and whether it is open
@@ -10,6 +11,10 @@ pub record FilesState : Type 0 where
   pub source : Option (List ℕ)
   pub taken : ℕ
   pub reading : Bool
+
+-- files of which neither names nor bytes are told
+abbrev pub untold : ℕ → ℕ → Bool → FilesState
+untold faults taken reading = record { holds = λ _. None; read_faults = faults; read_blame = None; source = None; taken = taken; reading = reading }
 
 abbrev pub file_named : (List ℕ → Option (List ℕ)) → Option (List ℕ) → Option (List ℕ)
 file_named holds None = None
@@ -37,3 +42,11 @@ pub record HasRead (files : FilesState) (bytes : List ℕ) : Type 0 where
   pub open_now : files.reading ≡ true
   pub counted : files.taken ≡ length bytes
   pub first : IfSome (read_file files) (λ whole. (bytes ≡ take files.taken whole) × (files.taken ≤ length whole))
+
+-- opening or reading failed: the count of read faults rose, and this holds of the file that is blamed, where it is told
+abbrev pub ReadFaultAt : FilesState → FilesState → (List ℕ → Type 0) → Type 0
+ReadFaultAt old new IsBlamed = Rose old.read_faults new.read_faults × IfSome new.read_blame IsBlamed
+
+-- a file is too long to be read: 2^28 + 1 bytes were taken, and the file, where it is told, has more than 2^28
+abbrev pub IsTooLong : FilesState → Option (List ℕ) → Type 0
+IsTooLong new file = (new.taken ≡ 2 ^ 28 + 1) × IfSome file (λ bytes. 2 ^ 28 < length bytes)

@@ -56,7 +56,7 @@ impl Out for MemOut {
     ghost state = { λ out. state_of out };
 
     /// Appends the first bytes of a piece: as many as the chunk and the piece allow. It fails where the call's
-    /// number stands in the list, and where memory is wanted and not given. Then nothing is appended.
+    /// number stands in the list, and when out of memory. Then nothing is appended.
     fn put(&mut self, bytes: &[u8]) -> Result<usize, Failed>
         ensures bound { IfOk result (λ count. (count ≤ length bytes.now) × (0 < length bytes.now → 0 < count)) }
         ensures gained { IfOk result (λ count. Gains (state_of self.old) (state_of self.new) (take count bytes.now)) }

@@ -2,6 +2,7 @@
 ghost use Rattle.std.specs.Prelude.{◌≡◌, ◌+◌, ◌^◌, ◌<◌, ◌≤◌, ℕ, List, length, true, Option, None, IsNone, is_some, IfOk, IfSome, OnOk, OnErr};
 ghost use Rattle.std.specs.Io.KnownBytes.{ReadConsumes};
 ghost use Rattle.vg_store.specs.Causes.{HasCause};
+ghost use Rattle.vg_store.specs.Reading.{untold};
 
 use crate::files::{Failed, Files};
 use std::fs;
@@ -43,7 +44,7 @@ impl<'a, R: std::rt::Files> RealFiles<'a, R> {
 }
 
 impl<R: std::rt::Files> Files for RealFiles<'_, R> {
-    ghost state = { λ files. record { holds = λ _. None; read_faults = files.faults; read_blame = None; source = None; taken = files.taken; reading = is_some files.file } };
+    ghost state = { λ files. untold files.faults files.taken (is_some files.file) };
 
     /// Opens the file of this path. After `Failed` no file is open.
     fn open(&mut self, name: &str) -> Result<(), Failed> {
@@ -77,7 +78,7 @@ impl<R: std::rt::Files> Files for RealFiles<'_, R> {
         ensures same_blame { OnOk result (◌≡◌ {A = Option (List ℕ)} None None) }
 
         // What the system's file is known to have left shrank by the bytes that were taken, and after a fault by none.
-        ensures reached { IfSome self.old.file (λ old. IfSome self.new.file (λ new. ReadConsumes (R.File.remaining old) (R.File.remaining new) result buf.new)) }
+        ensures reached { IfSome self.old.file (λ a. IfSome self.new.file (λ b. ReadConsumes (R.File.remaining a) (R.File.remaining b) result buf.new)) }
     {
         let Some(file) = &mut self.file else {
             unreachable!();
