@@ -1,5 +1,5 @@
 -- Inputs that are read in order.
-use Rattle.std.proofs.Common.{◌≡◌, ◌⊎◌, ℕ, zero, suc, ◌+◌, ◌<◌, ◌≤◌, ◌^◌, List, [], ◌∷◌, length, take, inl, inr, refl, sym, ap, ◌∙◌, subst, arith, Option, IfSome, Err}
+use Rattle.std.proofs.Common.{◌≡◌, ◌⊎◌, ℕ, zero, suc, ◌+◌, ◌<◌, ◌≤◌, List, [], ◌∷◌, length, take, inl, inr, refl, sym, ap, ◌∙◌, subst, arith, Option, IfSome, Err}
 use Rattle.std.specs.List.{All}
 use Rattle.std.proofs.lemmas.Bool.{cases_lt}
 use Rattle.std.proofs.lemmas.Int.{clamps}
@@ -10,11 +10,10 @@ use Rattle.vg_words.specs.declared.ask.Ask.{Ask}
 use Rattle.std.specs.Result.{IsErrOf}
 use Rattle.std.specs.declared.vec.Vec.{Vec}
 use Rattle.std.specs.declared.alloc.Global.{Global}
-use Rattle.vg_store.specs.Causes.{Rose}
-use Rattle.vg_store.specs.Reading.{FilesState}
+use Rattle.vg_store.specs.Reading.{FilesState, ReadFaultAt}
 use Rattle.vg_store.specs.declared.read.ReadAll.{ReadAll}
 use Rattle.vg_store.specs.declared.read.ReadAll.TheVariants.{Failed, TooLong, Memory}
-use Rattle.vginsert_top.specs.Inputs.{inputs, name_of, told, IsFirst, IsRead, IsShort}
+use Rattle.vginsert_top.specs.Inputs.{inputs, name_of, told, IsFirst, IsLong, IsRead, IsShort}
 use Rattle.vginsert_top.specs.Outcomes.{IsUnread}
 use Rattle.vginsert_top.specs.declared.input.Input.{Input}
 
@@ -65,8 +64,8 @@ read_as held before text same is short = record { is_file = subst (λ (o : Optio
 -- the first input that was not read
 pub unread_is : (ask : Ask) (before mid after : FilesState) (texts : Input → List ℕ) (order : List Input) (i : ℕ) (d : Input) (cause : ReadAll) (name : List ℕ) → order ≡ inputs ask.mode → i < length order
     → All (λ x. IsRead (told before ask x) (texts x)) (take i order) → ((file : List ℕ) → mid.holds file ≡ before.holds file) → before.read_faults ≤ mid.read_faults → name ≡ name_of ask (get_or order i d)
-    → (IsErrOf {T = Vec ℕ Global} (Err cause) Failed → Rose mid.read_faults after.read_faults × IfSome after.read_blame (λ blamed. blamed ≡ name))
-    → (IsErrOf {T = Vec ℕ Global} (Err cause) TooLong → IfSome (mid.holds name) (λ file. 2 ^ 28 < length file))
+    → (IsErrOf {T = Vec ℕ Global} (Err cause) Failed → ReadFaultAt mid after (λ blamed. blamed ≡ name))
+    → (IsErrOf {T = Vec ℕ Global} (Err cause) TooLong → IsLong (mid.holds name))
     → IsUnread ask (before, after) (get_or order i d, cause)
 unread_is ask before mid after texts order i d Failed name is low read kept later named failed long =
     let (rose, blamed) = failed refl in
@@ -80,9 +79,9 @@ unread_is ask before mid after texts order i d TooLong name is low read kept lat
     let held : mid.holds name ≡ told before ask (get_or order i d) = kept name ∙ ap before.holds named in
     record {
       texts = texts;
-      first = subst (λ (list : List Input). IsFirst (λ x. IsRead (told before ask x) (texts x)) (λ x. IfSome (told before ask x) (λ bytes. 2 ^ 28 < length bytes)) list (get_or order i d)) is
-          (first_at (λ x. IsRead (told before ask x) (texts x)) (λ x. IfSome (told before ask x) (λ bytes. 2 ^ 28 < length bytes)) order i d low read
-          (subst (λ (o : Option (List ℕ)). IfSome o (λ bytes. 2 ^ 28 < length bytes)) held (long refl)));
+      first = subst (λ (list : List Input). IsFirst (λ x. IsRead (told before ask x) (texts x)) (λ x. IsLong (told before ask x)) list (get_or order i d)) is
+          (first_at (λ x. IsRead (told before ask x) (texts x)) (λ x. IsLong (told before ask x)) order i d low read
+          (subst (λ (o : Option (List ℕ)). IsLong o) held (long refl)));
       caused = tt;
     }
 unread_is ask before mid after texts order i d Memory name is low read kept later named failed long = tt

@@ -30,9 +30,9 @@ use Rattle.vg_design.proofs.AnswerLemmas.{passed_is}
 use Rattle.vg_design.proofs.TimeLawLemmas.{timed_is}
 use Rattle.vginsert_top.specs.Results.{IsSpef}
 use Rattle.vginsert_top.specs.Answer.{IsReportFor, IsRefusalFor, texts_of}
-use Rattle.vginsert_top.specs.Inputs.{inputs, told, Change, IsShort, IsRead, IsFirstFault}
-use Rattle.vginsert_top.specs.Run.{AreTold, AreShort, IsStatusFor, PrintsReport, PrintsRefusal, Says, TellsFlaw}
-use Rattle.vginsert_top.specs.Outcomes.{Ends, Tells, status_of, fault_status}
+use Rattle.vginsert_top.specs.Inputs.{inputs, told, Change, IsShort, IsLong, IsRead, IsFirstFault}
+use Rattle.vginsert_top.specs.Run.{AreTold, AreShort, IsExact, IsStatusFor, PrintsReport, PrintsRefusal, PrintsEither, Says, TellsFlaw}
+use Rattle.vginsert_top.specs.Outcomes.{Ends, IsStatusOf, Tells, status_of, fault_status}
 use Rattle.vginsert_top.specs.declared.input.Input.{Input}
 use Rattle.vginsert_top.specs.declared.input.Input.TheVariants.{Spef, Cons}
 use Rattle.vginsert_top.specs.declared.input.Flaw.TheVariants.{Failed, TooLong, Faulty}
@@ -193,16 +193,16 @@ shorts Time tell a b read e =
     all_two (λ i. IsShort (b i)) Spef Cons (subst (λ (s : Bytes). IsShort s) e.0 (read 0 Spef (omega arith)).short) (subst (λ (s : Bytes). IsShort s) e.1 (read 1 Spef (omega arith)).short)
 
 -- what is told and short is not too long
-not_long : (file : Option Bytes) (text : Bytes) → (file ≡ Some text) → IsShort text → IfSome file (λ bytes. 2 ^ 28 < length bytes) → ⊥
+not_long : (file : Option Bytes) (text : Bytes) → (file ≡ Some text) → IsShort text → IsLong file → ⊥
 not_long file text is short long =
-    let at : 2 ^ 28 < length text = subst (λ (o : Option Bytes). IfSome o (λ bytes. 2 ^ 28 < length bytes)) is long in
+    let at : 2 ^ 28 < length text = subst (λ (o : Option Bytes). IsLong o) is long in
     omega (arith, at, short)
 
 both : (P Q : Input → Type 0) (list : List Input) → All P list → All Q list → All (λ i. P i × Q i) list
 both P Q list p q k d h = (p k d h, q k d h)
 
 module _ (ask : Ask) (files : Change FilesState) (out : Change OutState) where
-  pub exact_is : (outcome : Outcome) → Ends ask files out outcome → (b : Input → Bytes) → AreTold files.0 ask b
+  exact_is : (outcome : Outcome) → Ends ask files out outcome → (b : Input → Bytes) → AreTold files.0 ask b
       → status_of outcome ≢ 5 → status_of outcome ≢ 6 → status_of outcome ≢ 7 → IsStatusFor ask b (status_of outcome)
   exact_is Done (a, read, (t, is, _)) b tells five six seven =
       let e = agree ask.mode (told files.0 ask) a b read tells in
@@ -215,13 +215,13 @@ module _ (ask : Ask) (files : Change FilesState) (out : Change OutState) where
       faulty_status ask b line input (faulty_as ask.mode flawed.texts b line input e flawed.first.1)
   exact_is (Flawed input TooLong) (flawed, _) b tells five six seven =
       long_status ask b (λ short.
-      none_first (λ i. IsRead (told files.0 ask i) (flawed.texts i)) (λ i. IfSome (told files.0 ask i) (λ bytes. 2 ^ 28 < length bytes)) (λ i. (told files.0 ask i ≡ Some (b i)) × IsShort (b i)) (inputs ask.mode) input flawed.first
+      none_first (λ i. IsRead (told files.0 ask i) (flawed.texts i)) (λ i. IsLong (told files.0 ask i)) (λ i. (told files.0 ask i ≡ Some (b i)) × IsShort (b i)) (inputs ask.mode) input flawed.first
       (both (λ i. told files.0 ask i ≡ Some (b i)) (λ i. IsShort (b i)) (inputs ask.mode) tells short) (λ i fine long. not_long (told files.0 ask i) (b i) fine.0 fine.1 long))
   exact_is (Flawed input Failed) ends b tells five six seven = absurd (five refl)
   exact_is WriteFault ends b tells five six seven = absurd (six refl)
   exact_is Memory ends b tells five six seven = absurd (seven refl)
 
-  pub done_is : (outcome : Outcome) → status_of outcome ≡ 0 → Ends ask files out outcome → PrintsReport files.0 (Gains out.0 out.1) ask
+  done_is : (outcome : Outcome) → status_of outcome ≡ 0 → Ends ask files out outcome → PrintsReport files.0 (Gains out.0 out.1) ask
   done_is Done e ends = ends
   done_is Refused e ends = absurd (omega arith)
   done_is (Flawed input Failed) e ends = absurd (omega arith)
@@ -230,7 +230,7 @@ module _ (ask : Ask) (files : Change FilesState) (out : Change OutState) where
   done_is WriteFault e ends = absurd (omega arith)
   done_is Memory e ends = absurd (omega arith)
 
-  pub refused_is : (outcome : Outcome) → status_of outcome ≡ 2 → Ends ask files out outcome → PrintsRefusal files.0 (Gains out.0 out.1) ask
+  refused_is : (outcome : Outcome) → status_of outcome ≡ 2 → Ends ask files out outcome → PrintsRefusal files.0 (Gains out.0 out.1) ask
   refused_is Refused e ends = ends
   refused_is Done e ends = absurd (omega arith)
   refused_is (Flawed input Failed) e ends = absurd (omega arith)
@@ -239,7 +239,7 @@ module _ (ask : Ask) (files : Change FilesState) (out : Change OutState) where
   refused_is WriteFault e ends = absurd (omega arith)
   refused_is Memory e ends = absurd (omega arith)
 
-  pub write_fault_is : (outcome : Outcome) → status_of outcome ≡ 6 → Ends ask files out outcome
+  write_fault_is : (outcome : Outcome) → status_of outcome ≡ 6 → Ends ask files out outcome
       → Rose out.0.faults out.1.faults × (PrintsReport files.0 (GainsPrefix out.0 out.1) ask ⊎ PrintsRefusal files.0 (GainsPrefix out.0 out.1) ask)
   write_fault_is WriteFault e ends = ends
   write_fault_is Done e ends = absurd (omega arith)
@@ -249,7 +249,7 @@ module _ (ask : Ask) (files : Change FilesState) (out : Change OutState) where
   write_fault_is (Flawed input (Faulty line)) e ends = absurd (omega arith)
   write_fault_is Memory e ends = absurd (omega arith)
 
-  pub not_three : (outcome : Outcome) → status_of outcome ≡ 3 → ⊥
+  not_three : (outcome : Outcome) → status_of outcome ≡ 3 → ⊥
   not_three Done e = omega arith
   not_three Refused e = omega arith
   not_three (Flawed input Failed) e = omega arith
@@ -259,7 +259,7 @@ module _ (ask : Ask) (files : Change FilesState) (out : Change OutState) where
   not_three Memory e = omega arith
 
   module _ (err : Change OutState) where
-    pub unreadable_is : (outcome : Outcome) → status_of outcome ≡ 4 → Ends ask files out outcome → Tells ask err outcome → TellsFlaw 4 files (Says err.0 err.1) ask
+    unreadable_is : (outcome : Outcome) → status_of outcome ≡ 4 → Ends ask files out outcome → Tells ask err outcome → TellsFlaw 4 files (Says err.0 err.1) ask
     unreadable_is (Flawed input TooLong) e (flawed, _) tells = (input, TooLong, refl, flawed, tells)
     unreadable_is (Flawed input (Faulty line)) e (flawed, _) tells = (input, Faulty line, refl, flawed, tells)
     unreadable_is (Flawed input Failed) e ends tells = absurd (omega arith)
@@ -268,7 +268,7 @@ module _ (ask : Ask) (files : Change FilesState) (out : Change OutState) where
     unreadable_is WriteFault e ends tells = absurd (omega arith)
     unreadable_is Memory e ends tells = absurd (omega arith)
 
-    pub read_fault_is : (outcome : Outcome) → status_of outcome ≡ 5 → Ends ask files out outcome → Tells ask err outcome
+    read_fault_is : (outcome : Outcome) → status_of outcome ≡ 5 → Ends ask files out outcome → Tells ask err outcome
         → Rose files.0.read_faults files.1.read_faults × TellsFlaw 5 files (Says err.0 err.1) ask
     read_fault_is (Flawed input Failed) e (flawed, _) tells = (flawed.caused.0, (input, Failed, refl, flawed, tells))
     read_fault_is (Flawed input TooLong) e ends tells = absurd (omega arith)
@@ -279,7 +279,7 @@ module _ (ask : Ask) (files : Change FilesState) (out : Change OutState) where
     read_fault_is Memory e ends tells = absurd (omega arith)
 
 -- the request is the one that the words denote
-pub exact_for : (words : List Bytes) (ask : Ask) (files : Change FilesState) (out : Change OutState) (outcome : Outcome) (status : ℕ)
+exact_for : (words : List Bytes) (ask : Ask) (files : Change FilesState) (out : Change OutState) (outcome : Outcome) (status : ℕ)
     → IsRequest words ask → status ≡ status_of outcome → Ends ask files out outcome
     → (other : Ask) → IsRequest words other → (read : Input → Bytes) → AreTold files.0 other read → status ≢ 5 → status ≢ 6 → status ≢ 7 → IsStatusFor other read status
 exact_for words ask files out outcome status is e ends other same read told five six seven =
@@ -288,6 +288,29 @@ exact_for words ask files out outcome status is e ends other same read told five
     (subst (λ (s : ℕ). IsStatusFor ask read s) (sym e)
     (exact_is ask files out outcome ends read (subst (λ (x : Ask). AreTold files.0 x read) (sym r) told)
     (λ h. five (e ∙ h)) (λ h. six (e ∙ h)) (λ h. seven (e ∙ h))))
+
+-- what the outcome of a request says of it
+module _ {ask : Ask} {files : Change FilesState} {out err : Change OutState} {status : ℕ} (run : IsStatusOf ask files out err status) where
+  pub run_done : status ≡ 0 → PrintsReport files.0 (Gains out.0 out.1) ask
+  run_done e = done_is ask files out run.outcome (sym run.status_is ∙ e) run.ends
+
+  pub run_refused : status ≡ 2 → PrintsRefusal files.0 (Gains out.0 out.1) ask
+  run_refused e = refused_is ask files out run.outcome (sym run.status_is ∙ e) run.ends
+
+  pub run_not_three : status ≡ 3 → ⊥
+  run_not_three e = not_three ask files out run.outcome (sym run.status_is ∙ e)
+
+  pub run_unreadable : status ≡ 4 → TellsFlaw 4 files (Says err.0 err.1) ask
+  run_unreadable e = unreadable_is ask files out err run.outcome (sym run.status_is ∙ e) run.ends run.tells
+
+  pub run_read_fault : status ≡ 5 → Rose files.0.read_faults files.1.read_faults × TellsFlaw 5 files (Says err.0 err.1) ask
+  run_read_fault e = read_fault_is ask files out err run.outcome (sym run.status_is ∙ e) run.ends run.tells
+
+  pub run_write_fault : status ≡ 6 → Rose out.0.faults out.1.faults × PrintsEither files.0 (GainsPrefix out.0 out.1) ask
+  run_write_fault e = write_fault_is ask files out run.outcome (sym run.status_is ∙ e) run.ends
+
+  pub run_exact : (words : List Bytes) → IsRequest words ask → IsExact words files.0 status
+  run_exact words is = exact_for words ask files out run.outcome status is run.status_is run.ends
 
 pub fault_exact : (words : List Bytes) (fault : WordFault) → ReadsWords (Err fault) words → fault_status fault ≢ 7 → (request : Ask) → IsRequest words request → ⊥
 fault_exact words fault reads seven request is =

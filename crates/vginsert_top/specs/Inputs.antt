@@ -1,8 +1,7 @@
 -- The inputs of a request, and the first flaw along them.
 use Rattle.std.specs.Prelude.{◌≡◌, ◌⊎◌, ℕ, ◌^◌, ◌<◌, ◌≤◌, List, [], ◌∷◌, length, Option, IfSome}
 use Rattle.std.specs.List.{All}
-use Rattle.vg_store.specs.Causes.{Rose}
-use Rattle.vg_store.specs.Reading.{FilesState}
+use Rattle.vg_store.specs.Reading.{FilesState, ReadFaultAt}
 use Rattle.vg_cons.specs.Lines.{lines_of as cons_lines}
 use Rattle.vg_cons.specs.Faults.{IsFaultless}
 use Rattle.vg_words.specs.Request.{text_for}
@@ -84,7 +83,7 @@ Change S = S × S
 
 -- where the input could not be read, a fault rose, and that input is blamed
 abbrev pub IsCaused : Change FilesState → List ℕ → Flaw → Type 0
-IsCaused files name Failed = Rose files.0.read_faults files.1.read_faults × IfSome files.1.read_blame (λ blamed. blamed ≡ name)
+IsCaused files name Failed = ReadFaultAt files.0 files.1 (λ blamed. blamed ≡ name)
 IsCaused files name TooLong = Unit {0}
 IsCaused files name (Faulty line) = Unit {0}
 

@@ -1,5 +1,5 @@
 -- How a request ends, and what there is to tell of it.
-use Rattle.std.specs.Prelude.{◌≡◌, ◌⊎◌, ℕ, List, codes}
+use Rattle.std.specs.Prelude.{◌≡◌, ◌⊎◌, ℕ, List, [], ◌++◌, codes}
 use Rattle.vg_store.specs.Causes.{Rose}
 use Rattle.vg_store.specs.Reading.{FilesState}
 use Rattle.vg_store.specs.Writing.{OutState, Gains, GainsPrefix}
@@ -53,6 +53,10 @@ fault_status (Excluded option) = 3
 fault_status (BadValue option) = 3
 fault_status (Equal one other) = 3
 fault_status NoRoom = 7
+
+-- a line that is told in five pieces
+abbrev pub in_five : List ℕ → List ℕ → List ℕ → List ℕ → List ℕ → List ℕ
+in_five front name middle kind back = front ++ (name ++ (middle ++ (kind ++ (back ++ []))))
 
 -- what standard error gained for an outcome
 abbrev pub Tells : Ask → Change OutState → Outcome → Type 0

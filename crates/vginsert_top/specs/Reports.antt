@@ -31,9 +31,13 @@ abbrev pub polarity_text : Option NodeName → List ℕ
 polarity_text None = codes "right"
 polarity_text (Some node) = codes "wrong " ++ printed_node node
 
--- `net NAME slack S polarity right`, or `net NAME slack S polarity wrong NODE` (zs)
+-- `net NAME slack S polarity `, with S in zs, before the rest of its line
+abbrev pub slack_before : List ℕ → ℤ → List ℕ → List ℕ
+slack_before name slack rest = codes "net " ++ (name ++ (codes " slack " ++ (signed_decimal slack ++ (codes " polarity " ++ rest))))
+
+-- `net NAME slack S polarity right`, or `net NAME slack S polarity wrong NODE`
 abbrev pub slack_line : List ℕ → Timed → List ℕ
-slack_line name timed = codes "net " ++ (name ++ (codes " slack " ++ (signed_decimal timed.slack ++ (codes " polarity " ++ (polarity_text timed.wrong ++ codes "\n")))))
+slack_line name timed = slack_before name timed.slack (polarity_text timed.wrong ++ codes "\n")
 
 -- the kind of a refusal, and what it tells
 abbrev pub refusal_kind : Refusal → List ℕ

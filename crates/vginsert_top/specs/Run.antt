@@ -71,6 +71,11 @@ abbrev pub TellsFlaw : ℕ → Change FilesState → (List ℕ → Type 0) → A
 TellsFlaw status files Said ask =
     (input : Input) × (flaw : Flaw) × (flaw_status flaw ≡ status) × IsFlawed ask files input flaw × Said (flaw_line (name_of ask input) flaw)
 
+-- the words are a request, one of its inputs has the first flaw, with this status, and standard error gained the line
+-- that tells it
+abbrev pub EndsFlawed : ℕ → List (List ℕ) → Change FilesState → Change OutState → Type 0
+EndsFlawed status words files err = ForRequest words (TellsFlaw status files (Says err.0 err.1))
+
 -- the words are no request, for this first reason, and a line tells it
 abbrev pub AreRefused : List (List ℕ) → (List ℕ → Type 0) → Type 0
 AreRefused words Said = (fault : WordFault) × IsRefused words fault × Said (refused_line fault)

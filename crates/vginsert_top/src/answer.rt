@@ -27,7 +27,7 @@ pub enum Answer {
 pub enum NoAnswer {
     /// An input has a fault: its kind and its line, as text.
     Faulty(Input, Row<u8>),
-    /// Memory was wanted and not given.
+    /// Out of memory.
     Memory,
 }
 

@@ -14,7 +14,7 @@ pub enum Outcome {
     Flawed(Input, Flaw),
     /// Writing standard output failed.
     WriteFault,
-    /// Memory was wanted and not given.
+    /// Out of memory.
     Memory,
 }
 

@@ -10,7 +10,7 @@ ghost use Rattle.vginsert_top.specs.declared.input.Input.{Input};
 ghost use Rattle.vginsert_top.specs.Inputs.{IsShort, inputs};
 ghost use Rattle.std.specs.List.{All};
 ghost use Rattle.vginsert_top.specs.Outcomes.{Ends, IsPrinted, IsStatusOf, fault_status};
-ghost use Rattle.vginsert_top.specs.Run.{AreRefused, ErrorLine, ForRequest, IsExact, PrintsEither, PrintsRefusal, PrintsReport, Says, TellsFlaw, is_status, prints_nothing};
+ghost use Rattle.vginsert_top.specs.Run.{AreRefused, EndsFlawed, ErrorLine, ForRequest, IsExact, PrintsEither, PrintsRefusal, PrintsReport, Says, is_status, prints_nothing};
 
 use crate::answer::{Answer, NoAnswer};
 use crate::input::{Flaw, Texts, read_inputs};
@@ -122,7 +122,7 @@ fn run_request<F: Files, O: Out, E: Out>(
 /// | 4 | an input is not in its form, or has more than 2^28 bytes |
 /// | 5 | reading an input failed |
 /// | 6 | printing failed |
-/// | 7 | memory was wanted and not given |
+/// | 7 | out of memory |
 ///
 /// After 3, 4, 5 and 7 nothing was printed. A fault of `err` never changes the status. No file is changed.
 pub fn run<F: Files, O: Out, E: Out>(
@@ -137,9 +137,11 @@ pub fn run<F: Files, O: Out, E: Out>(
     ensures unread { result ≡ 3 → (request : Request) → IsRequest (texts words.now) request → ⊥ }
     ensures no_request { ((request : Request) → IsRequest (texts words.now) request → ⊥) → (result ≡ 3) ⊎ (result ≡ 7) }
     ensures unread_line { result ≡ 3 → AreRefused (texts words.now) (Says (E.state err.old) (E.state err.new)) }
-    ensures unreadable { result ≡ 4 → ForRequest (texts words.now) (TellsFlaw 4 (F.state files.old, F.state files.new) (Says (E.state err.old) (E.state err.new))) }
-    ensures read_fault { result ≡ 5 → Rose (F.state files.old).read_faults (F.state files.new).read_faults × ForRequest (texts words.now) (TellsFlaw 5 (F.state files.old, F.state files.new) (Says (E.state err.old) (E.state err.new))) }
-    ensures write_fault { result ≡ 6 → Rose (O.state out.old).faults (O.state out.new).faults × ForRequest (texts words.now) (PrintsEither (F.state files.old) (GainsPrefix (O.state out.old) (O.state out.new))) }
+    ensures unreadable { result ≡ 4 → EndsFlawed 4 (texts words.now) (F.state files.old, F.state files.new) (E.state err.old, E.state err.new) }
+    ensures read_fault { result ≡ 5 → EndsFlawed 5 (texts words.now) (F.state files.old, F.state files.new) (E.state err.old, E.state err.new) }
+    ensures read_cause { result ≡ 5 → Rose (F.state files.old).read_faults (F.state files.new).read_faults }
+    ensures write_fault { result ≡ 6 → ForRequest (texts words.now) (PrintsEither (F.state files.old) (GainsPrefix (O.state out.old) (O.state out.new))) }
+    ensures write_cause { result ≡ 6 → Rose (O.state out.old).faults (O.state out.new).faults }
     ensures statuses { IsTrue (is_status result) }
     ensures nothing_printed { IsTrue (prints_nothing result) → (O.state out.new).written ≡ (O.state out.old).written }
     // Standard error has exactly its line, or a prefix of it after a fault of its own.

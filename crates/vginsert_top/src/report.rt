@@ -1,7 +1,7 @@
 //! The lines of reports.
 ghost use Rattle.std.specs.Prelude.{◌≡◌, ◌++◌, OnOk, codes};
 ghost use Rattle.std.specs.Fmt.{signed_decimal};
-ghost use Rattle.vginsert_top.specs.Reports.{printed_node, sink_line, refused_line};
+ghost use Rattle.vginsert_top.specs.Reports.{printed_node, refused_line, sink_line, slack_before};
 
 use vg_num::{Memory, print_signed};
 use vg_scan::NodeName;
@@ -102,7 +102,7 @@ pub fn print_slack(
     node: &[u8],
     to: &mut Vec<u8>,
 ) -> Result<(), Memory>
-    ensures { OnOk result (to.new.items ≡ to.old.items ++ (codes "net " ++ (name.now ++ (codes " slack " ++ (signed_decimal slack ++ (codes " polarity " ++ (polarity.now ++ (node.now ++ codes "\n")))))))) }
+    ensures { OnOk result (to.new.items ≡ to.old.items ++ slack_before name.now slack (polarity.now ++ (node.now ++ codes "\n"))) }
 {
     print_value(name, slack, to)?;
     print_polarity(polarity, node, to)?;

@@ -1,9 +1,9 @@
 //! What is told on standard error.
-ghost use Rattle.std.specs.Prelude.{◌≡◌, ◌++◌, [], OnOk, OnErr};
+ghost use Rattle.std.specs.Prelude.{◌≡◌, ◌++◌, OnOk, OnErr};
 ghost use Rattle.vg_store.specs.Causes.{HasCause};
 ghost use Rattle.vg_store.specs.Writing.{Gains, GainsPrefix};
 ghost use Rattle.vginsert_top.specs.Inputs.{name_of};
-ghost use Rattle.vginsert_top.specs.Outcomes.{Tells};
+ghost use Rattle.vginsert_top.specs.Outcomes.{Tells, in_five};
 ghost use Rattle.vginsert_top.specs.Run.{Says, flaw_line, refused_line};
 
 use crate::input::Flaw;
@@ -32,8 +32,8 @@ fn put_five<E: Out>(
     kind: &[u8],
     back: &[u8],
 ) -> Result<(), Failed>
-    ensures all { OnOk result (Gains (E.state err.old) (E.state err.new) (front.now ++ (name.now ++ (middle.now ++ (kind.now ++ (back.now ++ [])))))) }
-    ensures prefix { OnErr result (GainsPrefix (E.state err.old) (E.state err.new) (front.now ++ (name.now ++ (middle.now ++ (kind.now ++ (back.now ++ [])))))) }
+    ensures all { OnOk result (Gains (E.state err.old) (E.state err.new) (in_five front.now name.now middle.now kind.now back.now)) }
+    ensures prefix { OnErr result (GainsPrefix (E.state err.old) (E.state err.new) (in_five front.now name.now middle.now kind.now back.now)) }
     ensures cause { HasCause (E.state err.old).faults (E.state err.new).faults result }
 {
     put_three(err, front, name, middle)?;
@@ -43,7 +43,7 @@ fn put_five<E: Out>(
 
 /// Writes a line to standard error in pieces, as far as it takes it.
 fn say<E: Out>(err: &mut E, front: &[u8], name: &[u8], middle: &[u8], kind: &[u8], back: &[u8])
-    ensures { Says (E.state err.old) (E.state err.new) (front.now ++ (name.now ++ (middle.now ++ (kind.now ++ (back.now ++ []))))) }
+    ensures { Says (E.state err.old) (E.state err.new) (in_five front.now name.now middle.now kind.now back.now) }
 {
     let _ = put_five(err, front, name, middle, kind, back);
 }
