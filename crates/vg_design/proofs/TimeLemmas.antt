@@ -40,10 +40,10 @@ loaded_more rows net tree order i d node nodes all h before is more =
     ∙ sym (map-range_with_len_more (λ k. loaded rows net (node_at tree k) (slice_index order k)) 0 i i (omega arith))
 
 module _ (net : ParNet) (tree : List Node) (order : List ℕ) (ready : IsReady net tree order) where
-  pub order_size : length order ≡ length net.nodes
+  order_size : length order ≡ length net.nodes
   order_size = ready.a_tree.a_tree.lists.count
 
-  pub tree_size : length tree ≡ length net.nodes
+  tree_size : length tree ≡ length net.nodes
   tree_size = ready.a_tree.a_tree.count
 
   -- no node has much capacitance
@@ -72,7 +72,7 @@ module _ (net : ParNet) (tree : List Node) (order : List ℕ) (ready : IsReady n
 loaded_at : (rows : Rows) (net : ParNet) (tree : List Node) (order : List ℕ) (v : ℕ) → v < length tree → node_at (timed_tree rows net tree order) v ≡ loaded rows net (node_at tree v) (slice_index order v)
 loaded_at rows net tree order v h = get_or-map-range_with_len (λ i. loaded rows net (node_at tree i) (slice_index order i)) 0 (length tree) v v (record { parent = v; r = 0; c = 0 }) h (omega arith)
 
-pub loaded_size : (rows : Rows) (net : ParNet) (tree : List Node) (order : List ℕ) → length (timed_tree rows net tree order) ≡ length tree
+loaded_size : (rows : Rows) (net : ParNet) (tree : List Node) (order : List ℕ) → length (timed_tree rows net tree order) ≡ length tree
 loaded_size rows net tree order = length-map-range_with_len (λ i. loaded rows net (node_at tree i) (slice_index order i)) 0 (length tree)
 
 pub loaded_is_tree : (rows : Rows) (net : ParNet) (tree : List Node) (order : List ℕ) → IsTree tree → IsTree (timed_tree rows net tree order)
@@ -129,8 +129,17 @@ made_is rows net tree order (Some p) nodes driver sinks places reps t d s r with
   (moved_limits nodes (timed_tree rows net tree order) driver (driver_of rows net order) sinks (sinks_of rows net order) reps places [] t d s r).0 within,
 )
 
-pub sinks_size : (rows : Rows) (net : ParNet) (order : List ℕ) → length (sinks_of rows net order) ≡ length order
+sinks_size : (rows : Rows) (net : ParNet) (order : List ℕ) → length (sinks_of rows net order) ≡ length order
 sinks_size rows net order = length-map order (sink_at rows net)
+
+-- each node of the loaded tree has its sink
+pub one_sink_each : (rows : Rows) (net : ParNet) (tree nodes : List Node) (order : List ℕ) (sinks : List (Option Sink)) → IsReady net tree order
+    → sinks ≡ sinks_of rows net order → nodes ≡ timed_tree rows net tree order → length sinks ≡ length nodes
+one_sink_each rows net tree nodes order sinks ready is loaded =
+    ap length is
+    ∙ sinks_size rows net order
+    ∙ order_size net tree order ready
+    ∙ sym (ap length loaded ∙ loaded_size rows net tree order ∙ tree_size net tree order ready)
 
 -- what the first has not, none has
 not_first : {X : Type 0} (p : X → Bool) (x : X) (xs : List X) (b : Bool) → p x ≡ b → cond b (Some x) (find p xs) ≡ None → (p x ≡ false) × (find p xs ≡ None)

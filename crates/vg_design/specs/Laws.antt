@@ -15,12 +15,18 @@ OneNet = (text name : List ℕ) (net other : ParNet) → IsNetNamed text name ne
 
 -- a net has at most one tree
 abbrev pub OneTree : Type 0
-OneTree = (net : ParNet) (tree other : List Node) (order places : List ℕ) → IsNetTree net tree order → IsNetTree net other places → (tree ≡ other) × (order ≡ places)
+OneTree =
+    (net : ParNet) (tree other : List Node) (order places : List ℕ) → IsNetTree net tree order → IsNetTree net other places
+    → (tree ≡ other) × (order ≡ places)
 
 -- where all refusals below a number are passed, none of them refuses the net
 abbrev pub PassedOrRefused : Type 0
-PassedOrRefused = (text name : List ℕ) (net : ParNet) (n : ℕ) (refusal : Refusal) → IsNetNamed text name net → PassesUpTo n net → 3 ≤ n → IsRefusalOf text name refusal → number_of refusal < n → ⊥
+PassedOrRefused =
+    (text name : List ℕ) (net : ParNet) (n : ℕ) (refusal : Refusal) → IsNetNamed text name net → PassesUpTo n net → 3 ≤ n
+    → IsRefusalOf text name refusal → number_of refusal < n → ⊥
 
 -- a net that is timed is not refused
 abbrev pub TimedOrRefused : Type 0
-TimedOrRefused = (text name : List ℕ) (rows : Rows) (timed : Timed) (refusal : Refusal) → IsTimedOf text name rows timed → IsTimeRefusalOf text name rows refusal → ⊥
+TimedOrRefused =
+    (text name : List ℕ) (rows : Rows) (timed : Timed) (refusal : Refusal) → IsTimedOf text name rows timed
+    → IsTimeRefusalOf text name rows refusal → ⊥

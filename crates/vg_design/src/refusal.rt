@@ -68,7 +68,7 @@ impl Refusal {
 pub enum Refused {
     /// The net is refused.
     Net(Refusal),
-    /// Memory was wanted and not given.
+    /// Out of memory.
     Memory,
 }
 

@@ -1,8 +1,8 @@
-use Rattle.std.proofs.Common.{◌≡◌, ℕ, List, length, slice_index, is_some, rules, sym, ap, ◌∙◌}
+use Rattle.std.proofs.Common.{◌≡◌, ℕ, List, length, slice_index, is_some, rules, ap, ◌∙◌}
 use Rattle.std.specs.List.{list_any}
 use Rattle.elmore.specs.Problems.{places}
 use Rattle.vg_design.specs.Timings.{name_of, driver_at, driver_of, sinks_of}
-use Rattle.vg_design.proofs.TimeLemmas.{made_is, loaded_size, sinks_size, order_size, tree_size, some_sink}
+use Rattle.vg_design.proofs.TimeLemmas.{made_is, one_sink_each, some_sink}
 use Rattle.vg_design.proofs.time.slack.problem_of.Goals as goal
 
 pub new-requires-2-clause-sinks_each : goal.new-requires-2-clause-sinks_each
@@ -10,10 +10,7 @@ new-requires-2-clause-sinks_each c =
     let cons = c.args.cons.now in
     let found = c.args.found.now in
     let sinks : c.in_ok-sinks.sinks.items ≡ sinks_of cons found.net found.order = c.in_ok-sinks.ensures ∙ ap (sinks_of cons found.net) c.as_slice-order.ensures in
-    ap length (c.from_vec-sinks.ensures ∙ sinks)
-    ∙ sinks_size cons found.net found.order
-    ∙ order_size found.net found.tree.nodes found.order c.requires.ready
-    ∙ sym (ap length c.in_ok-tree.ensures ∙ loaded_size cons found.net found.tree.nodes found.order ∙ tree_size found.net found.tree.nodes found.order c.requires.ready)
+    ap length c.from_vec-sinks.ensures ∙ one_sink_each cons found.net found.tree.nodes c.in_ok-tree.tree.nodes found.order c.in_ok-sinks.sinks.items c.requires.ready sinks c.in_ok-tree.ensures
 
 pub new-requires-2-clause-free_each : goal.new-requires-2-clause-free_each
 new-requires-2-clause-free_each c =
@@ -21,11 +18,7 @@ new-requires-2-clause-free_each c =
     let found = c.args.found.now in
     let sinks : c.in_ok-sinks.sinks.items ≡ sinks_of cons found.net found.order = c.in_ok-sinks.ensures ∙ ap (sinks_of cons found.net) c.as_slice-order.ensures in
     let free : length c.deref-3.result.now ≡ length c.in_ok-sinks.sinks.items = search rules in
-    free
-    ∙ ap length sinks
-    ∙ sinks_size cons found.net found.order
-    ∙ order_size found.net found.tree.nodes found.order c.requires.ready
-    ∙ sym (ap length c.in_ok-tree.ensures ∙ loaded_size cons found.net found.tree.nodes found.order ∙ tree_size found.net found.tree.nodes found.order c.requires.ready)
+    free ∙ one_sink_each cons found.net found.tree.nodes c.in_ok-tree.tree.nodes found.order c.in_ok-sinks.sinks.items c.requires.ready sinks c.in_ok-tree.ensures
 
 pub new-requires-2-clause-some_sink : goal.new-requires-2-clause-some_sink
 new-requires-2-clause-some_sink c =
@@ -42,13 +35,7 @@ new-requires-2-clause-allowed c =
     let sinks : c.in_ok-sinks.sinks.items ≡ sinks_of cons found.net found.order = c.in_ok-sinks.ensures ∙ ap (sinks_of cons found.net) c.as_slice-order.ensures in
     let count : c.len-2.result ≡ length c.in_ok-sinks.sinks.items = search rules in
     record {
-      one_each =
-          allowances.one_each
-          ∙ count
-          ∙ ap length sinks
-          ∙ sinks_size cons found.net found.order
-          ∙ order_size found.net found.tree.nodes found.order c.requires.ready
-          ∙ sym (ap length c.in_ok-tree.ensures ∙ loaded_size cons found.net found.tree.nodes found.order ∙ tree_size found.net found.tree.nodes found.order c.requires.ready);
+      one_each = allowances.one_each ∙ count ∙ one_sink_each cons found.net found.tree.nodes c.in_ok-tree.tree.nodes found.order c.in_ok-sinks.sinks.items c.requires.ready sinks c.in_ok-tree.ensures;
       rising = allowances.rising;
       named = allowances.named;
     }
