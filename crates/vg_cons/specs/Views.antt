@@ -49,5 +49,8 @@ Adds (Err kind) old new statement = IsFaultOrMemory (fault_of_statement old (Ok 
 
 -- a line is taken after others: the rows with its own, and whether a line has words by now; or its fault
 abbrev pub Takes : Result Bool ConsKind → Bool → Rows → Rows → Line → Type 0
-Takes (Ok now) started old new line = (fault_after started old line ≡ None) × (now ≡ (started || has_words line)) × (new ≡ with_statement old (statement_of line))
+Takes (Ok now) started old new line =
+    (fault_after started old line ≡ None)
+    × (now ≡ (started || has_words line))
+    × (new ≡ with_statement old (statement_of line))
 Takes (Err kind) started old new line = IsFaultOrMemory (fault_after started old line) kind

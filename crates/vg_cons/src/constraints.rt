@@ -28,7 +28,15 @@ pub struct Constraints {
 impl Model for Constraints {
     ghost Value = { Rows };
 
-    ghost view = { λ cons. record { default = cons.default; required = cons.required; arrival = cons.arrival; want = cons.want; drive = cons.drive; load = cons.load; block = cons.block } };
+    ghost view = { λ cons. record {
+      default = cons.default;
+      required = cons.required;
+      arrival = cons.arrival;
+      want = cons.want;
+      drive = cons.drive;
+      load = cons.load;
+      block = cons.block;
+    } };
 }
 
 impl Drop for Constraints {

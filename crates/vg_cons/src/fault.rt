@@ -17,7 +17,7 @@ pub enum ConsKind {
     /// A row of the same kind and name, or the default, was given before.
     #[error("given twice")]
     Twice,
-    /// Memory was wanted and not given.
+    /// Out of memory.
     #[error("out of memory")]
     Memory,
 }
