@@ -79,3 +79,6 @@ settings_end ws at h = ap settings (none_left ws at h)
 pub spelled_end : (ws : List (String Global)) (at : ℕ) → length ws ≤ at → is_spelled (drop at (texts ws)) ≡ true
 unfolding is_spelled
 spelled_end ws at h = ap is_spelled (none_left ws at h)
+
+-- the setting at a place, and whether the words after it are settings
+pub ruleset setting_rules = (joined_set, joined_spelled, alone_set, alone_spelled, apart_set, apart_spelled, none_set, none_spelled)

@@ -1,5 +1,5 @@
 -- What words set, read from the front. What is read here is what `Request` says of words that spell their settings.
-use Rattle.std.specs.Prelude.{ℕ, ◌==◌, ◌&&◌, Bool, true, List, [], ◌∷◌, Option, Some, None, is_some, if◌then◌else◌}
+use Rattle.std.specs.Prelude.{ℕ, ◌==◌, ◌&&◌, Bool, true, List, [], ◌∷◌, Option, Some, None, drop, is_some, if◌then◌else◌}
 use Rattle.std.specs.List.{list_any, before_first, after_first}
 use Rattle.std.specs.Str.Parse.{starts_with_minus}
 use Rattle.vg_words.specs.Options.{option_of}
@@ -44,3 +44,11 @@ unfoldable pub is_spelled : List (List ℕ) → Bool
 is_spelled [] = true
 is_spelled (w ∷ []) = is_some (joined w)
 is_spelled (w ∷ v ∷ ws) = one_or_two_spelled (joined w) (is_spelled (v ∷ ws)) (is_some (apart w v) && is_spelled ws)
+
+-- the settings of the words from a place on
+abbrev pub settings_from : List (List ℕ) → ℕ → List Setting
+settings_from words at = settings (drop at words)
+
+-- whether they are all that those words have
+abbrev pub is_spelled_from : List (List ℕ) → ℕ → Bool
+is_spelled_from words at = is_spelled (drop at words)

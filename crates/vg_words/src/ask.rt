@@ -92,7 +92,7 @@ pub enum WordFault {
     BadValue(Opt),
     /// Both options name one file.
     Equal(Opt, Opt),
-    /// Memory was wanted and not given.
+    /// Out of memory.
     Memory,
 }
 

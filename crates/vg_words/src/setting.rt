@@ -2,7 +2,7 @@
 ghost use Rattle.std.specs.Prelude.{◌≡◌, ◌<◌, ◌≤◌, ◌+◌, ◌∷◌, [], false, length, drop, option_map, MatchOption, ⊤};
 ghost use Rattle.vg_words.specs.Request.{texts};
 ghost use Rattle.std.specs.Str.Parse.{starts_with_minus};
-ghost use Rattle.vg_words.specs.Settings.{joined, apart, settings, is_spelled};
+ghost use Rattle.vg_words.specs.Settings.{apart, is_spelled_from, joined, settings_from};
 
 use crate::option::Opt;
 
@@ -50,11 +50,15 @@ fn word_at(words: &[String], at: usize) -> &str
 }
 
 /// The setting at a place, and the place after it.
-#[tactic(auto, using(crate::proofs::SettingLemmas::joined_set, crate::proofs::SettingLemmas::joined_spelled, crate::proofs::SettingLemmas::alone_set, crate::proofs::SettingLemmas::alone_spelled, crate::proofs::SettingLemmas::apart_set, crate::proofs::SettingLemmas::apart_spelled, crate::proofs::SettingLemmas::none_set, crate::proofs::SettingLemmas::none_spelled))]
+#[tactic(auto, using(crate::proofs::SettingLemmas::setting_rules))]
 pub fn setting_at(words: &[String], at: usize) -> Option<(Opt, &str, usize)>
     requires { at < length words.now }
-    ensures set { MatchOption result (settings (drop at (texts words.now)) ≡ []) (λ found. settings (drop at (texts words.now)) ≡ (found.0, found.1.now) ∷ settings (drop found.2 (texts words.now))) }
-    ensures spelled { MatchOption result (is_spelled (drop at (texts words.now)) ≡ false) (λ found. is_spelled (drop at (texts words.now)) ≡ is_spelled (drop found.2 (texts words.now))) }
+    ensures set { MatchOption result
+        (settings_from (texts words.now) at ≡ [])
+        (λ found. settings_from (texts words.now) at ≡ (found.0, found.1.now) ∷ settings_from (texts words.now) found.2) }
+    ensures spelled { MatchOption result
+        (is_spelled_from (texts words.now) at ≡ false)
+        (λ found. is_spelled_from (texts words.now) at ≡ is_spelled_from (texts words.now) found.2) }
     ensures place { MatchOption result ⊤ (λ found. (at < found.2) × (found.2 ≤ length words.now)) }
 {
     let word = word_at(words, at);
