@@ -13,7 +13,7 @@ pub enum TreeFault {
     /// No node floats, and the resistors are not one fewer than the nodes: some of them form a loop.
     #[error("a loop of resistors")]
     Loop,
-    /// Memory was wanted and not given. Any call that allocates may answer it.
+    /// Out of memory. Any call that allocates may answer it.
     #[error("out of memory")]
     Memory,
 }

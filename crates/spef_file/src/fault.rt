@@ -28,7 +28,7 @@ pub enum SpefKind {
     /// The line begins a part that is not supported.
     #[error("a part that is not supported")]
     Unsupported,
-    /// Memory was wanted and not given.
+    /// Out of memory.
     #[error("out of memory")]
     Memory,
 }

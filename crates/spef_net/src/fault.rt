@@ -24,7 +24,7 @@ pub enum NetKind {
     /// Both nodes of a coupling capacitor are this net's.
     #[error("a net coupled with itself")]
     SelfCoupled,
-    /// Memory was wanted and not given.
+    /// Out of memory.
     #[error("out of memory")]
     Memory,
 }

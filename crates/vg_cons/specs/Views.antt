@@ -1,4 +1,4 @@
--- What the code's values stand for, and what may come where memory is wanted: for the functions between.
+-- What the code's values stand for, and what may come when out of memory: for the functions between.
 use Rattle.std.specs.Prelude.{◌≡◌, ◌||◌, Bool, Option, Some, None, Result, Ok, Err, if◌then◌else◌}
 use Rattle.vg_num.specs.declared.memory.Memory.{Memory as NoRoom}
 use Rattle.vg_cons.specs.declared.fault.ConsKind.{ConsKind}
@@ -20,7 +20,7 @@ as_statement (Drive port r) = drive (port, r)
 as_statement (Load port c) = load (port, c)
 as_statement (Block node) = block node
 
--- this fault, or want of memory
+-- this fault, or out of memory
 abbrev pub IsFaultOrMemory : Option ConsKind → ConsKind → Type 0
 IsFaultOrMemory fault Memory = Unit {0}
 IsFaultOrMemory fault Version = fault ≡ Some Version
@@ -32,7 +32,7 @@ abbrev pub fault_in : {A : Type 0} → Result A ConsKind → Option ConsKind
 fault_in (Ok _) = None
 fault_in (Err kind) = Some kind
 
--- an answer that stands for what is defined, but for want of memory
+-- an answer that stands for what is defined, or out of memory
 abbrev pub Agrees : {A B : Type 0} → (A → B) → Result A ConsKind → Result B ConsKind → Type 0
 Agrees view (Ok x) s = s ≡ Ok (view x)
 Agrees view (Err kind) s = IsFaultOrMemory (fault_in s) kind

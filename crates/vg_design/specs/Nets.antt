@@ -64,7 +64,7 @@ IsRefusalOf text name Loop = IsNetRefused text name Loop
 IsRefusalOf text name NoSink = IsNetRefused text name NoSink
 IsRefusalOf text name TooLarge = IsNetRefused text name TooLarge
 
--- a refusal of a smaller number, or want of memory
+-- a refusal of a smaller number, or out of memory
 abbrev pub IsRefusedBelow : ℕ → List ℕ → List ℕ → Refused → Type 0
 IsRefusedBelow n text name (Net refusal) = IsRefusalOf text name refusal × (number_of refusal < n)
 IsRefusedBelow n text name Memory = Unit {0}

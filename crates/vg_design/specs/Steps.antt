@@ -17,7 +17,7 @@ AreDrivers drivers Nothing = drivers ≡ []
 AreDrivers drivers (One driver) = drivers ≡ driver ∷ []
 AreDrivers drivers Several = 1 < length drivers
 
--- the first refusal of a net, of a number below n, or want of memory
+-- the first refusal of a net, of a number below n, or out of memory
 abbrev pub IsRefusedFirst : ℕ → ParNet → Refused → Type 0
 IsRefusedFirst n net (Net refusal) = IsFirstRefusal net refusal × (number_of refusal < n)
 IsRefusedFirst n net Memory = Unit {0}

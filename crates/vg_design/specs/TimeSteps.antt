@@ -33,7 +33,7 @@ abbrev pub Times : Rows → ParNet → List Node → List ℕ → Option Timed �
 Times rows net tree order None = IsWithinTimeLimits rows net tree order → ⊥
 Times rows net tree order (Some timed) = IsWithinTimeLimits rows net tree order × IsTiming rows net tree order timed
 
--- the first reason against timing the net, or want of memory
+-- the first reason against timing the net, or out of memory
 abbrev pub IsUntimedBy : Rows → ParNet → List Node → List ℕ → Refused → Type 0
 IsUntimedBy rows net tree order (Net refusal) = IsUntimed rows net tree order refusal
 IsUntimedBy rows net tree order Memory = Unit {0}

@@ -161,7 +161,7 @@ pub record IsUntimedOf (spef name : List ℕ) (rows : Rows) (refusal : Refusal) 
 abbrev pub IsTimeRefusalOf : List ℕ → List ℕ → Rows → Refusal → Type 0
 IsTimeRefusalOf spef name rows refusal = (IsRefusalOf spef name refusal × (number_of refusal < 15)) ⊎ IsUntimedOf spef name rows refusal
 
--- that refusal, or want of memory
+-- that refusal, or out of memory
 abbrev pub IsTimeRefused : List ℕ → List ℕ → Rows → Refused → Type 0
 IsTimeRefused spef name rows (Net refusal) = IsTimeRefusalOf spef name rows refusal
 IsTimeRefused spef name rows Memory = Unit {0}

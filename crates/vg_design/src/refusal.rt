@@ -14,7 +14,7 @@ pub enum Refusal {
     NotYet,
     /// 1: the file has no net of this name.
     UnknownNet,
-    /// 2: the lines of the net have a fault; it is never want of memory.
+    /// 2: the lines of the net have a fault; it is never out of memory.
     Section(NetFault),
     /// 3: the net is a reduced one.
     Reduced,

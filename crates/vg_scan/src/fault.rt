@@ -7,7 +7,7 @@ pub enum NameFault {
     /// The text is empty, ends with a backslash that escapes nothing, or has an unescaped quote.
     #[error("not a name")]
     Bad,
-    /// Memory was wanted and not given.
+    /// Out of memory.
     #[error("out of memory")]
     Memory,
 }

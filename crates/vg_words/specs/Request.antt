@@ -148,7 +148,7 @@ IsRefused words Unread = AreUnread words
 IsRefused words Memory = ⊥
 IsRefused words fault = (settings : List Setting) × Sets words settings × (fault_of (values_in settings) ≡ Some fault)
 
--- what reading the words may answer: the request, why there is none, or want of memory
+-- what reading the words may answer: the request, why there is none, or out of memory
 abbrev pub ReadsWords : Result Ask WordFault → List (List ℕ) → Type 0
 ReadsWords (Ok ask) words = IsRequest words ask
 ReadsWords (Err Memory) words = Unit {0}

@@ -10,7 +10,7 @@ use vginsert_top::run;
 /// The status where the system does not give the words.
 const NO_WORDS: u8 = 9;
 
-/// The status where memory was wanted and not given.
+/// The status when out of memory.
 const NO_MEMORY: u8 = 7;
 
 fn main(rt: HostRuntime) -> ExitCode {

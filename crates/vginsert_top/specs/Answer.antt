@@ -25,7 +25,7 @@ abbrev pub IsRefusalFor : Mode → (Input → List ℕ) → List ℕ → List �
 IsRefusalFor Wire texts net text = IsRefusal (texts Spef) net text
 IsRefusalFor Time texts net text = IsTimeRefusal (texts Spef) (texts Cons) net text
 
--- what judging the texts of a mode may answer: the report, why the net is refused, the first fault, or want of memory
+-- what judging the texts of a mode may answer: the report, why the net is refused, the first fault, or out of memory
 abbrev pub AnswersFor : Mode → (Input → List ℕ) → List ℕ → Result Answer NoAnswer → Type 0
 AnswersFor mode texts net (Ok (Report text)) = IsReportFor mode texts net text.items
 AnswersFor mode texts net (Ok (Refused text)) = IsRefusalFor mode texts net text.items
