@@ -78,12 +78,12 @@ impl Constraints {
     {
         match row {
             Row::Default(time) => self.add_default(time),
-            Row::Required(pin, time) => added(self.required.insert(pin, time)),
-            Row::Arrival(pin, time) => added(self.arrival.insert(pin, time)),
-            Row::Want(pin) => added(self.want.insert(pin)),
-            Row::Drive(port, drive) => added(self.drive.insert(port, drive)),
-            Row::Load(port, load) => added(self.load.insert(port, load)),
-            Row::Block(node) => added(self.block.insert(node)),
+            Row::Required(pin, time) => check_fresh(self.required.insert(pin, time)),
+            Row::Arrival(pin, time) => check_fresh(self.arrival.insert(pin, time)),
+            Row::Want(pin) => check_fresh(self.want.insert(pin)),
+            Row::Drive(port, drive) => check_fresh(self.drive.insert(port, drive)),
+            Row::Load(port, load) => check_fresh(self.load.insert(port, load)),
+            Row::Block(node) => check_fresh(self.block.insert(node)),
         }
     }
 
@@ -99,7 +99,7 @@ impl Constraints {
 }
 
 /// What inserting a row says of it: its name was new, was there, or found no room.
-fn added(fresh: Result<bool, Memory>) -> Result<(), ConsKind>
+fn check_fresh(fresh: Result<bool, Memory>) -> Result<(), ConsKind>
     ensures { result ≡ added_as fresh }
 {
     match fresh {

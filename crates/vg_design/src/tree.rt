@@ -53,7 +53,7 @@ fn named_net(
 }
 
 /// The refusal of a net whose resistors are no tree.
-fn refused_by(alloc: Global, net: &ParNet, fault: TreeFault) -> Refused
+fn refusal_of(alloc: Global, net: &ParNet, fault: TreeFault) -> Refused
     requires fault { IsNoTree net.now fault }
     requires accepted { PassesUpTo 12 net.now }
     ensures { IsRefusedFirst 14 net.now result }
@@ -82,7 +82,7 @@ fn tree_from(alloc: Global, net: &ParNet, root: u32) -> Result<Built, Refused>
     let caps = net.caps.as_slice();
     let ress = net.ress.as_slice();
     match build(alloc, net.nodes.len(), root, caps, ress) {
-        Err(fault) => Err(refused_by(alloc, net, fault)),
+        Err(fault) => Err(refusal_of(alloc, net, fault)),
         Ok(built) => {
             if has_sink(net.conns.as_slice()) {
                 Ok(built)

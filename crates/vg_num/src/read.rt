@@ -51,8 +51,8 @@ fn mantissa_of(text: &[u8]) -> &[u8]
     ensures { result.now ≡ mantissa text.now }
 {
     match e_at(text) {
-        Some(at) => unsigned(&text[..at]),
-        None => unsigned(text),
+        Some(at) => without_sign(&text[..at]),
+        None => without_sign(text),
     }
 }
 
@@ -69,7 +69,7 @@ fn exponent_of(text: &[u8]) -> Option<&[u8]>
 }
 
 /// The text without the sign that it may begin with.
-fn unsigned(text: &[u8]) -> &[u8]
+fn without_sign(text: &[u8]) -> &[u8]
     ensures { result.now ≡ without_leading_sign text.now }
 {
     if !text.is_empty() && (text[0] == b'-' || text[0] == b'+') {
@@ -111,7 +111,7 @@ fn exponent_value(text: &[u8]) -> i128
     ensures low { negsuc (10 ^ 30) ≤ℤ result }
     ensures high { result ≤ℤ pos (10 ^ 30) }
 {
-    with_sign(begins_with_minus(text), capped_value(0, unsigned(text)))
+    with_sign(begins_with_minus(text), capped_value(0, without_sign(text)))
 }
 
 /// The value times ten to the power, or the cap where it is less.
@@ -184,7 +184,7 @@ fn digits_over_power(whole: &[u8], fraction: &[u8], power: u128) -> u128
 }
 
 /// The nearest whole number to the digits times ten to the power, or the cap where it is less.
-fn nearest(whole: &[u8], fraction: &[u8], power: i128) -> u128
+fn nearest_whole(whole: &[u8], fraction: &[u8], power: i128) -> u128
     requires digits { list_all is_digit (whole.now ++ fraction.now) ≡ true }
     requires few { length whole.now + length fraction.now < 2 ^ 64 }
     requires low { negsuc (10 ^ 33) ≤ℤ power }
@@ -214,7 +214,7 @@ pub(crate) fn is_number(text: &[u8]) -> bool
     match exponent_of(text) {
         None => true,
         Some(digits) => {
-            let digits = unsigned(digits);
+            let digits = without_sign(digits);
             !digits.is_empty() && are_digits(digits)
         }
     }
@@ -230,7 +230,7 @@ fn is_negative(text: &[u8]) -> bool
     begins_with_minus(text) && capped_value(capped_value(0, whole), fraction) > 0
 }
 
-fn shifted(exponent: i128, fraction: usize, places: i32) -> i128
+fn shift_exponent(exponent: i128, fraction: usize, places: i32) -> i128
     requires exponent_low { negsuc (10 ^ 30) ≤ℤ exponent }
     requires exponent_high { exponent ≤ℤ pos (10 ^ 30) }
     requires low { negsuc 59 ≤ℤ places }
@@ -251,8 +251,8 @@ fn power_of(text: &[u8], fraction: usize, places: i32) -> i128
     ensures high { result ≤ℤ pos (10 ^ 33) }
 {
     match exponent_of(text) {
-        None => shifted(0, fraction, places),
-        Some(digits) => shifted(exponent_value(digits), fraction, places),
+        None => shift_exponent(0, fraction, places),
+        Some(digits) => shift_exponent(exponent_value(digits), fraction, places),
     }
 }
 
@@ -267,7 +267,7 @@ pub(crate) fn size_of(text: &[u8], places: i32) -> u128
     let mantissa = mantissa_of(text);
     let whole = before_point(mantissa);
     let fraction = after_point(mantissa);
-    nearest(whole, fraction, power_of(text, fraction.len(), places))
+    nearest_whole(whole, fraction, power_of(text, fraction.len(), places))
 }
 
 /// The text's value times ten to the places, nearest whole, a half away from zero.

@@ -12,7 +12,7 @@ use crate::name::Name;
 use std::alloc::Global;
 
 /// What an unescaped byte is in a canonical name.
-fn plain(chars: &Chars, byte: u8) -> u8
+fn plain_byte(chars: &Chars, byte: u8) -> u8
     ensures { result ≡ plain chars.now byte }
 {
     if byte == chars.divider {
@@ -48,7 +48,7 @@ fn read_byte(chars: &Chars, escaped: bool, byte: u8) -> Reading
     match byte {
         b'\\' => Reading::Escape,
         b'"' => Reading::Quote,
-        _ => Reading::Stands(plain(chars, byte)),
+        _ => Reading::Stands(plain_byte(chars, byte)),
     }
 }
 

@@ -22,7 +22,7 @@ const TIME_OPTIONS: [Opt; 3] = [Opt::Spef, Opt::Cons, Opt::Net];
 
 impl Mode {
     /// The options that the mode asks for.
-    pub(crate) fn required(self) -> &'static [Opt]
+    pub(crate) fn required_options(self) -> &'static [Opt]
         ensures { result.now ≡ required self }
     {
         match self {
@@ -35,7 +35,11 @@ impl Mode {
     pub(crate) fn allows(self, option: Opt) -> bool
         ensures { result ≡ list_any (is_same option) (allowed self) }
     {
-        option == Opt::Mode || self.required().iter().any(|other| option.is_same(*other))
+        option == Opt::Mode
+            || self
+                .required_options()
+                .iter()
+                .any(|other| option.is_same(*other))
     }
 
     /// The mode's name in the words.

@@ -49,7 +49,7 @@ fn is_bad(given: &Given<'_>, option: Opt) -> bool
 fn first_missing(mode: Mode, given: &Given<'_>) -> Option<Opt>
     ensures { result ≡ find (is_unset (given_by given.now)) (required mode) }
 {
-    mode.required()
+    mode.required_options()
         .iter()
         .copied()
         .find(|option| is_unset(given, *option))
@@ -89,7 +89,7 @@ fn have_equal(given: &Given<'_>, one: Opt, other: Opt) -> bool
 }
 
 /// The first of these options that has the same value as one.
-fn equal_to(given: &Given<'_>, one: Opt, others: &[Opt]) -> Option<Opt>
+fn first_equal_to(given: &Given<'_>, one: Opt, others: &[Opt]) -> Option<Opt>
     ensures { result ≡ find (λ other. are_equal (given_by given.now one) (given_by given.now other)) others.now }
 {
     others
@@ -104,7 +104,7 @@ fn first_equal(given: &Given<'_>) -> Option<(Opt, Opt)>
 {
     let files = FILE_OPTIONS.as_slice();
     'file: for at in 0..files.len() {
-        if let Some(other) = equal_to(given, files[at], &files[at + 1..]) {
+        if let Some(other) = first_equal_to(given, files[at], &files[at + 1..]) {
             return Some((files[at], other));
         }
     }
@@ -157,7 +157,7 @@ fn text_of(alloc: Global, text: Option<&str>) -> Result<Option<Text>, Memory>
     }
 }
 
-fn copied(alloc: Global, mode: Mode, given: &Given<'_>) -> Result<Ask, Memory>
+fn ask_of(alloc: Global, mode: Mode, given: &Given<'_>) -> Result<Ask, Memory>
     ensures mode { IfOk result (λ ask. ask.mode ≡ mode) }
     ensures spef { IfOk result (λ ask. ask.spef ≡ given_by given.now Opt.Spef) }
     ensures cons { IfOk result (λ ask. ask.cons ≡ given_by given.now Opt.Cons) }
@@ -187,7 +187,7 @@ pub fn read_words(alloc: Global, words: &[String]) -> Result<Ask, WordFault>
         return Err(WordFault::Unread);
     };
     match judge(&given) {
-        Ok(mode) => Ok(copied(alloc, mode, &given)?),
+        Ok(mode) => Ok(ask_of(alloc, mode, &given)?),
         Err(fault) => Err(fault),
     }
 }

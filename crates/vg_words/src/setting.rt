@@ -8,7 +8,7 @@ use crate::option::Opt;
 
 /// `--name=value`.
 #[tactic(auto, unfolding(crate::specs::Settings::joined))]
-fn joined(word: &str) -> Option<(Opt, &str)>
+fn joined_setting(word: &str) -> Option<(Opt, &str)>
     ensures { option_map (λ found. (found.0, found.1.now)) result ≡ joined word.now }
 {
     match word.split_once('=') {
@@ -28,7 +28,7 @@ fn begins_with_minus(text: &str) -> bool
 
 /// `--name value`, where the value does not begin with `-`.
 #[tactic(auto, unfolding(crate::specs::Settings::apart))]
-fn apart<'a>(word: &str, value: &'a str) -> Option<(Opt, &'a str)>
+fn apart_setting<'a>(word: &str, value: &'a str) -> Option<(Opt, &'a str)>
     ensures { option_map (λ found. (found.0, found.1.now)) result ≡ apart word.now value.now }
 {
     if begins_with_minus(value) {
@@ -62,13 +62,13 @@ pub fn setting_at(words: &[String], at: usize) -> Option<(Opt, &str, usize)>
     ensures place { MatchOption result ⊤ (λ found. (at < found.2) × (found.2 ≤ length words.now)) }
 {
     let word = word_at(words, at);
-    if let Some((option, value)) = joined(word) {
+    if let Some((option, value)) = joined_setting(word) {
         return Some((option, value, at + 1));
     }
     if at + 1 == words.len() {
         return None;
     }
-    match apart(word, word_at(words, at + 1)) {
+    match apart_setting(word, word_at(words, at + 1)) {
         None => None,
         Some((option, value)) => Some((option, value, at + 2)),
     }

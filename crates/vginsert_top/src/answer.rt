@@ -40,7 +40,7 @@ impl From<Memory> for NoAnswer {
 }
 
 /// The answer that refuses a net: its number, and its kind with what it tells.
-pub fn refused(alloc: Global, name: &[u8], number: u8, kind: &[u8]) -> Result<Answer, Memory>
+pub fn refuse_with(alloc: Global, name: &[u8], number: u8, kind: &[u8]) -> Result<Answer, Memory>
     ensures { IfOk result (IsRefusedWith (refused_line name.now number kind.now)) }
 {
     let mut text = Vec::new(alloc);

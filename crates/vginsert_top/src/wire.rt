@@ -6,7 +6,7 @@ ghost use Rattle.vg_words.specs.declared.ask.Mode.{Mode};
 ghost use Rattle.vginsert_top.specs.Answer.{AnswersFor, IsRefusedWith, texts_of};
 ghost use Rattle.vginsert_top.specs.Reports.{sink_line, wire_report, refusal_kind, refusal_line};
 
-use crate::answer::{Answer, NoAnswer, index_of, refused};
+use crate::answer::{Answer, NoAnswer, index_of, refuse_with};
 use crate::faults::print_net_fault;
 use crate::report::{print_node, print_sink, print_total, push};
 use spef_file::SpefText;
@@ -73,7 +73,7 @@ pub fn refuse(alloc: Global, name: &[u8], refusal: &Refusal) -> Result<Answer, M
 {
     let mut kind = Vec::new(alloc);
     print_kind(refusal, &mut kind)?;
-    let answer = refused(alloc, name, refusal.number(), &kind)?;
+    let answer = refuse_with(alloc, name, refusal.number(), &kind)?;
     Ok(answer)
 }
 

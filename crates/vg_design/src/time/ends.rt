@@ -51,7 +51,7 @@ fn load_at(
 }
 
 /// A node of the tree with its load, where it is node `v` of the net.
-fn loaded(
+fn node_with_load(
     alloc: Global,
     cons: &Constraints,
     net: &ParNet,
@@ -108,7 +108,7 @@ pub fn loaded_nodes(
 {
     let mut nodes = Vec::new(alloc);
     'node: for i in 0..tree.len() {
-        nodes.push(loaded(alloc, cons, net, marks, tree[i], order[i])?)?;
+        nodes.push(node_with_load(alloc, cons, net, marks, tree[i], order[i])?)?;
     }
     Ok(nodes)
 }

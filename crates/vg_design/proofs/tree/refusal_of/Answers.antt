@@ -1,7 +1,7 @@
 use Rattle.std.proofs.Common.{arith}
 use Rattle.vg_design.proofs.PassLemmas.{first_loop}
 use Rattle.vg_design.proofs.WireLemmas.{is_named}
-use Rattle.vg_design.proofs.tree.refused_by.Goals as goal
+use Rattle.vg_design.proofs.tree.refusal_of.Goals as goal
 
 pub returns-in-Loop : goal.returns-in-Loop
 returns-in-Loop c =

@@ -20,8 +20,8 @@ same_digits : (text m w f : List ℕ) → w ≡ before_first is_point m → f �
 unfolding whole fraction
 same_digits text m w f a b e = (a ∙ ap (before_first is_point) e, b ∙ ap (after_first is_point) e)
 
-pub nearest-requires-clause-digits : goal.nearest-requires-clause-digits
-nearest-requires-clause-digits c =
+pub nearest_whole-requires-clause-digits : goal.nearest_whole-requires-clause-digits
+nearest_whole-requires-clause-digits c =
     let text = c.args.text.now in
     let (w, f) = same_digits text c.mantissa_of-mantissa.result.now c.before_point-whole.result.now c.after_point-fraction.result.now c.before_point-whole.ensures c.after_point-fraction.ensures c.mantissa_of-mantissa.ensures in
     rw w (rw f (number_digits text c.requires.number))
@@ -33,8 +33,8 @@ returns c =
     let (w, f) = same_digits text c.mantissa_of-mantissa.result.now c.before_point-whole.result.now c.after_point-fraction.result.now c.before_point-whole.ensures c.after_point-fraction.ensures c.mantissa_of-mantissa.ensures in
     let p : c.power_of.result ≡ (capped_value_of 1000000000000000000000000000000 (exponent text) -ℤ pos (length (fraction text))) +ℤ c.args.places =
     (rw (to_z-of_z w32 c.args.places c.ranges.places) at c.power_of.ensures.value) ∙ ap (λ x. (capped_value_of 1000000000000000000000000000000 (exponent text) -ℤ pos (length x)) +ℤ c.args.places) f in
-    let s : Stands c.power_of.result (value_of (whole text ++ fraction text)) c.nearest.result =
-    (let fit : SFits w128 c.power_of.result = search rules in rw (← w) (rw (← f) (rw (to_z-of_z w128 c.power_of.result fit) at c.nearest.ensures))) in
-    clip (starts_with_minus (exponent text)) (value_of (without_leading_sign (exponent text))) (length (fraction text)) c.args.places (digits text) c.nearest.result
+    let s : Stands c.power_of.result (value_of (whole text ++ fraction text)) c.nearest_whole.result =
+    (let fit : SFits w128 c.power_of.result = search rules in rw (← w) (rw (← f) (rw (to_z-of_z w128 c.power_of.result fit) at c.nearest_whole.ensures))) in
+    clip (starts_with_minus (exponent text)) (value_of (without_leading_sign (exponent text))) (length (fraction text)) c.args.places (digits text) c.nearest_whole.result
     (number_digits text c.requires.number) c.requires.low c.requires.high (omega (arith, length-append (whole text) (fraction text))) (omega (arith, ap length w, ap length f, length-append (whole text) (fraction text)))
     (rw p at s)

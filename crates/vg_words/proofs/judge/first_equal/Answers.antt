@@ -12,7 +12,7 @@ returns-in-Some c =
     let values = given_by c.args.given.now in
     let files = c.as_slice-files.result.now in
     let low : c.file.at < length files = omega (arith, c.file-test.true) in
-    sym (c.file.invariant ∙ equal_at values files file_options c.file.at Mode c.equal_to.result c.as_slice-files.ensures low c.equal_to.ensures
+    sym (c.file.invariant ∙ equal_at values files file_options c.file.at Mode c.first_equal_to.result c.as_slice-files.ensures low c.first_equal_to.ensures
     ∙ ap (λ o. with_one (get_or files c.file.at Mode) o (first_equal values (drop (c.file.at + 1) file_options))) c.in-Some.is)
 
 pub file-preserved : goal.file-preserved
@@ -20,7 +20,7 @@ file-preserved c =
     let values = given_by c.args.given.now in
     let files = c.as_slice-files.result.now in
     let low : c.file.at < length files = omega (arith, c.file-test.true) in
-    c.file.invariant ∙ equal_at values files file_options c.file.at Mode c.equal_to.result c.as_slice-files.ensures low c.equal_to.ensures
+    c.file.invariant ∙ equal_at values files file_options c.file.at Mode c.first_equal_to.result c.as_slice-files.ensures low c.first_equal_to.ensures
     ∙ ap (λ o. with_one (get_or files c.file.at Mode) o (first_equal values (drop (c.file.at + 1) file_options))) c.in_default.is
 
 pub returns : goal.returns

@@ -3,13 +3,13 @@ use Rattle.elmore.specs.declared.tree.Node.{Node}
 use Rattle.vg_design.proofs.TimeLemmas.{node_read, loaded_more}
 use Rattle.vg_design.proofs.time.ends.loaded_nodes.Goals as goal
 
-pub loaded-requires-clause-small : goal.loaded-requires-clause-small
-loaded-requires-clause-small c =
+pub node_with_load-requires-clause-small : goal.node_with_load-requires-clause-small
+node_with_load-requires-clause-small c =
     let within : c.node.i < length c.args.tree.now = omega (arith, c.node-test.true) in
     subst (λ (n : Node). n.c < 2 ^ 127) (sym (node_read c.args.tree.now c.node.i (record { parent = 0; r = 0; c = 0 }) within)) (c.requires.small c.node.i)
 
 pub node-preserved : goal.node-preserved
 node-preserved c =
     let within : c.node.i < length c.args.tree.now = omega (arith, c.node-test.true) in
-    loaded_more c.args.cons.now c.args.net.now c.args.tree.now c.args.order.now c.node.i (record { parent = 0; r = 0; c = 0 }) c.in_ok-loaded.field-0 c.node.nodes.items c.push.new.self.items within
-    c.node.invariant c.in_ok-loaded.ensures c.in_ok-push.ensures.items
+    loaded_more c.args.cons.now c.args.net.now c.args.tree.now c.args.order.now c.node.i (record { parent = 0; r = 0; c = 0 }) c.in_ok-node_with_load.field-0 c.node.nodes.items c.push.new.self.items within
+    c.node.invariant c.in_ok-node_with_load.ensures c.in_ok-push.ensures.items
