@@ -46,7 +46,10 @@ fn is_word(bytes: &[u8], span: Span, word: &[u8]) -> bool
 pub(crate) fn is_heading(bytes: &[u8], words: &[Span]) -> bool
     ensures { result ≡ is_heading (words_at bytes.now words.now) }
 {
-    words.len() == 2 && is_word(bytes, words[0], b"vgcons") && is_word(bytes, words[1], b"1")
+    let [word, version] = words else {
+        return false;
+    };
+    is_word(bytes, *word, b"vgcons") && is_word(bytes, *version, b"1")
 }
 
 /// The row that the words of a line state.
@@ -56,29 +59,29 @@ pub(crate) fn is_heading(bytes: &[u8], words: &[Span]) -> bool
 pub(crate) fn say(alloc: Global, bytes: &[u8], words: &[Span]) -> Result<Row, ConsKind>
     ensures { Agrees as_statement result (statement_of (words_at bytes.now words.now)) }
 {
-    if words.is_empty() {
+    let [word, rest @ ..] = words else {
         return Err(ConsKind::Word);
-    }
-    let rest = &words[1..];
-    if is_word(bytes, words[0], b"default") {
+    };
+    let word = *word;
+    if is_word(bytes, word, b"default") {
         return say_default(bytes, rest);
     }
-    if is_word(bytes, words[0], b"required") {
+    if is_word(bytes, word, b"required") {
         return say_required(alloc, bytes, rest);
     }
-    if is_word(bytes, words[0], b"arrival") {
+    if is_word(bytes, word, b"arrival") {
         return say_arrival(alloc, bytes, rest);
     }
-    if is_word(bytes, words[0], b"want") {
+    if is_word(bytes, word, b"want") {
         return say_want(alloc, bytes, rest);
     }
-    if is_word(bytes, words[0], b"drive") {
+    if is_word(bytes, word, b"drive") {
         return say_drive(alloc, bytes, rest);
     }
-    if is_word(bytes, words[0], b"load") {
+    if is_word(bytes, word, b"load") {
         return say_load(alloc, bytes, rest);
     }
-    if is_word(bytes, words[0], b"block") {
+    if is_word(bytes, word, b"block") {
         return say_block(alloc, bytes, rest);
     }
     Err(ConsKind::Word)
