@@ -15,10 +15,10 @@ pub length_more : (places : List Place) (x : Place) → length (places ++ (x ∷
 length_more places x = omega (arith, length-append places (x ∷ []))
 
 pub place_before : (places : List Place) (x : Place) (i : ℕ) → i < length places → place_at (places ++ (x ∷ [])) i ≡ place_at places i
-place_before places x i i_n = get_or-append places (x ∷ []) (record { node = 0; parent = 0; edge = 0; r = 0 }) i i_n
+place_before places x i i_n = get_or-append places (x ∷ []) (record { node = 0; parent = 0; edge = 0 }) i i_n
 
 pub place_last : (places : List Place) (x : Place) → place_at (places ++ (x ∷ [])) (length places) ≡ x
-place_last places x = get_or-append_seam places x [] (record { node = 0; parent = 0; edge = 0; r = 0 })
+place_last places x = get_or-append_seam places x [] (record { node = 0; parent = 0; edge = 0 })
 
 pub at_each : (places : List Place) (x : Place) (P : ℕ → Place → Type 0) → ((i : ℕ) → i < length places → P i (place_at places i)) → P (length places) x
     → (i : ℕ) → i < length (places ++ (x ∷ [])) → P i (place_at (places ++ (x ∷ [])) i)
@@ -64,7 +64,6 @@ wired_more : (edges : List (ℕ × ℕ × ℕ)) (places : List Place) (x p : Pla
 wired_more edges places x p low wired = record {
   number = wired.number;
   joins = subst (λ (q : Place). Joins (edge_at edges p.edge) q.node p.node) (sym (place_before places x p.parent low)) wired.joins;
-  r = wired.r;
 }
 
 pub reached_more : (n root : ℕ) (edges : List (ℕ × ℕ × ℕ)) (places : List Place) (x : Place) → AreReached n root edges places
@@ -78,7 +77,7 @@ reached_more n root edges places x r node fresh above wired later = record {
   some = omega (arith, length_more places x);
   begins = ap (λ (p : Place). p.node) (place_before places x 0 r.some) ∙ r.begins;
   root_parent = ap (λ (p : Place). p.parent) (place_before places x 0 r.some) ∙ r.root_parent;
-  root_r = ap (λ (p : Place). p.r) (place_before places x 0 r.some) ∙ r.root_r;
+  root_edge = ap (λ (p : Place). p.edge) (place_before places x 0 r.some) ∙ r.root_edge;
   within = at_each places x (λ i p. p.node < n) r.within node;
   once = λ i k i_k k_n.
       at_each places x (λ k p. (i : ℕ) → i < k → (place_at (places ++ (x ∷ [])) i).node ≢ p.node)

@@ -16,9 +16,8 @@ pub scan_step : (n root : ℕ) (edges : List (ℕ × ℕ × ℕ)) (places : List
     → x.node < n → x.parent ≡ p → x.edge ≡ j
     → j < length edges
     → Joins (edge_at edges j) (place_at places p).node x.node
-    → x.r ≡ (edge_at edges j).2
     → IsScan n root edges (with_place (is_seen seen x.node) places x) (set seen x.node true) p (j + 1)
-scan_step n root edges places seen p j x s p_n node parent edge j_m joins r =
+scan_step n root edges places seen p j x s p_n node parent edge j_m joins =
     elim (cases_Bool (is_seen seen x.node)) [
       | inl old ↦ rw old (record {
         reached = s.reached;
@@ -61,7 +60,6 @@ scan_step n root edges places seen p j x s p_n node parent edge j_m joins r =
       number = omega arith;
       joins = subst (λ (k : ℕ). Joins (edge_at edges k) (place_at places x.parent).node x.node) (sym edge)
           (subst (λ (q : ℕ). Joins (edge_at edges j) (place_at places q).node x.node) (sym parent) joins);
-      r = r ∙ ap (λ (k : ℕ). (edge_at edges k).2) (sym edge);
     }
 
 -- those that are not at its node are passed over
@@ -118,7 +116,7 @@ pub scan_begin : (n root : ℕ) (edges : List (ℕ × ℕ × ℕ)) (first : List
     → j ≡ get_or first x.node j
     → IsScanAt n root edges places seen p x.node j
 scan_begin n root edges first next places seen p j x s filled read links linked begins =
-    let is : x ≡ place_at places p = get_or_read_under places p (length places) x (record { node = 0; parent = 0; edge = 0; r = 0 }) read filled refl in
+    let is : x ≡ place_at places p = get_or_read_under places p (length places) x (record { node = 0; parent = 0; edge = 0 }) read filled refl in
     let same : x.node ≡ (place_at places p).node = ap (λ (q : Place). q.node) is in
     let low : x.node < length first = omega (arith, s.reached.within p filled) in
     let starts : j ≡ get_or first x.node 0 = get_or_read_under first x.node (length first) j 0 begins low refl in
@@ -141,15 +139,14 @@ pub scan_more : (n root : ℕ) (edges : List (ℕ × ℕ × ℕ)) (places : List
     → x.node < n → x.parent ≡ p → x.edge ≡ j
     → j < length edges
     → Joins (edge_at edges j) node x.node
-    → x.r ≡ (edge_at edges j).2
     → IsNextAt edges node (j + 1) next
     → IsScanAt n root edges (with_place (is_seen seen x.node) places x) (set seen x.node true) p node next
-scan_more n root edges places seen p node j next x s x_n parent edge j_m joins r after =
+scan_more n root edges places seen p node j next x s x_n parent edge j_m joins after =
     let (filled, same) = kept (is_seen seen x.node) places x p s.filled in
     record {
       scan = scan_skip n root edges (with_place (is_seen seen x.node) places x) (set seen x.node true) p (j + 1) next
           (scan_step n root edges places seen p j x s.scan s.filled x_n parent edge j_m
-          (subst (λ (v : ℕ). Joins (edge_at edges j) v x.node) (sym s.node_is) joins) r)
+          (subst (λ (v : ℕ). Joins (edge_at edges j) v x.node) (sym s.node_is) joins))
           (subst (λ (v : ℕ). IsNextAt edges v (j + 1) next) (sym (same ∙ s.node_is)) after);
       filled = filled;
       node_is = same ∙ s.node_is;
@@ -169,13 +166,12 @@ pub scan_turn : (n root : ℕ) (edges : List (ℕ × ℕ × ℕ)) (places : List
     → x.node < n → x.parent ≡ p → x.edge ≡ j
     → j < length edges
     → Joins (edge_at edges j) node x.node
-    → x.r ≡ (edge_at edges j).2
     → IsNextAt edges node (j + 1) next
     → IsScanAt n root edges filled marked p node next
-scan_turn n root edges places seen p node j next x filled marked s fills marks x_n parent edge j_m joins r after =
+scan_turn n root edges places seen p node j next x filled marked s fills marks x_n parent edge j_m joins after =
     subst (λ (ps : List Place). IsScanAt n root edges ps marked p node next) (sym fills)
     (subst (λ (bs : List Bool). IsScanAt n root edges (with_place (is_seen seen x.node) places x) bs p node next) (sym marks)
-    (scan_more n root edges places seen p node j next x s x_n parent edge j_m joins r after))
+    (scan_more n root edges places seen p node j next x s x_n parent edge j_m joins after))
 
 pub far_node : (edge : ℕ × ℕ × ℕ) (n v w : ℕ) → edge.0 < n → edge.1 < n → Joins edge v w → w < n
 far_node edge n v w a b (inl (c, d)) = omega arith

@@ -6,7 +6,7 @@ use Rattle.elmore.specs.declared.tree.Node.{Node}
 use Rattle.rc_tree.specs.declared.search.Place.{Place}
 
 abbrev pub place_at : List Place → ℕ → Place
-place_at places i = slice_index_or places i (record { node = 0; parent = 0; edge = 0; r = 0 })
+place_at places i = slice_index_or places i (record { node = 0; parent = 0; edge = 0 })
 
 abbrev pub root_of : List Place → ℕ
 root_of places = (place_at places 0).node
@@ -22,7 +22,6 @@ with_place false places place = places ++ (place ∷ [])
 pub record IsWiredTo (edges : List (ℕ × ℕ × ℕ)) (places : List Place) (place : Place) : Type 0 where
   pub number : place.edge < length edges
   pub joins : Joins (edge_at edges place.edge) (place_at places place.parent).node place.node
-  pub r : place.r ≡ (edge_at edges place.edge).2
 
 abbrev pub IsEarlier : Place → Place → Type 0
 IsEarlier p q = (p.parent < q.parent) ⊎ ((p.parent ≡ q.parent) × (p.edge < q.edge))
@@ -32,7 +31,7 @@ pub record AreReached (n root : ℕ) (edges : List (ℕ × ℕ × ℕ)) (places 
   pub some : 0 < length places
   pub begins : (place_at places 0).node ≡ root
   pub root_parent : (place_at places 0).parent ≡ 0
-  pub root_r : (place_at places 0).r ≡ 0
+  pub root_edge : (place_at places 0).edge ≡ length edges
   pub within : (i : ℕ) → i < length places → (place_at places i).node < n
   pub once : (i k : ℕ) → i < k → k < length places → (place_at places i).node ≢ (place_at places k).node
   pub above : (i : ℕ) → 0 < i → i < length places → (place_at places i).parent < i
@@ -67,6 +66,7 @@ pub record IsSearch (n root : ℕ) (edges : List (ℕ × ℕ × ℕ)) (places : 
   pub marks : AreSeen n places seen
   pub joined : (v : ℕ) → (is_seen seen v ≡ true) ↔ AreJoined edges root v
 
--- a place as a node of the tree; sums has the nodes' capacitances
-abbrev pub node_of : List ℕ → Place → Node
-node_of sums place = record { parent = place.parent; r = place.r; c = slice_index sums place.node }
+-- a place as a node of the tree, whose wire is the place's resistor, and the root's none; sums has the nodes'
+-- capacitances
+abbrev pub node_of : List (ℕ × ℕ × ℕ) → List ℕ → Place → Node
+node_of edges sums place = record { parent = place.parent; r = (edge_at edges place.edge).2; c = slice_index sums place.node }

@@ -1,5 +1,6 @@
 ghost use Rattle.std.specs.Prelude.{◌≡◌, ℕ, ◌+◌, ◌<◌, map, length, IfOk, MatchResult};
 ghost use Rattle.elmore.specs.Trees.{IsTree};
+ghost use Rattle.rc_tree.specs.Chains.{edge_at};
 ghost use Rattle.rc_tree.specs.Nets.{IsNet};
 ghost use Rattle.rc_tree.specs.Search.{node_of, place_at};
 ghost use Rattle.rc_tree.specs.Faults.{IsFaultOf};
@@ -48,18 +49,23 @@ pub fn build(
         return Err(TreeFault::Loop);
     }
     let sums = sum_caps(alloc, n, caps)?;
-    let built = tree_of(alloc, &reached.places, &sums)?;
+    let built = tree_of(alloc, &reached.places, edges, &sums)?;
     Ok(built)
 }
 
 /// The tree of these places, whose nodes have these capacitances (aF).
-fn tree_of(alloc: Global, places: &[Place], sums: &[u128]) -> Result<Built, Memory>
+fn tree_of(
+    alloc: Global,
+    places: &[Place],
+    edges: &[(u32, u32, u64)],
+    sums: &[u128],
+) -> Result<Built, Memory>
     requires within { (i : ℕ) → i < length places.now → (place_at places.now i).node < length sums.now }
-    requires tree { IsTree (map (node_of sums.now) places.now) }
-    ensures nodes { IfOk result (λ built. built.tree.nodes ≡ map (node_of sums.now) places.now) }
+    requires tree { IsTree (map (node_of edges.now sums.now) places.now) }
+    ensures nodes { IfOk result (λ built. built.tree.nodes ≡ map (node_of edges.now sums.now) places.now) }
     ensures order { IfOk result (λ built. built.order ≡ map (λ place. place.node) places.now) }
 {
-    let nodes = Row::from_vec(nodes_of(alloc, places, sums)?);
+    let nodes = Row::from_vec(nodes_of(alloc, places, edges, sums)?);
     let order = places.iter().map(|place| place.node).collect(alloc)?;
     Ok(Built {
         tree: Tree { nodes },
@@ -67,17 +73,32 @@ fn tree_of(alloc: Global, places: &[Place], sums: &[u128]) -> Result<Built, Memo
     })
 }
 
-fn nodes_of(alloc: Global, places: &[Place], sums: &[u128]) -> Result<Vec<Node>, Memory>
+fn nodes_of(
+    alloc: Global,
+    places: &[Place],
+    edges: &[(u32, u32, u64)],
+    sums: &[u128],
+) -> Result<Vec<Node>, Memory>
     requires { (i : ℕ) → i < length places.now → (place_at places.now i).node < length sums.now }
-    ensures { IfOk result (λ nodes. nodes.items ≡ map (node_of sums.now) places.now) }
+    ensures { IfOk result (λ nodes. nodes.items ≡ map (node_of edges.now sums.now) places.now) }
 {
-    let mut nodes = Vec::new(alloc);
+    let mut nodes = Vec::with_capacity(alloc, places.len())?;
     'places: for place in places {
         nodes.push(Node {
             parent: place.parent,
-            r: place.r,
+            r: resistance_above(edges, *place),
             c: sums[place.node as usize],
         })?;
     }
     Ok(nodes)
+}
+
+/// The resistance (mΩ) of the wire to a place from its parent; 0 at the root.
+fn resistance_above(edges: &[(u32, u32, u64)], place: Place) -> u64
+    ensures { result ≡ (edge_at edges.now place.edge).2 }
+{
+    match edges.get(place.edge as usize) {
+        Some(edge) => edge.2,
+        None => 0,
+    }
 }

@@ -17,10 +17,8 @@ pub(crate) struct Place {
     pub(crate) node: u32,
     /// The place of its parent; the root's own.
     pub(crate) parent: u32,
-    /// The number of the resistor from there; 0 at the root.
+    /// The number of the resistor from there; at the root, which has none, the number of resistors.
     pub(crate) edge: u32,
-    /// That resistor (mΩ); 0 at the root.
-    pub(crate) r: u64,
 }
 
 /// The nodes that were reached, in their order, and for each node whether it is one of them.
@@ -47,7 +45,7 @@ pub(crate) fn search(
     requires links { AreLinks edges.now links.now.first.items links.now.next.items }
     ensures { IfOk result (λ reached. IsSearch n root edges.now reached.places.items reached.seen.items) }
 {
-    let mut reached = begin(alloc, n, root)?;
+    let mut reached = begin(alloc, n, root, edges)?;
     let mut p = 0;
     'places: while p < reached.places.len() {
         scan(edges, links, p, &mut reached)?;
@@ -56,19 +54,19 @@ pub(crate) fn search(
     Ok(reached)
 }
 
-/// The root alone.
-fn begin(alloc: Global, n: usize, root: u32) -> Result<Reached, Memory>
-    requires { root < n }
-    ensures { IfOk result (λ reached. (edges : List (ℕ × ℕ × ℕ)) → IsScan n root edges reached.places.items reached.seen.items 0 0) }
+/// The root alone, with room for all nodes.
+fn begin(alloc: Global, n: usize, root: u32, edges: &[(u32, u32, u64)]) -> Result<Reached, Memory>
+    requires root_node { root < n }
+    requires count { length edges.now ≤ 2 ^ 28 }
+    ensures { IfOk result (λ reached. IsScan n root edges.now reached.places.items reached.seen.items 0 0) }
 {
     let mut seen = vec![in alloc; false; n]?;
     seen[root as usize] = true;
-    let mut places = Vec::new(alloc);
+    let mut places = Vec::with_capacity(alloc, n)?;
     places.push(Place {
         node: root,
         parent: 0,
-        edge: 0,
-        r: 0,
+        edge: edges.len() as u32,
     })?;
     Ok(Reached { places, seen })
 }
@@ -93,12 +91,10 @@ fn scan(
     let node = reached.places[p].node;
     let mut j = links.first[node as usize];
     'edges: while (j as usize) < edges.len() {
-        let (far, r) = far_end(edges[j as usize], node);
         let place = Place {
-            node: far,
+            node: far_end(edges[j as usize], node),
             parent: p as u32,
             edge: j,
-            r,
         };
         reach(reached, place)?;
         j = following(edges[j as usize], node, links.next[j as usize]);
@@ -106,14 +102,13 @@ fn scan(
     Ok(())
 }
 
-/// The other end of a resistor at `node`, and its resistance (mΩ).
-fn far_end(edge: (u32, u32, u64), node: u32) -> (u32, u64)
+/// The other end of a resistor at `node`.
+fn far_end(edge: (u32, u32, u64), node: u32) -> u32
     requires { IsEndOf edge node }
-    ensures far { Joins edge node result.0 }
-    ensures r { result.1 ≡ edge.2 }
+    ensures { Joins edge node result }
 {
-    let (from, to, r) = edge;
-    if from == node { (to, r) } else { (from, r) }
+    let (from, to, _) = edge;
+    if from == node { to } else { from }
 }
 
 /// What follows a resistor at its end `node`.

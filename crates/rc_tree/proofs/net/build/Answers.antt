@@ -30,7 +30,7 @@ tree_of-requires-clause-tree c =
 pub returns : goal.returns
 returns c =
     subst (λ (nodes : List Node). IsTreeOf c.args.n c.args.root c.args.caps.now c.args.edges.now nodes c.in_ok-built.built.order) (sym c.in_ok-built.ensures.nodes)
-    (subst (λ (order : List ℕ). IsTreeOf c.args.n c.args.root c.args.caps.now c.args.edges.now (map (node_of c.deref-3.result.now) c.deref-2.result.now) order) (sym c.in_ok-built.ensures.order)
+    (subst (λ (order : List ℕ). IsTreeOf c.args.n c.args.root c.args.caps.now c.args.edges.now (map (node_of c.args.edges.now c.deref-3.result.now) c.deref-2.result.now) order) (sym c.in_ok-built.ensures.order)
     (tree_done c.args.n c.args.root c.args.caps.now c.args.edges.now c.deref-2.result.now c.deref.result.now c.deref-3.result.now
     (subst (λ (places : List Place). IsSearch c.args.n c.args.root c.args.edges.now places c.deref.result.now) (sym c.deref-2.ensures.value)
     (subst (IsSearch c.args.n c.args.root c.args.edges.now c.in_ok-reached.reached.places.items) (sym c.deref.ensures.value) c.in_ok-reached.ensures))

@@ -7,12 +7,12 @@ use Rattle.rc_tree.proofs.search.scan.Goals as goal
 pub edges-preserved : goal.edges-preserved
 edges-preserved c =
     scan_turn (length c.args.reached.now.seen.items) (root_of c.args.reached.now.places.items) c.args.edges.now c.edges.reached.places.items c.edges.reached.seen.items c.args.p c.index.result.now.node c.edges.j c.following-j.result
-    (record { node = c.far_end-far.result.0; parent = c.args.p; edge = c.edges.j; r = c.far_end-far.result.1 })
+    (record { node = c.far_end.result; parent = c.args.p; edge = c.edges.j })
     c.reach.new.reached.places.items c.reach.new.reached.seen.items
     c.edges.invariant c.in_ok-reach.ensures.places c.in_ok-reach.ensures.seen
-    (far_node (edge_at c.args.edges.now c.edges.j) (length c.args.reached.now.seen.items) c.index.result.now.node c.far_end-far.result.0
-    (c.requires.from_nodes c.edges.j c.edges-test.true) (c.requires.to_nodes c.edges.j c.edges-test.true) c.far_end-far.ensures.far)
-    refl refl c.edges-test.true c.far_end-far.ensures.far c.far_end-far.ensures.r
+    (far_node (edge_at c.args.edges.now c.edges.j) (length c.args.reached.now.seen.items) c.index.result.now.node c.far_end.result
+    (c.requires.from_nodes c.edges.j c.edges-test.true) (c.requires.to_nodes c.edges.j c.edges-test.true) c.far_end.ensures)
+    refl refl c.edges-test.true c.far_end.ensures
     (link_after c.args.edges.now c.args.links.now.first.items c.args.links.now.next.items c.index.result.now.node c.edges.j c.following-j.result
     c.index-in-edges.result.now c.requires.links c.edges-test.true c.index-in-edges.ensures c.following-j.ensures)
 
