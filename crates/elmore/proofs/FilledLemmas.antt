@@ -22,6 +22,23 @@ filled_more f d xs v x room here before = record {
 pub filled_first : {X : Type 0} (f : ℕ → X) (d : X) (xs : List X) (x : X) → 0 < length xs → x ≡ f 0 → AreFilled f d 1 (set xs 0 x)
 filled_first f d xs x room here = filled_more f d xs 0 x room here (record { each = λ k none. absurd (omega arith) })
 
+-- a list whose elements by g are replaced, from the left, by those of f
+pub record AreReplaced {X : Type 0} (f g : ℕ → X) (d : X) (v n : ℕ) (xs : List X) : Type 0 where
+  pub done : AreFilled f d v xs
+  pub rest : (k : ℕ) → v ≤ k → k < n → get_or xs k d ≡ g k
+
+pub replaced_more : {X : Type 0} (f g : ℕ → X) (d : X) (xs : List X) (v n : ℕ) (x : X) → v < length xs → x ≡ f v
+    → AreReplaced f g d v n xs → AreReplaced f g d (v + 1) n (set xs v x)
+replaced_more f g d xs v n x room here before = record {
+  done = filled_more f d xs v x room here before.done;
+  rest = λ k past k_n. get_or-set_other xs v k x d (λ e. omega arith) ∙ before.rest k (omega arith) k_n;
+}
+
+pub replaced_first : {X : Type 0} (f g : ℕ → X) (d : X) (xs : List X) (n : ℕ) (x : X) → 0 < length xs → x ≡ f 0
+    → ((k : ℕ) → k < n → get_or xs k d ≡ g k) → AreReplaced f g d 1 n (set xs 0 x)
+replaced_first f g d xs n x room here before =
+    replaced_more f g d xs 0 n x room here (record { done = record { each = λ k none. absurd (omega arith) }; rest = λ k _ k_n. before k k_n })
+
 -- the time that was filled in at p reads as it was written
 pub filled_time : (f : ℕ → ℕ) (times : List ℤ) (v p i : ℕ) → i ≡ p → p < v → f p ≤ 10 ^ 25 → AreFilled (λ k. pos (f k)) (pos 0) v times
     → to_z w128 (of_z w128 (slice_index_or times i (pos 0))) ≡ pos (f p)

@@ -1,12 +1,15 @@
 -- Loads by the pass from the last node to the root, one edge at a time.
-use Rattle.std.proofs.Common.{◌≡◌, ℕ, ◌+◌, ◌<◌, ◌≤◌, Bool, List, sym, ap, ◌∙◌, eqb, cond, arith, inl, inr, Option, length, get_or, set}
+use Rattle.std.proofs.Common.{◌≡◌, ℕ, ◌+◌, ◌^◌, ◌<◌, ◌≤◌, Bool, List, sym, ap, ◌∙◌, eqb, cond, arith, inl, inr, Option, length, get_or, set, ℤ, pos, ◌+ℤ◌}
 use Rattle.std.proofs.lemmas.Bool.{eq-eqb, ne_eqb, cases_eq}
 use Rattle.std.proofs.lemmas.List.{get_or-set_same, get_or-set_other}
+use Rattle.std.proofs.lemmas.Int.{ints}
 use Rattle.std.specs.List.{sum_by}
 use Rattle.elmore.specs.Path.{Falls, nodes}
 use Rattle.elmore.specs.Cells.{input_capacitance}
 use Rattle.elmore.specs.Stage.{in_stage, ends_stage, load, input_load, seen}
+use Rattle.elmore.specs.Steps.{IsSum}
 use Rattle.elmore.specs.declared.rep.Rep.{Rep}
+use Rattle.elmore.proofs.FitLemmas.{is_sum, same_sum}
 use Rattle.elmore.proofs.StageLemmas.{stage_self, stage_at_root, end_self, end_at_root}
 use Rattle.elmore.proofs.SumLemmas.{sum_of_same, sum_at, sum_of_none, sum_of_filter_le}
 use Rattle.elmore.proofs.CutLemmas.{cut, cut_hung}
@@ -42,41 +45,60 @@ load_bound parent c cell n v =
       sum_of_filter_le (λ (w : ℕ). input_capacitance (cell w)) (ends_stage parent cell v) (nodes n),
     )
 
-pub record AreLoads (parent c : ℕ → ℕ) (cell : ℕ → Option Rep) (n : ℕ) (loads : List ℕ) : Type 0 where
-  pub each : (v : ℕ) → v < n → get_or loads v 0 ≡ load parent c cell n v
+pub record AreLoads (parent c : ℕ → ℕ) (cell : ℕ → Option Rep) (n : ℕ) (loads : List ℤ) : Type 0 where
+  pub each : (v : ℕ) → v < n → get_or loads v (pos 0) ≡ pos (load parent c cell n v)
 
--- what the pass's step at node i adds to the load of its parent
-up_step : (parent c : ℕ → ℕ) (cell : ℕ → Option Rep) (n : ℕ) (loads : List ℕ) (i j up : ℕ) → i + 1 ≡ j → Falls parent → parent i < i → i < n
+-- what the pass's step at node i, whose load is own by then, adds to the load of its parent
+up_step : (parent c : ℕ → ℕ) (cell : ℕ → Option Rep) (n : ℕ) (loads : List ℤ) (i j own up : ℕ) → i + 1 ≡ j → Falls parent → parent i < i → i < n
     → AreLoads (cut j parent) c cell n loads
-    → up ≡ seen (cell i) (get_or loads i 0)
-    → get_or loads (parent i) 0 + up ≡ load (cut i parent) c cell n (parent i)
+    → get_or loads i (pos 0) ≡ pos own
+    → up ≡ seen (cell i) own
+    → get_or loads (parent i) (pos 0) +ℤ pos up ≡ pos (load (cut i parent) c cell n (parent i))
 unfolding input_load
-up_step parent c cell n loads i j up next falls above i_n before up_is =
-    let own : up ≡ input_load (cut j parent) c cell n i = up_is ∙ ap (seen (cell i)) (before.each i i_n) in
-    omega (arith, own, before.each (parent i) (omega arith), load_hung _ _ i (parent i) (cut_hung parent falls i j next above) c cell n i_n)
+up_step parent c cell n loads i j own up next falls above i_n before own_is up_is =
+    let is : own ≡ load (cut j parent) c cell n i = same_sum (get_or loads i (pos 0)) own _ own_is (before.each i i_n) in
+    let seen_is : up ≡ input_load (cut j parent) c cell n i = up_is ∙ ap (seen (cell i)) is in
+    let sum : load (cut j parent) c cell n (parent i) + up ≡ load (cut i parent) c cell n (parent i) =
+    omega (arith, load_hung _ _ i (parent i) (cut_hung parent falls i j next above) c cell n i_n) in
+    rw (before.each (parent i) (omega arith)) (omega (arith, ints))
 
-pub loads_more : (parent c : ℕ → ℕ) (cell : ℕ → Option Rep) (n : ℕ) (loads : List ℕ) (i j up : ℕ) → i + 1 ≡ j → Falls parent → parent i < i → i < n → n ≤ length loads
+pub loads_more : (parent c : ℕ → ℕ) (cell : ℕ → Option Rep) (n : ℕ) (loads : List ℤ) (i j own up : ℕ) → i + 1 ≡ j → Falls parent → parent i < i → i < n → n ≤ length loads
     → AreLoads (cut j parent) c cell n loads
-    → up ≡ seen (cell i) (get_or loads i 0)
-    → AreLoads (cut i parent) c cell n (set loads (parent i) (get_or loads (parent i) 0 + up))
-loads_more parent c cell n loads i j up next falls above i_n room before up_is = record {
+    → get_or loads i (pos 0) ≡ pos own
+    → up ≡ seen (cell i) own
+    → AreLoads (cut i parent) c cell n (set loads (parent i) (get_or loads (parent i) (pos 0) +ℤ pos up))
+loads_more parent c cell n loads i j own up next falls above i_n room before own_is up_is = record {
   each = λ v v_n.
       elim (cases_eq v (parent i)) [
         | inl e ↦
             rw e
-            (get_or-set_same loads (parent i) (get_or loads (parent i) 0 + up) 0 (omega arith)
-            ∙ up_step parent c cell n loads i j up next falls above i_n before up_is)
+            (get_or-set_same loads (parent i) (get_or loads (parent i) (pos 0) +ℤ pos up) (pos 0) (omega arith)
+            ∙ up_step parent c cell n loads i j own up next falls above i_n before own_is up_is)
         | inr e ↦
-            get_or-set_other loads (parent i) v (get_or loads (parent i) 0 + up) 0 e
+            get_or-set_other loads (parent i) v (get_or loads (parent i) (pos 0) +ℤ pos up) (pos 0) e
             ∙ before.each v v_n
-            ∙ sym (load_other _ _ i (parent i) (cut_hung parent falls i j next above) c cell n v e)
+            ∙ ap pos (sym (load_other _ _ i (parent i) (cut_hung parent falls i j next above) c cell n v e))
       ];
 }
 
--- that sum is itself a load, so it is bounded
-pub step_bound : (parent c : ℕ → ℕ) (cell : ℕ → Option Rep) (n : ℕ) (loads : List ℕ) (i j up : ℕ) → i + 1 ≡ j → Falls parent → parent i < i → i < n
+-- all capacitances together are small enough for each load
+abbrev pub HaveSmallSum : (c : ℕ → ℕ) (cell : ℕ → Option Rep) (n : ℕ) → Type 0
+HaveSmallSum c cell n = sum_by c (nodes n) + sum_by (λ w. input_capacitance (cell w)) (nodes n) ≤ 2 ^ 100
+
+pub small_load : (parent c : ℕ → ℕ) (cell : ℕ → Option Rep) (n v : ℕ) (z : ℤ) → HaveSmallSum c cell n → z ≡ pos (load parent c cell n v) → IsSum z
+small_load parent c cell n v z small is =
+    is_sum z (load parent c cell n v) (omega (arith, load_bound parent c cell n v, small)) is
+
+pub load_read : (parent c : ℕ → ℕ) (cell : ℕ → Option Rep) (n : ℕ) (loads : List ℤ) (v : ℕ) → HaveSmallSum c cell n → AreLoads parent c cell n loads → v < n
+    → IsSum (get_or loads v (pos 0))
+load_read parent c cell n loads v small are v_n = small_load parent c cell n v (get_or loads v (pos 0)) small (are.each v v_n)
+
+pub load_written : (parent c : ℕ → ℕ) (cell : ℕ → Option Rep) (n : ℕ) (loads : List ℤ) (i j own up : ℕ) → HaveSmallSum c cell n
+    → i + 1 ≡ j → Falls parent → parent i < i → i < n
     → AreLoads (cut j parent) c cell n loads
-    → up ≡ seen (cell i) (get_or loads i 0)
-    → get_or loads (parent i) 0 + up ≤ sum_by c (nodes n) + sum_by (λ w. input_capacitance (cell w)) (nodes n)
-step_bound parent c cell n loads i j up next falls above i_n before up_is =
-    omega (arith, up_step parent c cell n loads i j up next falls above i_n before up_is, load_bound (cut i parent) c cell n (parent i))
+    → get_or loads i (pos 0) ≡ pos own
+    → up ≡ seen (cell i) own
+    → IsSum (get_or loads (parent i) (pos 0) +ℤ pos up)
+load_written parent c cell n loads i j own up small next falls above i_n before own_is up_is =
+    small_load (cut i parent) c cell n (parent i) (get_or loads (parent i) (pos 0) +ℤ pos up) small
+    (up_step parent c cell n loads i j own up next falls above i_n before own_is up_is)

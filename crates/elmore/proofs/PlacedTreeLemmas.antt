@@ -17,7 +17,7 @@ use Rattle.elmore.specs.Steps.{IsPlacedTree, placed_capacitance}
 use Rattle.elmore.specs.declared.tree.Node.{Node}
 use Rattle.elmore.specs.declared.rep.Rep.{Rep}
 use Rattle.elmore.proofs.SumLemmas.{sum_of_items}
-use Rattle.elmore.proofs.LoadLemmas.{load_bound}
+use Rattle.elmore.proofs.LoadLemmas.{HaveSmallSum, load_bound}
 use Rattle.elmore.proofs.PlacedDelayLemmas.{delay_self, delay_below, delay_bound, input_load_bound}
 use Rattle.elmore.proofs.PlacedInverterLemmas.{step_inverters, inverters_self, inverters_below}
 use Rattle.elmore.proofs.TreeLemmas.{sum_of_nodes, tree_falls, tree_of}
@@ -33,6 +33,11 @@ capacitance_sum tree reps cells placement =
       ap (λ (k : ℕ). sum_by (λ w. input_capacitance (cell_at reps cells w)) (node_numbers k)) placement.one_each,
       sum_of_items (λ cell. input_capacitance (rep_of reps cell)) (λ _. None) cells,
     )
+
+-- with small capacitances each load is small
+pub small_sum : (tree : List Node) (reps : List Rep) (cells : List (Option ℕ)) → IsPlacementOf (length tree) (length reps) cells
+    → placed_capacitance tree reps cells ≤ 2 ^ 100 → HaveSmallSum (capacitance tree) (cell_at reps cells) (length tree)
+small_sum tree reps cells placement small = omega (arith, capacitance_sum tree reps cells placement, small)
 
 pub rep_within : (reps : List Rep) → All IsRepWithin reps → (b : ℕ) → IsRepWithin (rep_at reps b)
 rep_within reps each b =

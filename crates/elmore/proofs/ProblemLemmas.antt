@@ -2,7 +2,8 @@
 use Rattle.std.proofs.Common.{◌≡◌, ℕ, ◌*◌, ◌<◌, ◌≤◌, ◌^◌, List, length, get_or, slice_index_or, Option, ℤ, pos, ◌+ℤ◌, ◌-ℤ◌, ◌∙◌, sym, arith, Bool, false, Some, None, MatchOption}
 use Rattle.std.proofs.lemmas.Int.{ints}
 use Rattle.std.proofs.lemmas.List.Sums.{sum_by-le}
-use Rattle.elmore.specs.Cells.{rep_at, rep_of, input_capacitance}
+use Rattle.elmore.specs.Cells.{rep_at, rep_of, cell_at, input_capacitance}
+use Rattle.elmore.specs.Trees.{parent_of, capacitance}
 use Rattle.elmore.specs.Problems.{sink_of, IsRepWithin}
 use Rattle.elmore.specs.Placed.{IsLeast, IsWanted, IsFirstUnwanted}
 use Rattle.elmore.specs.Steps.{IsPlacedTree, placed_capacitance}
@@ -11,8 +12,9 @@ use Rattle.elmore.specs.Placements.{IsPlacement, IsSlack, IsSinkAt, slack_at, lo
 use Rattle.elmore.specs.declared.parts.Sink.{Sink}
 use Rattle.elmore.specs.declared.problem.Problem.{Problem}
 use Rattle.elmore.proofs.CellLemmas.{inputs_le}
+use Rattle.elmore.proofs.LoadLemmas.{load_bound}
 use Rattle.elmore.proofs.LeastLemmas.{within_sinks}
-use Rattle.elmore.proofs.PlacedTreeLemmas.{rep_within}
+use Rattle.elmore.proofs.PlacedTreeLemmas.{rep_within, small_sum}
 
 -- a placement with cells only at places is within the limits of its problem
 pub placed_tree : (p : Problem) (cells : List (Option ℕ)) → IsPlacement p cells → IsPlaced p cells → IsPlacedTree p.tree.nodes p.reps cells
@@ -26,7 +28,7 @@ placed_tree p cells placement placed = record {
 }
 
 -- the loads of a placement can be computed, wherever it has cells
-pub sum_fits : (p : Problem) (cells : List (Option ℕ)) → IsPlacement p cells → placed_capacitance p.tree.nodes p.reps cells < 2 ^ 128
+pub sum_fits : (p : Problem) (cells : List (Option ℕ)) → IsPlacement p cells → placed_capacitance p.tree.nodes p.reps cells ≤ 2 ^ 100
 sum_fits p cells placement =
     omega (
       arith,
@@ -39,6 +41,14 @@ sum_fits p cells placement =
     input_small : (cell : Option ℕ) → input_capacitance (rep_of p.reps cell) ≤ 2 ^ 64
     input_small None = omega arith
     input_small (Some b) = let within : IsRepWithin (rep_at p.reps b) = rep_within p.reps p.within.each_repeater b in omega (arith, within.cin)
+
+pub load_fits : (p : Problem) (cells : List (Option ℕ)) → IsPlacement p cells → (v : ℕ) → load_of p cells v ≤ 2 ^ 100
+load_fits p cells placement v =
+    omega (
+      arith,
+      load_bound (parent_of p.tree.nodes) (capacitance p.tree.nodes) (cell_at p.reps cells) (length p.tree.nodes) v,
+      small_sum p.tree.nodes p.reps cells placement (sum_fits p cells placement),
+    )
 
 -- the least that the sinks have left, by the delays from the root, is the slack
 pub slack_is : (p : Problem) (cells : List (Option ℕ)) (delays : List ℤ) (start x : ℤ)

@@ -1,5 +1,5 @@
 -- What the functions between are told of a tree with cells.
-use Rattle.std.specs.Prelude.{ℕ, ◌+◌, ◌≤◌, ◌^◌, Bool, false, List, length, slice_index_or, Option}
+use Rattle.std.specs.Prelude.{ℕ, ◌+◌, ◌≤◌, ◌^◌, Bool, false, List, length, slice_index_or, Option, ℤ, pos, ◌≤ℤ◌}
 use Rattle.std.specs.List.{sum_by, All}
 use Rattle.elmore.specs.Cells.{rep_of, input_capacitance}
 use Rattle.elmore.specs.Placed.{IsPlacementOf}
@@ -15,6 +15,11 @@ marked marks v = slice_index_or marks v false
 -- the capacitances of the nodes, and the input capacitances of the cells: no load is greater
 abbrev pub placed_capacitance : List Node → List Rep → List (Option ℕ) → ℕ
 placed_capacitance tree reps cells = total_capacitance tree + sum_by (λ cell. input_capacitance (rep_of reps cell)) cells
+
+-- a sum of capacitances, with much room to 2^127 where a machine's integer ends
+pub record IsSum (z : ℤ) : Type 0 where
+  pub low : pos 0 ≤ℤ z
+  pub high : z ≤ℤ pos (2 ^ 100)
 
 -- a tree with cells, and limits within which no load and no delay is too large to be computed
 pub record IsPlacedTree (tree : List Node) (reps : List Rep) (cells : List (Option ℕ)) : Type 0 where

@@ -1,6 +1,6 @@
 //! Whether cells stand where they may, and charge no more than they may.
 
-ghost use Rattle.std.specs.Prelude.{◌≡◌, ◌↔◌, ℕ, ◌<◌, ◌≤◌, length, slice_index, Option, Some, IsTrue, MatchOption};
+ghost use Rattle.std.specs.Prelude.{◌≡◌, ◌↔◌, ℕ, ◌<◌, ◌≤◌, length, slice_index_or, pos, Option, Some, IsTrue, MatchOption};
 ghost use Rattle.elmore.specs.Legal.{IsWithin, IsFit, MayHave, IsLegalWith, IsLegal, IsFirstIllegal};
 ghost use Rattle.elmore.specs.Placements.{IsPlacement, load_of as load_at};
 ghost use Rattle.elmore.specs.Room.{room_of};
@@ -11,6 +11,7 @@ use crate::placement::Placement;
 use crate::problem::Problem;
 use crate::rep::Rep;
 use crate::scratch::Scratch;
+use crate::sums::sum_at;
 
 /// Whether a load is within a limit, if there is one.
 fn is_within_limit(limit: Option<u64>, load: u128) -> bool
@@ -60,21 +61,21 @@ fn is_legal_with(p: &Problem, v: u32, own: Option<u32>, load: u128) -> bool
 }
 
 /// The first node at which the cells are not legal, by the loads of the nodes.
-fn first_past(p: &Problem, cells: &[Option<u32>], loads: &[u128]) -> Option<u32>
+fn first_past(p: &Problem, cells: &[Option<u32>], loads: &[i128]) -> Option<u32>
     requires placement { IsPlacement p.now cells.now }
     requires room { length p.now.tree.nodes ≤ length loads.now }
-    requires loads { (v : ℕ) → v < length p.now.tree.nodes → slice_index loads.now v ≡ load_at p.now cells.now v }
+    requires loads { (v : ℕ) → v < length p.now.tree.nodes → slice_index_or loads.now v (pos 0) ≡ pos (load_at p.now cells.now v) }
     ensures { MatchOption result (IsLegal p.now cells.now) (λ v. IsFirstIllegal p.now cells.now v) }
 {
     'nodes: for v in 0..cells.len() {
-        if !is_legal_with(p, v as u32, cells[v], loads[v]) {
+        if !is_legal_with(p, v as u32, cells[v], sum_at(loads, v)) {
             return Some(v as u32);
         }
     }
     None
 }
 
-fn first_illegal_by(p: &Problem, cells: &[Option<u32>], loads: &mut [u128]) -> Option<u32>
+fn first_illegal_by(p: &Problem, cells: &[Option<u32>], loads: &mut [i128]) -> Option<u32>
     requires placement { IsPlacement p.now cells.now }
     requires room { length p.now.tree.nodes ≤ length loads.old }
     ensures { MatchOption result (IsLegal p.now cells.now) (λ v. IsFirstIllegal p.now cells.now v) }
@@ -92,5 +93,5 @@ pub fn first_illegal(p: &Problem, at: &Placement, scratch: &mut Scratch) -> Opti
     ensures illegal { MatchOption result (IsLegal p.now at.now.cells) (λ v. IsFirstIllegal p.now at.now.cells v) }
     ensures room { room_of scratch.new ≡ room_of scratch.old }
 {
-    first_illegal_by(p, at.cells.as_slice(), &mut scratch.loads)
+    first_illegal_by(p, at.cells.as_slice(), &mut scratch.delays)
 }

@@ -20,6 +20,7 @@ mod problem;
 mod rep;
 mod scratch;
 mod slacks;
+mod sums;
 mod tree;
 mod wire;
 

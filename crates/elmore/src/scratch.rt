@@ -7,10 +7,9 @@ use vg_num::Memory;
 /// allocating.
 #[derive(Drop)]
 pub struct Scratch {
-    pub(crate) loads: Vec<u128>,
+    /// The delays of nodes, and before them the capacitances (aF) that are summed up for them.
     pub(crate) delays: Vec<i128>,
     pub(crate) inverted: Vec<bool>,
-    ghost same_room: { length loads.items ≡ length delays.items },
     ghost same_marks: { length inverted.items ≡ length delays.items },
 }
 
@@ -21,14 +20,9 @@ impl Scratch {
     pub fn new(alloc: Global, n: usize) -> Result<Scratch, Memory>
         ensures { IfOk result (λ scratch. room_of scratch ≡ n) }
     {
-        let loads = vec![in alloc; 0; n]?;
         let delays = vec![in alloc; 0; n]?;
         let inverted = vec![in alloc; false; n]?;
-        Ok(Scratch {
-            loads,
-            delays,
-            inverted,
-        })
+        Ok(Scratch { delays, inverted })
     }
 
     /// The delays (zs) that `wire_delays` computed last, one for each node of its tree and then others up to the room.

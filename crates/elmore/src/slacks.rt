@@ -1,6 +1,6 @@
 //! Delays of a placement from the root down, and its slack.
 
-ghost use Rattle.std.specs.Prelude.{◌≡◌, ℕ, ◌+◌, ◌*◌, ◌^◌, ◌<◌, ◌≤◌, ◌≤ℤ◌, ◌+ℤ◌, ◌-ℤ◌, true, length, slice_index, slice_index_or, pos, Option, Some, is_some};
+ghost use Rattle.std.specs.Prelude.{◌≡◌, ℕ, ◌+◌, ◌*◌, ◌^◌, ◌<◌, ◌≤◌, ◌≤ℤ◌, ◌+ℤ◌, ◌-ℤ◌, true, length, slice_index_or, pos, Option, Some, is_some};
 ghost use Rattle.std.specs.List.{All, list_any};
 ghost use Rattle.elmore.specs.Cells.{rep_of, cell_delay as delay_of};
 ghost use Rattle.elmore.specs.Stage.{seen};
@@ -17,6 +17,7 @@ use crate::placement::Placement;
 use crate::problem::Problem;
 use crate::rep::Rep;
 use crate::scratch::Scratch;
+use crate::sums::sum_at;
 use crate::tree::Node;
 use crate::wire::delay_behind;
 
@@ -51,24 +52,18 @@ fn delay_past(before: i128, r: u64, cell: Option<u32>, reps: &[Rep], load: u128)
     behind_wire + cell_delay(cell, reps, load)
 }
 
-/// Each node's delay from the root, its own cell included.
-fn sum_placed_delays(
-    nodes: &[Node],
-    cells: &[Option<u32>],
-    reps: &[Rep],
-    loads: &[u128],
-    delays: &mut [i128],
-)
+/// Each node's delay from the root, its own cell included, in place of its load.
+fn sum_placed_delays(nodes: &[Node], cells: &[Option<u32>], reps: &[Rep], delays: &mut [i128])
     requires placed { IsPlacedTree nodes.now reps.now cells.now }
     requires room { length nodes.now ≤ length delays.old }
-    requires loads_room { length nodes.now ≤ length loads.now }
-    requires loads { (v : ℕ) → v < length nodes.now → slice_index loads.now v ≡ placed_load nodes.now reps.now cells.now v }
+    requires loads { (v : ℕ) → v < length nodes.now → slice_index_or delays.old v (pos 0) ≡ pos (placed_load nodes.now reps.now cells.now v) }
     ensures { (v : ℕ) → v < length nodes.now → slice_index_or delays.new v (pos 0) ≡ pos (placed_delay nodes.now reps.now cells.now 0 v) }
 {
-    delays[0] = cell_delay(cells[0], reps, loads[0]);
+    delays[0] = cell_delay(cells[0], reps, sum_at(delays, 0));
     'down: for v in 1..nodes.len() {
         let before = delays[nodes[v].parent as usize];
-        delays[v] = delay_past(before, nodes[v].r, cells[v], reps, loads[v]);
+        let load = sum_at(delays, v);
+        delays[v] = delay_past(before, nodes[v].r, cells[v], reps, load);
     }
 }
 
@@ -115,20 +110,19 @@ fn departure(driver: Driver, load: u128) -> i128
     delay_behind(driver.arrival + driver.k, driver.r, load)
 }
 
-/// The slack of a placement whose cells stand only at places. It leaves the loads and the delays of its nodes.
+/// The slack of a placement whose cells stand only at places. It leaves the delays of its nodes.
 #[tactic(auto, using(crate::proofs::ProblemLemmas::placed_tree))]
-fn slack_by(p: &Problem, cells: &[Option<u32>], loads: &mut [u128], delays: &mut [i128]) -> i128
+fn slack_by(p: &Problem, cells: &[Option<u32>], delays: &mut [i128]) -> i128
     requires placement { IsPlacement p.now cells.now }
     requires placed { IsPlaced p.now cells.now }
-    requires loads_room { length p.now.tree.nodes ≤ length loads.old }
-    requires delays_room { length p.now.tree.nodes ≤ length delays.old }
+    requires room { length p.now.tree.nodes ≤ length delays.old }
     ensures { IsSlack p.now cells.now result }
 {
     let nodes = p.tree.nodes.as_slice();
     let reps = p.reps.as_slice();
-    sum_loads(nodes, cells, reps, loads);
-    sum_placed_delays(nodes, cells, reps, loads, delays);
-    let start = departure(p.driver, loads[0]);
+    sum_loads(nodes, cells, reps, delays);
+    let start = departure(p.driver, sum_at(delays, 0));
+    sum_placed_delays(nodes, cells, reps, delays);
     least_slack(p.sinks.as_slice(), delays, start)
 }
 
@@ -144,10 +138,5 @@ pub fn slack(p: &Problem, at: &Placement, scratch: &mut Scratch) -> i128
     ensures slack { IsSlack p.now at.now.cells result }
     ensures room { room_of scratch.new ≡ room_of scratch.old }
 {
-    slack_by(
-        p,
-        at.cells.as_slice(),
-        &mut scratch.loads,
-        &mut scratch.delays,
-    )
+    slack_by(p, at.cells.as_slice(), &mut scratch.delays)
 }

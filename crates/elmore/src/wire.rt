@@ -1,34 +1,25 @@
-//! Elmore wire delays by two passes: capacitances up, delays down.
+//! Elmore wire delays by two passes over one room: capacitances up, delays down.
 
-ghost use Rattle.std.specs.Prelude.{◌≡◌, ℕ, ◌*◌, ◌^◌, ◌<◌, ◌≤◌, ◌≤ℤ◌, ◌+ℤ◌, ◌-ℤ◌, length, slice_index, slice_index_or, pos};
-ghost use Rattle.elmore.specs.Trees.{IsTree, IsWithinLimits, capacitance, total_capacitance};
+ghost use Rattle.std.specs.Prelude.{◌≡◌, ℕ, ◌*◌, ◌^◌, ◌<◌, ◌≤◌, ◌≤ℤ◌, ◌+ℤ◌, ◌-ℤ◌, length, slice_index_or, pos};
+ghost use Rattle.elmore.specs.Trees.{IsTree, IsWithinLimits, total_capacitance};
 ghost use Rattle.elmore.specs.Wire.{delay_in, downstream_in};
 ghost use Rattle.elmore.specs.Room.{room_of, delays_of};
 
 use crate::scratch::Scratch;
+use crate::sums::{add_to, fill_capacitances, sum_at};
 use crate::tree::{Node, Tree};
 
-pub(crate) fn fill_capacitances(nodes: &[Node], loads: &mut [u128])
-    requires { length nodes.now ≤ length loads.old }
-    ensures { (v : ℕ) → v < length nodes.now → slice_index loads.new v ≡ capacitance nodes.now v }
-{
-    'fill: for v in 0..nodes.len() {
-        loads[v] = nodes[v].c;
-    }
-}
-
 /// Each node's capacitance and that of all nodes below it: from the last node on, each adds its sum to its parent's.
-fn sum_downstream(nodes: &[Node], loads: &mut [u128])
+fn sum_downstream(nodes: &[Node], sums: &mut [i128])
     requires tree { IsTree nodes.now }
     requires limit { total_capacitance nodes.now ≤ 10 ^ 11 }
-    requires room { length nodes.now ≤ length loads.old }
-    ensures { (v : ℕ) → v < length nodes.now → slice_index loads.new v ≡ downstream_in nodes.now v }
+    requires room { length nodes.now ≤ length sums.old }
+    ensures { (v : ℕ) → v < length nodes.now → slice_index_or sums.new v (pos 0) ≡ pos (downstream_in nodes.now v) }
 {
-    fill_capacitances(nodes, loads);
+    fill_capacitances(nodes, sums);
     'up: for v in (1..nodes.len()).rev() {
-        let load = loads[v];
-        let parent = nodes[v].parent as usize;
-        loads[parent] += load;
+        let load = sum_at(sums, v);
+        add_to(sums, nodes[v].parent as usize, load);
     }
 }
 
@@ -43,20 +34,20 @@ pub(crate) fn delay_behind(before: i128, r: u64, load: u128) -> i128
     before + (u128::from(r) * load) as i128
 }
 
-/// Each node's delay: its parent's, and its own resistor times the capacitance that this charges.
-fn sum_delays(nodes: &[Node], loads: &[u128], delays: &mut [i128])
+/// Each node's delay in place of the capacitance that its resistor charges: its parent's, and its resistor times that
+/// capacitance.
+fn sum_delays(nodes: &[Node], delays: &mut [i128])
     requires tree { IsTree nodes.now }
     requires limits { IsWithinLimits nodes.now }
     requires room { length nodes.now ≤ length delays.old }
-    requires loads_room { length nodes.now ≤ length loads.now }
-    requires loads { (v : ℕ) → v < length nodes.now → slice_index loads.now v ≡ downstream_in nodes.now v }
+    requires loads { (v : ℕ) → v < length nodes.now → slice_index_or delays.old v (pos 0) ≡ pos (downstream_in nodes.now v) }
     ensures { (v : ℕ) → v < length nodes.now → slice_index_or delays.new v (pos 0) ≡ pos (delay_in nodes.now v) }
 {
     delays[0] = 0;
     'down: for v in 1..nodes.len() {
-        let parent = nodes[v].parent as usize;
-        let before = delays[parent];
-        delays[v] = delay_behind(before, nodes[v].r, loads[v]);
+        let before = delays[nodes[v].parent as usize];
+        let load = sum_at(delays, v);
+        delays[v] = delay_behind(before, nodes[v].r, load);
     }
 }
 
@@ -71,8 +62,8 @@ pub fn wire_delays(tree: &Tree, scratch: &mut Scratch)
     ensures room { room_of scratch.new ≡ room_of scratch.old }
 {
     let nodes = tree.nodes.as_slice();
-    sum_downstream(nodes, &mut scratch.loads);
-    sum_delays(nodes, &scratch.loads, &mut scratch.delays);
+    sum_downstream(nodes, &mut scratch.delays);
+    sum_delays(nodes, &mut scratch.delays);
 }
 
 /// The Elmore wire delay (zs) of one node: the sum, over the path from the root, of each resistance times the

@@ -4,6 +4,8 @@ use Rattle.std.proofs.lemmas.List.{get_or_past}
 use Rattle.elmore.specs.Legal.{IsLegalWith, IsLegalAt}
 use Rattle.elmore.specs.Placements.{IsPlacement, load_of}
 use Rattle.elmore.specs.declared.problem.Problem.{Problem}
+use Rattle.elmore.proofs.FitLemmas.{is_sum, same_sum}
+use Rattle.elmore.proofs.ProblemLemmas.{load_fits}
 use Rattle.elmore.proofs.legal.first_past.Goals as goal
 
 -- past the last node there is no cell
@@ -13,10 +15,15 @@ legal_past p cells placement v past = record {
   driver = λ first. absurd (omega (arith, placement.one_each, p.tree.a_tree.some_node));
 }
 
+pub sum_at-requires-clause-sum : goal.sum_at-requires-clause-sum
+sum_at-requires-clause-sum c =
+    is_sum _ (load_of c.args.p.now c.args.cells.now c.nodes.v) (load_fits c.args.p.now c.args.cells.now c.requires.placement c.nodes.v)
+    (c.requires.loads c.nodes.v (omega (arith, c.requires.placement.one_each)))
+
 pub nodes-preserved : goal.nodes-preserved
 nodes-preserved c = λ k low.
     let here : IsLegalAt c.args.p.now c.args.cells.now (load_of c.args.p.now c.args.cells.now) c.nodes.v =
-    subst (IsLegalWith c.args.p.now c.nodes.v (slice_index_or c.args.cells.now c.nodes.v None)) (c.requires.loads c.nodes.v (omega (arith, c.requires.placement.one_each)))
+    subst (IsLegalWith c.args.p.now c.nodes.v (slice_index_or c.args.cells.now c.nodes.v None)) (same_sum _ _ _ c.sum_at.ensures (c.requires.loads c.nodes.v (omega (arith, c.requires.placement.one_each))))
     (c.is_legal_with.ensures.0 c.if-not-is_legal_with.false) in
     elim (cases_eq k c.nodes.v) [
       | inl e ↦ subst (IsLegalAt c.args.p.now c.args.cells.now (load_of c.args.p.now c.args.cells.now)) (sym e) here

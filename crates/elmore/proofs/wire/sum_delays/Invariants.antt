@@ -1,7 +1,7 @@
-use Rattle.std.proofs.Common.{pos}
-use Rattle.elmore.specs.Wire.{delay_in}
-use Rattle.elmore.proofs.FilledLemmas.{AreFilled}
+use Rattle.std.proofs.Common.{length, pos}
+use Rattle.elmore.specs.Wire.{delay_in, downstream_in}
+use Rattle.elmore.proofs.FilledLemmas.{AreReplaced}
 use Rattle.elmore.proofs.wire.sum_delays.Given as goal
 
 abbrev pub invariant-down : goal.invariant-down
-invariant-down l = AreFilled (λ k. pos (delay_in l.nodes k)) (pos 0) l.v l.delays
+invariant-down l = AreReplaced (λ k. pos (delay_in l.nodes k)) (λ k. pos (downstream_in l.nodes k)) (pos 0) l.v (length l.nodes) l.delays
