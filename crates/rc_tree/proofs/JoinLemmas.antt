@@ -1,10 +1,10 @@
 -- What the search saw is what is joined to the root.
-use Rattle.std.proofs.Common.{◌≡◌, ◌≢◌, ℕ, suc, zero, ◌<◌, ◌≤◌, Bool, true, false, cond, List, [], ◌∷◌, ◌++◌, refl, sym, ap, ◌∙◌, arith, rules, inl, inr, length, get_or, subst}
-use Rattle.std.proofs.lemmas.Bool.{cases_eq}
+use Rattle.std.proofs.Common.{◌≡◌, ℕ, suc, zero, ◌<◌, ◌≤◌, Bool, true, false, cond, eqb, List, [], ◌∷◌, ◌++◌, refl, sym, ap, arith, rules, inl, inr, length, get_or, subst}
+use Rattle.std.proofs.lemmas.Bool.{cases_eq, ne_eqb}
 use Rattle.std.proofs.lemmas.List.Sums.{sum_by-le, sum_by-cons}
 use Rattle.rc_tree.specs.Chains.{edge_at, Joins, AreNeighbours, IsChain, AreJoined}
 use Rattle.rc_tree.specs.Faults.{NoneFloats, IsLeastFloating}
-use Rattle.rc_tree.specs.Search.{place_at, is_seen, AreReached, AreSeen, IsScan, IsSearch, seen_count}
+use Rattle.rc_tree.specs.Search.{place_at, IsSeen, AreReached, AreSeen, IsScan, IsSearch, seen_count}
 use Rattle.rc_tree.specs.declared.search.Place.{Place}
 
 chain_more : (edges : List (ℕ × ℕ × ℕ)) (u : ℕ) (path : List ℕ) (v w : ℕ) → IsChain edges u path v → AreNeighbours edges v w → IsChain edges u (path ++ (w ∷ [])) w
@@ -30,14 +30,14 @@ joined_below n root edges places r (suc k) i i_k i_n =
     ]
 
 -- what no resistor leaves has each node that is joined to one of it
-closed_chain : (edges : List (ℕ × ℕ × ℕ)) (seen : List Bool) → ((u w : ℕ) → is_seen seen u ≡ true → AreNeighbours edges u w → is_seen seen w ≡ true)
-    → (u : ℕ) (path : List ℕ) (v : ℕ) → is_seen seen u ≡ true → IsChain edges u path v → is_seen seen v ≡ true
-closed_chain edges seen closed u [] v is chain = subst (λ (x : ℕ). is_seen seen x ≡ true) chain is
-closed_chain edges seen closed u (w ∷ path) v is chain = closed_chain edges seen closed w path v (closed u w is chain.0) chain.1
+closed_chain : (edges : List (ℕ × ℕ × ℕ)) (seats : List ℕ) → ((u w : ℕ) → IsSeen seats u → AreNeighbours edges u w → IsSeen seats w)
+    → (u : ℕ) (path : List ℕ) (v : ℕ) → IsSeen seats u → IsChain edges u path v → IsSeen seats v
+closed_chain edges seats closed u [] v is chain = subst (λ (x : ℕ). IsSeen seats x) chain is
+closed_chain edges seats closed u (w ∷ path) v is chain = closed_chain edges seats closed w path v (closed u w is chain.0) chain.1
 
-pub search_end : (n root : ℕ) (edges : List (ℕ × ℕ × ℕ)) (places : List Place) (seen : List Bool) (p : ℕ)
-    → IsScan n root edges places seen p 0 → length places ≤ p → IsSearch n root edges places seen
-search_end n root edges places seen p s all = record {
+pub search_end : (n root : ℕ) (edges : List (ℕ × ℕ × ℕ)) (places : List Place) (seats : List ℕ) (p : ℕ)
+    → IsScan n root edges places seats p 0 → length places ≤ p → IsSearch n root edges places seats
+search_end n root edges places seats p s all = record {
   reached = s.reached;
   marks = s.marks;
   joined = λ v. (
@@ -45,49 +45,50 @@ search_end n root edges places seen p s all = record {
         let (i, i_n, at) = s.marks.found v is in
         subst (λ (x : ℕ). AreJoined edges root x) at (joined_below n root edges places s.reached (suc i) i (omega arith) i_n)),
     (λ (path, chain).
-        closed_chain edges seen closed root path v
-        (ap (is_seen seen) (sym s.reached.begins) ∙ s.marks.marked 0 s.reached.some)
+        closed_chain edges seats closed root path v
+        (omega (arith, ap (λ (v : ℕ). get_or seats v 0) s.reached.begins, s.marks.seated 0 s.reached.some))
         chain),
   );
 }
   where
-    closed : (u w : ℕ) → is_seen seen u ≡ true → AreNeighbours edges u w → is_seen seen w ≡ true
+    closed : (u w : ℕ) → IsSeen seats u → AreNeighbours edges u w → IsSeen seats w
     closed u w is (j, j_m, joins) =
         let (i, i_n, at) = s.marks.found u is in
         (s.before i (omega arith)).each j w j_m j_m (subst (λ (x : ℕ). Joins (edge_at edges j) x w) (sym at) joins)
 
 -- counts of what was seen
-count_few : (seen : List Bool) → seen_count seen ≤ length seen
-count_few seen = omega (arith, sum_by-le (λ is. cond is 1 0) 1 seen (λ k d _. one (get_or seen k d)))
+count_few : (seats : List ℕ) → seen_count seats ≤ length seats
+count_few seats = omega (arith, sum_by-le (λ seat. cond (eqb seat 0) 0 1) 1 seats (λ k d _. one (eqb (get_or seats k d) 0)))
   where
-    one : (is : Bool) → cond {A = ℕ} is 1 0 ≤ 1
+    one : (none : Bool) → cond {A = ℕ} none 0 1 ≤ 1
     one true = omega arith
     one false = omega arith
 
-count_all : (seen : List Bool) → ((v : ℕ) → v < length seen → is_seen seen v ≡ true) → seen_count seen ≡ length seen
+count_all : (seats : List ℕ) → ((v : ℕ) → v < length seats → IsSeen seats v) → seen_count seats ≡ length seats
 count_all [] all = search rules
-count_all (true ∷ seen) all =
-    let more : seen_count seen ≡ length seen = count_all seen (λ v v_n. all (suc v) (omega arith)) in
-    omega (arith, sum_by-cons (λ is. cond is 1 0) true seen)
-count_all (false ∷ seen) all = absurd (let clash : false ≡ true = all 0 (omega arith) in cc)
+count_all (seat ∷ seats) all =
+    let more : seen_count seats ≡ length seats = count_all seats (λ v v_n. all (suc v) (omega arith)) in
+    let some : 0 < seat = all 0 (omega arith) in
+    let one : cond {A = ℕ} (eqb seat 0) 0 1 ≡ 1 = ap (λ (b : Bool). cond {A = ℕ} b 0 1) (ne_eqb seat 0 (λ e. omega arith)) in
+    omega (arith, sum_by-cons (λ seat. cond (eqb seat 0) 0 1) seat seats)
 
-pub places_few : (n : ℕ) (places : List Place) (seen : List Bool) → AreSeen n places seen → length places ≤ n
-places_few n places seen s = omega (arith, count_few seen, s.count, s.nodes)
+pub places_few : (n : ℕ) (places : List Place) (seats : List ℕ) → AreSeen n places seats → length places ≤ n
+places_few n places seats s = omega (arith, count_few seats, s.count, s.nodes)
 
-pub places_all : (n : ℕ) (places : List Place) (seen : List Bool) → AreSeen n places seen → ((v : ℕ) → v < n → is_seen seen v ≡ true) → length places ≡ n
-places_all n places seen s all =
-    let full : seen_count seen ≡ length seen = count_all seen (λ v v_n. all v (omega (arith, s.nodes))) in
+pub places_all : (n : ℕ) (places : List Place) (seats : List ℕ) → AreSeen n places seats → ((v : ℕ) → v < n → IsSeen seats v) → length places ≡ n
+places_all n places seats s all =
+    let full : seen_count seats ≡ length seats = count_all seats (λ v v_n. all v (omega (arith, s.nodes))) in
     omega (arith, s.count, s.nodes)
 
 -- what the marks say of the net
-pub all_joined : (n root : ℕ) (edges : List (ℕ × ℕ × ℕ)) (places : List Place) (seen : List Bool) → IsSearch n root edges places seen
-    → ((v : ℕ) → v < length seen → is_seen seen v ≡ true) → NoneFloats n edges root
-all_joined n root edges places seen s all = λ v v_n. (s.joined v).0 (all v (omega (arith, s.marks.nodes)))
+pub all_joined : (n root : ℕ) (edges : List (ℕ × ℕ × ℕ)) (places : List Place) (seats : List ℕ) → IsSearch n root edges places seats
+    → ((v : ℕ) → v < length seats → IsSeen seats v) → NoneFloats n edges root
+all_joined n root edges places seats s all = λ v v_n. (s.joined v).0 (all v (omega (arith, s.marks.nodes)))
 
-pub least_floating : (n root : ℕ) (edges : List (ℕ × ℕ × ℕ)) (places : List Place) (seen : List Bool) (v : ℕ) → IsSearch n root edges places seen
-    → (v < length seen) × (is_seen seen v ≢ true) × ((u : ℕ) → u < v → is_seen seen u ≡ true) → IsLeastFloating n edges root v
-least_floating n root edges places seen v s (node, new, before) = record {
+pub least_floating : (n root : ℕ) (edges : List (ℕ × ℕ × ℕ)) (places : List Place) (seats : List ℕ) (v : ℕ) → IsSearch n root edges places seats
+    → (v < length seats) × (get_or seats v 0 ≡ 0) × ((u : ℕ) → u < v → IsSeen seats u) → IsLeastFloating n edges root v
+least_floating n root edges places seats v s (node, new, before) = record {
   node = omega (arith, s.marks.nodes);
-  floats = λ joined. new ((s.joined v).1 joined);
+  floats = λ joined. omega (arith, new, (s.joined v).1 joined);
   before = λ u u_v. (s.joined u).0 (before u u_v);
 }

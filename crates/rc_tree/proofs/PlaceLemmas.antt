@@ -1,13 +1,13 @@
 -- Places and marks, as one more node is reached.
-use Rattle.std.proofs.Common.{◌≡◌, ◌≢◌, ℕ, ◌+◌, ◌<◌, Bool, true, false, cond, List, [], ◌∷◌, ◌++◌, sym, ap, ◌∙◌, arith, inl, inr, length, get_or, set, subst}
-use Rattle.std.proofs.lemmas.Bool.{cases_eq}
+use Rattle.std.proofs.Common.{◌≡◌, ◌≢◌, ℕ, ◌+◌, ◌<◌, Bool, cond, eqb, List, [], ◌∷◌, ◌++◌, sym, ap, ◌∙◌, arith, inl, inr, length, get_or, set, subst}
+use Rattle.std.proofs.lemmas.Bool.{cases_eq, ne_eqb}
 use Rattle.std.proofs.lemmas.List.{get_or-set_same, get_or-set_other}
 use Rattle.std.proofs.lemmas.List.Sums.{sum_by-set}
 use Rattle.std.proofs.Math.ListN.{get_or-append}
 use Rattle.std.proofs.lemmas.List.{length-set, length-append}
 use Rattle.std.proofs.Math.Seq.{get_or-append_seam}
 use Rattle.rc_tree.specs.Chains.{edge_at, Joins}
-use Rattle.rc_tree.specs.Search.{place_at, is_seen, IsWiredTo, IsEarlier, AreReached, AreSeen, AreSeenBy, seen_count}
+use Rattle.rc_tree.specs.Search.{place_at, IsSeen, IsWiredTo, IsEarlier, AreReached, AreSeen, AreSeenBy, seen_count}
 use Rattle.rc_tree.specs.declared.search.Place.{Place}
 
 -- a list with one more place
@@ -30,16 +30,16 @@ at_each places x P each last i i_n =
           subst (P i) (sym (place_before places x i low)) (each i low)
     ]
 
--- what a node that was seen marks stays
-pub seen_stays : (seen : List Bool) (w v : ℕ) → w < length seen → is_seen seen v ≡ true → is_seen (set seen w true) v ≡ true
-seen_stays seen w v w_n was =
+-- a node that was seen stays so, whichever gets a seat
+pub seen_stays : (seats : List ℕ) (w v seat : ℕ) → w < length seats → 0 < seat → IsSeen seats v → IsSeen (set seats w seat) v
+seen_stays seats w v seat w_n some was =
     elim (cases_eq v w) [
-      | inl e ↦ ap (λ (u : ℕ). get_or (set seen w true) u false) e ∙ get_or-set_same seen w true false w_n
-      | inr e ↦ get_or-set_other seen w v true false e ∙ was
+      | inl e ↦ omega (arith, ap (λ (u : ℕ). get_or (set seats w seat) u 0) e, get_or-set_same seats w seat 0 w_n)
+      | inr e ↦ omega (arith, get_or-set_other seats w v seat 0 e, was)
     ]
 
-pub seen_by_stays : (edges : List (ℕ × ℕ × ℕ)) (seen : List Bool) (w v limit : ℕ) → w < length seen → AreSeenBy edges seen v limit → AreSeenBy edges (set seen w true) v limit
-seen_by_stays edges seen w v limit w_n before = record { each = λ j u j_l j_m joins. seen_stays seen w u w_n (before.each j u j_l j_m joins) }
+pub seen_by_stays : (edges : List (ℕ × ℕ × ℕ)) (seats : List ℕ) (w v limit seat : ℕ) → w < length seats → 0 < seat → AreSeenBy edges seats v limit → AreSeenBy edges (set seats w seat) v limit
+seen_by_stays edges seats w v limit seat w_n some before = record { each = λ j u j_l j_m joins. seen_stays seats w u seat w_n some (before.each j u j_l j_m joins) }
 
 pub other_end : (edge : ℕ × ℕ × ℕ) (v w u : ℕ) → Joins edge v w → Joins edge v u → u ≡ w
 other_end edge v w u (inl (a, b)) (inl (c, d)) = sym d ∙ b
@@ -47,15 +47,16 @@ other_end edge v w u (inl (a, b)) (inr (c, d)) = sym c ∙ a ∙ sym d ∙ b
 other_end edge v w u (inr (a, b)) (inl (c, d)) = sym d ∙ b ∙ sym c ∙ a
 other_end edge v w u (inr (a, b)) (inr (c, d)) = sym c ∙ a
 
-pub seen_by_more : (edges : List (ℕ × ℕ × ℕ)) (seen : List Bool) (w v j : ℕ) → w < length seen → Joins (edge_at edges j) v w
-    → AreSeenBy edges seen v j → AreSeenBy edges (set seen w true) v (j + 1)
-seen_by_more edges seen w v j w_n joins before = record {
+-- one more resistor, whose other end was seen
+pub seen_by_more : (edges : List (ℕ × ℕ × ℕ)) (seats : List ℕ) (w v j : ℕ) → IsSeen seats w → Joins (edge_at edges j) v w
+    → AreSeenBy edges seats v j → AreSeenBy edges seats v (j + 1)
+seen_by_more edges seats w v j is joins before = record {
   each = λ k u k_l k_m reads.
       elim (cases_eq k j) [
         | inl e ↦
-            let is : u ≡ w = other_end (edge_at edges j) v w u joins (subst (λ (i : ℕ). Joins (edge_at edges i) v u) e reads) in
-            ap (λ (x : ℕ). get_or (set seen w true) x false) is ∙ get_or-set_same seen w true false w_n
-        | inr e ↦ seen_stays seen w u w_n (before.each k u (omega arith) k_m reads)
+            let same : u ≡ w = other_end (edge_at edges j) v w u joins (subst (λ (i : ℕ). Joins (edge_at edges i) v u) e reads) in
+            subst (IsSeen seats) (sym same) is
+        | inr e ↦ before.each k u (omega arith) k_m reads
       ];
 }
 
@@ -97,24 +98,33 @@ reached_more n root edges places x r node fresh above wired later = record {
       k k_n i some i_k;
 }
 
-pub seen_more : (n : ℕ) (places : List Place) (seen : List Bool) (x : Place) → x.node < n → is_seen seen x.node ≡ false → AreSeen n places seen → AreSeen n (places ++ (x ∷ [])) (set seen x.node true)
-seen_more n places seen x node new s = record {
-  nodes = length-set seen x.node true ∙ s.nodes;
-  marked = at_each places x (λ i p. is_seen (set seen x.node true) p.node ≡ true)
-      (λ i i_n. seen_stays seen x.node (place_at places i).node room (s.marked i i_n))
-      (get_or-set_same seen x.node true false room);
+pub seen_more : (n : ℕ) (places : List Place) (seats : List ℕ) (x : Place) → x.node < n → get_or seats x.node 0 ≡ 0 → AreSeen n places seats
+    → AreSeen n (places ++ (x ∷ [])) (set seats x.node (length places + 1))
+seen_more n places seats x node new s = record {
+  nodes = length-set seats x.node (length places + 1) ∙ s.nodes;
+  seated = at_each places x (λ i p. get_or (set seats x.node (length places + 1)) p.node 0 ≡ i + 1)
+      (λ i i_n.
+      get_or-set_other seats x.node (place_at places i).node (length places + 1) 0
+      (λ e. omega (arith, s.seated i i_n, ap (λ (v : ℕ). get_or seats v 0) e))
+      ∙ s.seated i i_n)
+      (get_or-set_same seats x.node (length places + 1) 0 room);
   found = λ v is.
       elim (cases_eq v x.node) [
         | inl e ↦ (length places, omega (arith, length_more places x), ap (λ (p : Place). p.node) (place_last places x) ∙ sym e)
         | inr e ↦
-            let (i, i_n, at) = s.found v (sym (get_or-set_other seen x.node v true false e) ∙ is) in
+            let (i, i_n, at) = s.found v (omega (arith, get_or-set_other seats x.node v (length places + 1) 0 e, is)) in
             (i, omega (arith, length_more places x), ap (λ (p : Place). p.node) (place_before places x i i_n) ∙ at)
       ];
   count =
-      let more : seen_count (set seen x.node true) + cond (is_seen seen x.node) 1 0 ≡ seen_count seen + 1 = sum_by-set (λ is. cond is 1 0) seen x.node true false room in
-      let none : cond (is_seen seen x.node) 1 0 ≡ 0 = ap (λ (b : Bool). cond {A = ℕ} b 1 0) new in
+      let more : seen_count (set seats x.node (length places + 1)) + one_if (get_or seats x.node 0) ≡ seen_count seats + one_if (length places + 1) =
+      sum_by-set one_if seats x.node (length places + 1) 0 room in
+      let none : one_if (get_or seats x.node 0) ≡ 0 = ap one_if new in
+      let some : one_if (length places + 1) ≡ 1 = ap (λ (b : Bool). cond {A = ℕ} b 0 1) (ne_eqb (length places + 1) 0 (λ e. omega arith)) in
       omega (arith, length_more places x, s.count);
 }
   where
-    room : x.node < length seen
+    room : x.node < length seats
     room = omega (arith, s.nodes)
+
+    one_if : ℕ → ℕ
+    one_if seat = cond (eqb seat 0) 0 1

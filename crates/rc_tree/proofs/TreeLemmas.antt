@@ -1,34 +1,34 @@
 -- The places of a search as a tree.
-use Rattle.std.proofs.Common.{◌≡◌, ◌≢◌, ℕ, ◌+◌, ◌<◌, Bool, true, List, map, sym, ap, ◌∙◌, arith, inl, inr, length, get_or, subst}
+use Rattle.std.proofs.Common.{◌≡◌, ◌≢◌, ℕ, ◌+◌, ◌<◌, List, map, sym, ap, ◌∙◌, arith, inl, inr, length, get_or, subst}
 use Rattle.std.proofs.lemmas.List.{get_or-map, get_or_past, length-map}
 use Rattle.elmore.specs.Trees.{IsTree, node_at, parent_of, resistance}
 use Rattle.elmore.specs.declared.tree.Node.{Node}
 use Rattle.rc_tree.specs.Chains.{edge_at, Joins}
-use Rattle.rc_tree.specs.Nets.{capacitance_at}
+use Rattle.rc_tree.specs.Nets.{cap_at, capacitance_at}
 use Rattle.rc_tree.specs.Answers.{IsWire, AreWires, IsTreeOf}
-use Rattle.rc_tree.specs.Search.{place_at, is_seen, node_of, IsWiredTo, AreReached, IsSearch}
+use Rattle.rc_tree.specs.Search.{place_at, node_of, IsSeen, HavePlaces, IsWiredTo, AreReached, IsSearch}
 use Rattle.rc_tree.specs.declared.search.Place.{Place}
 use Rattle.rc_tree.proofs.JoinLemmas.{places_all, all_joined}
 use Rattle.rc_tree.proofs.PigeonholeLemmas.{each_hit}
 
-node_is : (edges : List (ℕ × ℕ × ℕ)) (sums : List ℕ) (places : List Place) (i : ℕ) → i < length places → node_at (map (node_of edges sums) places) i ≡ node_of edges sums (place_at places i)
-node_is edges sums places i i_n = get_or-map (node_of edges sums) places i (record { node = 0; parent = 0; edge = 0 }) (record { parent = i; r = 0; c = 0 }) i_n
+node_is : (edges : List (ℕ × ℕ × ℕ)) (caps : List (ℕ × ℕ)) (places : List Place) (i : ℕ) → i < length places → node_at (map (node_of edges caps) places) i ≡ node_of edges caps (place_at places i)
+node_is edges caps places i i_n = get_or-map (node_of edges caps) places i (record { node = 0; parent = 0; edge = 0 }) (record { parent = i; r = 0; c = 0 }) i_n
 
 number_is : (f : Place → ℕ) (places : List Place) (i : ℕ) → i < length places → get_or (map f places) i 0 ≡ f (place_at places i)
 number_is f places i i_n = get_or-map f places i (record { node = 0; parent = 0; edge = 0 }) 0 i_n
 
-parent_is : (edges : List (ℕ × ℕ × ℕ)) (sums : List ℕ) (places : List Place) (i : ℕ) → i < length places → parent_of (map (node_of edges sums) places) i ≡ (place_at places i).parent
-parent_is edges sums places i i_n = ap (λ (x : Node). x.parent) (node_is edges sums places i i_n)
+parent_is : (edges : List (ℕ × ℕ × ℕ)) (caps : List (ℕ × ℕ)) (places : List Place) (i : ℕ) → i < length places → parent_of (map (node_of edges caps) places) i ≡ (place_at places i).parent
+parent_is edges caps places i i_n = ap (λ (x : Node). x.parent) (node_is edges caps places i i_n)
 
-pub a_tree : (n root : ℕ) (edges : List (ℕ × ℕ × ℕ)) (places : List Place) (sums : List ℕ) → AreReached n root edges places → IsTree (map (node_of edges sums) places)
-a_tree n root edges places sums r = record {
-  some_node = omega (arith, length-map places (node_of edges sums), r.some);
-  root = parent_is edges sums places 0 r.some ∙ r.root_parent;
-  bare_root = ap (λ (x : Node). x.r) (node_is edges sums places 0 r.some) ∙ ap (λ (j : ℕ). (edge_at edges j).2) r.root_edge
+pub a_tree : (n root : ℕ) (edges : List (ℕ × ℕ × ℕ)) (places : List Place) (caps : List (ℕ × ℕ)) → AreReached n root edges places → IsTree (map (node_of edges caps) places)
+a_tree n root edges places caps r = record {
+  some_node = omega (arith, length-map places (node_of edges caps), r.some);
+  root = parent_is edges caps places 0 r.some ∙ r.root_parent;
+  bare_root = ap (λ (x : Node). x.r) (node_is edges caps places 0 r.some) ∙ ap (λ (j : ℕ). (edge_at edges j).2) r.root_edge
       ∙ ap (λ (e : ℕ × ℕ × ℕ). e.2) (get_or_past edges (length edges) (0, 0, 0) (omega arith));
   smaller = λ v some v_n.
-      let low : v < length places = omega (arith, length-map places (node_of edges sums)) in
-      omega (arith, parent_is edges sums places v low, r.above v some low);
+      let low : v < length places = omega (arith, length-map places (node_of edges caps)) in
+      omega (arith, parent_is edges caps places v low, r.above v some low);
 }
 
 -- the resistors of two places are two
@@ -71,18 +71,18 @@ wire_is edges tree order i j places p wired edge above node r = record {
   r = r ∙ ap (λ (k : ℕ). (edge_at edges k).2) (sym edge);
 }
 
-wires_are : (n root : ℕ) (edges : List (ℕ × ℕ × ℕ)) (places : List Place) (sums : List ℕ) → AreReached n root edges places → length edges + 1 ≡ length places
-    → AreWires edges (map (node_of edges sums) places) (map (λ (p : Place). p.node) places) (map (λ (p : Place). p.edge) places)
-wires_are n root edges places sums r count = record {
+wires_are : (n root : ℕ) (edges : List (ℕ × ℕ × ℕ)) (places : List Place) (caps : List (ℕ × ℕ)) → AreReached n root edges places → length edges + 1 ≡ length places
+    → AreWires edges (map (node_of edges caps) places) (map (λ (p : Place). p.node) places) (map (λ (p : Place). p.edge) places)
+wires_are n root edges places caps r count = record {
   wire = λ i some i_n.
       let low : i < length places = omega (arith, size) in
-      wire_is edges (map (node_of edges sums) places) (map (λ (p : Place). p.node) places) i (get_or (map (λ (p : Place). p.edge) places) i 0) places (place_at places i)
+      wire_is edges (map (node_of edges caps) places) (map (λ (p : Place). p.node) places) i (get_or (map (λ (p : Place). p.edge) places) i 0) places (place_at places i)
       (r.wired i some low)
       (edge i low)
-      (ap (λ (k : ℕ). get_or (map (λ (p : Place). p.node) places) k 0) (parent_is edges sums places i low)
+      (ap (λ (k : ℕ). get_or (map (λ (p : Place). p.node) places) k 0) (parent_is edges caps places i low)
       ∙ number_is (λ p. p.node) places (place_at places i).parent (omega (arith, r.above i some low)))
       (number_is (λ p. p.node) places i low)
-      (ap (λ (x : Node). x.r) (node_is edges sums places i low));
+      (ap (λ (x : Node). x.r) (node_is edges caps places i low));
   once = λ i k some i_k k_n same.
       let low : k < length places = omega (arith, size) in
       apart n root edges places r i k some i_k low (sym (edge i (omega arith)) ∙ same ∙ edge k low);
@@ -93,27 +93,26 @@ wires_are n root edges places sums r count = record {
       let low : k < length places = omega (arith, size) in
       let first : i < length places = omega arith in
       elim (r.breadth_first i k some i_k low) [
-        | inl before ↦ inl (omega (arith, parent_is edges sums places i first, parent_is edges sums places k low))
+        | inl before ↦ inl (omega (arith, parent_is edges caps places i first, parent_is edges caps places k low))
         | inr (same, before) ↦
-            inr (parent_is edges sums places i first ∙ same ∙ sym (parent_is edges sums places k low), omega (arith, edge i first, edge k low))
+            inr (parent_is edges caps places i first ∙ same ∙ sym (parent_is edges caps places k low), omega (arith, edge i first, edge k low))
       ];
 }
   where
-    size : length (map (node_of edges sums) places) ≡ length places
-    size = length-map places (node_of edges sums)
+    size : length (map (node_of edges caps) places) ≡ length places
+    size = length-map places (node_of edges caps)
 
     edge : (i : ℕ) → i < length places → get_or (map (λ (p : Place). p.edge) places) i 0 ≡ (place_at places i).edge
     edge = number_is (λ p. p.edge) places
 
-pub tree_done : (n root : ℕ) (caps : List (ℕ × ℕ)) (edges : List (ℕ × ℕ × ℕ)) (places : List Place) (seen : List Bool) (sums : List ℕ)
-    → IsSearch n root edges places seen
-    → ((v : ℕ) → v < length seen → is_seen seen v ≡ true)
+pub tree_done : (n root : ℕ) (caps : List (ℕ × ℕ)) (edges : List (ℕ × ℕ × ℕ)) (places : List Place) (seats : List ℕ)
+    → IsSearch n root edges places seats
+    → ((v : ℕ) → v < length seats → IsSeen seats v)
     → length edges + 1 ≡ n
-    → ((v : ℕ) → v < n → get_or sums v 0 ≡ capacitance_at caps v)
-    → IsTreeOf n root caps edges (map (node_of edges sums) places) (map (λ (p : Place). p.node) places)
-tree_done n root caps edges places seen sums s all count are = record {
-  count = length-map places (node_of edges sums) ∙ full;
-  a_tree = a_tree n root edges places sums s.reached;
+    → IsTreeOf n root caps edges (map (node_of edges caps) places) (map (λ (p : Place). p.node) places)
+tree_done n root caps edges places seats s all count = record {
+  count = length-map places (node_of edges caps) ∙ full;
+  a_tree = a_tree n root edges places caps s.reached;
   lists = record {
     count = length-map places (λ (p : Place). p.node) ∙ full;
     within = λ i i_n. omega (arith, node i i_n, s.reached.within i (omega (arith, full)));
@@ -123,18 +122,29 @@ tree_done n root caps edges places seen sums s all count are = record {
         (i, omega (arith, full), node i (omega (arith, full)) ∙ at);
   };
   begins = node 0 (omega (arith, full, s.reached.some)) ∙ s.reached.begins;
-  wires = (map (λ (p : Place). p.edge) places, wires_are n root edges places sums s.reached (count ∙ sym full));
+  wires = (map (λ (p : Place). p.edge) places, wires_are n root edges places caps s.reached (count ∙ sym full));
   capacitances = λ i i_n.
       let low : i < length places = omega (arith, full) in
-      ap (λ (x : Node). x.c) (node_is edges sums places i low)
-      ∙ are (place_at places i).node (s.reached.within i low)
+      ap (λ (x : Node). x.c) (node_is edges caps places i low)
       ∙ ap (capacitance_at caps) (sym (node i i_n));
-  joined = all_joined n root edges places seen s all;
+  joined = all_joined n root edges places seats s all;
   no_loop = count;
 }
   where
     full : length places ≡ n
-    full = places_all n places seen s.marks (λ v v_n. all v (omega (arith, s.marks.nodes)))
+    full = places_all n places seats s.marks (λ v v_n. all v (omega (arith, s.marks.nodes)))
 
     node : (i : ℕ) → i < n → get_or (map (λ (p : Place). p.node) places) i 0 ≡ (place_at places i).node
     node i i_n = number_is (λ p. p.node) places i (omega (arith, full))
+
+-- each capacitor finds the place of its node
+pub have_places : (n root : ℕ) (caps : List (ℕ × ℕ)) (edges : List (ℕ × ℕ × ℕ)) (places : List Place) (seats : List ℕ)
+    → IsSearch n root edges places seats
+    → ((v : ℕ) → v < length seats → IsSeen seats v)
+    → ((k : ℕ) → k < length caps → (cap_at caps k).0 < n)
+    → HavePlaces caps places seats
+have_places n root caps edges places seats s all nodes = record {
+  within = λ k k_m. omega (arith, nodes k k_m, s.marks.nodes);
+  seated = s.marks.seated;
+  found = λ k k_m. s.marks.found (cap_at caps k).0 (all (cap_at caps k).0 (omega (arith, nodes k k_m, s.marks.nodes)));
+}

@@ -1,7 +1,8 @@
 -- The search from the root, in breadth: what was reached, and how.
-use Rattle.std.specs.Prelude.{◌≡◌, ◌≢◌, ◌↔◌, ℕ, ◌<◌, ◌⊎◌, Bool, true, false, List, [], ◌∷◌, ◌++◌, length, slice_index, slice_index_or, if◌then◌else◌}
+use Rattle.std.specs.Prelude.{◌≡◌, ◌≢◌, ◌↔◌, ℕ, ◌+◌, ◌<◌, ◌==◌, ◌⊎◌, List, [], ◌∷◌, ◌++◌, length, slice_index, slice_index_or, slice_set, if◌then◌else◌}
 use Rattle.std.specs.List.{sum_by}
 use Rattle.rc_tree.specs.Chains.{edge_at, Joins, AreJoined}
+use Rattle.rc_tree.specs.Nets.{cap_at, capacitance_at}
 use Rattle.elmore.specs.declared.tree.Node.{Node}
 use Rattle.rc_tree.specs.declared.search.Place.{Place}
 
@@ -11,13 +12,16 @@ place_at places i = slice_index_or places i (record { node = 0; parent = 0; edge
 abbrev pub root_of : List Place → ℕ
 root_of places = (place_at places 0).node
 
-abbrev pub is_seen : List Bool → ℕ → Bool
-is_seen seen v = slice_index_or seen v false
+-- the node v was reached: its seat is one more than the number of its place, and 0 where it has none
+abbrev pub IsSeen : List ℕ → ℕ → Type 0
+IsSeen seats v = 0 < slice_index seats v
 
--- the place after those that are filled, for a node that was not seen
-abbrev pub with_place : Bool → List Place → Place → List Place
-with_place true places place = places
-with_place false places place = places ++ (place ∷ [])
+-- a node that has no seat by now gets the next place, and its seat
+abbrev pub with_place : ℕ → List Place → Place → List Place
+with_place seat places place = if seat == 0 then places ++ (place ∷ []) else places
+
+abbrev pub with_seat : ℕ → List ℕ → ℕ → ℕ → List ℕ
+with_seat seat seats node next = if seat == 0 then slice_set seats node next else seats
 
 pub record IsWiredTo (edges : List (ℕ × ℕ × ℕ)) (places : List Place) (place : Place) : Type 0 where
   pub number : place.edge < length edges
@@ -38,35 +42,50 @@ pub record AreReached (n root : ℕ) (edges : List (ℕ × ℕ × ℕ)) (places 
   pub wired : (i : ℕ) → 0 < i → i < length places → IsWiredTo edges places (place_at places i)
   pub breadth_first : (i k : ℕ) → 0 < i → i < k → k < length places → IsEarlier (place_at places i) (place_at places k)
 
-abbrev pub seen_count : List Bool → ℕ
-seen_count seen = sum_by (λ is. if is then 1 else 0) seen
+abbrev pub seen_count : List ℕ → ℕ
+seen_count seats = sum_by (λ seat. if seat == 0 then 0 else 1) seats
 
--- just the nodes that have a place were seen
-pub record AreSeen (n : ℕ) (places : List Place) (seen : List Bool) : Type 0 where
-  pub nodes : length seen ≡ n
-  pub marked : (i : ℕ) → i < length places → is_seen seen (place_at places i).node ≡ true
-  pub found : (v : ℕ) → is_seen seen v ≡ true → (i : ℕ) × (i < length places) × ((place_at places i).node ≡ v)
-  pub count : seen_count seen ≡ length places
+-- just the nodes that have a place were seen, each at its own
+pub record AreSeen (n : ℕ) (places : List Place) (seats : List ℕ) : Type 0 where
+  pub nodes : length seats ≡ n
+  pub seated : (i : ℕ) → i < length places → slice_index seats (place_at places i).node ≡ i + 1
+  pub found : (v : ℕ) → IsSeen seats v → (i : ℕ) × (i < length places) × ((place_at places i).node ≡ v)
+  pub count : seen_count seats ≡ length places
 
 -- the neighbours of v by resistors before the number limit were seen
-pub record AreSeenBy (edges : List (ℕ × ℕ × ℕ)) (seen : List Bool) (v limit : ℕ) : Type 0 where
-  pub each : (j w : ℕ) → j < limit → j < length edges → Joins (edge_at edges j) v w → is_seen seen w ≡ true
+pub record AreSeenBy (edges : List (ℕ × ℕ × ℕ)) (seats : List ℕ) (v limit : ℕ) : Type 0 where
+  pub each : (j w : ℕ) → j < limit → j < length edges → Joins (edge_at edges j) v w → IsSeen seats w
 
 -- the search has scanned the places before p, and of p's resistors those before the number limit
-pub record IsScan (n root : ℕ) (edges : List (ℕ × ℕ × ℕ)) (places : List Place) (seen : List Bool) (p limit : ℕ) : Type 0 where
+pub record IsScan (n root : ℕ) (edges : List (ℕ × ℕ × ℕ)) (places : List Place) (seats : List ℕ) (p limit : ℕ) : Type 0 where
   pub reached : AreReached n root edges places
-  pub marks : AreSeen n places seen
+  pub marks : AreSeen n places seats
   pub latest : (i : ℕ) → 0 < i → i < length places → ((place_at places i).parent < p) ⊎ (((place_at places i).parent ≡ p) × ((place_at places i).edge < limit))
-  pub before : (i : ℕ) → i < p → AreSeenBy edges seen (place_at places i).node (length edges)
-  pub now : AreSeenBy edges seen (place_at places p).node limit
+  pub before : (i : ℕ) → i < p → AreSeenBy edges seats (place_at places i).node (length edges)
+  pub now : AreSeenBy edges seats (place_at places p).node limit
 
 -- the whole search: it saw just the nodes that are joined to the root
-pub record IsSearch (n root : ℕ) (edges : List (ℕ × ℕ × ℕ)) (places : List Place) (seen : List Bool) : Type 0 where
+pub record IsSearch (n root : ℕ) (edges : List (ℕ × ℕ × ℕ)) (places : List Place) (seats : List ℕ) : Type 0 where
   pub reached : AreReached n root edges places
-  pub marks : AreSeen n places seen
-  pub joined : (v : ℕ) → (is_seen seen v ≡ true) ↔ AreJoined edges root v
+  pub marks : AreSeen n places seats
+  pub joined : (v : ℕ) → IsSeen seats v ↔ AreJoined edges root v
 
--- a place as a node of the tree, whose wire is the place's resistor, and the root's none; sums has the nodes'
--- capacitances
-abbrev pub node_of : List (ℕ × ℕ × ℕ) → List ℕ → Place → Node
-node_of edges sums place = record { parent = place.parent; r = (edge_at edges place.edge).2; c = slice_index sums place.node }
+-- a place as a node of the tree, whose wire is the place's resistor, and the root's none: without capacitors, and with
+-- those of the net
+abbrev pub bare_node_of : List (ℕ × ℕ × ℕ) → Place → Node
+bare_node_of edges place = record { parent = place.parent; r = (edge_at edges place.edge).2; c = 0 }
+
+abbrev pub with_capacitance : Node → ℕ → Node
+with_capacitance node c = record { parent = node.parent; r = node.r; c = c }
+
+abbrev pub with_caps : List (ℕ × ℕ) → Place → Node → Node
+with_caps caps place node = with_capacitance node (capacitance_at caps place.node)
+
+abbrev pub node_of : List (ℕ × ℕ × ℕ) → List (ℕ × ℕ) → Place → Node
+node_of edges caps place = with_caps caps place (bare_node_of edges place)
+
+-- each capacitor is at a node that has a place, and the nodes have the seats of their places
+pub record HavePlaces (caps : List (ℕ × ℕ)) (places : List Place) (seats : List ℕ) : Type 0 where
+  pub within : (k : ℕ) → k < length caps → (cap_at caps k).0 < length seats
+  pub seated : (i : ℕ) → i < length places → slice_index seats (place_at places i).node ≡ i + 1
+  pub found : (k : ℕ) → k < length caps → (i : ℕ) × (i < length places) × ((place_at places i).node ≡ (cap_at caps k).0)

@@ -1,33 +1,33 @@
-//! The capacitors at each node together.
+//! The capacitors at the nodes of a tree.
 
-ghost use Rattle.std.specs.Prelude.{◌≡◌, ℕ, ◌<◌, ◌≤◌, ◌^◌, length, slice_index, IfOk};
-ghost use Rattle.rc_tree.specs.Nets.{cap_at, capacitance_at};
+ghost use Rattle.std.specs.Prelude.{◌≡◌, ℕ, ◌+◌, ◌<◌, ◌≤◌, ◌^◌, length};
+ghost use Rattle.elmore.specs.Trees.{node_at, capacitance};
+ghost use Rattle.rc_tree.specs.Nets.{cap_at};
+ghost use Rattle.rc_tree.specs.Search.{place_at, with_capacitance, with_caps, HavePlaces};
 
-use std::alloc::Global;
-use vg_num::Memory;
+use crate::search::Reached;
+use elmore::Node;
 
-/// The capacitance (aF) at each of `n` nodes.
-pub(crate) fn sum_caps(alloc: Global, n: usize, caps: &[(u32, u64)]) -> Result<Vec<u128>, Memory>
+/// Adds each capacitor to the tree's node at its place.
+pub(crate) fn add_caps(caps: &[(u32, u64)], reached: &Reached, nodes: &mut [Node])
     requires count { length caps.now ≤ 2 ^ 28 }
-    requires nodes { (k : ℕ) → k < length caps.now → (cap_at caps.now k).0 < n }
     requires values { (k : ℕ) → k < length caps.now → (cap_at caps.now k).1 ≤ 10 ^ 15 }
-    ensures count { IfOk result (λ sums. length sums.items ≡ n) }
-    ensures sums { IfOk result (λ sums. (v : ℕ) → v < n → slice_index sums.items v ≡ capacitance_at caps.now v) }
-{
-    let mut sums = vec![in alloc; 0u128; n]?;
-    add_caps(caps, &mut sums);
-    Ok(sums)
-}
-
-fn add_caps(caps: &[(u32, u64)], sums: &mut [u128])
-    requires count { length caps.now ≤ 2 ^ 28 }
-    requires nodes { (k : ℕ) → k < length caps.now → (cap_at caps.now k).0 < length sums.old }
-    requires values { (k : ℕ) → k < length caps.now → (cap_at caps.now k).1 ≤ 10 ^ 15 }
-    requires none { (v : ℕ) → v < length sums.old → slice_index sums.old v ≡ 0 }
-    ensures { (v : ℕ) → v < length sums.old → slice_index sums.new v ≡ capacitance_at caps.now v }
+    requires places { HavePlaces caps.now reached.now.places.items reached.now.seats.items }
+    requires each { length nodes.old ≡ length reached.now.places.items }
+    requires none { (i : ℕ) → i < length nodes.old → capacitance nodes.old i ≡ 0 }
+    ensures { (i : ℕ) → i < length nodes.old → node_at nodes.new i ≡ with_caps caps.now (place_at reached.now.places.items i) (node_at nodes.old i) }
 {
     'caps: for k in 0..caps.len() {
         let (node, c) = caps[k];
-        sums[node as usize] += u128::from(c);
+        let seat = reached.seats[node as usize] as usize;
+        add_cap(&mut nodes[seat - 1], c);
     }
+}
+
+/// Adds a capacitor to a node.
+fn add_cap(node: &mut Node, c: u64)
+    requires { node.old.c ≤ 2 ^ 100 }
+    ensures { node.new ≡ with_capacitance node.old (node.old.c + c) }
+{
+    node.c += u128::from(c);
 }

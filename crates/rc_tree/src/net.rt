@@ -1,15 +1,15 @@
-ghost use Rattle.std.specs.Prelude.{◌≡◌, ℕ, ◌+◌, ◌<◌, map, length, IfOk, MatchResult};
+ghost use Rattle.std.specs.Prelude.{◌≡◌, ℕ, ◌<◌, ◌≤◌, ◌^◌, map, length, IfOk, MatchResult};
 ghost use Rattle.elmore.specs.Trees.{IsTree};
 ghost use Rattle.rc_tree.specs.Chains.{edge_at};
-ghost use Rattle.rc_tree.specs.Nets.{IsNet};
-ghost use Rattle.rc_tree.specs.Search.{node_of, place_at};
+ghost use Rattle.rc_tree.specs.Nets.{cap_at, IsNet};
+ghost use Rattle.rc_tree.specs.Search.{bare_node_of, node_of, HavePlaces};
 ghost use Rattle.rc_tree.specs.Faults.{IsFaultOf};
 ghost use Rattle.rc_tree.specs.Answers.{IsTreeOf};
 
-use crate::caps::sum_caps;
+use crate::caps::add_caps;
 use crate::fault::TreeFault;
 use crate::links::link;
-use crate::search::{Place, first_unseen, search};
+use crate::search::{Place, Reached, first_unseen, search};
 use elmore::{Node, Tree};
 use std::alloc::Global;
 use vg_num::{Memory, Row};
@@ -42,31 +42,36 @@ pub fn build(
 {
     let links = link(alloc, n, edges)?;
     let reached = search(alloc, n, root, edges, &links)?;
-    if let Some(v) = first_unseen(&reached.seen) {
+    if let Some(v) = first_unseen(&reached.seats) {
         return Err(TreeFault::Floating(v));
     }
     if edges.len() + 1 != n {
         return Err(TreeFault::Loop);
     }
-    let sums = sum_caps(alloc, n, caps)?;
-    let built = tree_of(alloc, &reached.places, edges, &sums)?;
+    let built = tree_of(alloc, &reached, caps, edges)?;
     Ok(built)
 }
 
-/// The tree of these places, whose nodes have these capacitances (aF).
+/// The tree of the places that were reached, with the capacitors of their nodes.
 fn tree_of(
     alloc: Global,
-    places: &[Place],
+    reached: &Reached,
+    caps: &[(u32, u64)],
     edges: &[(u32, u32, u64)],
-    sums: &[u128],
 ) -> Result<Built, Memory>
-    requires within { (i : ℕ) → i < length places.now → (place_at places.now i).node < length sums.now }
-    requires tree { IsTree (map (node_of edges.now sums.now) places.now) }
-    ensures nodes { IfOk result (λ built. built.tree.nodes ≡ map (node_of edges.now sums.now) places.now) }
-    ensures order { IfOk result (λ built. built.order ≡ map (λ place. place.node) places.now) }
+    requires count { length caps.now ≤ 2 ^ 28 }
+    requires values { (k : ℕ) → k < length caps.now → (cap_at caps.now k).1 ≤ 10 ^ 15 }
+    requires places { HavePlaces caps.now reached.now.places.items reached.now.seats.items }
+    requires tree { IsTree (map (node_of edges.now caps.now) reached.now.places.items) }
+    ensures nodes { IfOk result (λ built. built.tree.nodes ≡ map (node_of edges.now caps.now) reached.now.places.items) }
+    ensures order { IfOk result (λ built. built.order ≡ map (λ place. place.node) reached.now.places.items) }
 {
-    let nodes = Row::from_vec(nodes_of(alloc, places, edges, sums)?);
-    let order = places.iter().map(|place| place.node).collect(alloc)?;
+    let nodes = Row::from_vec(nodes_of(alloc, reached, caps, edges)?);
+    let order = reached
+        .places
+        .iter()
+        .map(|place| place.node)
+        .collect(alloc)?;
     Ok(Built {
         tree: Tree { nodes },
         order: Row::from_vec(order),
@@ -75,19 +80,34 @@ fn tree_of(
 
 fn nodes_of(
     alloc: Global,
+    reached: &Reached,
+    caps: &[(u32, u64)],
+    edges: &[(u32, u32, u64)],
+) -> Result<Vec<Node>, Memory>
+    requires count { length caps.now ≤ 2 ^ 28 }
+    requires values { (k : ℕ) → k < length caps.now → (cap_at caps.now k).1 ≤ 10 ^ 15 }
+    requires places { HavePlaces caps.now reached.now.places.items reached.now.seats.items }
+    ensures { IfOk result (λ nodes. nodes.items ≡ map (node_of edges.now caps.now) reached.now.places.items) }
+{
+    let mut nodes = bare_nodes_of(alloc, &reached.places, edges)?;
+    add_caps(caps, reached, &mut nodes);
+    Ok(nodes)
+}
+
+/// The nodes at these places, without capacitors.
+fn bare_nodes_of(
+    alloc: Global,
     places: &[Place],
     edges: &[(u32, u32, u64)],
-    sums: &[u128],
 ) -> Result<Vec<Node>, Memory>
-    requires { (i : ℕ) → i < length places.now → (place_at places.now i).node < length sums.now }
-    ensures { IfOk result (λ nodes. nodes.items ≡ map (node_of edges.now sums.now) places.now) }
+    ensures { IfOk result (λ nodes. nodes.items ≡ map (bare_node_of edges.now) places.now) }
 {
     let mut nodes = Vec::with_capacity(alloc, places.len())?;
     'places: for place in places {
         nodes.push(Node {
             parent: place.parent,
             r: resistance_above(edges, *place),
-            c: sums[place.node as usize],
+            c: 0,
         })?;
     }
     Ok(nodes)

@@ -1,13 +1,12 @@
 //! The search from the root, in breadth.
 
-ghost use Rattle.std.specs.Prelude.{◌≡◌, ◌≢◌, ℕ, ◌+◌, ◌<◌, ◌≤◌, ◌^◌, ◌⊎◌, true, List, length, IfOk, slice_set, MatchOption};
+ghost use Rattle.std.specs.Prelude.{◌≡◌, ℕ, ◌+◌, ◌<◌, ◌≤◌, ◌^◌, ◌⊎◌, length, slice_index, IfOk, MatchOption};
 ghost use Rattle.rc_tree.specs.Chains.{edge_at, Joins};
 ghost use Rattle.rc_tree.specs.Links.{AreLinks, IsEndOf};
-ghost use Rattle.rc_tree.specs.Search.{is_seen, place_at, root_of, with_place, IsScan, IsSearch};
+ghost use Rattle.rc_tree.specs.Search.{place_at, root_of, with_place, with_seat, IsSeen, IsScan, IsSearch};
 
 use crate::links::{Links, Next};
 use std::alloc::Global;
-use std::mem;
 use vg_num::Memory;
 
 /// A node that was reached.
@@ -21,11 +20,12 @@ pub(crate) struct Place {
     pub(crate) edge: u32,
 }
 
-/// The nodes that were reached, in their order, and for each node whether it is one of them.
+/// The nodes that were reached, in their order.
 #[derive(Drop)]
 pub(crate) struct Reached {
     pub(crate) places: Vec<Place>,
-    pub(crate) seen: Vec<bool>,
+    /// For each node one more than its place; 0 where it was not reached.
+    pub(crate) seats: Vec<u32>,
 }
 
 /// All nodes that are joined to the root, breadth first.
@@ -43,7 +43,7 @@ pub(crate) fn search(
     requires to_nodes { (j : ℕ) → j < length edges.now → (edge_at edges.now j).1 < n }
     requires linked { length links.now.first.items ≡ n }
     requires links { AreLinks edges.now links.now.first.items links.now.next.items }
-    ensures { IfOk result (λ reached. IsSearch n root edges.now reached.places.items reached.seen.items) }
+    ensures { IfOk result (λ reached. IsSearch n root edges.now reached.places.items reached.seats.items) }
 {
     let mut reached = begin(alloc, n, root, edges)?;
     let mut p = 0;
@@ -58,17 +58,17 @@ pub(crate) fn search(
 fn begin(alloc: Global, n: usize, root: u32, edges: &[(u32, u32, u64)]) -> Result<Reached, Memory>
     requires root_node { root < n }
     requires count { length edges.now ≤ 2 ^ 28 }
-    ensures { IfOk result (λ reached. IsScan n root edges.now reached.places.items reached.seen.items 0 0) }
+    ensures { IfOk result (λ reached. IsScan n root edges.now reached.places.items reached.seats.items 0 0) }
 {
-    let mut seen = vec![in alloc; false; n]?;
-    seen[root as usize] = true;
+    let mut seats = vec![in alloc; 0; n]?;
+    seats[root as usize] = 1;
     let mut places = Vec::with_capacity(alloc, n)?;
     places.push(Place {
         node: root,
         parent: 0,
         edge: edges.len() as u32,
     })?;
-    Ok(Reached { places, seen })
+    Ok(Reached { places, seats })
 }
 
 /// Reaches the neighbours of the node at the place `p`, in the order of its resistors.
@@ -79,14 +79,15 @@ fn scan(
     reached: &mut Reached,
 ) -> Result<(), Memory>
     requires count { length edges.now ≤ 2 ^ 28 }
-    requires from_nodes { (j : ℕ) → j < length edges.now → (edge_at edges.now j).0 < length reached.old.seen.items }
-    requires to_nodes { (j : ℕ) → j < length edges.now → (edge_at edges.now j).1 < length reached.old.seen.items }
-    requires linked { length links.now.first.items ≡ length reached.old.seen.items }
+    requires from_nodes { (j : ℕ) → j < length edges.now → (edge_at edges.now j).0 < length reached.old.seats.items }
+    requires to_nodes { (j : ℕ) → j < length edges.now → (edge_at edges.now j).1 < length reached.old.seats.items }
+    requires linked { length links.now.first.items ≡ length reached.old.seats.items }
+    requires most { length reached.old.seats.items ≤ 2 ^ 30 }
     requires links { AreLinks edges.now links.now.first.items links.now.next.items }
     requires place { p < length reached.old.places.items }
     requires low { p < 2 ^ 30 }
-    requires before { IsScan (length reached.old.seen.items) (root_of reached.old.places.items) edges.now reached.old.places.items reached.old.seen.items p 0 }
-    ensures { IfOk result (λ _. IsScan (length reached.old.seen.items) (root_of reached.old.places.items) edges.now reached.new.places.items reached.new.seen.items (p + 1) 0) }
+    requires before { IsScan (length reached.old.seats.items) (root_of reached.old.places.items) edges.now reached.old.places.items reached.old.seats.items p 0 }
+    ensures { IfOk result (λ _. IsScan (length reached.old.seats.items) (root_of reached.old.places.items) edges.now reached.new.places.items reached.new.seats.items (p + 1) 0) }
 {
     let node = reached.places[p].node;
     let mut j = links.first[node as usize];
@@ -123,26 +124,28 @@ fn following(edge: (u32, u32, u64), node: u32, next: Next) -> u32
     }
 }
 
-/// Gives the node the next place, unless it was seen.
+/// Gives the node the next place, unless it has one.
 fn reach(reached: &mut Reached, place: Place) -> Result<(), Memory>
-    requires { place.node < length reached.old.seen.items }
-    ensures seen { IfOk result (λ _. reached.new.seen.items ≡ slice_set reached.old.seen.items place.node true) }
-    ensures places { IfOk result (λ _. reached.new.places.items ≡ with_place (is_seen reached.old.seen.items place.node) reached.old.places.items place) }
+    requires node { place.node < length reached.old.seats.items }
+    requires few { length reached.old.places.items ≤ 2 ^ 30 }
+    ensures seats { IfOk result (λ _. reached.new.seats.items ≡ with_seat (slice_index reached.old.seats.items place.node) reached.old.seats.items place.node (length reached.old.places.items + 1)) }
+    ensures places { IfOk result (λ _. reached.new.places.items ≡ with_place (slice_index reached.old.seats.items place.node) reached.old.places.items place) }
 {
-    let was_seen = mem::replace(&mut reached.seen[place.node as usize], true);
-    if !was_seen {
+    let node = place.node as usize;
+    if reached.seats[node] == 0 {
         reached.places.push(place)?;
+        reached.seats[node] = reached.places.len() as u32;
     }
     Ok(())
 }
 
-/// The node of the least number that was not seen.
-pub(crate) fn first_unseen(seen: &[bool]) -> Option<u32>
-    requires { length seen.now ≤ 2 ^ 30 }
-    ensures { MatchOption result ((v : ℕ) → v < length seen.now → is_seen seen.now v ≡ true) (λ v. (v < length seen.now) × (is_seen seen.now v ≢ true) × ((u : ℕ) → u < v → is_seen seen.now u ≡ true)) }
+/// The node of the least number that was not reached.
+pub(crate) fn first_unseen(seats: &[u32]) -> Option<u32>
+    requires { length seats.now ≤ 2 ^ 30 }
+    ensures { MatchOption result ((v : ℕ) → v < length seats.now → IsSeen seats.now v) (λ v. (v < length seats.now) × (slice_index seats.now v ≡ 0) × ((u : ℕ) → u < v → IsSeen seats.now u)) }
 {
-    'nodes: for v in 0..seen.len() {
-        if !seen[v] {
+    'nodes: for v in 0..seats.len() {
+        if seats[v] == 0 {
             return Some(v as u32);
         }
     }

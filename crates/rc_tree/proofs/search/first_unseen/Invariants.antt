@@ -1,6 +1,6 @@
-use Rattle.std.proofs.Common.{◌≡◌, ℕ, ◌<◌, true}
-use Rattle.rc_tree.specs.Search.{is_seen}
+use Rattle.std.proofs.Common.{ℕ, ◌<◌}
+use Rattle.rc_tree.specs.Search.{IsSeen}
 use Rattle.rc_tree.proofs.search.first_unseen.Given as goal
 
 abbrev pub invariant-nodes : goal.invariant-nodes
-invariant-nodes l = (u : ℕ) → u < l.v → is_seen l.seen u ≡ true
+invariant-nodes l = (u : ℕ) → u < l.v → IsSeen l.seats u
