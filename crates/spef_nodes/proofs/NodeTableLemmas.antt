@@ -1,7 +1,7 @@
 -- A table of nodes: walks along a chain, and one node more.
-use Rattle.std.proofs.Common.{◌≡◌, ℕ, zero, suc, ◌+◌, ◌^◌, ◌<◌, ◌≤◌, ◌⊎◌, inl, inr, Bool, true, false, ◌||◌, cond, List, [], ◌∷◌, ◌++◌, length, get_or, refl, sym, ap, ◌∙◌, subst, arith, Some, None, length-append}
-use Rattle.std.proofs.lemmas.Option.{slice_get_within, get_or_from_slice_get}
+use Rattle.std.proofs.Common.{◌≡◌, ℕ, zero, suc, ◌^◌, ◌<◌, ◌≤◌, inl, inr, Bool, true, false, ◌||◌, cond, List, [], ◌∷◌, ◌++◌, length, get_or, refl, sym, ap, ◌∙◌, subst, arith, Some}
 use Rattle.std.proofs.lemmas.Bool.{cases_lt, cases_eq}
+use Rattle.std.proofs.lemmas.List.{length-map}
 use Rattle.std.proofs.lemmas.Slice.Eq.{bytes_eq-Decides}
 use Rattle.std.specs.Str.{bytes_eq}
 use Rattle.std.specs.List.{slice_get}
@@ -10,7 +10,7 @@ use Rattle.vg_scan.specs.declared.chains.Chains.{Chains}
 use Rattle.vg_scan.specs.Chains.{IsLastBelow, AreChains}
 use Rattle.vg_scan.specs.Nodes.{same_node, has_node}
 use Rattle.spef_nodes.specs.Members.{with_node}
-use Rattle.spef_nodes.specs.NodeTables.{bucket_of, nodes_in, IsTable}
+use Rattle.spef_nodes.specs.NodeTables.{bucket_of, buckets_of, nodes_in, IsTable}
 use Rattle.spef_nodes.specs.Nodes.{ParNode, Note, note_at, noted, noted_all}
 use Rattle.std.proofs.Common.{min, drop}
 use Rattle.std.proofs.lemmas.Int.{clamps}
@@ -44,14 +44,6 @@ nodes_more [] (l ∷ ls) owner leaf e = absurd (omega arith)
 nodes_more (o ∷ os) [] owner leaf e = absurd (omega arith)
 nodes_more (o ∷ os) (l ∷ ls) owner leaf e = ap (λ ns. record { owner = o; leaf = l } ∷ ns) (nodes_more os ls owner leaf (omega arith))
 
--- an owner without a leaf is no node
-pub nodes_same : (owners leaves : List (List ℕ)) (owner : List ℕ) → length owners ≡ length leaves → nodes_in (owners ++ owner ∷ []) leaves ≡ nodes_in owners leaves
-unfolding nodes_in
-nodes_same [] [] owner e = refl
-nodes_same [] (l ∷ ls) owner e = absurd (omega arith)
-nodes_same (o ∷ os) [] owner e = absurd (omega arith)
-nodes_same (o ∷ os) (l ∷ ls) owner e = ap (λ ns. record { owner = o; leaf = l } ∷ ns) (nodes_same os ls owner (omega arith))
-
 some_is : {A : Type 0} (a b : A) → Some a ≡ Some b → a ≡ b
 some_is a b e = cc
 
@@ -65,24 +57,22 @@ pub named_there : (owners leaves : List (List ℕ)) (at : ℕ) (key : NodeName) 
     → r ≡ same_node key (record { owner = get_or owners at []; leaf = get_or leaves at [] }) → r ≡ true → slice_get (nodes_in owners leaves) at ≡ Some key
 named_there owners leaves at key r h k e f = nodes_get owners leaves at h k ∙ ap Some (sym (same_is key _ (sym e ∙ f)))
 
--- no node has a number past the owners or the leaves
-pub none_past : (owners leaves : List (List ℕ)) (at : ℕ) (node : NodeName) → (length owners ≤ at) ⊎ (length leaves ≤ at) → slice_get (nodes_in owners leaves) at ≡ Some node → ⊥
-none_past owners leaves at node h e =
-    let w = slice_get_within (nodes_in owners leaves) at node e in
-    let f = nodes_few owners leaves in
-    elim h as (λ _. ⊥) [ inl o ↦ (let x : ⊥ = omega (arith, w, f.0) in x) | inr l ↦ (let x : ⊥ = omega (arith, w, f.1) in x) ]
+-- the bucket of the node of a number
+bucket_at : (buckets : ℕ) (nodes : List NodeName) (at : ℕ) (q : NodeName) → slice_get nodes at ≡ Some q → get_or (buckets_of buckets nodes) at 0 ≡ bucket_of buckets q
+bucket_at buckets [] at q e = absurd (cc)
+bucket_at buckets (x ∷ xs) zero q e = ap (bucket_of buckets) (some_is x q e)
+bucket_at buckets (x ∷ xs) (suc at) q e = bucket_at buckets xs at q e
 
--- what stands at a number past the last row of a node's bucket is another node
-pub elsewhere : (nodes : List NodeName) (rows : List ℕ) (chains : Chains) (node : NodeName) (bucket link n : ℕ) → IsTable nodes rows chains → bucket ≡ bucket_of (length chains.lasts.items) node → IsLastBelow rows n bucket link
+-- what stands at a number past the last one of a node's bucket is another node
+pub elsewhere : (buckets : ℕ) (nodes : List NodeName) (node : NodeName) (bucket link n : ℕ) → bucket ≡ bucket_of buckets node → IsLastBelow (buckets_of buckets nodes) n bucket link
     → (at : ℕ) (q : NodeName) → link ≤ at → at < n → slice_get nodes at ≡ Some q → same_node node q ≡ false
-elsewhere nodes rows chains node bucket link n t is h at q low high e = by_test (same_node node q) refl
+elsewhere buckets nodes node bucket link n is h at q low high e = by_test (same_node node q) refl
   where
     by_test : (b : Bool) → same_node node q ≡ b → b ≡ false
     by_test false s = refl
     by_test true s =
         let same : node ≡ q = same_is node q s in
-        let row : slice_get rows at ≡ Some bucket = t.placed at q e ∙ ap (λ x. Some (bucket_of (length chains.lasts.items) x)) (sym same) ∙ ap Some (sym is) in
-        absurd (h.later at low high (get_or_from_slice_get rows at bucket 0 row))
+        absurd (h.later at low high (bucket_at buckets nodes at q e ∙ ap (bucket_of buckets) (sym same) ∙ sym is))
 
 pub none_has : (nodes : List NodeName) (node : NodeName) → ((at : ℕ) (q : NodeName) → slice_get nodes at ≡ Some q → same_node node q ≡ false) → has_node nodes node ≡ false
 none_has [] node h = refl
@@ -91,15 +81,15 @@ none_has (x ∷ xs) node h =
     let b : has_node xs node ≡ false = none_has xs node (λ at q e. h (suc at) q e) in
     ap (λ t. t || has_node xs node) a ∙ b
 
--- a chain's walk, one row later
-pub walked : (nodes : List NodeName) (rows : List ℕ) (chains : Chains) (node : NodeName) (bucket link row before : ℕ) → IsTable nodes rows chains → bucket ≡ bucket_of (length chains.lasts.items) node
-    → link ≡ suc row → get_or rows row 0 ≡ bucket → IsLastBelow rows row (get_or rows row 0) before
+-- a chain's walk, one node later
+pub walked : (buckets : ℕ) (nodes : List NodeName) (node : NodeName) (bucket link row before : ℕ) → bucket ≡ bucket_of buckets node
+    → link ≡ suc row → get_or (buckets_of buckets nodes) row 0 ≡ bucket → IsLastBelow (buckets_of buckets nodes) row (get_or (buckets_of buckets nodes) row 0) before
     → ((q : NodeName) → slice_get nodes row ≡ Some q → same_node node q ≡ false)
     → ((at : ℕ) (q : NodeName) → link ≤ at → slice_get nodes at ≡ Some q → same_node node q ≡ false)
     → (at : ℕ) (q : NodeName) → before ≤ at → slice_get nodes at ≡ Some q → same_node node q ≡ false
-walked nodes rows chains node bucket link row before t is l here h not_here later at q low e =
+walked buckets nodes node bucket link row before is l here h not_here later at q low e =
     elim (cases_lt at row) as (λ _. same_node node q ≡ false) [
-      | inl less ↦ elsewhere nodes rows chains node bucket before row t is (subst (λ b. IsLastBelow rows row b before) here h) at q low less e
+      | inl less ↦ elsewhere buckets nodes node bucket before row is (subst (λ b. IsLastBelow (buckets_of buckets nodes) row b before) here h) at q low less e
       | inr more ↦ elim (cases_eq at row) as (λ _. same_node node q ≡ false) [
         | inl same ↦ not_here q (ap (slice_get nodes) (sym same) ∙ e)
         | inr differ ↦ later at q (omega arith) e
@@ -117,45 +107,6 @@ slice_get_last [] x zero e = refl
 slice_get_last [] x (suc n) e = absurd (omega arith)
 slice_get_last (y ∷ ys) x zero e = absurd (omega arith)
 slice_get_last (y ∷ ys) x (suc n) e = slice_get_last ys x n (omega arith)
-
--- a row more without a node
-pub table_row : (nodes : List NodeName) (rows new : List ℕ) (chains later : Chains) (bucket : ℕ) → IsTable nodes rows chains → new ≡ rows ++ bucket ∷ [] → length rows + 1 < 2 ^ 32
-    → AreChains later new → length later.lasts.items ≡ length chains.lasts.items → IsTable nodes new later
-table_row nodes rows new chains later bucket t is few h same =
-    let count : length new ≡ length rows + 1 = ap length is ∙ length-append rows (bucket ∷ []) in
-    record {
-      some = omega (arith, t.some, same);
-      fit = omega (arith, t.fit, same);
-      chained = h;
-      within = omega (arith, t.within, count);
-      few = omega (arith, few, count);
-      placed = λ at node e.
-          let low : at < length rows = omega (arith, slice_get_within nodes at node e, t.within) in
-          ap (λ rs. slice_get rs at) is ∙ slice_get_front rows (bucket ∷ []) at low ∙ t.placed at node e ∙ ap (λ n. Some (bucket_of n node)) (sym same);
-    }
-
--- a row more with a node
-pub table_more : (nodes all : List NodeName) (rows new : List ℕ) (chains later : Chains) (node : NodeName) (bucket : ℕ) → IsTable nodes rows chains → new ≡ rows ++ bucket ∷ [] → length rows + 1 < 2 ^ 32
-    → AreChains later new → length later.lasts.items ≡ length chains.lasts.items → all ≡ nodes ++ node ∷ [] → length rows ≡ length nodes → bucket ≡ bucket_of (length chains.lasts.items) node → IsTable all new later
-table_more nodes all rows new chains later node bucket t is few h same grown equal b =
-    let count : length new ≡ length rows + 1 = ap length is ∙ length-append rows (bucket ∷ []) in
-    let more : length all ≡ length nodes + 1 = ap length grown ∙ length-append nodes (node ∷ []) in
-    let old = table_row nodes rows new chains later bucket t is few h same in
-    record {
-      some = old.some;
-      fit = old.fit;
-      chained = h;
-      within = omega arith;
-      few = old.few;
-      placed = λ at q e.
-          elim (cases_lt at (length nodes)) as (λ _. slice_get new at ≡ Some (bucket_of (length later.lasts.items) q)) [
-            | inl low ↦ old.placed at q (sym (slice_get_front nodes (node ∷ []) at low) ∙ ap (λ ns. slice_get ns at) (sym grown) ∙ e)
-            | inr high ↦
-                let l : at ≡ length nodes = (let w = slice_get_within all at q e in omega arith) in
-                let q_is : node ≡ q = some_is node q (sym (slice_get_last nodes node at l) ∙ ap (λ ns. slice_get ns at) (sym grown) ∙ e) in
-                ap (λ rs. slice_get rs at) is ∙ slice_get_last rows bucket at (l ∙ sym equal) ∙ ap Some (b ∙ ap (λ n. bucket_of n node) (sym same) ∙ ap (bucket_of (length later.lasts.items)) q_is)
-          ];
-    }
 
 -- a node that is there, and one that is new
 has_at : (xs : List NodeName) (i : ℕ) (x : NodeName) → ((y : NodeName) → same_node y y ≡ true) → slice_get xs i ≡ Some x → has_node xs x ≡ true
@@ -184,16 +135,18 @@ pub no_nodes : (owners leaves : List (List ℕ)) → owners ≡ [] → nodes_in 
 unfolding nodes_in
 no_nodes owners leaves e = ap (λ os. nodes_in os leaves) e
 
-pub table_none : (owners leaves : List (List ℕ)) (rows : List ℕ) (chains : Chains) → owners ≡ [] → rows ≡ [] → AreChains chains []
-    → 0 < length chains.lasts.items → length chains.lasts.items ≤ 2 ^ 32 → IsTable (nodes_in owners leaves) rows chains
-table_none owners leaves rows chains e f h some fit = record {
+pub table_none : (owners leaves : List (List ℕ)) (chains : Chains) → owners ≡ [] → leaves ≡ [] → AreChains chains []
+    → 0 < length chains.lasts.items → length chains.lasts.items ≤ 2 ^ 32 → IsTable owners leaves chains
+table_none owners leaves chains e f h some fit = record {
   some = some;
   fit = fit;
-  chained = subst (λ rs. AreChains chains rs) (sym f) h;
-  within = omega (arith, ap length (no_nodes owners leaves e));
-  few = omega (arith, ap length f);
-  placed = λ at node k. absurd (let n : None ≡ Some node = sym (ap (λ ns. slice_get ns at) (no_nodes owners leaves e)) ∙ k in cc);
+  even = ap length e ∙ sym (ap length f);
+  chained = subst (λ (nodes : List NodeName). AreChains chains (buckets_of (length chains.lasts.items) nodes)) (sym (no_nodes owners leaves e)) h;
 }
+
+-- there are as many buckets of nodes as owners
+pub bucket_count : (buckets : ℕ) (owners leaves : List (List ℕ)) → length owners ≡ length leaves → length (buckets_of buckets (nodes_in owners leaves)) ≡ length owners
+bucket_count buckets owners leaves even = length-map (nodes_in owners leaves) (bucket_of buckets) ∙ nodes_count owners leaves even
 
 pub nodes_min : (owners leaves : List (List ℕ)) → length (nodes_in owners leaves) ≡ min (length owners) (length leaves)
 unfolding nodes_in

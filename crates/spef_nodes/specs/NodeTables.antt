@@ -1,6 +1,6 @@
 -- The nodes of a table, and the buckets in which they are.
-use Rattle.std.specs.Prelude.{◌≡◌, ℕ, ◌+◌, ◌-◌, ◌*◌, ◌%◌, ◌^◌, ◌<◌, ◌≤◌, bit_and, List, [], ◌∷◌, length, slice_index_or, Some}
-use Rattle.std.specs.List.{slice_get, fold}
+use Rattle.std.specs.Prelude.{◌≡◌, ℕ, ◌+◌, ◌-◌, ◌*◌, ◌%◌, ◌^◌, ◌<◌, ◌≤◌, bit_and, List, [], ◌∷◌, length, map, slice_index_or}
+use Rattle.std.specs.List.{fold}
 use Rattle.vg_scan.specs.declared.name.NodeName.{NodeName}
 use Rattle.vg_scan.specs.declared.chains.Chains.{Chains}
 use Rattle.vg_scan.specs.Chains.{AreChains}
@@ -28,11 +28,13 @@ nodes_of table = nodes_in table.owners table.leaves
 abbrev pub node_at : List (List ℕ) → List (List ℕ) → ℕ → NodeName
 node_at owners leaves at = node_named (slice_index_or owners at []) (slice_index_or leaves at [])
 
--- each node is in its bucket, and the buckets have chains
-pub record IsTable (nodes : List NodeName) (rows : List ℕ) (chains : Chains) : Type 0 where
+-- the buckets of nodes, among so many
+abbrev pub buckets_of : ℕ → List NodeName → List ℕ
+buckets_of buckets nodes = map (bucket_of buckets) nodes
+
+-- one owner and one leaf for each node, and chains of the nodes by their buckets
+pub record IsTable (owners leaves : List (List ℕ)) (chains : Chains) : Type 0 where
   pub some : 0 < length chains.lasts.items
   pub fit : length chains.lasts.items ≤ 2 ^ 32
-  pub chained : AreChains chains rows
-  pub within : length nodes ≤ length rows
-  pub few : length rows < 2 ^ 32
-  pub placed : (at : ℕ) (node : NodeName) → slice_get nodes at ≡ Some node → slice_get rows at ≡ Some (bucket_of (length chains.lasts.items) node)
+  pub even : length owners ≡ length leaves
+  pub chained : AreChains chains (buckets_of (length chains.lasts.items) (nodes_in owners leaves))

@@ -1,9 +1,7 @@
 //! The nodes of a net, and a table to look them up.
 
-ghost use Rattle.std.specs.Prelude.{◌≡◌, ℕ, ◌+◌, ◌*◌, ◌%◌, ◌^◌, ◌<◌, ◌≤◌, List, [], ◌∷◌, ◌-◌, ◌++◌, if◌then◌else◌, is_ok, slice_index_or, length, true, false, Some, IfOk, IfSome, IfNone, OnOk, OnErr};
+ghost use Rattle.std.specs.Prelude.{◌≡◌, ◌^◌, ◌<◌, ◌≤◌, [], ◌∷◌, ◌++◌, length, false, Some, IfOk, IfSome, IfNone, OnOk, OnErr};
 ghost use Rattle.std.specs.List.{slice_get, fold};
-ghost use Rattle.vg_scan.specs.declared.name.NodeName.{NodeName};
-ghost use Rattle.vg_scan.specs.Chains.{AreChains};
 ghost use Rattle.vg_scan.specs.Nodes.{has_node, same_node};
 ghost use Rattle.spef_nodes.specs.Members.{node_named, with_node, Owns};
 ghost use Rattle.spef_nodes.specs.NodeTables.{node_at, hash_with, bucket_of, nodes_in, nodes_of, IsTable};
@@ -14,13 +12,11 @@ use std::marker::Model;
 use vg_num::Memory;
 use vg_scan::{Chains, Texts};
 
-/// The names of nodes, the bucket of each, and the chains of the buckets.
+/// The names of nodes, and chains of those that are in one bucket.
 #[derive(Drop)]
 struct Table {
     pub owners: Texts,
     pub leaves: Texts,
-    /// One of each node, and more after a failure.
-    pub rows: Vec<u32>,
     pub chains: Chains,
 }
 
@@ -39,7 +35,7 @@ impl Model for NodeTable {
 
     ghost view = { λ nodes. nodes_in nodes.table.owners nodes.table.leaves };
 
-    ghost invariant = { λ nodes. IsTable (nodes_in nodes.table.owners nodes.table.leaves) nodes.table.rows.items nodes.table.chains };
+    ghost invariant = { λ nodes. IsTable nodes.table.owners nodes.table.leaves nodes.table.chains };
 }
 
 /// The hash of a text: texts that end with numbers close to each other have hashes as close.
@@ -64,36 +60,20 @@ fn bucket_of(buckets: usize, owner: &[u8], leaf: &[u8]) -> usize
     hash as usize & (buckets - 1)
 }
 
-/// Puts a row last, in this bucket. Answers `Memory` where there is no room; nothing changes then.
-fn add_row(rows: &mut Vec<u32>, chains: &mut Chains, bucket: usize) -> Result<(), Memory>
-    requires chained { AreChains chains.old rows.old.items }
-    requires bucket { bucket < length chains.old.lasts.items }
-    requires fit { length chains.old.lasts.items ≤ 2 ^ 32 }
-    requires few { length rows.old.items < 2 ^ 32 - 1 }
-    ensures chained { AreChains chains.new rows.new.items }
-    ensures rows { rows.new.items ≡ (if is_ok result then rows.old.items ++ bucket ∷ [] else rows.old.items) }
-    ensures buckets { length chains.new.lasts.items ≡ length chains.old.lasts.items }
-{
-    rows.push(bucket as u32)?;
-    match chains.push(bucket) {
-        Ok(()) => Ok(()),
-        Err(_) => {
-            rows.pop();
-            Err(Memory)
-        }
-    }
-}
-
-/// Puts a node's name last. Answers `Memory` where there is no room.
+/// Puts a node's name last. Answers `Memory` where there is no room; nothing changes then.
 fn add_name(owners: &mut Texts, leaves: &mut Texts, owner: &[u8], leaf: &[u8]) -> Result<(), Memory>
     requires { length owners.old ≡ length leaves.old }
+    ensures even { length owners.new ≡ length leaves.new }
     ensures last { OnOk result (nodes_in owners.new leaves.new ≡ nodes_in owners.old leaves.old ++ node_named owner.now leaf.now ∷ []) }
     ensures unchanged { OnErr result (nodes_in owners.new leaves.new ≡ nodes_in owners.old leaves.old) }
 {
     owners.push(owner)?;
     match leaves.push(leaf) {
         Ok(()) => Ok(()),
-        Err(_) => Err(Memory),
+        Err(_) => {
+            owners.pop();
+            Err(Memory)
+        }
     }
 }
 
@@ -107,23 +87,9 @@ impl Table {
         owner == self.owners.get(at) && leaf == self.leaves.get(at)
     }
 
-    /// Whether this node has this number.
-    fn is_at(&self, at: usize, owner: &[u8], leaf: &[u8]) -> bool
-        ensures same { (node : NodeName) → slice_get (nodes_of self.now) at ≡ Some node → result ≡ same_node (node_named owner.now leaf.now) node }
-        ensures there { result ≡ true → slice_get (nodes_of self.now) at ≡ Some (node_named owner.now leaf.now) }
-    {
-        if at >= self.owners.len() {
-            return false;
-        }
-        if at >= self.leaves.len() {
-            return false;
-        }
-        self.is_named(at, owner, leaf)
-    }
-
     /// The number of a node whose bucket is this one. `None`: it is not there.
     fn find_in(&self, bucket: usize, owner: &[u8], leaf: &[u8]) -> Option<u32>
-        requires table { IsTable (nodes_of self.now) self.now.rows.items self.now.chains }
+        requires table { IsTable self.now.owners self.now.leaves self.now.chains }
         requires bucket { bucket ≡ bucket_of (length self.now.chains.lasts.items) (node_named owner.now leaf.now) }
         requires within { bucket < length self.now.chains.lasts.items }
         ensures found { IfSome result (λ id. slice_get (nodes_of self.now) id ≡ Some (node_named owner.now leaf.now)) }
@@ -132,7 +98,7 @@ impl Table {
         let mut link = self.chains.last(bucket);
         'row: while link != 0 {
             let row = link as usize - 1;
-            if self.is_at(row, owner, leaf) {
+            if self.is_named(row, owner, leaf) {
                 return Some(link - 1);
             }
             link = self.chains.before(row);
@@ -140,26 +106,23 @@ impl Table {
         None
     }
 
-    /// Puts a node last whose bucket is this one. Answers `Memory` where there is no room, and from then on.
+    /// Puts a node last whose bucket is this one. Answers `Memory` where there is no room; nothing changes then.
     fn add(&mut self, bucket: usize, owner: &[u8], leaf: &[u8]) -> Result<u32, Memory>
-        requires table { IsTable (nodes_of self.old) self.old.rows.items self.old.chains }
+        requires table { IsTable self.old.owners self.old.leaves self.old.chains }
         requires bucket { bucket ≡ bucket_of (length self.old.chains.lasts.items) (node_named owner.now leaf.now) }
         requires within { bucket < length self.old.chains.lasts.items }
-        ensures table { IsTable (nodes_of self.new) self.new.rows.items self.new.chains }
+        ensures table { IsTable self.new.owners self.new.leaves self.new.chains }
         ensures nodes { OnOk result (nodes_of self.new ≡ nodes_of self.old ++ node_named owner.now leaf.now ∷ []) }
         ensures number { IfOk result (λ id. id ≡ length (nodes_of self.old)) }
         ensures unchanged { OnErr result (nodes_of self.new ≡ nodes_of self.old) }
     {
-        let count = self.rows.len();
-        if count >= 0xFFFF_FFFF || self.owners.len() != count || self.leaves.len() != count {
+        let count = self.owners.len();
+        if count >= 0xFFFF_FFFF {
             return Err(Memory);
         }
-        let Ok(()) = add_row(&mut self.rows, &mut self.chains, bucket) else {
-            return Err(Memory);
-        };
-        let Ok(()) = add_name(&mut self.owners, &mut self.leaves, owner, leaf) else {
-            return Err(Memory);
-        };
+        self.chains.reserve()?;
+        add_name(&mut self.owners, &mut self.leaves, owner, leaf)?;
+        self.chains.push(bucket)?;
         Ok(count as u32)
     }
 }
@@ -172,12 +135,10 @@ impl NodeTable {
         ensures { IfOk result (λ nodes. nodes ≡ []) }
     {
         let chains = Chains::new(alloc, buckets)?;
-        let rows = Vec::with_capacity(alloc, buckets)?;
         Ok(NodeTable {
             table: Table {
                 owners: Texts::new(alloc),
                 leaves: Texts::new(alloc),
-                rows,
                 chains,
             },
         })
@@ -185,7 +146,7 @@ impl NodeTable {
 
     /// The number of a node, which is put last where it is new.
     ///
-    /// Answers `Memory` where there is no room, as where there would be 2^32 nodes or more, and then for each new node.
+    /// Answers `Memory` where there is no room, as where there would be 2^32 nodes or more.
     pub fn intern(&mut self, owner: &[u8], leaf: &[u8]) -> Result<u32, Memory>
         ensures nodes { OnOk result (self.new ≡ with_node self.old (node_named owner.now leaf.now)) }
         ensures number { IfOk result (λ id. slice_get self.new id ≡ Some (node_named owner.now leaf.now)) }
@@ -227,7 +188,6 @@ impl NodeTable {
         let Table {
             owners,
             leaves,
-            rows: _,
             chains: _,
         } = table;
         (owners, leaves)

@@ -1,11 +1,7 @@
 use Rattle.std.proofs.Common.{[], ◌∷◌, ◌++◌, ap, ◌∙◌}
 use Rattle.spef_nodes.specs.NodeTables.{nodes_in}
-use Rattle.spef_nodes.proofs.NodeTableLemmas.{nodes_more, nodes_same}
+use Rattle.spef_nodes.proofs.NodeTableLemmas.{nodes_more}
 use Rattle.spef_nodes.proofs.node_table.add_name.Goals as goal
-
-pub returns-in-Err-clause-unchanged : goal.returns-in-Err-clause-unchanged
-returns-in-Err-clause-unchanged c =
-    ap (nodes_in c.push.new.self) c.in-Err.ensures.unchanged ∙ ap (λ os. nodes_in os c.args.leaves.now) c.in_ok-push.ensures.last ∙ nodes_same c.args.owners.now c.args.leaves.now c.args.owner.now c.requires
 
 pub returns-in-Ok-clause-last : goal.returns-in-Ok-clause-last
 returns-in-Ok-clause-last c =
