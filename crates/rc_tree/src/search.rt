@@ -3,7 +3,7 @@
 ghost use Rattle.std.specs.Prelude.{◌≡◌, ℕ, ◌+◌, ◌<◌, ◌≤◌, ◌^◌, ◌⊎◌, length, slice_index, IfOk, MatchOption};
 ghost use Rattle.rc_tree.specs.Chains.{edge_at, Joins};
 ghost use Rattle.rc_tree.specs.Links.{AreLinks, IsEndOf};
-ghost use Rattle.rc_tree.specs.Search.{place_at, root_of, with_place, with_seat, IsSeen, IsScan, IsSearch};
+ghost use Rattle.rc_tree.specs.Search.{root_of, with_place, with_seat, IsSeen, IsScan, IsSearch};
 
 use crate::links::{Links, Next};
 use std::alloc::Global;
