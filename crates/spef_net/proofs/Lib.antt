@@ -21,3 +21,4 @@ pub mod NetLemmas
 pub mod InnerLemmas
 pub mod PartLemmas
 pub mod PassLemmas
+pub mod ValueLemmas

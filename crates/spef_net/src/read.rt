@@ -74,7 +74,7 @@ pub(crate) fn read_lines<'a>(
     ensures builder { IfOk result (λ builder. IsPartialNet (connected_of (statement_about nodes.entry bytes.now)) nodes.entry.net (statement_about nodes.entry bytes.now) builder) }
     ensures fault { IfErr result (λ fault. (fault.kind ≡ Memory) ⊎ IsFirstFaultIn nodes.entry.net (statement_about nodes.entry bytes.now) first fault) }
 {
-    let Ok(mut builder) = NetBuilder::new(alloc, nodes, bytes.len() / 64) else {
+    let Ok(mut builder) = NetBuilder::new(alloc, nodes, bytes.len() / 32) else {
         return Err(NetFault {
             kind: NetKind::Memory,
             line: first,

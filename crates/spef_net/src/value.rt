@@ -51,16 +51,21 @@ fn read_middle(low: &[u8], typical: &[u8], high: &[u8], places: i32) -> Result<u
 
 /// A value, in units of ten to the minus places. Answers the fault of its first number that has one, and `Form` where it
 /// has two parts, or more than three.
+///
+/// Most values are one number, so that is tried first: no number has a colon.
 pub(crate) fn read_value(text: &[u8], places: i32) -> Result<u64, NumFault>
     requires low { pos 0 ≤ℤ places }
     requires high { places ≤ℤ pos 9 }
     ensures { result ≡ value_in places text.now }
 {
-    match colon_at(text) {
-        None => read_scaled(text, places),
-        Some(at) => match three_parts(text, at) {
-            None => Err(NumFault::Form),
-            Some((low, typical, high)) => read_middle(low, typical, high, places),
+    match read_scaled(text, places) {
+        Ok(value) => Ok(value),
+        Err(fault) => match colon_at(text) {
+            None => Err(fault),
+            Some(at) => match three_parts(text, at) {
+                None => Err(NumFault::Form),
+                Some((low, typical, high)) => read_middle(low, typical, high, places),
+            },
         },
     }
 }

@@ -104,3 +104,11 @@ one_more bytes line from to found next h ink e f l low =
     ∙ ap (λ ws. words_at bytes found ++ (part bytes (line.from + from) (line.from + to) ∷ ws)) (sym (skipped text to next f))
     ∙ ap (λ w. words_at bytes found ++ (w ∷ words (drop to text))) (sym word)
     ∙ ap (λ ws. words_at bytes found ++ ws) (sym (found_next text from to h ink e))
+
+-- a line of blanks has no word
+pub none_from : (line : List ℕ) (from : ℕ) → from ≡ 0 + position_or_len is_ink (drop 0 line) → length line ≤ from → words line ≡ []
+none_from line from e h = skipped line 0 from e ∙ ap words (drop_all from line h) ∙ words_none
+
+-- the first word of another line, and what follows it
+pub some_from : (line : List ℕ) (from to : ℕ) → from ≡ 0 + position_or_len is_ink (drop 0 line) → from < length line → to ≡ from + position_or_len is_blank (drop from line) → words line ≡ part line from to ∷ words (drop to line)
+some_from line from to e h t = skipped line 0 from e ∙ found_next line from to h (next_there is_ink line 0 from (omega arith) e h) t

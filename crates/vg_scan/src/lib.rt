@@ -36,4 +36,4 @@ pub use print::print_spef_name;
 pub use reference::{are_digits, index_of, is_reference};
 pub use spef::{spef_name, spell_name, split_node};
 pub use texts::Texts;
-pub use words::words_of;
+pub use words::{Words, words_of};

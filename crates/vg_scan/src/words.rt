@@ -1,11 +1,13 @@
-//! All words of a line.
+//! The words of a line.
 
-ghost use Rattle.std.specs.Prelude.{◌≡◌, ◌+◌, ◌≤◌, length, drop, OnOk};
+ghost use Rattle.std.specs.Prelude.{◌≡◌, ◌==◌, ◌+◌, ◌≤◌, ◌∷◌, [], length, drop, OnOk, MatchOption};
+ghost use Rattle.std.specs.Iterator.{YieldsFirstRef, item_count};
 ghost use Rattle.std.specs.List.{position_or_len};
 ghost use Rattle.vg_scan.specs.Lines.{is_blank, is_ink, words};
 ghost use Rattle.vg_scan.specs.Spans.{IsIn, part_at, words_at};
 
 use crate::lines::Span;
+use std::marker::Model;
 use vg_num::Memory;
 
 fn is_blank(byte: u8) -> bool
@@ -55,4 +57,60 @@ pub fn words_of(bytes: &[u8], line: Span, found: &mut Vec<Span>) -> Result<(), M
         from = ink_from(text, to);
     }
     Ok(())
+}
+
+/// The first word of a line, and what follows it. `None`: the line has only blanks.
+fn first_word(line: &[u8]) -> Option<(&[u8], &[u8])>
+    ensures { MatchOption result (words line.now ≡ []) (λ found. words line.now ≡ found.0.now ∷ words found.1.now) }
+{
+    let from = ink_from(line, 0);
+    if from >= line.len() {
+        return None;
+    }
+    let to = blank_from(line, from);
+    Some((&line[from..to], &line[to..]))
+}
+
+/// The words of a line, one after another. Contracts see the list of those that are left.
+#[derive(Debug, Drop)]
+pub struct Words<'a> {
+    rest: &'a [u8],
+}
+
+impl<'a> Model for Words<'a> {
+    ghost use Rattle.vg_scan.specs.Lines.{words, Line};
+
+    ghost Value = { Line };
+
+    ghost view = { λ left. words left.rest.now };
+}
+
+impl<'a> Words<'a> {
+    /// All words of a line.
+    pub fn new(line: &'a [u8]) -> Words<'a>
+        ensures { result ≡ words line.now }
+    {
+        Words { rest: line }
+    }
+
+    /// Whether no word is left.
+    pub fn is_empty(&self) -> bool
+        ensures { result ≡ (length self.now == 0) }
+    {
+        first_word(self.rest).is_none()
+    }
+}
+
+impl<'a> Iterator for Words<'a> {
+    type Item = &'a [u8];
+
+    ghost next_gives = { YieldsFirstRef (λ left. left) };
+
+    ghost remaining = { item_count (λ left. left) };
+
+    fn next(&mut self) -> Option<&'a [u8]> {
+        let (word, rest) = first_word(self.rest)?;
+        self.rest = rest;
+        Some(word)
+    }
 }
