@@ -13,7 +13,8 @@ use Rattle.spef_net.specs.Names.{is_own}
 use Rattle.spef_nodes.specs.Members.{with_node, is_known}
 use Rattle.spef_net.specs.declared.part.Part.{Part}
 use Rattle.spef_net.specs.Statements.{Stated, part_after}
-use Rattle.spef_net.specs.Rows.{joined_of, starred_of, conns_of, caps_of, ress_of, nodes_of, is_inductive}
+use Rattle.spef_net.specs.Connections.{statement_about}
+use Rattle.spef_net.specs.Rows.{connected_of, joined_of, starred_of, conns_of, caps_of, ress_of, nodes_of, is_inductive}
 use Rattle.spef_net.specs.Faults.{number_fault, fault_of}
 use Rattle.spef_file.specs.Files.{File}
 use Rattle.spef_net.specs.NodeReaders.{NetNodes}
@@ -111,6 +112,14 @@ Takes result net old line new = (connected : List NodeName) (before : List State
 abbrev pub Follows : Result Part NetKind → List ℕ → Part → PartialNet → Stated → PartialNet → Type 0
 Follows (Ok next) net part old line new = (next ≡ part_after part line) × Takes (Ok tt) net old line new
 Follows (Err kind) net part old line new = Takes (Err kind) net old line new
+
+-- the same of the builder's own net
+abbrev pub FollowsFrom : PartialNet → Part → Result Part NetKind → Stated → PartialNet → Type 0
+FollowsFrom old part result line new = Follows result old.net part old line new
+
+-- a builder has taken all lines of a section
+abbrev pub HasTaken : NetNodes → List ℕ → PartialNet → Type 0
+HasTaken nodes bytes builder = IsPartialNet (connected_of (statement_about nodes bytes)) nodes.net (statement_about nodes bytes) builder
 
 -- the net of a builder
 pub record IsMade (name : List ℕ) (reduced : Bool) (builder : PartialNet) (net : ParNet) : Type 0 where

@@ -1,9 +1,9 @@
 -- The fault of a line, given what the lines before it say and the nodes of all connections, and the first fault.
-use Rattle.std.specs.Prelude.{ℕ, ◌||◌, ◌&&◌, not, List, length, take, slice_index_or, is_some, Option, Some, None, Result, Ok, Err, if◌then◌else◌}
+use Rattle.std.specs.Prelude.{◌≡◌, ◌⊎◌, ℕ, ◌||◌, ◌&&◌, not, List, length, take, slice_index_or, is_some, Option, Some, None, Result, Ok, Err, if◌then◌else◌}
 use Rattle.vg_num.specs.declared.fault.NumFault.{NumFault}
 use Rattle.vg_scan.specs.declared.name.NodeName.{NodeName}
 use Rattle.spef_net.specs.declared.fault.NetKind.{NetKind}
-use Rattle.spef_net.specs.declared.fault.NetKind.TheVariants.{Conn, Number, Foreign, SelfCoupled}
+use Rattle.spef_net.specs.declared.fault.NetKind.TheVariants.{Conn, Number, Foreign, SelfCoupled, Memory}
 use Rattle.vg_scan.specs.declared.fault.LineFault.{LineFault}
 use Rattle.vg_scan.specs.Faults.{IsClear, IsFirstFault}
 use Rattle.spef_net.specs.Statements.{Opens, Nothing, Connects, Star, Ground, Coupling, Resistor}
@@ -45,3 +45,7 @@ IsFaultless net lines = IsClear (fault_at net lines) (length lines)
 -- the first faulty line, and its fault; the first line has this number
 abbrev pub IsFirstFaultIn : List ℕ → List Stated → ℕ → LineFault NetKind → Type 0
 IsFirstFaultIn net lines first fault = IsFirstFault (fault_at net lines) (length lines) first fault
+
+-- memory ran out, or it is the first faulty line
+abbrev pub FailsFirst : List ℕ → List Stated → ℕ → LineFault NetKind → Type 0
+FailsFirst net lines first fault = (fault.kind ≡ Memory) ⊎ IsFirstFaultIn net lines first fault

@@ -34,9 +34,11 @@ pub(crate) struct NetBuilder<'a> {
 }
 
 impl<'a> Model for NetBuilder<'a> {
+    ghost use Rattle.spef_net.specs.Builders.{PartialNet, start_of};
+
     ghost Value = { PartialNet };
 
-    ghost view = { λ builder. record { file = builder.nodes.file; net = builder.nodes.net; nodes = builder.nodes.nodes; notes = builder.notes; conns = builder.conns.items; caps = builder.caps.items; ress = builder.ress.items; inductive = builder.inductive } };
+    ghost view = { λ b. record (start_of b.nodes) { notes = b.notes; conns = b.conns.items; caps = b.caps.items; ress = b.ress.items; inductive = b.inductive } };
 }
 
 fn is_inductance(part: Part) -> bool

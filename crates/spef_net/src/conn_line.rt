@@ -1,20 +1,18 @@
 //! Lines of connections.
 
-ghost use Rattle.std.specs.Prelude.{◌≡◌, Some};
+ghost use Rattle.std.specs.Prelude.{◌≡◌, ◌∷◌, Some};
 ghost use Rattle.spef_file.specs.IndexFiles.{file_of};
 ghost use Rattle.spef_net.specs.Lines.{note_after};
 ghost use Rattle.spef_net.specs.Statements.{direction_in, is_at, connected, connection, star, conn_line};
 ghost use Rattle.spef_net.specs.Spellings.{named_by};
 ghost use Rattle.spef_net.specs.ConnLines.{Tells};
-ghost use Rattle.vg_scan.specs.Spans.{part_at, words_at};
 
 use crate::fault::NetKind;
-use crate::line::is_word;
 use crate::net::{ConnKind, Direction};
 use crate::node::{Node, is_bare, read_node};
 use spef_file::SpefIndex;
 use std::alloc::Global;
-use vg_scan::{NameFault, Span, text_at};
+use vg_scan::{NameFault, Words};
 
 /// What a line of connections says, but for its note.
 #[derive(Drop)]
@@ -25,14 +23,14 @@ pub(crate) enum ConnLine<'a> {
     Stars(Node<'a>),
 }
 
-fn direction_in(line: &[u8], word: Span) -> Option<Direction>
-    ensures { result ≡ direction_in (part_at line.now word) }
+fn direction_in(word: &[u8]) -> Option<Direction>
+    ensures { result ≡ direction_in word.now }
 {
-    if is_word(line, word, b"I") {
+    if word == b"I".as_slice() {
         Some(Direction::In)
-    } else if is_word(line, word, b"O") {
+    } else if word == b"O".as_slice() {
         Some(Direction::Out)
-    } else if is_word(line, word, b"B") {
+    } else if word == b"B".as_slice() {
         Some(Direction::Both)
     } else {
         None
@@ -75,17 +73,17 @@ fn connection<'a>(
     index: &'a SpefIndex,
     kind: ConnKind,
     line: &'a [u8],
-    words: &[Span],
+    mut words: Words<'a>,
 ) -> Result<ConnLine<'a>, NetKind>
-    ensures { Tells result line.now (connection (file_of index.now) kind line.now (words_at line.now words.now)) }
+    ensures { Tells result line.now (connection (file_of index.now) kind line.now words.entry) }
 {
-    let [node, direction, ..] = words else {
+    let (Some(node), Some(direction)) = (words.next(), words.next()) else {
         return Err(NetKind::Conn);
     };
-    match read_node(alloc, index, text_at(line, *node)) {
+    match read_node(alloc, index, node) {
         Err(NameFault::Bad) => Err(NetKind::Conn),
         Err(NameFault::Memory) => Err(NetKind::Memory),
-        Ok(node) => joins(kind, line, node, direction_in(line, *direction)),
+        Ok(node) => joins(kind, line, node, direction_in(direction)),
     }
 }
 
@@ -94,21 +92,21 @@ fn star<'a>(
     alloc: Global,
     index: &'a SpefIndex,
     line: &'a [u8],
-    words: &[Span],
+    mut words: Words<'a>,
 ) -> Result<ConnLine<'a>, NetKind>
-    ensures { Tells result line.now (star (file_of index.now) line.now (words_at line.now words.now)) }
+    ensures { Tells result line.now (star (file_of index.now) line.now words.entry) }
 {
-    let [node, ..] = words else {
+    let Some(node) = words.next() else {
         return Err(NetKind::Conn);
     };
-    match read_node(alloc, index, text_at(line, *node)) {
+    match read_node(alloc, index, node) {
         Err(NameFault::Bad) => Err(NetKind::Conn),
         Err(NameFault::Memory) => Err(NetKind::Memory),
         Ok(node) => Ok(ConnLine::Stars(node)),
     }
 }
 
-/// A line of connections, but for its note.
+/// A line of connections, by its first word and the others, but for its note.
 ///
 /// Answers `Conn` where its form or its name is no such line's, and `Memory` where there is no room.
 #[tactic(auto, unfolding(crate::specs::Statements::conn_line))]
@@ -116,22 +114,19 @@ pub(crate) fn read_conn<'a>(
     alloc: Global,
     index: &'a SpefIndex,
     line: &'a [u8],
-    words: &[Span],
+    tag: &[u8],
+    words: Words<'a>,
 ) -> Result<ConnLine<'a>, NetKind>
-    ensures { Tells result line.now (conn_line (file_of index.now) line.now (words_at line.now words.now)) }
+    ensures { Tells result line.now (conn_line (file_of index.now) line.now (tag.now ∷ words.entry)) }
 {
-    if words.is_empty() {
-        return Err(NetKind::Conn);
+    if tag == b"*I".as_slice() {
+        return connection(alloc, index, ConnKind::Pin, line, words);
     }
-    let rest = &words[1..];
-    if is_word(line, words[0], b"*I") {
-        return connection(alloc, index, ConnKind::Pin, line, rest);
+    if tag == b"*P".as_slice() {
+        return connection(alloc, index, ConnKind::Port, line, words);
     }
-    if is_word(line, words[0], b"*P") {
-        return connection(alloc, index, ConnKind::Port, line, rest);
-    }
-    if is_word(line, words[0], b"*N") {
-        return star(alloc, index, line, rest);
+    if tag == b"*N".as_slice() {
+        return star(alloc, index, line, words);
     }
     Err(NetKind::Conn)
 }

@@ -1,13 +1,12 @@
 //! The connections of a section, before its lines are read in order.
 
-ghost use Rattle.std.specs.Prelude.{◌≡◌, ◌<◌, ◌≤◌, ◌^◌, ℕ, codes, false, None, IfOk, OnOk, length};
+ghost use Rattle.std.specs.Prelude.{◌≡◌, ◌∷◌, ◌<◌, ◌≤◌, ◌^◌, ℕ, codes, false, None, IfOk, OnOk, length};
 ghost use Rattle.memchr.specs.Find.{OccursAt};
 ghost use Rattle.std.specs.Str.Lines.{lines};
 ghost use Rattle.spef_file.specs.IndexFiles.{file_of};
-ghost use Rattle.spef_net.specs.Statements.{statement_of, statement_of_words, statements, conn_line};
+ghost use Rattle.spef_net.specs.Statements.{statement_of, statements, conn_line};
 ghost use Rattle.spef_net.specs.Rows.{connected_of, joined_in};
 ghost use Rattle.vg_scan.specs.Lines.{words};
-ghost use Rattle.vg_scan.specs.Spans.{words_at};
 ghost use Rattle.spef_net.specs.Lines.{head_of};
 ghost use Rattle.spef_nodes.specs.Members.{distinct};
 ghost use Rattle.spef_net.specs.Connections.{connections_in};
@@ -15,7 +14,7 @@ ghost use Rattle.spef_net.specs.Connections.{Gathers, is_conns, is_memory, with_
 
 use crate::conn_line::{ConnLine, read_conn};
 use crate::fault::NetKind;
-use crate::line::{head_of, line_words, text_from};
+use crate::line::{head_of, text_from};
 use crate::node_reader::NodeReader;
 use crate::part::Part;
 use memchr::memmem;
@@ -23,7 +22,7 @@ use spef_file::SpefIndex;
 use spef_nodes::NodeTable;
 use std::alloc::Global;
 use vg_num::Memory;
-use vg_scan::{Span, next_line, text_at};
+use vg_scan::{Words, next_line, text_at};
 
 fn is_conns(part: Part) -> bool
     ensures { result ≡ is_conns part }
@@ -42,12 +41,13 @@ fn gather_conn(
     alloc: Global,
     index: &SpefIndex,
     line: &[u8],
-    words: &[Span],
+    tag: &[u8],
+    words: Words,
     nodes: &mut NodeTable,
 ) -> Result<(), Memory>
-    ensures { OnOk result (nodes.new ≡ with_joined nodes.old (joined_in (conn_line (file_of index.now) line.now (words_at line.now words.now)))) }
+    ensures { OnOk result (nodes.new ≡ with_joined nodes.old (joined_in (conn_line (file_of index.now) line.now (tag.now ∷ words.entry)))) }
 {
-    match read_conn(alloc, index, line, words) {
+    match read_conn(alloc, index, line, tag, words) {
         Ok(ConnLine::Joins(_, _, node)) => {
             nodes.intern(node.owner.as_bytes(), node.leaf.as_bytes())?;
             Ok(())
@@ -58,32 +58,6 @@ fn gather_conn(
                 return Err(Memory);
             }
             Ok(())
-        }
-    }
-}
-
-/// The part that is open after a line, and its node where it is a connection, which the nodes are to hold.
-fn gather_words(
-    alloc: Global,
-    index: &SpefIndex,
-    part: Part,
-    line: &[u8],
-    words: &[Span],
-    nodes: &mut NodeTable,
-) -> Result<Part, Memory>
-    ensures { Gathers result nodes.old nodes.new part (statement_of_words (file_of index.now) part line.now (words_at line.now words.now)) }
-{
-    if words.is_empty() {
-        return Ok(part);
-    }
-    match head_of(line, words) {
-        Some(opened) => Ok(opened),
-        None => {
-            if !is_conns(part) {
-                return Ok(part);
-            }
-            gather_conn(alloc, index, line, words, nodes)?;
-            Ok(part)
         }
     }
 }
@@ -104,13 +78,12 @@ fn may_be_head(line: &[u8]) -> bool
     line[0] == b'\t'
 }
 
-/// The same of a line. The list is to hold its words.
+/// The part that is open after a line, and its node where it is a connection, which the nodes are to hold.
 fn gather_line(
     alloc: Global,
     index: &SpefIndex,
     part: Part,
     line: &[u8],
-    found: &mut Vec<Span>,
     nodes: &mut NodeTable,
 ) -> Result<Part, Memory>
     ensures { Gathers result nodes.old nodes.new part (statement_of (file_of index.now) part line.now) }
@@ -118,9 +91,18 @@ fn gather_line(
     if !is_conns(part) && !may_be_head(line) {
         return Ok(part);
     }
-    line_words(line, found)?;
-    let next = gather_words(alloc, index, part, line, found.as_slice(), nodes)?;
-    Ok(next)
+    let mut words = Words::new(line);
+    let Some(first) = words.next() else {
+        return Ok(part);
+    };
+    if let Some(opened) = head_of(first, &words) {
+        return Ok(opened);
+    }
+    if !is_conns(part) {
+        return Ok(part);
+    }
+    gather_conn(alloc, index, line, first, words, nodes)?;
+    Ok(part)
 }
 
 /// Whether a head of connections may stand in a text.
@@ -157,12 +139,11 @@ fn find_connections(
     ensures { IfOk result (λ nodes. nodes ≡ distinct (connected_of (statements (file_of index.now) (lines bytes.now)))) }
 {
     let mut nodes = NodeTable::new(alloc, slots)?;
-    let mut found = Vec::new(alloc);
     let mut part = Part::Nowhere;
     let mut at = 0usize;
     'line: while let Some((line, next)) = next_line(bytes, at) {
         let text = text_at(bytes, line);
-        let opened = gather_line(alloc, index, part, text, &mut found, &mut nodes)?;
+        let opened = gather_line(alloc, index, part, text, &mut nodes)?;
         if is_conns(part) && !is_conns(opened) && !may_connect(text_from(bytes, next)) {
             return Ok(nodes);
         }

@@ -1,18 +1,17 @@
 //! A section as a net.
 
-ghost use Rattle.std.specs.Prelude.{◌≡◌, ◌^◌, ◌≤◌, length, IfOk, IfErr, ◌⊎◌};
+ghost use Rattle.std.specs.Prelude.{◌≡◌, ◌^◌, ◌≤◌, length, IfOk, IfErr};
 ghost use Rattle.std.specs.List.{All};
 ghost use Rattle.std.specs.Str.Lines.{lines};
 ghost use Rattle.vg_scan.specs.Printed.{IsPrintable};
 ghost use Rattle.spef_file.specs.IndexFiles.{file_of};
 ghost use Rattle.spef_net.specs.Statements.{statements};
-ghost use Rattle.spef_net.specs.Faults.{IsFaultless, IsFirstFaultIn};
+ghost use Rattle.spef_net.specs.Faults.{FailsFirst, IsFaultless};
 ghost use Rattle.spef_net.specs.Denoted.{IsNet};
 ghost use Rattle.spef_net.specs.Sections.{IsSized};
 ghost use Rattle.spef_net.specs.Builders.{IsMade};
 ghost use Rattle.spef_net.specs.Nets.{IsSound};
 ghost use Rattle.spef_nodes.specs.Nodes.{noted_all};
-ghost use Rattle.spef_net.specs.declared.fault.NetKind.TheVariants.{Memory};
 
 use crate::builder::NetBuilder;
 use crate::connections::read_connections;
@@ -65,7 +64,7 @@ pub(crate) fn read_section(
     ensures faultless { IfOk result (λ _. IsFaultless net.now (statements (file_of index.now) (lines bytes.now))) }
     ensures net { IfOk result (λ par. IsNet net.now reduced (statements (file_of index.now) (lines bytes.now)) par) }
     ensures sized { IfOk result IsSized }
-    ensures fault { IfErr result (λ fault. (fault.kind ≡ Memory) ⊎ IsFirstFaultIn net.now (statements (file_of index.now) (lines bytes.now)) first fault) }
+    ensures fault { IfErr result (FailsFirst net.now (statements (file_of index.now) (lines bytes.now)) first) }
 {
     match read_connections(alloc, index, net, bytes) {
         Err(_) => Err(NetFault {

@@ -1,58 +1,36 @@
-//! The words of a line, heads, and notes.
+//! Heads of parts, and notes.
 
-ghost use Rattle.std.specs.Prelude.{◌≡◌, ◌≤◌, length, drop, OnOk};
+ghost use Rattle.std.specs.Prelude.{◌≡◌, ◌≤◌, ◌∷◌, length, drop};
 ghost use Rattle.std.specs.List.{position, position_or_len};
-ghost use Rattle.std.specs.Str.{bytes_eq};
-ghost use Rattle.vg_scan.specs.Lines.{is_blank, is_ink, words};
+ghost use Rattle.vg_scan.specs.Lines.{is_blank, is_ink};
 ghost use Rattle.spef_net.specs.Lines.{part_named, head_of, is_solid, after_word, without_end, trimmed, note_after};
-ghost use Rattle.vg_scan.specs.Spans.{part_at, words_at};
 
 use crate::part::Part;
-use vg_num::Memory;
-use vg_scan::{Span, text_at, words_of};
-
-/// Puts the words of a line in place of what the list held. Answers `Memory` where there is no room.
-pub(crate) fn line_words(line: &[u8], found: &mut Vec<Span>) -> Result<(), Memory>
-    ensures { OnOk result (words_at line.now found.new.items ≡ words line.now) }
-{
-    let whole = Span {
-        from: 0,
-        to: line.len(),
-    };
-    words_of(line, whole, found)
-}
-
-pub(crate) fn is_word(line: &[u8], span: Span, word: &[u8]) -> bool
-    ensures { result ≡ bytes_eq (part_at line.now span) word.now }
-{
-    text_at(line, span) == word
-}
+use vg_scan::Words;
 
 /// The part whose head is this word.
-fn part_named(line: &[u8], word: Span) -> Option<Part>
-    ensures { result ≡ part_named (part_at line.now word) }
+fn part_named(word: &[u8]) -> Option<Part>
+    ensures { result ≡ part_named word.now }
 {
-    if is_word(line, word, b"*CONN") {
+    if word == b"*CONN".as_slice() {
         Some(Part::Conns)
-    } else if is_word(line, word, b"*CAP") {
+    } else if word == b"*CAP".as_slice() {
         Some(Part::Caps)
-    } else if is_word(line, word, b"*RES") {
+    } else if word == b"*RES".as_slice() {
         Some(Part::Ress)
-    } else if is_word(line, word, b"*INDUC") {
+    } else if word == b"*INDUC".as_slice() {
         Some(Part::Inducs)
     } else {
         None
     }
 }
 
-/// The part that a line opens.
-pub(crate) fn head_of(line: &[u8], words: &[Span]) -> Option<Part>
-    ensures { result ≡ head_of (words_at line.now words.now) }
+/// The part that a line opens, by its first word and the others.
+pub(crate) fn head_of(first: &[u8], others: &Words) -> Option<Part>
+    ensures { result ≡ head_of (first.now ∷ others.now) }
 {
-    let [word] = words else {
-        return None;
-    };
-    part_named(line, *word)
+    let part = part_named(first)?;
+    if others.is_empty() { Some(part) } else { None }
 }
 
 fn first_ink(text: &[u8]) -> Option<usize>

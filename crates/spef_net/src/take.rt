@@ -1,10 +1,9 @@
 //! A line of a part, taken into the builder of a net.
 
-ghost use Rattle.std.specs.Prelude.{◌≡◌, Ok, OnOk};
+ghost use Rattle.std.specs.Prelude.{◌≡◌, ◌∷◌, ℕ, List, Ok, OnOk};
 ghost use Rattle.spef_net.specs.Sights.{ground_in, coupling_in, resistor_in};
 ghost use Rattle.spef_net.specs.Statements.{conn_line, cap_line, res_line, statement_in};
 ghost use Rattle.spef_net.specs.Builders.{Takes, IsSameSource};
-ghost use Rattle.vg_scan.specs.Spans.{words_at};
 
 use crate::builder::NetBuilder;
 use crate::conn_line::{ConnLine, read_conn};
@@ -12,19 +11,20 @@ use crate::fault::NetKind;
 use crate::line::{connection_note, star_note};
 use crate::part::Part;
 use crate::value::read_value;
-use vg_scan::{NameFault, Span, text_at};
+use vg_scan::{NameFault, Words};
 
 /// A line of connections.
 fn take_conn<'a>(
     builder: &mut NetBuilder<'a>,
     line: &'a [u8],
-    words: &[Span],
+    tag: &[u8],
+    words: Words<'a>,
 ) -> Result<(), NetKind>
-    ensures taken { Takes result builder.old.net builder.old (conn_line builder.old.file line.now (words_at line.now words.now)) builder.new }
+    ensures taken { Takes result builder.old.net builder.old (conn_line builder.old.file line.now (tag.now ∷ words.entry)) builder.new }
     ensures source { OnOk result (IsSameSource builder.old builder.new) }
 {
     let nodes = &builder.nodes;
-    match read_conn(nodes.alloc(), nodes.index(), line, words) {
+    match read_conn(nodes.alloc(), nodes.index(), line, tag, words) {
         Err(kind) => Err(kind),
         Ok(ConnLine::Joins(kind, direction, node)) => {
             builder.join(kind, direction, &node, connection_note(line))
@@ -90,54 +90,55 @@ fn take_resistor<'a>(
     }
 }
 
-/// A line of capacitors.
-#[tactic(auto, unfolding(crate::specs::Statements::cap_line))]
-fn take_cap<'a>(builder: &mut NetBuilder<'a>, line: &'a [u8], words: &[Span]) -> Result<(), NetKind>
-    ensures taken { Takes result builder.old.net builder.old (cap_line builder.old.file (words_at line.now words.now)) builder.new }
+/// A line of capacitors, by the words after the first.
+fn take_cap<'a>(builder: &mut NetBuilder<'a>, mut words: Words<'a>) -> Result<(), NetKind>
+    ensures taken { (id : List ℕ) → Takes result builder.old.net builder.old (cap_line builder.old.file (id ∷ words.entry)) builder.new }
     ensures source { OnOk result (IsSameSource builder.old builder.new) }
 {
-    if words.len() == 3 {
-        let node = text_at(line, words[1]);
-        let value = text_at(line, words[2]);
-        return take_ground(builder, node, value);
-    }
-    let [_, a, b, value] = words else {
+    let (Some(node), Some(other)) = (words.next(), words.next()) else {
         return Err(NetKind::Cap);
     };
-    let nodes = (text_at(line, *a), text_at(line, *b));
-    take_coupling(builder, nodes, text_at(line, *value))
+    let Some(value) = words.next() else {
+        return take_ground(builder, node, other);
+    };
+    if !words.is_empty() {
+        return Err(NetKind::Cap);
+    }
+    take_coupling(builder, (node, other), value)
 }
 
-/// A line of resistors.
-#[tactic(auto, unfolding(crate::specs::Statements::res_line))]
-fn take_res<'a>(builder: &mut NetBuilder<'a>, line: &'a [u8], words: &[Span]) -> Result<(), NetKind>
-    ensures taken { Takes result builder.old.net builder.old (res_line builder.old.file (words_at line.now words.now)) builder.new }
+/// A line of resistors, by the words after the first.
+fn take_res<'a>(builder: &mut NetBuilder<'a>, mut words: Words<'a>) -> Result<(), NetKind>
+    ensures taken { (id : List ℕ) → Takes result builder.old.net builder.old (res_line builder.old.file (id ∷ words.entry)) builder.new }
     ensures source { OnOk result (IsSameSource builder.old builder.new) }
 {
-    let [_, a, b, value] = words else {
+    let (Some(a), Some(b), Some(value)) = (words.next(), words.next(), words.next()) else {
         return Err(NetKind::Res);
     };
-    let nodes = (text_at(line, *a), text_at(line, *b));
-    take_resistor(builder, nodes, text_at(line, *value))
+    if !words.is_empty() {
+        return Err(NetKind::Res);
+    }
+    take_resistor(builder, (a, b), value)
 }
 
-/// A line with words that is no head, in this part.
+/// A line with words that is no head, in this part, by its first word and the others.
 ///
 /// Answers `Conn`, `Cap`, `Res`, `Foreign`, `SelfCoupled` and `Number` as they say, and `Memory` where there is no room.
 pub(crate) fn take_in<'a>(
     builder: &mut NetBuilder<'a>,
     part: Part,
     line: &'a [u8],
-    words: &[Span],
+    first: &[u8],
+    words: Words<'a>,
 ) -> Result<(), NetKind>
-    ensures taken { Takes result builder.old.net builder.old (statement_in part builder.old.file line.now (words_at line.now words.now)) builder.new }
+    ensures taken { Takes result builder.old.net builder.old (statement_in part builder.old.file line.now (first.now ∷ words.entry)) builder.new }
     ensures source { OnOk result (IsSameSource builder.old builder.new) }
 {
     match part {
         Part::Nowhere => Err(NetKind::Conn),
-        Part::Conns => take_conn(builder, line, words),
-        Part::Caps => take_cap(builder, line, words),
-        Part::Ress => take_res(builder, line, words),
+        Part::Conns => take_conn(builder, line, first, words),
+        Part::Caps => take_cap(builder, words),
+        Part::Ress => take_res(builder, words),
         Part::Inducs => Ok(()),
     }
 }

@@ -1,6 +1,5 @@
-use Rattle.std.proofs.Common.{subst, ap, ◌∙◌}
+use Rattle.std.proofs.Common.{◌∷◌, subst, ap, ◌∙◌}
 use Rattle.spef_net.specs.Builders.{PartialNet}
-use Rattle.vg_scan.specs.Spans.{words_at}
 use Rattle.spef_file.specs.Files.{File}
 use Rattle.spef_net.specs.Statements.{conn_line}
 use Rattle.spef_net.specs.Views.{IsFaultOrMemory, fault_in}
@@ -10,4 +9,4 @@ use Rattle.spef_net.proofs.take.take_conn.Goals as goal
 pub returns-in-Err-clause-taken : goal.returns-in-Err-clause-taken
 returns-in-Err-clause-taken c =
     bad_line c.args.builder.now.net c.args.builder.now c.args.builder.now _ c.in-Err.kind
-    (subst (λ (file : File). IsFaultOrMemory (fault_in (conn_line file c.args.line.now (words_at c.args.line.now c.args.words.now))) c.in-Err.kind) (c.index.ensures ∙ ap (λ (s : PartialNet). s.file) c.builder.view_is) c.in-Err.ensures)
+    (subst (λ (file : File). IsFaultOrMemory (fault_in (conn_line file c.args.line.now (c.args.tag.now ∷ c.args.words))) c.in-Err.kind) (c.index.ensures ∙ ap (λ (s : PartialNet). s.file) c.builder.view_is) c.in-Err.ensures)

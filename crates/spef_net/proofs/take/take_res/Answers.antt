@@ -1,25 +1,26 @@
-use Rattle.std.proofs.Common.{◌≡◌, length, sym, subst, ◌∙◌}
-use Rattle.vg_scan.specs.Spans.{words_at}
-use Rattle.spef_net.specs.Statements.{Stated, resistor, value_in, res_line}
-use Rattle.spef_net.specs.Sights.{two_in}
-use Rattle.spef_net.specs.Builders.{Takes}
-use Rattle.spef_net.proofs.WordLemmas.{res_four}
-use Rattle.vg_scan.specs.Spans.{part_at}
-use Rattle.std.proofs.Common.{arith}
-use Rattle.spef_net.proofs.WordLemmas.{res_bad}
+use Rattle.std.proofs.Common.{◌≡◌, ◌∷◌, [], refl, sym, ◌∙◌, arith}
+use Rattle.spef_net.proofs.WordLemmas.{res_other, res_resistor, then_word, none_more, some_more}
 use Rattle.spef_net.proofs.take.take_res.Goals as goal
 
 pub returns-in_default-clause-taken : goal.returns-in_default-clause-taken
-returns-in_default-clause-taken c = res_bad (c.args.builder.now.file) (part_at c.args.line.now) c.args.words.now c.args.builder.now.net c.args.builder.now (λ e. let x : ⊥ = omega (arith, c.in_default.len_below) in x)
+returns-in_default-clause-taken c =
+    λ id. res_other c.args.builder.now.file id c.args.words _ c.args.builder.now.net c.args.builder.now (then_word _ _ _ _ c.in_default.ensures.steps (then_word _ _ [] _ c.in_default.ensures'.steps c.in_default.ensures''.steps.0)) (λ n. let x : ⊥ = omega (arith, n) in x)
 
 pub returns-in_default-2-clause-taken : goal.returns-in_default-2-clause-taken
-returns-in_default-2-clause-taken c = res_bad (c.args.builder.now.file) (part_at c.args.line.now) c.args.words.now c.args.builder.now.net c.args.builder.now (λ e. let x : ⊥ = omega (arith, c.in_default.len_at_least) in x)
+returns-in_default-2-clause-taken c =
+    λ id. res_other c.args.builder.now.file id c.args.words _ c.args.builder.now.net c.args.builder.now (then_word _ _ [] _ c.in_default.ensures.steps c.in_default.ensures'.steps.0) (λ n. let x : ⊥ = omega (arith, n) in x)
+
+pub returns-in_default-3-clause-taken : goal.returns-in_default-3-clause-taken
+returns-in_default-3-clause-taken c =
+    λ id. res_other c.args.builder.now.file id c.args.words [] c.args.builder.now.net c.args.builder.now c.in_default.ensures.steps.0 (λ n. let x : ⊥ = omega (arith, n) in x)
+
+pub returns-then-not-is_empty-clause-taken : goal.returns-then-not-is_empty-clause-taken
+returns-then-not-is_empty-clause-taken c =
+    let more = some_more _ (sym c.is_empty.ensures ∙ c.if-not-is_empty.true) in
+    λ id. res_other c.args.builder.now.file id c.args.words _ c.args.builder.now.net c.args.builder.now
+    (then_word _ _ _ _ c.in-Some-Some-Some.ensures.steps (then_word _ _ _ _ c.in-Some-Some-Some.ensures'.steps c.in-Some-Some-Some.ensures''.steps)) (λ n. more (omega (arith, n)))
 
 pub returns-clause-taken : goal.returns-clause-taken
 returns-clause-taken c =
-    let file = c.args.builder.now.file in
-    let four : length c.args.words.now ≡ 4 = omega (arith, c.in-len4.len_at_least, c.in-len4.len_below) in
-    let stated : resistor (two_in file c.text_at.result.now c.text_at-2.result.now) (value_in file.r_places c.text_at-3.result.now) ≡ res_line file (words_at c.args.line.now c.args.words.now) =
-    (λ i. resistor (two_in file (c.text_at.ensures i) (c.text_at-2.ensures i)) (value_in file.r_places (c.text_at-3.ensures i)))
-    ∙ sym (res_four file (part_at c.args.line.now) c.args.words.now (record { from = 0; to = 0 }) four) in
-    subst (λ (s : Stated). Takes c.take_resistor.result c.args.builder.now.net c.args.builder.now s c.take_resistor.new.builder) stated c.take_resistor.ensures.taken
+    λ id. res_resistor c.take_resistor.result c.args.builder.now.file id c.in-Some-Some-Some.a.now c.in-Some-Some-Some.b.now c.in-Some-Some-Some.value.now c.args.words c.args.builder.now.net c.args.builder.now c.take_resistor.new.builder
+    (then_word _ _ _ _ c.in-Some-Some-Some.ensures.steps (then_word _ _ _ _ c.in-Some-Some-Some.ensures'.steps (then_word _ _ [] _ c.in-Some-Some-Some.ensures''.steps (none_more _ (sym c.is_empty.ensures ∙ c.if-not-is_empty.false))))) c.take_resistor.ensures.taken
