@@ -22,6 +22,9 @@ use Rattle.spef_nodes.proofs.NodeListLemmas.{any-last, known-with_node, slice_ge
 use Rattle.spef_net.proofs.RowListLemmas.{conns_grow, caps_grow, ress_grow, conns_more, caps_more, ress_more}
 use Rattle.spef_nodes.proofs.ApartLemmas.{apart_if, apart_fold}
 use Rattle.spef_nodes.specs.Members.{AreApart}
+use Rattle.spef_file.specs.Files.{File}
+use Rattle.spef_nodes.specs.Names.{node_in}
+use Rattle.spef_net.specs.Sights.{Sees, SeesTwo, two_in}
 use Rattle.spef_net.proofs.NotedLemmas.{noted_kept, noted_grow, noted_conn, noted_star, noted_again}
 
 -- what a builder is after one line more
@@ -192,3 +195,10 @@ resistor_next connected net before old a b value i j s known also at after = rec
   ress = ress_more (with_node (with_node old.nodes a) b) old.ress (ress_of before) i j a b value (ress_grow (with_node old.nodes a) b old.ress (ress_of before) (ress_grow old.nodes a old.ress (ress_of before) s.ress)) (slice_get-with_node (with_node old.nodes a) b i a at) after;
   inductive = or_false old.inductive;
 }
+
+-- two texts, one after the other
+pub seen_two : (file mid_file : File) (net mid_net : List ℕ) → mid_file ≡ file → mid_net ≡ net → (first second : Option ℕ) (old mid new : PartialNet) (a b : List ℕ)
+    → Sees (Ok first) net old (node_in file a) mid → Sees (Ok second) mid_net mid (node_in mid_file b) new → SeesTwo (Ok (first, second)) net old (two_in file a b) new
+seen_two file mid_file net mid_net f n first second old mid new a b (x, e, owns) s =
+    let (y, g, later) = subst (λ (p : File × List ℕ). Sees (Ok second) p.1 mid (node_in p.0 b) new) (λ i. (f i, n i)) s in
+    (x, y, mid, (rw (e, g) refl), owns, later)

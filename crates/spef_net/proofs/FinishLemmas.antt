@@ -13,7 +13,7 @@ use Rattle.spef_net.specs.Faults.{IsFaultless}
 use Rattle.spef_net.specs.Nets.{IsSound}
 use Rattle.spef_net.specs.Denoted.{described, AreConns, AreCaps, AreRess, all_nodes, IsNet}
 use Rattle.std.specs.Str.Lines.{lines}
-use Rattle.spef_net.specs.NodeReaders.{NetNodes}
+use Rattle.spef_nodes.specs.NodeReaders.{NetNodes}
 use Rattle.spef_net.specs.Builders.{PartialNet, IsPartialNet, note_from, IsMade}
 
 -- a node with what is noted of it is the node that is described

@@ -16,7 +16,7 @@ use Rattle.spef_net.specs.declared.net.Direction.{Direction}
 use Rattle.spef_net.specs.declared.net.ParConn.{ParConn}
 use Rattle.spef_net.specs.declared.fault.NetKind.{NetKind}
 use Rattle.spef_net.specs.declared.fault.NetKind.TheVariants.{Conn}
-use Rattle.spef_net.specs.Names.{is_own}
+use Rattle.spef_nodes.specs.Names.{is_own}
 use Rattle.spef_net.specs.Statements.{Stated, Opens, Nothing, Connects, Star, Ground, Coupling, Resistor, is_at}
 use Rattle.spef_net.specs.Rows.{joined_in, joined_of, connected_of, conns_of, named_in}
 use Rattle.spef_net.specs.Faults.{fault_of, IsFaultless}

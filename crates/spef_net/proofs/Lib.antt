@@ -1,8 +1,5 @@
 pub mod PlaceLemmas
-pub mod NodeLemmas
-pub mod NodeReaderLemmas
 pub mod RowListLemmas
-pub mod SpellLemmas
 pub mod NotedLemmas
 pub mod BuilderLemmas
 pub mod TakeLemmas

@@ -14,7 +14,7 @@ use Rattle.spef_net.specs.declared.fault.NetKind.{NetKind}
 use Rattle.spef_net.specs.declared.fault.NetKind.TheVariants.{Conn, Cap, Res, Number, Foreign, SelfCoupled, Memory}
 use Rattle.spef_net.specs.Statements.{Opens, Nothing, Connects, Star, Ground, Coupling, Resistor}
 use Rattle.vg_scan.specs.Nodes.{same_node, has_node}
-use Rattle.spef_net.specs.Names.{node_in}
+use Rattle.spef_nodes.specs.Names.{node_in}
 use Rattle.spef_nodes.specs.Members.{with_node, distinct}
 use Rattle.spef_net.specs.Statements.{Stated, ground, coupling, resistor, cap_line, res_line, conn_line, connection, connected, star, starred, is_at, direction_in, statement_in, statement_of, part_after, statements_from}
 use Rattle.spef_net.specs.Lines.{note_after}
@@ -28,7 +28,7 @@ use Rattle.vg_scan.specs.Faults.{IsClear}
 use Rattle.vg_scan.proofs.FaultLemmas.{first_fault as first_here}
 use Rattle.spef_net.specs.Faults.{fault_of, fault_at, IsFirstFaultIn}
 use Rattle.spef_net.specs.Builders.{PartialNet, start_of, IsPartialNet, IsCounted, Takes}
-use Rattle.spef_net.specs.NodeReaders.{NetNodes}
+use Rattle.spef_nodes.specs.NodeReaders.{NetNodes}
 use Rattle.spef_net.specs.Connections.{is_conns, with_joined}
 use Rattle.spef_net.specs.Views.{IsFaultOrMemory, fault_in}
 use Rattle.spef_nodes.proofs.NodeListLemmas.{has-distinct}

@@ -14,7 +14,7 @@ use Rattle.spef_file.specs.Files.{File}
 use Rattle.spef_file.proofs.NamesOfLemmas.{looked_up}
 use Rattle.spef_nodes.specs.Members.{with_node}
 use Rattle.spef_nodes.specs.Nodes.{ParNode, noted_all}
-use Rattle.spef_net.specs.Names.{is_own, indexed, owner_in, node_split, node_in}
+use Rattle.spef_nodes.specs.Names.{is_own, indexed, owner_in, node_split, node_in}
 use Rattle.spef_net.specs.Statements.{Stated, Opens, Nothing, Connects, Star, Ground, Coupling, Resistor, statements}
 use Rattle.spef_net.specs.Rows.{connected_of, own_one, named_in}
 use Rattle.spef_net.specs.Builders.{PartialNet, IsPartialNet}

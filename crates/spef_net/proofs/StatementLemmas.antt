@@ -15,7 +15,7 @@ use Rattle.spef_net.specs.declared.net.ConnKind.TheVariants.{Pin, Port}
 use Rattle.spef_net.specs.declared.net.Direction.{Direction}
 use Rattle.spef_net.specs.declared.part.Part.{Part}
 use Rattle.spef_net.specs.declared.part.Part.TheVariants.{Nowhere, Conns, Caps, Ress, Inducs}
-use Rattle.spef_net.specs.Names.{node_in}
+use Rattle.spef_nodes.specs.Names.{node_in}
 use Rattle.spef_net.specs.Lines.{head_of, note_after}
 use Rattle.spef_net.specs.Rows.{conn_in, conns_of}
 use Rattle.spef_net.specs.Statements.{Opens, Nothing, Connects, Star, Ground, Coupling, Resistor}

@@ -10,7 +10,7 @@ use Rattle.spef_net.specs.declared.fault.NetKind.TheVariants.{Conn, Foreign, Sel
 use Rattle.spef_net.specs.Statements.{Opens, Nothing, Connects, Star, Ground, Coupling, Resistor}
 use Rattle.std.specs.List.{slice_get}
 use Rattle.vg_scan.specs.Nodes.{has_node, node_value}
-use Rattle.spef_net.specs.Names.{is_own}
+use Rattle.spef_nodes.specs.Names.{is_own}
 use Rattle.spef_nodes.specs.Members.{with_node, is_inner}
 use Rattle.spef_nodes.specs.Nodes.{fresh, joined, starred, note_at, is_joined, is_starred}
 use Rattle.spef_net.specs.Statements.{Stated, ground, coupling, resistor}

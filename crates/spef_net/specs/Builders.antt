@@ -9,7 +9,7 @@ use Rattle.spef_net.specs.declared.net.ParNet.{ParNet}
 use Rattle.spef_net.specs.declared.fault.NetKind.{NetKind}
 use Rattle.spef_net.specs.Statements.{Connects}
 use Rattle.vg_scan.specs.Nodes.{has_node, node_value}
-use Rattle.spef_net.specs.Names.{is_own}
+use Rattle.spef_nodes.specs.Names.{is_own}
 use Rattle.spef_nodes.specs.Members.{with_node, is_known}
 use Rattle.spef_net.specs.declared.part.Part.{Part}
 use Rattle.spef_net.specs.Statements.{Stated, part_after}
@@ -17,7 +17,7 @@ use Rattle.spef_net.specs.Connections.{statement_about}
 use Rattle.spef_net.specs.Rows.{connected_of, joined_of, starred_of, conns_of, caps_of, ress_of, nodes_of, is_inductive}
 use Rattle.spef_net.specs.Faults.{number_fault, fault_of}
 use Rattle.spef_file.specs.Files.{File}
-use Rattle.spef_net.specs.NodeReaders.{NetNodes}
+use Rattle.spef_nodes.specs.NodeReaders.{NetNodes}
 use Rattle.spef_net.specs.Denoted.{AreConns, AreCaps, AreRess}
 use Rattle.spef_nodes.specs.Nodes.{Note, fresh, joined, starred, note_at, noted_all}
 use Rattle.spef_net.specs.Views.{IsFaultOrMemory}

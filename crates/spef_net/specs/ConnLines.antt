@@ -3,7 +3,7 @@ use Rattle.std.specs.Prelude.{◌≡◌, ℕ, List, Result, Ok, Err}
 use Rattle.spef_net.specs.declared.conn_line.ConnLine.{ConnLine}
 use Rattle.spef_net.specs.declared.conn_line.ConnLine.TheVariants.{Joins, Stars}
 use Rattle.spef_net.specs.declared.fault.NetKind.{NetKind}
-use Rattle.spef_net.specs.Spellings.{named_by}
+use Rattle.spef_nodes.specs.Spellings.{named_by}
 use Rattle.spef_net.specs.Lines.{note_after}
 use Rattle.spef_net.specs.Statements.{Stated, Connects, Star}
 use Rattle.spef_net.specs.Views.{IsFaultOrMemory, fault_in}

@@ -10,7 +10,7 @@ use Rattle.spef_net.specs.declared.part.Part.TheVariants.{Conns}
 use Rattle.spef_nodes.specs.Members.{with_node, distinct}
 use Rattle.spef_net.specs.Statements.{Stated, part_after, statements}
 use Rattle.spef_net.specs.Rows.{joined_in, connected_of}
-use Rattle.spef_net.specs.NodeReaders.{NetNodes}
+use Rattle.spef_nodes.specs.NodeReaders.{NetNodes}
 use Rattle.spef_file.specs.Files.{File}
 
 abbrev pub is_conns : Part → Bool

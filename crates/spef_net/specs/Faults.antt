@@ -8,7 +8,7 @@ use Rattle.vg_scan.specs.declared.fault.LineFault.{LineFault}
 use Rattle.vg_scan.specs.Faults.{IsClear, IsFirstFault}
 use Rattle.spef_net.specs.Statements.{Opens, Nothing, Connects, Star, Ground, Coupling, Resistor}
 use Rattle.vg_scan.specs.Nodes.{node_value}
-use Rattle.spef_net.specs.Names.{is_own}
+use Rattle.spef_nodes.specs.Names.{is_own}
 use Rattle.spef_nodes.specs.Members.{is_inner}
 use Rattle.spef_net.specs.Statements.{Stated}
 use Rattle.spef_net.specs.Rows.{joined_of, starred_of, connected_of}

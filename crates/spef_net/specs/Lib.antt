@@ -1,8 +1,5 @@
 pub mod Nets
-pub mod Spellings
 pub mod ConnLines
-pub mod Names
-pub mod NodeReaders
 pub mod Lines
 pub mod Statements
 pub mod Rows
@@ -14,3 +11,4 @@ pub mod Builders
 pub mod Sights
 pub mod Connections
 pub mod Laws
+pub mod Values

@@ -6,7 +6,7 @@ use Rattle.spef_net.specs.declared.net.ConnKind.{ConnKind}
 use Rattle.spef_net.specs.declared.net.Direction.{Direction}
 use Rattle.spef_net.specs.declared.part.Part.TheVariants.{Inducs}
 use Rattle.spef_net.specs.Statements.{Opens, Connects, Star, Ground, Coupling, Resistor}
-use Rattle.spef_net.specs.Names.{is_own}
+use Rattle.spef_nodes.specs.Names.{is_own}
 use Rattle.spef_nodes.specs.Members.{distinct}
 use Rattle.spef_net.specs.Statements.{Stated}
 

@@ -4,7 +4,7 @@ use Rattle.vg_scan.specs.declared.fault.NameFault.{NameFault}
 use Rattle.vg_scan.specs.declared.fault.NameFault.TheVariants.{Bad, Memory}
 use Rattle.vg_scan.specs.declared.name.NodeName.{NodeName}
 use Rattle.spef_file.specs.Files.{File}
-use Rattle.spef_net.specs.Names.{node_in}
+use Rattle.spef_nodes.specs.Names.{node_in}
 use Rattle.spef_net.specs.Statements.{Stated, both, ground, coupling, resistor, value_in}
 use Rattle.spef_net.specs.Builders.{PartialNet, Owns}
 

@@ -16,7 +16,7 @@ use Rattle.spef_net.specs.declared.part.Part.{Part}
 use Rattle.spef_net.specs.declared.part.Part.TheVariants.{Nowhere, Conns, Caps, Ress, Inducs}
 use Rattle.spef_net.specs.declared.fault.NetKind.{NetKind}
 use Rattle.spef_net.specs.declared.fault.NetKind.TheVariants.{Conn, Cap, Res}
-use Rattle.spef_net.specs.Names.{node_in}
+use Rattle.spef_nodes.specs.Names.{node_in}
 use Rattle.spef_net.specs.Lines.{head_of, note_after}
 
 -- what a line says by itself: it is the head of a part; it has no words, or is not read; a connection with its note; a

@@ -4,13 +4,13 @@ ghost use Rattle.std.specs.Prelude.{◌≡◌, ◌∷◌, Some};
 ghost use Rattle.spef_file.specs.IndexFiles.{file_of};
 ghost use Rattle.spef_net.specs.Lines.{note_after};
 ghost use Rattle.spef_net.specs.Statements.{direction_in, is_at, connected, connection, star, conn_line};
-ghost use Rattle.spef_net.specs.Spellings.{named_by};
+ghost use Rattle.spef_nodes.specs.Spellings.{named_by};
 ghost use Rattle.spef_net.specs.ConnLines.{Tells};
 
 use crate::fault::NetKind;
 use crate::net::{ConnKind, Direction};
-use crate::node::{Node, is_bare, read_node};
 use spef_file::SpefIndex;
+use spef_nodes::{Node, read_node};
 use std::alloc::Global;
 use vg_scan::{NameFault, Words};
 
@@ -41,8 +41,8 @@ fn is_at(kind: ConnKind, node: &Node) -> bool
     ensures { result ≡ is_at kind (named_by node.now) }
 {
     match kind {
-        ConnKind::Pin => !is_bare(node),
-        ConnKind::Port => is_bare(node),
+        ConnKind::Pin => !node.is_port(),
+        ConnKind::Port => node.is_port(),
     }
 }
 

@@ -14,15 +14,14 @@ ghost use Rattle.spef_net.specs.Connections.{Gathers, is_conns, is_memory, with_
 
 use crate::conn_line::{ConnLine, read_conn};
 use crate::fault::NetKind;
-use crate::line::{head_of, text_from};
-use crate::node_reader::NodeReader;
+use crate::line::head_of;
 use crate::part::Part;
 use memchr::memmem;
 use spef_file::SpefIndex;
-use spef_nodes::NodeTable;
+use spef_nodes::{NodeReader, NodeTable};
 use std::alloc::Global;
 use vg_num::Memory;
-use vg_scan::{Words, next_line, text_at};
+use vg_scan::{Words, next_line, text_at, text_from};
 
 fn is_conns(part: Part) -> bool
     ensures { result ≡ is_conns part }

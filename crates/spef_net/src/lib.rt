@@ -9,8 +9,6 @@ mod finish;
 mod laws;
 mod line;
 mod net;
-mod node;
-mod node_reader;
 mod part;
 mod read;
 mod section;

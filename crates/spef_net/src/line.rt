@@ -6,7 +6,7 @@ ghost use Rattle.vg_scan.specs.Lines.{is_blank, is_ink};
 ghost use Rattle.spef_net.specs.Lines.{part_named, head_of, is_solid, after_word, without_end, trimmed, note_after};
 
 use crate::part::Part;
-use vg_scan::Words;
+use vg_scan::{Words, text_from};
 
 /// The part whose head is this word.
 fn part_named(word: &[u8]) -> Option<Part>
@@ -80,14 +80,6 @@ fn solid_at(text: &[u8]) -> usize
         None => text.len(),
         Some(at) => at,
     }
-}
-
-/// The text from a place on.
-pub(crate) fn text_from(text: &[u8], at: usize) -> &[u8]
-    requires { at ≤ length text.now }
-    ensures { result.now ≡ drop at text.now }
-{
-    &text[at..]
 }
 
 /// What stands after a text's first word.

@@ -11,9 +11,9 @@ ghost use Rattle.spef_net.specs.Builders.{FollowsFrom, HasTaken, IsSameSource};
 use crate::builder::NetBuilder;
 use crate::fault::{NetFault, NetKind};
 use crate::line::head_of;
-use crate::node_reader::NodeReader;
 use crate::part::Part;
 use crate::take::take_in;
+use spef_nodes::NodeReader;
 use std::alloc::Global;
 use vg_scan::{Words, next_line, text_at};
 

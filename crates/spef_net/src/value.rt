@@ -4,10 +4,10 @@ ghost use Rattle.std.specs.Prelude.{◌≡◌, ◌^◌, ◌≤ℤ◌, ℤ, pos, 
 ghost use Rattle.std.specs.List.{position};
 ghost use Rattle.vg_num.specs.Number.{scaled};
 ghost use Rattle.spef_net.specs.Statements.{is_colon, middle, value_in};
-ghost use Rattle.spef_net.specs.Spellings.{IsNoValue, AreParts};
+ghost use Rattle.spef_net.specs.Values.{IsNoValue, AreParts};
 
-use crate::line::text_from;
 use vg_num::{NumFault, read_scaled};
+use vg_scan::text_from;
 
 fn colon_at(text: &[u8]) -> Option<usize>
     ensures place { result ≡ position is_colon text.now }

@@ -2,3 +2,6 @@ pub mod NodeListLemmas
 pub mod ApartLemmas
 pub mod NodeTableLemmas
 pub mod NoteLemmas
+pub mod SpellLemmas
+pub mod NodeLemmas
+pub mod NodeReaderLemmas

@@ -2,3 +2,6 @@ pub mod Members
 pub mod Nodes
 pub mod NodeTables
 pub mod Notes
+pub mod Names
+pub mod Spellings
+pub mod NodeReaders

@@ -28,7 +28,7 @@ pub use comments::{Comments, skip_comments};
 pub use fault::{LineFault, NameFault};
 pub use hash::hash_of;
 pub use laws::{comments_keep_lines, parts_keep_comments, reads_names_again, texts_are_pieces};
-pub use lines::{Span, line_of, next_line, next_word, text_at};
+pub use lines::{Span, line_of, next_line, next_word, text_at, text_from};
 pub use name::{Name, NetNames, NodeName};
 pub use names::Names;
 pub use nodes::{inner_name, node_name, port_name};

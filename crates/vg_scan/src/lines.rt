@@ -140,6 +140,14 @@ pub fn text_at(bytes: &[u8], span: Span) -> &[u8]
     &bytes[from..to]
 }
 
+/// The text from a place on.
+pub fn text_from(text: &[u8], at: usize) -> &[u8]
+    requires { at ≤ length text.now }
+    ensures { result.now ≡ drop at text.now }
+{
+    &text[at..]
+}
+
 /// The number of the line in which a place stands; the first is 1.
 pub fn line_of(bytes: &[u8], at: usize) -> usize
     requires { at ≤ length bytes.now }

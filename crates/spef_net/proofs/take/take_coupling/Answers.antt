@@ -1,6 +1,6 @@
 use Rattle.std.proofs.Common.{rules, ◌≡◌, ℕ, subst, Result}
 use Rattle.vg_num.specs.declared.fault.NumFault.{NumFault}
-use Rattle.spef_net.specs.Names.{node_in}
+use Rattle.spef_nodes.specs.Names.{node_in}
 use Rattle.spef_net.specs.Statements.{both, coupling, value_in}
 use Rattle.spef_net.specs.Builders.{Takes}
 use Rattle.spef_net.proofs.WordLemmas.{coupling_bad}

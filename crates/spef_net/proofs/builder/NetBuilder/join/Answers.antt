@@ -1,5 +1,5 @@
 use Rattle.std.proofs.Common.{sym, ◌∙◌}
-use Rattle.spef_net.specs.Spellings.{named_by}
+use Rattle.spef_nodes.specs.Spellings.{named_by}
 use Rattle.spef_net.proofs.TakeLemmas.{conn_again, takes_conn}
 use Rattle.spef_net.proofs.builder.NetBuilder.join.Goals as goal
 

@@ -1,4 +1,4 @@
-use Rattle.spef_net.proofs.NodeReaderLemmas.{seen_two}
+use Rattle.spef_net.proofs.BuilderLemmas.{seen_two}
 use Rattle.spef_net.proofs.builder.NetBuilder.see_two.Goals as goal
 
 pub returns-in-Ok-see-clause-seen : goal.returns-in-Ok-see-clause-seen

@@ -3,7 +3,7 @@ use Rattle.vg_scan.specs.declared.name.NodeName.{NodeName}
 use Rattle.spef_nodes.specs.Members.{is_inner}
 use Rattle.spef_nodes.specs.Nodes.{note_at, is_joined, is_starred}
 use Rattle.spef_net.specs.Builders.{PartialNet}
-use Rattle.spef_net.specs.Spellings.{named_by}
+use Rattle.spef_nodes.specs.Spellings.{named_by}
 use Rattle.spef_net.proofs.TakeLemmas.{star_outer, star_joined, takes_star, takes_again}
 use Rattle.spef_net.proofs.builder.NetBuilder.star.Goals as goal
 
