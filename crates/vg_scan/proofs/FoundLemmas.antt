@@ -4,11 +4,11 @@ use Rattle.std.proofs.lemmas.List.{drop_all, drop-take, map-append}
 use Rattle.std.proofs.lemmas.List.Quantifiers.{position-Some}
 use Rattle.std.proofs.lemmas.Grind.{common_steps}
 use Rattle.std.specs.List.{position_or_len, position}
-use Rattle.vg_scan.specs.Lines.{is_blank, is_ink, words, part}
+use Rattle.vg_scan.specs.Lines.{is_blank, is_ink, is_low, words, part}
 use Rattle.vg_scan.specs.Spans.{part_at, words_at}
 use Rattle.vg_scan.specs.declared.lines.Span.{Span}
 use Rattle.vg_scan.proofs.LineLemmas.{first_none, first_at}
-use Rattle.vg_scan.proofs.WordLemmas.{words_skip, words_first, words_last, words_none}
+use Rattle.vg_scan.proofs.WordLemmas.{words_skip, words_first, words_last, words_none, skip_high}
 
 -- the first such byte from a place on, one byte later
 stepped : (p : ℕ → Bool) (b : ℕ) (bs : List ℕ) (t : Bool) → p b ≡ t → t ≡ false → position_or_len p (b ∷ bs) ≡ position_or_len p bs + 1
@@ -112,3 +112,11 @@ none_from line from e h = skipped line 0 from e ∙ ap words (drop_all from line
 -- the first word of another line, and what follows it
 pub some_from : (line : List ℕ) (from to : ℕ) → from ≡ 0 + position_or_len is_ink (drop 0 line) → from < length line → to ≡ from + position_or_len is_blank (drop from line) → words line ≡ part line from to ∷ words (drop to line)
 some_from line from to e h t = skipped line 0 from e ∙ found_next line from to h (next_there is_ink line 0 from (omega arith) e h) t
+
+-- bytes above the space are no blanks
+pub high_passed : (line : List ℕ) (at next : ℕ) → next ≡ at + position_or_len is_low (drop at line) → next + position_or_len is_blank (drop next line) ≡ at + position_or_len is_blank (drop at line)
+high_passed line at next e =
+    let n = position_or_len is_low (drop at line) in
+    let there : drop n (drop at line) ≡ drop next line = drop-drop n at line ∙ ap (λ k. drop k line) (sym e) in
+    let same : position_or_len is_blank (drop n (drop at line)) ≡ position_or_len is_blank (drop next line) = ap (position_or_len is_blank) there in
+    omega (arith, e, same, skip_high (drop at line) n (omega arith))

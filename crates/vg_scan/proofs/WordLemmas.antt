@@ -9,7 +9,7 @@ use Rattle.std.proofs.lemmas.List.Sums.{AllPass-from_list_all}
 use Rattle.std.proofs.lemmas.List.Splits.{slice_split_first, slice_split-cons_yes}
 use Rattle.vg_scan.proofs.LineLemmas.{split_whole, first_none, first_at}
 use Rattle.std.proofs.lemmas.Bool.Decides.{nat_tests}
-use Rattle.vg_scan.specs.Lines.{is_blank, is_ink, words}
+use Rattle.vg_scan.specs.Lines.{is_blank, is_ink, is_low, words}
 
 pub words_blank : (b : ℕ) (bs : List ℕ) → is_blank b ≡ true → words (b ∷ bs) ≡ words bs
 unfolding words
@@ -96,3 +96,17 @@ pub not_all_blank : (line : List ℕ) (from : ℕ) → position is_ink line ≡ 
 not_all_blank line from e all =
     let at = position-Some is_ink line from 0 e in
     ink_then_blank (is_blank (get_or line from 0)) at.1 (all from 0 at.0)
+
+-- no blank is above the space
+blank_low : (b : ℕ) → is_low b ≡ false → is_blank b ≡ false
+blank_low b e = grind (arith, nat_tests)
+
+high_step : (b : ℕ) (bs : List ℕ) (k : ℕ) (t : Bool) → is_low b ≡ t → (k ≤ position_or_len is_low bs → position_or_len is_blank bs ≡ k + position_or_len is_blank (drop k bs))
+    → suc k ≤ cond (not t) (1 + position_or_len is_low bs) 0 → position_or_len is_blank (b ∷ bs) ≡ suc k + position_or_len is_blank (drop k bs)
+high_step b bs k true e later h = absurd (omega (arith, h))
+high_step b bs k false e later h = rw (blank_low b e) (omega (arith, later (omega (arith, h))))
+
+pub skip_high : (line : List ℕ) (k : ℕ) → k ≤ position_or_len is_low line → position_or_len is_blank line ≡ k + position_or_len is_blank (drop k line)
+skip_high line zero h = omega arith
+skip_high [] (suc k) h = absurd (omega (arith, h))
+skip_high (b ∷ bs) (suc k) h = high_step b bs k (is_low b) refl (skip_high bs k) h

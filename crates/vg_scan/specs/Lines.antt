@@ -1,5 +1,5 @@
 -- The lines of a text, and the words of a line.
-use Rattle.std.specs.Prelude.{◌≡◌, ℕ, ◌+◌, ◌-◌, ◌==◌, ◌||◌, ◌<◌, not, nat_lt, map, Bool, List, length, take, drop, filter, slice_index}
+use Rattle.std.specs.Prelude.{◌≡◌, ℕ, ◌+◌, ◌-◌, ◌==◌, ◌||◌, ◌<◌, not, nat_le, nat_lt, map, Bool, List, length, take, drop, filter, slice_index}
 use Rattle.std.specs.List.{slice_split, count_by}
 use Rattle.std.specs.Str.Lines.{lines}
 
@@ -8,6 +8,10 @@ is_blank b = (b == 32) || (b == 9)
 
 abbrev pub is_ink : ℕ → Bool
 is_ink b = not (is_blank b)
+
+-- a space or a control character
+abbrev pub is_low : ℕ → Bool
+is_low b = nat_le b 32
 
 abbrev pub is_newline : ℕ → Bool
 is_newline b = b == 10

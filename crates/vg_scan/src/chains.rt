@@ -35,10 +35,8 @@ impl Chains {
         ensures buckets { IfOk result (λ chains. length chains.lasts.items ≡ buckets) }
     {
         let lasts = vec![in alloc; 0u32; buckets]?;
-        Ok(Chains {
-            lasts,
-            befores: Vec::new(alloc),
-        })
+        let befores = Vec::with_capacity(alloc, buckets)?;
+        Ok(Chains { lasts, befores })
     }
 
     /// How many buckets there are.

@@ -3,7 +3,7 @@
 ghost use Rattle.std.specs.Prelude.{◌≡◌, ◌==◌, ◌+◌, ◌≤◌, ◌∷◌, [], length, drop, OnOk, MatchOption};
 ghost use Rattle.std.specs.Iterator.{YieldsFirstRef, item_count};
 ghost use Rattle.std.specs.List.{position_or_len};
-ghost use Rattle.vg_scan.specs.Lines.{is_blank, is_ink, words};
+ghost use Rattle.vg_scan.specs.Lines.{is_blank, is_ink, is_low, words};
 ghost use Rattle.vg_scan.specs.Spans.{IsIn, part_at, words_at};
 
 use crate::lines::Span;
@@ -28,14 +28,33 @@ fn ink_from(line: &[u8], start: usize) -> usize
     at
 }
 
-/// Where the first blank stands from a place on, or the end.
+fn is_low(byte: u8) -> bool
+    ensures { result ≡ is_low byte }
+{
+    byte <= b' '
+}
+
+/// Where the first byte up to the space stands from a place on, or the end.
+fn low_from(line: &[u8], start: usize) -> usize
+    requires { start ≤ length line.now }
+    ensures { result ≡ start + position_or_len is_low (drop start line.now) }
+{
+    let mut at = start;
+    'high: while at < line.len() && !is_low(line[at]) {
+        at += 1;
+    }
+    at
+}
+
+/// Where the first blank stands from a place on, or the end. Nearly all bytes of words are above the space, so these are
+/// passed over by one comparison.
 fn blank_from(line: &[u8], start: usize) -> usize
     requires { start ≤ length line.now }
     ensures { result ≡ start + position_or_len is_blank (drop start line.now) }
 {
-    let mut at = start;
+    let mut at = low_from(line, start);
     'ink: while at < line.len() && !is_blank(line[at]) {
-        at += 1;
+        at = low_from(line, at + 1);
     }
     at
 }
