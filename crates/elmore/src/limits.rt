@@ -4,6 +4,7 @@ ghost use Rattle.std.specs.Prelude.{◌≡◌, ℕ, ◌↔◌, ◌≤◌, ◌^�
 ghost use Rattle.std.specs.List.{All};
 ghost use Rattle.elmore.specs.Trees.{total_resistance};
 ghost use Rattle.elmore.specs.Problems.{IsProblemWithin, IsRepWithin, IsDriverWithin, IsSmall, greatest_input, greatest_load, place_count, sink_of};
+ghost use Rattle.elmore.specs.Steps.{IsNetWithin};
 ghost use Rattle.elmore.specs.declared.parts.Sink.{Sink as SomeSink};
 
 use crate::parts::{Driver, Sink};
@@ -36,7 +37,7 @@ pub(crate) fn is_within(
 }
 
 fn is_net_within(nodes: &[Node], places: &[bool], reps: &[Rep]) -> bool
-    ensures { IsTrue result ↔ ((length nodes.now ≤ MOST_NODES) × (total_resistance nodes.now ≤ 10 ^ 12) × (greatest_load nodes.now places.now reps.now ≤ 10 ^ 11)) }
+    ensures { IsTrue result ↔ IsNetWithin nodes.now places.now reps.now }
 {
     nodes.len() <= MOST_NODES && is_resistance_within(nodes) && is_load_within(nodes, places, reps)
 }

@@ -2,6 +2,7 @@
 
 ghost use Rattle.std.specs.Prelude.{◌≡◌, ℕ, ◌<◌, ◌&&◌, true, false, length, slice_index_or, IfOk};
 ghost use Rattle.elmore.specs.Trees.{IsTree};
+ghost use Rattle.elmore.specs.Steps.{AreBoth};
 ghost use Rattle.elmore.specs.Problems.{is_live, is_sink, live_nodes as live_nodes_of, places as places_of};
 
 use crate::parts::Sink;
@@ -79,7 +80,7 @@ fn mark_above(nodes: &[Node], sinks: &[Option<Sink>], live: &mut [bool])
 fn free_and_live(alloc: Global, free: &[bool], live: &[bool]) -> Result<Row<bool>, Memory>
     requires { length live.now ≡ length free.now }
     ensures one_each { IfOk result (λ places. length places ≡ length free.now) }
-    ensures both { IfOk result (λ places. (v : ℕ) → v < length free.now → slice_index_or places v false ≡ (slice_index_or free.now v false && slice_index_or live.now v false)) }
+    ensures both { IfOk result (AreBoth free.now live.now) }
 {
     let mut places = vec![in alloc; false; free.len()]?;
     mark_both(free, live, &mut places);

@@ -5,6 +5,7 @@ use Rattle.rc_tree.specs.Chains.{edge_at, Joins, AreJoined}
 use Rattle.rc_tree.specs.Nets.{cap_at, capacitance_at}
 use Rattle.elmore.specs.declared.tree.Node.{Node}
 use Rattle.rc_tree.specs.declared.search.Place.{Place}
+use Rattle.rc_tree.specs.declared.search.Reached.{Reached}
 
 abbrev pub place_at : List Place → ℕ → Place
 place_at places i = slice_index_or places i (record { node = 0; parent = 0; edge = 0 })
@@ -22,6 +23,19 @@ with_place seat places place = if seat == 0 then places ++ (place ∷ []) else p
 
 abbrev pub with_seat : ℕ → List ℕ → ℕ → ℕ → List ℕ
 with_seat seat seats node next = if seat == 0 then slice_set seats node next else seats
+
+abbrev pub places_with : Reached → Place → List Place
+places_with old place = with_place (slice_index old.seats.items place.node) old.places.items place
+
+abbrev pub seats_with : Reached → Place → List ℕ
+seats_with old place = with_seat (slice_index old.seats.items place.node) old.seats.items place.node (length old.places.items + 1)
+
+-- all nodes have a seat, or this is the first that has none
+abbrev pub AreAllSeen : List ℕ → Type 0
+AreAllSeen seats = (v : ℕ) → v < length seats → IsSeen seats v
+
+abbrev pub IsFirstUnseen : List ℕ → ℕ → Type 0
+IsFirstUnseen seats v = (v < length seats) × (slice_index seats v ≡ 0) × ((u : ℕ) → u < v → IsSeen seats u)
 
 pub record IsWiredTo (edges : List (ℕ × ℕ × ℕ)) (places : List Place) (place : Place) : Type 0 where
   pub number : place.edge < length edges
@@ -63,6 +77,10 @@ pub record IsScan (n root : ℕ) (edges : List (ℕ × ℕ × ℕ)) (places : Li
   pub latest : (i : ℕ) → 0 < i → i < length places → ((place_at places i).parent < p) ⊎ (((place_at places i).parent ≡ p) × ((place_at places i).edge < limit))
   pub before : (i : ℕ) → i < p → AreSeenBy edges seats (place_at places i).node (length edges)
   pub now : AreSeenBy edges seats (place_at places p).node limit
+
+-- the places before p are scanned, in the net that the search has begun
+abbrev pub HasScanned : Reached → List (ℕ × ℕ × ℕ) → Reached → ℕ → Type 0
+HasScanned begun edges reached p = IsScan (length begun.seats.items) (root_of begun.places.items) edges reached.places.items reached.seats.items p 0
 
 -- the whole search: it saw just the nodes that are joined to the root
 pub record IsSearch (n root : ℕ) (edges : List (ℕ × ℕ × ℕ)) (places : List Place) (seats : List ℕ) : Type 0 where

@@ -3,7 +3,7 @@
 ghost use Rattle.std.specs.Prelude.{◌≡◌, ℕ, ◌+◌, ◌<◌, ◌≤◌, ◌^◌, ◌⊎◌, length, slice_index, IfOk, MatchOption};
 ghost use Rattle.rc_tree.specs.Chains.{edge_at, Joins};
 ghost use Rattle.rc_tree.specs.Links.{AreLinks, IsEndOf};
-ghost use Rattle.rc_tree.specs.Search.{root_of, with_place, with_seat, IsSeen, IsScan, IsSearch};
+ghost use Rattle.rc_tree.specs.Search.{places_with, seats_with, AreAllSeen, HasScanned, IsFirstUnseen, IsScan, IsSearch};
 
 use crate::links::{Links, Next};
 use std::alloc::Global;
@@ -86,8 +86,8 @@ fn scan(
     requires links { AreLinks edges.now links.now.first.items links.now.next.items }
     requires place { p < length reached.old.places.items }
     requires low { p < 2 ^ 30 }
-    requires before { IsScan (length reached.old.seats.items) (root_of reached.old.places.items) edges.now reached.old.places.items reached.old.seats.items p 0 }
-    ensures { IfOk result (λ _. IsScan (length reached.old.seats.items) (root_of reached.old.places.items) edges.now reached.new.places.items reached.new.seats.items (p + 1) 0) }
+    requires before { HasScanned reached.old edges.now reached.old p }
+    ensures { IfOk result (λ _. HasScanned reached.old edges.now reached.new (p + 1)) }
 {
     let node = reached.places[p].node;
     let mut j = links.first[node as usize];
@@ -128,8 +128,8 @@ fn following(edge: (u32, u32, u64), node: u32, next: Next) -> u32
 fn reach(reached: &mut Reached, place: Place) -> Result<(), Memory>
     requires node { place.node < length reached.old.seats.items }
     requires few { length reached.old.places.items ≤ 2 ^ 30 }
-    ensures seats { IfOk result (λ _. reached.new.seats.items ≡ with_seat (slice_index reached.old.seats.items place.node) reached.old.seats.items place.node (length reached.old.places.items + 1)) }
-    ensures places { IfOk result (λ _. reached.new.places.items ≡ with_place (slice_index reached.old.seats.items place.node) reached.old.places.items place) }
+    ensures seats { IfOk result (λ _. reached.new.seats.items ≡ seats_with reached.old place) }
+    ensures places { IfOk result (λ _. reached.new.places.items ≡ places_with reached.old place) }
 {
     let node = place.node as usize;
     if reached.seats[node] == 0 {
@@ -142,7 +142,7 @@ fn reach(reached: &mut Reached, place: Place) -> Result<(), Memory>
 /// The node of the least number that was not reached.
 pub(crate) fn first_unseen(seats: &[u32]) -> Option<u32>
     requires { length seats.now ≤ 2 ^ 30 }
-    ensures { MatchOption result ((v : ℕ) → v < length seats.now → IsSeen seats.now v) (λ v. (v < length seats.now) × (slice_index seats.now v ≡ 0) × ((u : ℕ) → u < v → IsSeen seats.now u)) }
+    ensures { MatchOption result (AreAllSeen seats.now) (IsFirstUnseen seats.now) }
 {
     'nodes: for v in 0..seats.len() {
         if seats[v] == 0 {

@@ -11,6 +11,7 @@ use Rattle.spef_file.specs.declared.reader.Reader.{Reader}
 use Rattle.spef_file.specs.declared.section.Section.{Section}
 use Rattle.spef_file.specs.Tables.{NetRow}
 use Rattle.spef_file.specs.Nets.{end_at}
+use Rattle.spef_file.specs.Words.{first_word, has_words}
 
 -- the lines of a net between its head and its end, where these lines follow its head
 abbrev pub inner_lines : List Line → List Line
@@ -41,7 +42,8 @@ AreSpans clear lines nets = All (λ (net : NetRow). IsSpan clear lines net.1) ne
 -- where these lines follow so many others, the sections before a line is taken and after it are right, and so is the count of the lines
 abbrev pub StaysRight : List ℕ → ℕ → ℕ → ℕ → ℕ → List NetRow → List NetRow → Line → Type 0
 StaysRight clear next to count new_count sections new_sections line =
-    (lines : List Line) → drop count lines ≡ line ∷ lines_of (drop next clear) → AreSpans clear lines sections → AreSpans clear lines new_sections × (drop new_count lines ≡ lines_of (drop to clear))
+    (lines : List Line) → drop count lines ≡ line ∷ lines_of (drop next clear) → AreSpans clear lines sections
+    → AreSpans clear lines new_sections × (drop new_count lines ≡ lines_of (drop to clear))
 
 abbrev pub KeepsSpans : List ℕ → ℕ → Result ℕ SpefKind → Reader → Reader → Line → Type 0
 KeepsSpans clear next (Ok to) old new line = StaysRight clear next to old.count new.count old.nets new.nets line
@@ -54,6 +56,10 @@ GoesOn clear at next line = (m : ℕ) → next ≤ m → lines_of (part clear at
 -- the text's parts that begin at either place have the same lines
 abbrev pub KeepsLines : List ℕ → ℕ → ℕ → Type 0
 KeepsLines clear from to = (m : ℕ) → to < m → m ≤ length clear → lines_of (part clear to m) ≡ lines_of (part clear from m)
+
+-- the first word of a line, if it has one, begins at a place
+abbrev pub BeginsWord : List ℕ → ℕ → Line → Type 0
+BeginsWord clear at line = has_words line ≡ true → slice_index clear at ≡ slice_index (first_word line) 0
 
 -- a line of a text, and where the next one begins
 pub record IsLine (clear : List ℕ) (span : Span) (next : ℕ) (line : Line) : Type 0 where

@@ -29,7 +29,7 @@ pub record IsWhole (r : Reader) : Type 0 where
   pub small : IsSmall r.heading
   pub few : length r.nets ≤ r.count
 
--- this fault, or want of memory
+-- this fault, or out of memory
 abbrev pub IsFaultOrMemory : Option SpefKind → SpefKind → Type 0
 IsFaultOrMemory fault Memory = Unit {0}
 IsFaultOrMemory fault kind = fault ≡ Some kind

@@ -2,7 +2,7 @@
 
 ghost use Rattle.std.specs.Prelude.{◌≡◌, ◌<◌, ◌≤◌, ◌^◌, ◌+◌, length, OnOk, IfOk, ℕ, true, slice_index, option_map};
 ghost use Rattle.vg_scan.specs.Lines.{lines_of, words, part, is_blank, BeginsLine};
-ghost use Rattle.spef_file.specs.NetSpans.{IsLine, KeepsSpans, KeepsLines};
+ghost use Rattle.spef_file.specs.NetSpans.{BeginsWord, IsLine, KeepsSpans, KeepsLines};
 ghost use Rattle.vg_scan.specs.Spans.{IsIn, words_at, part_at};
 ghost use Rattle.spef_file.specs.Words.{first_word, second_word, has_words};
 ghost use Rattle.spef_file.specs.Keywords.{keyword_of};
@@ -199,7 +199,7 @@ fn start_of(bytes: &[u8], line: Span) -> usize
     ensures starts { KeepsLines bytes.now line.from result }
     ensures blank { (k : ℕ) → line.from ≤ k → k < result → is_blank (slice_index bytes.now k) ≡ true }
     ensures some { has_words (words (part_at bytes.now line)) ≡ true → result < line.to }
-    ensures word { has_words (words (part_at bytes.now line)) ≡ true → slice_index bytes.now result ≡ slice_index (first_word (words (part_at bytes.now line))) 0 }
+    ensures word { BeginsWord bytes.now result (words (part_at bytes.now line)) }
     ensures place { (line.from ≤ result) × (result ≤ line.to) }
 {
     match next_word(bytes, line) {

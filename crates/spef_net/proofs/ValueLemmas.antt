@@ -1,5 +1,5 @@
 -- Numbers have no colons.
-use Rattle.std.proofs.Common.{◌≡◌, ℕ, ◌+◌, ◌++◌, ◌<◌, ◌≤◌, ◌⊎◌, inl, inr, Bool, true, false, ◌&&◌, ◌||◌, not, nat_lt, cond, eqb, List, [], ◌∷◌, length, get_or, take_all, refl, sym, ap, ◌∙◌, arith, Option, Some, None, is_some, Result, Ok, Err}
+use Rattle.std.proofs.Common.{◌≡◌, ℕ, ◌+◌, ◌++◌, ◌<◌, ◌≤◌, ◌⊎◌, inl, inr, Bool, true, false, ◌&&◌, ◌||◌, not, nat_lt, eqb, List, [], ◌∷◌, length, get_or, take_all, refl, sym, ap, ◌∙◌, arith, Option, Some, None, is_some, Ok}
 use Rattle.std.specs.Prelude.{ℤ}
 use Rattle.std.specs.List.{before_first, after_first, position, position_or_len, list_all}
 use Rattle.std.specs.Str.Parse.{without_leading_sign}
@@ -7,8 +7,7 @@ use Rattle.std.proofs.lemmas.Bool.{cases_lt, eqb-true}
 use Rattle.std.proofs.lemmas.List.{drop_all}
 use Rattle.std.proofs.lemmas.List.Folds.{list_all-append, list_all_at}
 use Rattle.std.proofs.lemmas.List.Sums.{split_at_first, passes_at_first, position_or_len_is}
-use Rattle.vg_num.specs.Number.{is_e, is_point, is_digit, are_digits, mantissa, whole, fraction, exponent, is_number, is_negative, scaled}
-use Rattle.vg_num.specs.declared.fault.NumFault.{NumFault}
+use Rattle.vg_num.specs.Number.{is_e, is_point, is_digit, are_digits, mantissa, whole, fraction, exponent, is_number, scaled}
 use Rattle.spef_net.specs.Statements.{is_colon}
 use Rattle.spef_net.proofs.PlaceLemmas.{first_none}
 use Rattle.vg_scan.proofs.CutLemmas.{none_at}

@@ -10,7 +10,7 @@ use Rattle.spef_net.specs.declared.part.Part.TheVariants.{Nowhere, Conns, Caps, 
 use Rattle.spef_net.specs.declared.fault.NetKind.{NetKind}
 use Rattle.spef_net.specs.declared.fault.NetKind.TheVariants.{Cap, Res}
 use Rattle.spef_net.specs.Lines.{head_of}
-use Rattle.spef_net.specs.Statements.{Stated, Opens, Nothing, conn_line, cap_line, res_line, ground, coupling, resistor, value_in, statement_in, statement_or_opens, statement_of_words, statement_of}
+use Rattle.spef_net.specs.Statements.{Stated, Opens, Nothing, conn_line, cap_line, res_line, ground, coupling, resistor, statement_in, statement_or_opens, statement_of_words, statement_of}
 use Rattle.spef_net.specs.Sights.{ground_in, coupling_in, resistor_in}
 use Rattle.spef_net.specs.Rows.{is_inductance, joined_in}
 use Rattle.spef_net.specs.Builders.{PartialNet, Takes, Follows}

@@ -106,7 +106,8 @@ IsCounted connected _ = Unit {0}
 
 -- this line is taken after whatever lines the builder was made of
 abbrev pub Takes : Result (Unit {0}) NetKind → List ℕ → PartialNet → Stated → PartialNet → Type 0
-Takes result net old line new = (connected : List NodeName) (before : List Stated) → IsCounted connected line → IsPartialNet connected net before old → Taken result connected net before line new
+Takes result net old line new =
+    (connected : List NodeName) (before : List Stated) → IsCounted connected line → IsPartialNet connected net before old → Taken result connected net before line new
 
 -- the same, with the part that is open after the line
 abbrev pub Follows : Result Part NetKind → List ℕ → Part → PartialNet → Stated → PartialNet → Type 0

@@ -106,7 +106,7 @@ fn without_end(text: &[u8]) -> &[u8]
 
 /// The text without the spaces at its ends.
 #[tactic(auto, unfolding(crate::specs::Lines::trimmed))]
-fn trimmed(text: &[u8]) -> &[u8]
+fn trim(text: &[u8]) -> &[u8]
     ensures { result.now ≡ trimmed text.now }
 {
     without_end(text_from(text, solid_at(text)))
@@ -116,12 +116,12 @@ fn trimmed(text: &[u8]) -> &[u8]
 pub(crate) fn connection_note(line: &[u8]) -> &[u8]
     ensures { result.now ≡ note_after 3 line.now }
 {
-    trimmed(after_word(after_word(after_word(line))))
+    trim(after_word(after_word(after_word(line))))
 }
 
 /// The note that a `*N` line ends with.
 pub(crate) fn star_note(line: &[u8]) -> &[u8]
     ensures { result.now ≡ note_after 2 line.now }
 {
-    trimmed(after_word(after_word(line)))
+    trim(after_word(after_word(line)))
 }

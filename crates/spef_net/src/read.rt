@@ -18,11 +18,7 @@ use std::alloc::Global;
 use vg_scan::{Words, next_line, text_at};
 
 /// Takes a line, and says which part is open after it.
-fn take_line<'a>(
-    builder: &mut NetBuilder<'a>,
-    part: Part,
-    line: &'a [u8],
-) -> Result<Part, NetKind>
+fn take_line<'a>(builder: &mut NetBuilder<'a>, part: Part, line: &'a [u8]) -> Result<Part, NetKind>
     ensures taken { FollowsFrom builder.old part result (statement_of builder.old.file part line.now) builder.new }
     ensures source { OnOk result (IsSameSource builder.old builder.new) }
 {

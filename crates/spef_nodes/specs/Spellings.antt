@@ -1,5 +1,5 @@
 -- Names as texts spell them.
-use Rattle.std.specs.Prelude.{◌≡◌, ℕ, ℤ, [], ◌∷◌, ◌==◌, ◌||◌, not, Bool, true, false, slice_index, List, Option, Some, None, Result, Ok, Err, if◌then◌else◌}
+use Rattle.std.specs.Prelude.{◌≡◌, ℕ, ◌==◌, ◌||◌, not, Bool, true, false, slice_index, List, Option, Some, None, Result, Ok, Err, if◌then◌else◌}
 use Rattle.vg_scan.specs.declared.chars.Chars.{Chars}
 use Rattle.vg_scan.specs.declared.fault.NameFault.{NameFault}
 use Rattle.vg_scan.specs.declared.fault.NameFault.TheVariants.{Bad, Memory}
@@ -32,7 +32,7 @@ bytes_of (Made name) = name
 abbrev pub named_by : Node → NodeName
 named_by node = record { owner = bytes_of node.owner; leaf = bytes_of node.leaf }
 
--- a name that is there as is defined, or want of memory
+-- a name that is there as is defined, or out of memory
 abbrev pub Spells : Result Spelled NameFault → Option (List ℕ) → Type 0
 Spells (Ok name) o = o ≡ Some (bytes_of name)
 Spells (Err Bad) o = o ≡ None

@@ -11,7 +11,9 @@ ghost use Rattle.spef_nodes.specs.Spellings.{is_bare, is_itself, IsUnescaped, by
 
 use spef_file::{SpefIndex, mapped};
 use std::alloc::Global;
-use vg_scan::{Chars, Name, NameFault, index_of, is_reference, spef_name, split_node, text_at, text_from};
+use vg_scan::{
+    Chars, Name, NameFault, index_of, is_reference, spef_name, split_node, text_at, text_from,
+};
 
 /// A name, as a text spells it.
 #[derive(Drop)]

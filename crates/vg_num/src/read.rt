@@ -72,17 +72,16 @@ fn exponent_of(text: &[u8]) -> Option<&[u8]>
 fn without_sign(text: &[u8]) -> &[u8]
     ensures { result.now ≡ without_leading_sign text.now }
 {
-    if !text.is_empty() && (text[0] == b'-' || text[0] == b'+') {
-        &text[1..]
-    } else {
-        text
+    match text {
+        [b'-' | b'+', rest @ ..] => rest,
+        _ => text,
     }
 }
 
 pub(crate) fn begins_with_minus(text: &[u8]) -> bool
     ensures { result ≡ starts_with_minus text.now }
 {
-    !text.is_empty() && text[0] == b'-'
+    matches!(text, [b'-', ..])
 }
 
 pub(crate) fn are_digits(text: &[u8]) -> bool

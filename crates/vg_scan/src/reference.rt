@@ -22,7 +22,7 @@ pub fn are_digits(text: &[u8]) -> bool
 pub fn is_reference(text: &[u8]) -> bool
     ensures { result ≡ is_reference text.now }
 {
-    !text.is_empty() && text[0] == b'*'
+    matches!(text, [b'*', ..])
 }
 
 /// The digits of a reference to an index of names: `*`, one digit or more, and nothing else. `None`: another text.

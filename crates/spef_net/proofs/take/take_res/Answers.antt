@@ -1,4 +1,4 @@
-use Rattle.std.proofs.Common.{◌≡◌, ◌∷◌, [], refl, sym, ◌∙◌, arith}
+use Rattle.std.proofs.Common.{[], sym, ◌∙◌, arith}
 use Rattle.spef_net.proofs.WordLemmas.{res_other, res_resistor, then_word, none_more, some_more}
 use Rattle.spef_net.proofs.take.take_res.Goals as goal
 
