@@ -1,6 +1,6 @@
 # `make` proves and builds the program, once. `make demo` and `make time` run it on an example; where it is not built yet,
-# without a proof. `make pages` compares the pages with the outputs that the tests expect. `make test` is the merge gate.
-.PHONY: build demo time pages test
+# without a proof. `make test` is the merge gate.
+.PHONY: build demo time test
 
 build:
 	VGINSERT_BUILD=only ./vginsert
@@ -10,9 +10,6 @@ demo:
 
 time:
 	@VGINSERT_BUILD=try ./vginsert --mode time --spef examples/ports.spef --cons examples/ports.cons --net p
-
-pages:
-	examples/check
 
 test:
 	rt ci

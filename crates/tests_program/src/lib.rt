@@ -4,8 +4,6 @@
 #[cfg(test)]
 mod design;
 #[cfg(test)]
-mod examples;
-#[cfg(test)]
 mod program;
 #[cfg(test)]
 mod texts;

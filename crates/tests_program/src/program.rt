@@ -33,7 +33,7 @@ const NO_FAILING: Failing<'static> = (&[], &[], &[]);
 type Given<'a> = (&'a str, &'a str, &'a str);
 
 /// The status of a run, what it printed and what it told.
-pub(crate) type Ending<'a> = (u8, &'a str, &'a str);
+type Ending<'a> = (u8, &'a str, &'a str);
 
 fn files_of(
     alloc: Global,
@@ -74,7 +74,7 @@ fn ends(
 }
 
 /// Whether a run over these files ends so, where the outputs move so many bytes a call and these calls fail.
-pub(crate) fn ends_over(
+fn ends_over(
     alloc: Global,
     words: &[String],
     files: &mut MemFiles,
