@@ -9,7 +9,7 @@ use std::process::ExitCode;
 use vg_store::RealFiles;
 
 /// The pages, by their paths.
-const PAGES: [&str; 1] = ["examples/README.md"];
+const PAGES: [&str; 2] = ["README.md", "examples/README.md"];
 
 fn main(rt: HostRuntime) -> ExitCode {
     let mut files = RealFiles::new(&rt);
