@@ -5,7 +5,7 @@ ghost use Rattle.vg_scan.specs.Printed.{IsPrintable};
 use std::alloc::Global;
 use std::test::Fail;
 use vg_scan::{
-    Chars, Comments, Name, NameFault, Names, Span, index_of, inner_name, line_of, next_line,
+    Chars, Comments, Name, NameFault, Names, Span, Words, index_of, inner_name, line_of, next_line,
     next_word, node_name, port_name, print_spef_name, skip_comments, spef_name, split_node,
     text_at,
 };
@@ -130,6 +130,40 @@ fn lines_and_words(rt: HostRuntime) {
     assert!(rt; word_at(5, 6).is_none());
     assert!(rt; line_of(LINES, 4) == 1 && line_of(LINES, 5) == 2);
     assert!(rt; text_at(LINES, Span { from: 6, to: 9 }) == b"cd".as_slice());
+}
+
+/// Lines, and their words with a bar after each.
+static LINE_WORDS: [(&[u8], &[u8]); 6] = [
+    (b"", b""),
+    (b" \t ", b""),
+    (b"*CAP", b"*CAP|"),
+    (b"1 n:1 0.5", b"1|n:1|0.5|"),
+    (b"\t 1\t\tn:1  0.5 \t", b"1|n:1|0.5|"),
+    (b"a\x01b c\r", b"a\x01b|c\r|"),
+];
+
+/// Whether these are the words of a line, with a bar after each.
+fn are_words(line: &[u8], shown: &[u8]) -> bool {
+    let mut words = Words::new(line);
+    let mut rest = shown;
+    while let Some(word) = words.next() {
+        let Some(after) = rest.strip_prefix(word) else {
+            return false;
+        };
+        let [b'|', after @ ..] = after else {
+            return false;
+        };
+        rest = after;
+    }
+    words.is_empty() && rest.is_empty()
+}
+
+#[test]
+fn words_one_by_one(rt: HostRuntime) {
+    for (line, shown) in &LINE_WORDS {
+        assert!(rt; are_words(line, shown));
+    }
+    assert!(rt; !Words::new(b" a").is_empty());
 }
 
 /// Texts with comments and without.
