@@ -1,0 +1,6 @@
+pub mod PartLemmas
+pub mod LeadLemmas
+pub mod FrontLemmas
+pub mod WayLemmas
+pub mod MachineLemmas
+pub mod LawLemmas

@@ -1,0 +1,4 @@
+pub mod Grammar
+pub mod Ways
+pub mod Machines
+pub mod Laws
