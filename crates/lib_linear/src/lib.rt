@@ -3,6 +3,7 @@
 //! The text is read in place, token by token: nothing is copied, and no token is kept.
 #![tactic(auto)]
 
+mod join;
 mod lexer;
 mod quoting;
 mod token;
