@@ -1,3 +1,6 @@
 pub mod RunLemmas
 pub mod TokenLemmas
 pub mod JoinLemmas
+pub mod MoveLemmas
+pub mod ArgumentLemmas
+pub mod ReadLemmas

@@ -9,8 +9,8 @@ use Rattle.lib_linear.specs.declared.token.Content.{Content}
 use Rattle.lib_linear.specs.declared.token.Content.TheVariants.{Value as OfValue, List as OfList}
 use Rattle.lib_linear.specs.declared.token.Found.{Found}
 use Rattle.lib_linear.specs.declared.quoting.Quoting.TheVariants.{Outside}
-use Rattle.lib_linear.specs.Tokens.{is_space, is_letter, is_word_byte, indent, end_of, kind_of, token, content_after, content_at, content_length, begun, begun_length, tokens_from}
-use Rattle.lib_linear.proofs.RunLemmas.{end_nil}
+use Rattle.lib_linear.specs.Tokens.{is_space, is_letter, is_word_byte, indent, ends, end_of, kind_of, token, content_after, content_at, content_length, begun, begun_length, tokens_from}
+use Rattle.lib_linear.proofs.RunLemmas.{until_nil}
 use Rattle.lib_linear.specs.Found.{tokens_next, waiting, IsFirst}
 
 -- bytes of a token that began before are passed over
@@ -117,7 +117,7 @@ module _ (text : List ℕ) (at : ℕ) where
       let d = indented from e in
       let n : drop from text ≡ [] = drop_all from text (omega arith) in
       let j : tokens_from (indent (drop at text) + end_of OfValue Outside []) at (drop at text) ≡ [] =
-      rw (end_nil OfValue Outside, add-zero) (jump_in text at (indent (drop at text)) (omega arith) ∙ rw (← e, n) (none_left 0 from)) in
+      rw (until_nil (ends OfValue) Outside, add-zero) (jump_in text at (indent (drop at text)) (omega arith) ∙ rw (← e, n) (none_left 0 from)) in
       rw (t, d, n) j
 
   pub value_first : (from to : ℕ) (kind : TokenKind) → at ≤ length text → from ≡ at + indent (drop at text) → from < length text

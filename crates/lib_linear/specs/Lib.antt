@@ -3,3 +3,9 @@ pub mod Tokens
 pub mod Found
 pub mod Joined
 pub mod Joining
+pub mod Grammar
+pub mod Moves
+pub mod Arguments
+pub mod Kinds
+pub mod Syntax
+pub mod Reading

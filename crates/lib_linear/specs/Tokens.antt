@@ -9,7 +9,7 @@ use Rattle.lib_linear.specs.declared.token.Content.{Content}
 use Rattle.lib_linear.specs.declared.token.Content.TheVariants.{Value as OfValue, List as OfList}
 use Rattle.lib_linear.specs.declared.quoting.Quoting.{Quoting}
 use Rattle.lib_linear.specs.declared.quoting.Quoting.TheVariants.{Outside}
-use Rattle.lib_linear.specs.Strings.{quoting_after, is_quoted}
+use Rattle.lib_linear.specs.Strings.{quoting_after, is_quoted, until}
 
 -- a blank or a line's end
 abbrev pub is_space : ℕ → Bool
@@ -29,9 +29,8 @@ ends OfValue quoting b = is_newline b || (not (is_quoted quoting) && ((b == 59) 
 ends OfList quoting b = not (is_quoted quoting) && (b == 41)
 
 -- how many bytes stand before the end of a value or of a list
-unfoldable pub end_of : Content → Quoting → List ℕ → ℕ
-end_of content quoting [] = 0
-end_of content quoting (b ∷ bs) = if ends content quoting b then 0 else suc (end_of content (quoting_after quoting b) bs)
+abbrev pub end_of : Content → Quoting → List ℕ → ℕ
+end_of content quoting bs = until (ends content) quoting bs
 
 -- none of these is over 126 outside strings
 unfoldable pub is_sound : Content → Quoting → List ℕ → Bool

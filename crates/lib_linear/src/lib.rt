@@ -3,9 +3,17 @@
 //! The text is read in place, token by token: nothing is copied, and no token is kept.
 #![tactic(auto)]
 
+mod arguments;
 mod join;
+mod kind;
 mod lexer;
 mod quoting;
+mod state;
+mod step;
+mod syntax;
 mod token;
 
+pub use join::join_lines;
+pub use kind::Kind;
+pub use syntax::{check_syntax, line_at};
 pub use token::{Token, TokenKind};

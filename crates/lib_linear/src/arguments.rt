@@ -1,0 +1,155 @@
+//! The arguments of a complex attribute or of a group.
+
+ghost use Rattle.std.specs.Prelude.{◌≡◌, ◌==◌, ◌+◌, ◌≤◌, false, length, drop, MatchOption};
+ghost use Rattle.std.specs.List.{list_all, position, position_or_len};
+ghost use Rattle.vg_scan.specs.Lines.{is_ink};
+ghost use Rattle.lib_linear.specs.declared.quoting.Quoting.TheVariants.{Outside};
+ghost use Rattle.lib_linear.specs.Arguments.{is_comma, without_end, trimmed, unquoted, is_in_quotes, arguments_of, is_name_byte, is_name, are_names, EndsName};
+ghost use Rattle.lib_linear.specs.Strings.{until};
+ghost use Rattle.lib_linear.specs.Kinds.{list_kind};
+
+use crate::kind::Kind;
+use crate::quoting::Quoting;
+
+fn first_ink(text: &[u8]) -> Option<usize>
+    ensures { result ≡ position is_ink text.now }
+{
+    text.iter()
+        .position(|byte| !(*byte == b' ' || *byte == b'\t'))
+}
+
+fn ink_at(text: &[u8]) -> usize
+    ensures place { result ≡ position_or_len is_ink text.now }
+    ensures within { result ≤ length text.now }
+{
+    match first_ink(text) {
+        None => text.len(),
+        Some(at) => at,
+    }
+}
+
+fn text_from(text: &[u8], at: usize) -> &[u8]
+    requires { at ≤ length text.now }
+    ensures { result.now ≡ drop at text.now }
+{
+    &text[at..]
+}
+
+/// The text without the blanks at its end.
+fn without_end(text: &[u8]) -> &[u8]
+    ensures { result.now ≡ without_end text.now }
+{
+    let mut end = text.len();
+    'back: while end > 0 && (text[end - 1] == b' ' || text[end - 1] == b'\t') {
+        end -= 1;
+    }
+    &text[..end]
+}
+
+/// The text without the blanks at its ends.
+#[tactic(auto, unfolding(crate::specs::Arguments::trimmed))]
+pub(crate) fn trimmed(text: &[u8]) -> &[u8]
+    ensures { result.now ≡ trimmed text.now }
+{
+    without_end(text_from(text, ink_at(text)))
+}
+
+fn is_in_quotes(text: &[u8]) -> bool
+    ensures { result ≡ is_in_quotes text.now }
+{
+    1 < text.len() && text[0] == b'"' && text[text.len() - 1] == b'"'
+}
+
+/// The text without one pair of quotes around it.
+#[tactic(auto, unfolding(crate::specs::Arguments::unquoted))]
+pub(crate) fn unquoted(text: &[u8]) -> &[u8]
+    ensures { result.now ≡ unquoted text.now }
+{
+    if is_in_quotes(text) {
+        &text[1..text.len() - 1]
+    } else {
+        text
+    }
+}
+
+fn all_name_bytes(text: &[u8]) -> bool
+    ensures { result ≡ list_all is_name_byte text.now }
+{
+    text.iter().all(|byte| 33 <= *byte && *byte <= 126)
+}
+
+/// Whether a text may be the name of a cell or of a pin: one byte or more from 33 to 126.
+#[tactic(auto, unfolding(crate::specs::Arguments::is_name))]
+pub(crate) fn is_name(text: &[u8]) -> bool
+    ensures { result ≡ is_name text.now }
+{
+    !text.is_empty() && all_name_bytes(text)
+}
+
+/// Where the argument ends that begins at a place: at a comma outside strings, or at the list's end.
+fn argument_end(list: &[u8], at: usize) -> usize
+    requires { at ≤ length list.now }
+    ensures place { result ≡ at + until is_comma Outside (drop at list.now) }
+    ensures within { result ≤ length list.now }
+{
+    let mut end = at;
+    let mut quoting = Quoting::Outside;
+    'argument: while end < list.len() && !is_comma(quoting, list[end]) {
+        quoting = quoting.after(list[end]);
+        end += 1;
+    }
+    end
+}
+
+fn is_comma(quoting: Quoting, byte: u8) -> bool
+    ensures { result ≡ is_comma quoting byte }
+{
+    !quoting.is_quoted() && byte == b','
+}
+
+/// Where the argument ends that begins at a place, if it is a name.
+fn name_end(list: &[u8], at: usize) -> Option<usize>
+    requires { at ≤ length list.now }
+    ensures { MatchOption result (are_names (drop at list.now) ≡ false) (EndsName list.now at) }
+{
+    let end = argument_end(list, at);
+    if is_name(unquoted(trimmed(&list[at..end]))) {
+        Some(end)
+    } else {
+        None
+    }
+}
+
+fn are_names(list: &[u8]) -> bool
+    ensures { result ≡ are_names list.now }
+{
+    let mut at = 0;
+    'argument: while let Some(end) = name_end(list, at) {
+        if end == list.len() {
+            return true;
+        }
+        at = end + 1;
+    }
+    false
+}
+
+fn is_one(list: &[u8]) -> bool
+    ensures { result ≡ (length (arguments_of list.now) == 1) }
+{
+    argument_end(list, 0) == list.len()
+}
+
+/// What a list of arguments is to the grammar.
+#[tactic(auto, unfolding(crate::specs::Kinds::list_kind))]
+pub(crate) fn list_kind(list: &[u8]) -> Kind
+    ensures { result ≡ list_kind list.now }
+{
+    if !are_names(list) {
+        return Kind::Other;
+    }
+    if is_one(list) {
+        Kind::Single
+    } else {
+        Kind::Several
+    }
+}
