@@ -6,6 +6,8 @@ mod cons;
 #[cfg(test)]
 mod file;
 #[cfg(test)]
+mod liberty;
+#[cfg(test)]
 mod net;
 #[cfg(test)]
 mod num;
