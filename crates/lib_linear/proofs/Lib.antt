@@ -4,3 +4,4 @@ pub mod JoinLemmas
 pub mod MoveLemmas
 pub mod ArgumentLemmas
 pub mod ReadLemmas
+pub mod RowLemmas

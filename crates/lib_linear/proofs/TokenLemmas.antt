@@ -72,7 +72,7 @@ module _ (text : List ℕ) (at : ℕ) where
     first = e ∙ f.first;
     within = f.within;
     falls = omega (arith, f.falls);
-    from = f.from;
+    places = f.places;
   }
 
 module _ (text : List ℕ) (at : ℕ) (in_text : at < length text) where
@@ -89,7 +89,7 @@ module _ (text : List ℕ) (at : ℕ) (in_text : at < length text) where
         rw (here, by_word at (get_or text at 0) (drop (at + 1) text) s l, j, e) refl;
     within = h;
     falls = omega arith;
-    from = omega arith;
+    places = (omega arith, omega arith);
   }
 
   waits : (content : Option Content) → waiting content ≤ 1
@@ -102,7 +102,7 @@ module _ (text : List ℕ) (at : ℕ) (in_text : at < length text) where
     first = rw (here, by_mark at (get_or text at 0) (drop (at + 1) text) s l) refl;
     within = omega arith;
     falls = let w = waits (content_after (get_or text at 0)) in omega (arith, w);
-    from = omega arith;
+    places = (omega arith, omega arith);
   }
 
 -- ---- contents
@@ -133,7 +133,7 @@ module _ (text : List ℕ) (at : ℕ) where
         first = rw (t, d, j, l, ← e, ← g) refl;
         within = k;
         falls = omega (arith, e, g);
-        from = omega (arith, f);
+        places = (omega (arith, f), omega (arith, f));
       }
 
   pub no_list : (to : ℕ) → at ≤ length text → to ≡ at + end_of OfList Outside (drop at text) → to ≡ length text → tokens_next text (Some OfList) at ≡ []
@@ -152,5 +152,5 @@ module _ (text : List ℕ) (at : ℕ) where
         first = rw (t, j, k, ← e) refl;
         within = omega arith;
         falls = omega (arith, e);
-        from = omega arith;
+        places = (omega arith, omega arith);
       }

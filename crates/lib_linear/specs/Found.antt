@@ -23,4 +23,4 @@ pub record IsFirst (text : List ℕ) (content : Option Content) (at : ℕ) (foun
   pub first : tokens_next text content at ≡ found.token ∷ tokens_next text found.content found.at
   pub within : found.at ≤ length text
   pub falls : left text found.content found.at < left text content at
-  pub from : found.token.from ≤ length text
+  pub places : (found.token.from ≤ length text) × (found.token.to ≤ length text)

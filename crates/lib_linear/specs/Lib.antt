@@ -9,3 +9,5 @@ pub mod Arguments
 pub mod Kinds
 pub mod Syntax
 pub mod Reading
+pub mod Rows
+pub mod Growing

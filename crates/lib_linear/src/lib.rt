@@ -1,4 +1,4 @@
-//! The text of a Liberty library: its tokens, and whether they are a library.
+//! The text of a Liberty library: its tokens, whether they are a library, and its statements as rows.
 //!
 //! The text is read in place, token by token: nothing is copied, and no token is kept.
 #![tactic(auto)]
@@ -8,6 +8,8 @@ mod join;
 mod kind;
 mod lexer;
 mod quoting;
+mod row;
+mod rows;
 mod state;
 mod step;
 mod syntax;
@@ -15,5 +17,7 @@ mod token;
 
 pub use join::join_lines;
 pub use kind::Kind;
+pub use row::{Form, Row};
+pub use rows::rows_of;
 pub use syntax::{check_syntax, line_at};
 pub use token::{Token, TokenKind};
