@@ -1,8 +1,9 @@
 //! Texts that are libraries or not, taken from the format.
 
-use lib_linear::{check_syntax, join_lines, line_at};
+use lib_linear::{Form, Row, check_syntax, join_lines, line_at, rows_of};
 use std::alloc::Global;
 use std::test::Fail;
+use vg_scan::{Span, text_at};
 
 /// The line at which a text is no library, if it is none.
 fn broken_line(alloc: Global, bytes: &[u8]) -> Result<Option<usize>, Fail> {
@@ -136,5 +137,53 @@ fn broken_nest(alloc: Global, groups: usize) -> Result<Option<usize>, Fail> {
 fn nested_groups(rt: HostRuntime) -> Result<(), Fail> {
     assert!(rt; broken_nest(rt.alloc(), 64)?.is_none());
     assert!(rt; broken_nest(rt.alloc(), 65)? == Some(65));
+    Ok(())
+}
+
+const CELLS: &str = "library (l) {
+  time_unit : \"1ns\" ;
+  cell (A) { area : 2 }
+  define (a, b);
+  cell (B) {
+    pin (\"C\", D) { capacitance : 1; }
+    area : 3;
+  }
+}
+";
+
+/// The statements of the text above: the row of the group around each, its form, its name, and its value or arguments.
+static ROWS: [(u32, Form, &str, &str); 9] = [
+    (0, Form::Group, "library", "l"),
+    (0, Form::Simple, "time_unit", "\"1ns\" "),
+    (0, Form::Group, "cell", "A"),
+    (2, Form::Simple, "area", "2 "),
+    (0, Form::Complex, "define", "a, b"),
+    (0, Form::Group, "cell", "B"),
+    (5, Form::Group, "pin", "\"C\", D"),
+    (6, Form::Simple, "capacitance", "1"),
+    (5, Form::Simple, "area", "3"),
+];
+
+/// Whether a row says this of the text above.
+fn says(row: Row, wanted: &(u32, Form, &str, &str)) -> bool {
+    let bytes = CELLS.as_bytes();
+    let name = row.name as usize;
+    let content = Span {
+        from: row.from as usize,
+        to: row.to as usize,
+    };
+    row.parent == wanted.0
+        && row.form == wanted.1
+        && bytes[name.min(bytes.len())..].starts_with(wanted.2.as_bytes())
+        && text_at(bytes, content) == wanted.3.as_bytes()
+}
+
+#[test]
+fn rows(rt: HostRuntime) -> Result<(), Fail> {
+    let rows = rows_of(rt.alloc(), CELLS.as_bytes())?;
+    assert!(rt; rows.len() == ROWS.len());
+    for (row, wanted) in rows.iter().zip(&ROWS) {
+        assert!(rt; says(*row, wanted), "{}", wanted.2);
+    }
     Ok(())
 }
