@@ -21,3 +21,5 @@ pub mod BlankLemmas
 pub mod FaultLemmas
 pub mod ItemLemmas
 pub mod SolidLemmas
+pub mod LibertyLemmas
+pub mod LibertyLawLemmas

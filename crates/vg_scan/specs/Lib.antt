@@ -15,3 +15,5 @@ pub mod Parts
 pub mod References
 pub mod Nodes
 pub mod Faults
+pub mod LibertyComments
+pub mod LibertyClearing
