@@ -3,11 +3,12 @@
 use lib_linear::{Form, Row, check_syntax, join_lines, line_at, rows_of};
 use std::alloc::Global;
 use std::test::Fail;
-use vg_scan::{Span, text_at};
+use vg_scan::{Span, clear_liberty_comments, text_at};
 
 /// The line at which a text is no library, if it is none.
 fn broken_line(alloc: Global, bytes: &[u8]) -> Result<Option<usize>, Fail> {
     let mut text = Vec::from_slice(alloc, bytes)?;
+    clear_liberty_comments(text.as_mut_slice());
     join_lines(text.as_mut_slice());
     match check_syntax(text.as_slice()) {
         Ok(()) => Ok(None),
@@ -83,6 +84,32 @@ static STATEMENTS: [(&str, Option<usize>); 30] = [
 #[test]
 fn statements(rt: HostRuntime) -> Result<(), Fail> {
     for (text, line) in &STATEMENTS {
+        let found = broken_statement(rt.alloc(), text)?;
+        assert!(rt; found == *line, "{text}");
+    }
+    Ok(())
+}
+
+static COMMENTS: [(&str, Option<usize>); 14] = [
+    ("/* a : \n \u{e9} ; */ b : 1;", None),
+    ("a : 1 /* ; */ ;", None),
+    ("a /* : */ : /* 1 */ 2;", None),
+    ("a : \"/*\"; b : \"*/\";", None),
+    ("a : \"b\\\n/*\"; c : 1; /*\"; */", None),
+    ("a : \"b\\\r\n/*\"; c : 1; /*\"; */", None),
+    ("a : \"b\n/*\"; c : 1; */", None),
+    ("a : b \\/* ; c : 1; */", Some(2)),
+    ("// a : 1;", Some(2)),
+    ("/*/ a : 1; */", None),
+    ("/* a\n*/ b", Some(4)),
+    ("a : 1; /* b", Some(3)),
+    ("cell /* A */ (/* B */ C /* D */) {}", None),
+    ("a : 1; /* \\\n */\n:", Some(4)),
+];
+
+#[test]
+fn comments(rt: HostRuntime) -> Result<(), Fail> {
+    for (text, line) in &COMMENTS {
         let found = broken_statement(rt.alloc(), text)?;
         assert!(rt; found == *line, "{text}");
     }
