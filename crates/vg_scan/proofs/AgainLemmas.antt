@@ -4,9 +4,10 @@ use Rattle.std.specs.Prelude.{if◌then◌else◌}
 use Rattle.vg_scan.specs.declared.scan.Scan.{Scan}
 use Rattle.vg_scan.specs.declared.scan.Scan.TheVariants.{Outside, Quoted, InLine, InBlock}
 use Rattle.vg_scan.specs.declared.comments.Comments.{Comments}
-use Rattle.vg_scan.specs.declared.comments.Comments.TheVariants.{Spef}
+use Rattle.vg_scan.specs.declared.comments.Comments.TheVariants.{Spef, Liberty}
 use Rattle.vg_scan.specs.Comments.{without_comments, blanked}
 use Rattle.vg_scan.specs.Clearing.{cleared_in, is_mark}
+use Rattle.vg_scan.proofs.LibertyAgainLemmas.{without_liberty_again}
 use Rattle.vg_scan.proofs.PieceLemmas.{cleared_is}
 use Rattle.vg_scan.proofs.ClearedLemmas.{escape, quote, plain, eq_test, eq_of, ne_of_false}
 use Rattle.vg_scan.proofs.PlainLemmas.{no_mark}
@@ -96,6 +97,11 @@ again InBlock (b ∷ []) = refl
 again InBlock (b ∷ c ∷ bs) =
     pick ((b == 42) && (c == 47)) _ _ (λ _. keeps 32 _ refl (keeps 32 _ refl (again Outside bs))) (λ _. keeps (blanked b) _ (blanked_none b) (again InBlock (c ∷ bs)))
 
+liberty_again : (text : List ℕ) → without_comments Liberty (without_comments Liberty text) ≡ without_comments Liberty text
+unfolding without_comments
+liberty_again text = without_liberty_again text
+
 pub without_again : (kind : Comments) (text : List ℕ) → without_comments kind (without_comments kind text) ≡ without_comments kind text
 without_again Spef text =
     ap (without_comments Spef) (sym (cleared_is text)) ∙ sym (cleared_is (cleared_in Outside text)) ∙ again Outside text ∙ cleared_is text
+without_again Liberty text = liberty_again text

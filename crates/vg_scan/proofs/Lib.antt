@@ -23,3 +23,4 @@ pub mod ItemLemmas
 pub mod SolidLemmas
 pub mod LibertyLemmas
 pub mod LibertyLawLemmas
+pub mod LibertyAgainLemmas

@@ -61,3 +61,9 @@ some_fit (suc n) (b ∷ bs) l =
 pub comments_blank_alone : (text : List ℕ) → AllZip StaysOrBlanks text (without_liberty_comments text)
 unfolding without_liberty_comments liberty_pieces
 comments_blank_alone text = some_fit (length text) text (omega arith)
+
+pub zip_length : (xs us : List ℕ) → AllZip StaysOrBlanks xs us → length us ≡ length xs
+zip_length [] [] h = refl
+zip_length [] (u ∷ us) h = absurd h
+zip_length (x ∷ xs) [] h = absurd h
+zip_length (x ∷ xs) (u ∷ us) h = ap suc (zip_length xs us h.1)

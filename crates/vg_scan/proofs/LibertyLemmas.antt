@@ -98,7 +98,7 @@ module _ (old now : List ℕ) (at p x : ℕ) (low : at ≤ p) (high : p < length
 
 -- ---- pieces
 
-eq_of : (a b : ℕ) → (a == b) ≡ true → a ≡ b
+pub eq_of : (a b : ℕ) → (a == b) ≡ true → a ≡ b
 eq_of a b e = grind (arith, nat_tests)
 
 choose : (P : ℕ → Type 0) (t : Bool) (x y : ℕ) → (t ≡ true → P x) → (t ≡ false → P y) → P (cond t x y)
@@ -112,7 +112,7 @@ some b (c ∷ bs) =
     choose (λ k. 0 < k) (b == 34) _ _ (λ _. omega arith) (λ _.
     choose (λ k. 0 < k) (is_block_mark b c) _ _ (λ _. omega arith) (λ _. omega arith)))
 
-no_block : (b : ℕ) (xs : List ℕ) → b ≡ 34 → is_block (b ∷ xs) ≡ false
+pub no_block : (b : ℕ) (xs : List ℕ) → b ≡ 34 → is_block (b ∷ xs) ≡ false
 no_block b [] e = refl
 no_block b (c ∷ xs) e = rw e refl
 
@@ -149,7 +149,7 @@ unfolding without_liberty_comments liberty_pieces some_liberty_pieces
 nothing = refl
 
 -- the first piece of a text, and its rest
-first_piece : (b : ℕ) (bs : List ℕ) (k : ℕ) → k ≡ liberty_piece_length (b ∷ bs)
+pub first_piece : (b : ℕ) (bs : List ℕ) (k : ℕ) → k ≡ liberty_piece_length (b ∷ bs)
     → without_liberty_comments (b ∷ bs) ≡ unblocked (take k (b ∷ bs)) ++ without_liberty_comments (drop k (b ∷ bs))
 unfolding without_liberty_comments liberty_pieces some_liberty_pieces
 first_piece b bs k e =
@@ -209,7 +209,7 @@ neither : (x y : Bool) → (x || y) ≡ false → (x ≡ false) × (y ≡ false)
 neither true y e = absurd (cc)
 neither false y e = (refl, e)
 
-plain_length : (b : ℕ) (bs : List ℕ) → is_mark b ≡ false → 1 ≡ liberty_piece_length (b ∷ bs)
+pub plain_length : (b : ℕ) (bs : List ℕ) → is_mark b ≡ false → 1 ≡ liberty_piece_length (b ∷ bs)
 plain_length b [] e = refl
 plain_length b (c ∷ bs) e =
     let (g, k) = neither ((b == 92) || (b == 34)) (b == 47) e in

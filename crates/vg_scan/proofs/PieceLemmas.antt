@@ -3,11 +3,13 @@ use Rattle.std.proofs.Common.{◌≡◌, ℕ, zero, suc, ◌+◌, ◌<◌, ◌�
 use Rattle.std.specs.List.{position_or_len, flat_map, concat, AllZip}
 use Rattle.std.proofs.lemmas.List.{take-append-drop}
 use Rattle.vg_scan.specs.declared.comments.Comments.{Comments}
-use Rattle.vg_scan.specs.declared.comments.Comments.TheVariants.{Spef}
+use Rattle.vg_scan.specs.declared.comments.Comments.TheVariants.{Spef, Liberty}
 use Rattle.vg_scan.specs.declared.scan.Scan.TheVariants.{Outside, Quoted, InLine, InBlock}
 use Rattle.vg_scan.specs.Lines.{is_newline}
 use Rattle.vg_scan.specs.Comments.{ends_string, through_string, through_block, piece_length, some_pieces, pieces, blanked, uncommented, without_comments, StaysOrBlanks}
 use Rattle.vg_scan.specs.Clearing.{cleared_in}
+use Rattle.vg_scan.specs.LibertyComments.{without_liberty_comments}
+use Rattle.vg_scan.proofs.LibertyLawLemmas.{comments_blank_alone, zip_length}
 use Rattle.vg_scan.proofs.ClearedLemmas.{eq_of, first_of, second_of, only_blanks, length-cleared}
 
 -- so many bytes of a text are a piece of it
@@ -123,12 +125,22 @@ pub cleared_is : (text : List ℕ) → cleared_in Outside text ≡ without_comme
 unfolding without_comments pieces
 cleared_is text = all_uncommented (length text) text (omega arith)
 
+liberty_only_blanks : (text : List ℕ) → AllZip StaysOrBlanks text (without_comments Liberty text)
+unfolding without_comments
+liberty_only_blanks text = comments_blank_alone text
+
+liberty_length : (text : List ℕ) → length (without_comments Liberty text) ≡ length text
+unfolding without_comments
+liberty_length text = zip_length text (without_liberty_comments text) (comments_blank_alone text)
+
 pub comments_only_blank : (kind : Comments) (text : List ℕ) → AllZip StaysOrBlanks text (without_comments kind text)
 comments_only_blank Spef text = subst (AllZip StaysOrBlanks text) (cleared_is text) (only_blanks Outside text).holds
+comments_only_blank Liberty text = liberty_only_blanks text
 
 -- a text keeps its length
 pub length-without : (kind : Comments) (text : List ℕ) → length (without_comments kind text) ≡ length text
 length-without Spef text = ap length (sym (cleared_is text)) ∙ length-cleared Outside text
+length-without Liberty text = liberty_length text
 
 some_joined : (n : ℕ) (text : List ℕ) → length text ≤ n → concat (some_pieces n text) ≡ text
 unfolding some_pieces

@@ -1,18 +1,16 @@
 -- Comments, made blank. A text is its pieces, one after another: a hidden byte, a string, a comment, or another byte.
 use Rattle.std.specs.Prelude.{◌≡◌, ◌≢◌, ℕ, zero, suc, ◌+◌, ◌==◌, ◌⊎◌, ◌&&◌, ◌||◌, Bool, false, List, [], ◌∷◌, map, length, take, drop, if◌then◌else◌}
 use Rattle.std.specs.List.{position_or_len, flat_map}
+pub use Rattle.vg_scan.specs.Blocks.{is_block_mark, through_block, blanked}
 use Rattle.vg_scan.specs.declared.comments.Comments.{Comments}
-use Rattle.vg_scan.specs.declared.comments.Comments.TheVariants.{Spef}
+use Rattle.vg_scan.specs.declared.comments.Comments.TheVariants.{Spef, Liberty}
+use Rattle.vg_scan.specs.LibertyComments.{without_liberty_comments}
 use Rattle.vg_scan.specs.Lines.{is_newline}
 use Rattle.vg_scan.specs.Names.{is_backslash, is_quote}
 
 -- `//` begins a comment that ends before its line's end
 abbrev pub is_line_mark : ℕ → ℕ → Bool
 is_line_mark b c = (b == 47) && (c == 47)
-
--- `/*` begins a comment that ends with the next `*/`
-abbrev pub is_block_mark : ℕ → ℕ → Bool
-is_block_mark b c = (b == 47) && (c == 42)
 
 -- a string ends with its second quote, or with its line
 abbrev pub ends_string : ℕ → Bool
@@ -21,12 +19,6 @@ ends_string b = is_quote b || is_newline b
 -- how many bytes there are through the end of a string, after its first quote
 abbrev pub through_string : List ℕ → ℕ
 through_string text = position_or_len ends_string text + 1
-
--- how many bytes there are through the first `*/`, else to the text's end
-abbrev pub through_block : List ℕ → ℕ
-through_block [] = 0
-through_block (b ∷ []) = 1
-through_block (b ∷ c ∷ bs) = if (b == 42) && (c == 47) then 2 else through_block (c ∷ bs) + 1
 
 -- how many bytes the first piece of a text has, where the text has so many: a backslash hides the byte after it
 -- the end of a comment is sought after its two opening bytes: `/*/` does not close itself
@@ -55,10 +47,6 @@ is_comment [] = false
 is_comment (b ∷ []) = false
 is_comment (b ∷ c ∷ bs) = is_line_mark b c || is_block_mark b c
 
--- a byte of a comment: a newline stays, every other byte becomes a space
-abbrev pub blanked : ℕ → ℕ
-blanked b = if b == 10 then 10 else 32
-
 -- a piece, blank where it is a comment
 abbrev pub uncommented : List ℕ → List ℕ
 uncommented piece = if is_comment piece then map blanked piece else piece
@@ -66,6 +54,7 @@ uncommented piece = if is_comment piece then map blanked piece else piece
 -- a text whose comments are blank
 unfoldable pub without_comments : Comments → List ℕ → List ℕ
 without_comments Spef text = flat_map uncommented (pieces text)
+without_comments Liberty text = without_liberty_comments text
 
 -- a byte stays, or it is no newline and becomes a space
 abbrev pub StaysOrBlanks : ℕ → ℕ → Type 0

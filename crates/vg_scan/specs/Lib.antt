@@ -15,5 +15,6 @@ pub mod Parts
 pub mod References
 pub mod Nodes
 pub mod Faults
+pub mod Blocks
 pub mod LibertyComments
 pub mod LibertyClearing

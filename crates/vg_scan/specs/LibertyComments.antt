@@ -2,7 +2,7 @@
 -- string goes on after a backslash just before its line's end. Source: Liberty User Guide, Synopsys.
 use Rattle.std.specs.Prelude.{ℕ, zero, suc, ◌+◌, ◌==◌, ◌&&◌, ◌||◌, not, Bool, false, List, [], ◌∷◌, map, length, take, drop, if◌then◌else◌}
 use Rattle.std.specs.List.{flat_map}
-use Rattle.vg_scan.specs.Comments.{is_block_mark, through_block, blanked}
+use Rattle.vg_scan.specs.Blocks.{is_block_mark, through_block, blanked}
 use Rattle.vg_scan.specs.Lines.{is_newline}
 use Rattle.vg_scan.specs.Names.{is_backslash, is_quote}
 

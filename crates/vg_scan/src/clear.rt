@@ -6,6 +6,7 @@ ghost use Rattle.vg_scan.specs.Comments.{without_comments};
 ghost use Rattle.vg_scan.specs.Clearing.{cleared_in, Turns};
 
 use crate::comments::{Comments, line_end_at, mark_at};
+use crate::liberty::clear_liberty_comments;
 use crate::scan::Scan;
 
 /// Puts spaces from one place to another.
@@ -164,5 +165,6 @@ pub fn clear_comments(text: &mut [u8], kind: Comments)
 {
     match kind {
         Comments::Spef => clear_spef_comments(text),
+        Comments::Liberty => clear_liberty_comments(text),
     }
 }

@@ -20,6 +20,12 @@ pub enum Comments {
     /// One runs from `//` to its line's end, or from `/*` to the next `*/`, else to the text's end. None begins in a
     /// string, which ends at its second quote or at its line's end. Outside strings a backslash hides the byte after it.
     Spef,
+    /// Those of Liberty (Liberty User Guide, Synopsys).
+    ///
+    /// One runs from `/*` to the next `*/`, else to the text's end; `//` begins none. None begins in a string, which ends
+    /// at its second quote or at its line's end, unless a backslash stands just before that end. Outside strings a
+    /// backslash hides the byte after it.
+    Liberty,
 }
 
 /// The text with a space in place of each byte of its comments that is no newline. Answers `Memory` where there is no

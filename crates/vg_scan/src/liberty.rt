@@ -138,11 +138,7 @@ fn turn(text: &mut [u8], at: usize) -> usize
 }
 
 /// Puts a space in place of each byte of a library's comments that is no newline.
-///
-/// A comment runs from `/*` to the next `*/`, else to the text's end; `//` begins none (Liberty User Guide, Synopsys).
-/// None begins in a string, which ends at its second quote or at its line's end, unless a backslash stands just before
-/// that end. Outside strings a backslash hides the byte after it.
-pub fn clear_liberty_comments(text: &mut [u8])
+pub(crate) fn clear_liberty_comments(text: &mut [u8])
     ensures clear { text.new ≡ without_liberty_comments text.old }
     ensures length { length text.new ≡ length text.old }
 {
