@@ -96,7 +96,7 @@ fn turn(text: &mut [u8], at: usize) -> usize
 
 /// Puts spaces in place of each backslash that stands just before a line's end, and of that end; and in place of each
 /// carriage return that stands just before a newline.
-pub fn join_lines(text: &mut [u8])
+pub(crate) fn join_lines(text: &mut [u8])
     ensures join { text.new ≡ joined text.old }
     ensures length { length text.new ≡ length text.old }
 {

@@ -13,11 +13,12 @@ mod rows;
 mod state;
 mod step;
 mod syntax;
+mod text;
 mod token;
 
-pub use join::join_lines;
 pub use kind::Kind;
 pub use row::{Form, Row};
 pub use rows::rows_of;
 pub use syntax::{check_syntax, line_at};
+pub use text::plain_text;
 pub use token::{Token, TokenKind};
