@@ -23,14 +23,17 @@ any [] = nothing
 any (a ∷ []) = a
 any (a ∷ b ∷ rest) = either a (any (b ∷ rest))
 
+-- the identifier `library`
 abbrev pub is_library : Kind → Bool
 is_library Library = true
 is_library _ = false
 
+-- the identifier `cell`
 abbrev pub is_cell : Kind → Bool
 is_cell Cell = true
 is_cell _ = false
 
+-- the identifier `pin`
 abbrev pub is_pin : Kind → Bool
 is_pin Pin = true
 is_pin _ = false
@@ -43,14 +46,17 @@ is_word Pin = true
 is_word Word = true
 is_word _ = false
 
+-- `:`
 abbrev pub is_colon : Kind → Bool
 is_colon Colon = true
 is_colon _ = false
 
+-- the value of a simple attribute
 abbrev pub is_value : Kind → Bool
 is_value Value = true
 is_value _ = false
 
+-- `(`
 abbrev pub is_open : Kind → Bool
 is_open Open = true
 is_open _ = false
@@ -73,18 +79,22 @@ is_list Several = true
 is_list Other = true
 is_list _ = false
 
+-- `)`
 abbrev pub is_close : Kind → Bool
 is_close Close = true
 is_close _ = false
 
+-- `{`
 abbrev pub is_begin : Kind → Bool
 is_begin Begin = true
 is_begin _ = false
 
+-- `}`
 abbrev pub is_end : Kind → Bool
 is_end End = true
 is_end _ = false
 
+-- `;`
 abbrev pub is_semicolon : Kind → Bool
 is_semicolon Semicolon = true
 is_semicolon _ = false
@@ -109,9 +119,11 @@ complex = seq (one is_word ∷ one is_open ∷ one is_list ∷ one is_close ∷ 
 abbrev pub group : (Kind → Bool) → (Kind → Bool) → Name → ℕ → Part Name Kind
 group word names inner depth = seq (one word ∷ one is_open ∷ one names ∷ one is_close ∷ body inner depth)
 
+-- any identifier but `cell`
 abbrev pub is_no_cell : Kind → Bool
 is_no_cell k = is_word k && not (is_cell k)
 
+-- any identifier but `pin`
 abbrev pub is_no_pin : Kind → Bool
 is_no_pin k = is_word k && not (is_pin k)
 

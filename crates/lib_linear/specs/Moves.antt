@@ -27,24 +27,26 @@ abbrev pub ends : ℕ → Bool → List (Part Name Kind)
 ends zero cell = []
 ends (suc d) cell = many (named (place (suc d) cell)) ∷ one is_end ∷ ends d cell
 
--- how many groups are open around a statement with this name, and whether the second is a cell
+-- how many groups are open around a statement with this name
 abbrev pub depth_of : Head → ℕ → ℕ
 depth_of OfLibrary d = 0
 depth_of OfCell d = 1
 depth_of OfPin d = 2
 depth_of OfOther d = d
 
+-- whether the second of them is a cell
 abbrev pub cell_of : Head → Bool → Bool
 cell_of OfPin cell = true
 cell_of _ cell = cell
 
--- which arguments a group of this name has, and which statements
+-- which arguments a group of this name has
 abbrev pub names_of : Head → Kind → Bool
 names_of OfLibrary k = is_list k
 names_of OfCell k = is_single k
 names_of OfPin k = is_names k
 names_of OfOther k = is_list k
 
+-- which statements stand in a group of this name
 abbrev pub inner_of : Head → ℕ → Name
 inner_of OfLibrary d = in_library
 inner_of OfCell d = in_cell
@@ -59,6 +61,7 @@ rest_of head d cell = ends (depth_of head d) (cell_of head cell)
 abbrev pub braces_of : Head → ℕ → Bool → List (Part Name Kind)
 braces_of head d cell = one (is_begin_in (depth_of head d)) ∷ many (named (inner_of head d)) ∷ one is_end ∷ rest_of head d cell
 
+-- the ways on from each place
 abbrev pub ways_at : At → ℕ → Bool → List (List (Part Name Kind))
 ways_at Start d cell = (library ∷ []) ∷ []
 ways_at Body d cell = ends d cell ∷ []
@@ -77,11 +80,13 @@ ways_at Passed d cell = (one is_close ∷ ends d cell) ∷ []
 ways_at (Closed OfLibrary) d cell = braces_of OfLibrary d cell ∷ []
 ways_at (Closed head) d cell = rest_of head d cell ∷ braces_of head d cell ∷ []
 
+-- the ways on from a state of the machine
 abbrev pub ways : State → List (List (Part Name Kind))
 ways s = ways_at s.at s.depth s.in_cell
 
 -- ---- moves
 
+-- the machine stands at this place
 abbrev pub state : At → ℕ → Bool → Option State
 state at d cell = Some (record { at = at; depth = d; in_cell = cell })
 
@@ -129,6 +134,7 @@ after_close OfPin Begin d cell = state Body 3 true
 after_close OfOther Begin d cell = open_group d cell
 after_close head k d cell = in_body k (depth_of head d) (cell_of head cell)
 
+-- where a token leads from each place; `None`: it is not allowed there
 abbrev pub move : At → Kind → ℕ → Bool → Option State
 move Start Library d cell = state (Named OfLibrary) d cell
 move Start _ d cell = None
@@ -143,6 +149,7 @@ move Passed Close d cell = state Body d cell
 move Passed _ d cell = None
 move (Closed head) k d cell = after_close head k d cell
 
+-- where a token leads from a state of the machine
 abbrev pub next : State → Kind → Option State
 next s k = move s.at k s.depth s.in_cell
 
@@ -152,5 +159,6 @@ is_done_at Body zero = true
 is_done_at (Closed OfOther) zero = true
 is_done_at _ d = false
 
+-- the text may end in a state of the machine
 abbrev pub is_done : State → Bool
 is_done s = is_done_at s.at s.depth

@@ -23,6 +23,7 @@ open_group (t ∷ u ∷ ts) = is_byte 41 t.kind && is_byte 123 u.kind
 abbrev pub form_before : List Token → Form
 form_before ts = if open_group ts then Group else Complex
 
+-- the row of a statement whose value or arguments are this token
 abbrev pub row : ℕ → Form → ℕ → Token → Row
 row parent form name t = record { parent = parent; form = form; name = name; from = t.from; to = t.to }
 
@@ -37,6 +38,7 @@ abbrev pub top : List ℕ → ℕ
 top [] = 0
 top (p ∷ ps) = p
 
+-- without the innermost
 abbrev pub pop : List ℕ → List ℕ
 pop [] = []
 pop (p ∷ ps) = ps

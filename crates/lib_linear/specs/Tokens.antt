@@ -39,6 +39,7 @@ is_sound content quoting (b ∷ bs) =
     if ends content quoting b then true
     else ((is_quoted quoting || nat_le b 126) && is_sound content (quoting_after quoting b) bs)
 
+-- a token of this kind from one place to another
 abbrev pub token : TokenKind → ℕ → ℕ → Token
 token kind from to = record { kind = kind; from = from; to = to }
 
