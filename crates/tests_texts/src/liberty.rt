@@ -1,15 +1,13 @@
 //! Texts that are libraries or not, taken from the format.
 
-use lib_linear::{Form, Row, check_syntax, join_lines, line_at, rows_of};
+use lib_linear::{Form, Row, check_syntax, line_at, plain_text, rows_of};
 use std::alloc::Global;
 use std::test::Fail;
-use vg_scan::{Span, clear_liberty_comments, text_at};
+use vg_scan::{Span, text_at};
 
 /// The line at which a text is no library, if it is none.
 fn broken_line(alloc: Global, bytes: &[u8]) -> Result<Option<usize>, Fail> {
-    let mut text = Vec::from_slice(alloc, bytes)?;
-    clear_liberty_comments(text.as_mut_slice());
-    join_lines(text.as_mut_slice());
+    let text = plain_text(alloc, bytes)?;
     match check_syntax(text.as_slice()) {
         Ok(()) => Ok(None),
         Err(at) => Ok(Some(line_at(bytes, at))),
