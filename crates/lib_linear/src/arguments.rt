@@ -10,6 +10,7 @@ ghost use Rattle.lib_linear.specs.Kinds.{list_kind};
 
 use crate::kind::Kind;
 use crate::quoting::Quoting;
+use vg_scan::text_from;
 
 fn first_ink(text: &[u8]) -> Option<usize>
     ensures { result ≡ position is_ink text.now }
@@ -28,13 +29,6 @@ fn ink_at(text: &[u8]) -> usize
     }
 }
 
-fn text_from(text: &[u8], at: usize) -> &[u8]
-    requires { at ≤ length text.now }
-    ensures { result.now ≡ drop at text.now }
-{
-    &text[at..]
-}
-
 /// The text without the blanks at its end.
 fn without_end(text: &[u8]) -> &[u8]
     ensures { result.now ≡ without_end text.now }
@@ -48,7 +42,7 @@ fn without_end(text: &[u8]) -> &[u8]
 
 /// The text without the blanks at its ends.
 #[tactic(auto, unfolding(crate::specs::Arguments::trimmed))]
-pub(crate) fn trimmed(text: &[u8]) -> &[u8]
+pub(crate) fn trim(text: &[u8]) -> &[u8]
     ensures { result.now ≡ trimmed text.now }
 {
     without_end(text_from(text, ink_at(text)))
@@ -62,7 +56,7 @@ fn is_in_quotes(text: &[u8]) -> bool
 
 /// The text without one pair of quotes around it.
 #[tactic(auto, unfolding(crate::specs::Arguments::unquoted))]
-pub(crate) fn unquoted(text: &[u8]) -> &[u8]
+pub(crate) fn unquote(text: &[u8]) -> &[u8]
     ensures { result.now ≡ unquoted text.now }
 {
     if is_in_quotes(text) {
@@ -113,7 +107,7 @@ fn name_end(list: &[u8], at: usize) -> Option<usize>
     ensures { MatchOption result (are_names (drop at list.now) ≡ false) (EndsName list.now at) }
 {
     let end = argument_end(list, at);
-    if is_name(unquoted(trimmed(&list[at..end]))) {
+    if is_name(unquote(trim(&list[at..end]))) {
         Some(end)
     } else {
         None
