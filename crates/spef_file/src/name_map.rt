@@ -5,8 +5,8 @@ ghost use Rattle.spef_file.specs.Rows.{mapped, is_mapped};
 
 use std::alloc::Global;
 use std::marker::Model;
+use vg_names::{Names, Texts};
 use vg_num::Memory;
-use vg_scan::{Names, Texts};
 
 /// The rows of a name map: the digits of an index, and its canonical name. Contracts see the list of rows, in the order of
 /// the file. All digits stand in one buffer, and all names in another.

@@ -8,8 +8,8 @@ ghost use Rattle.spef_file.specs.Tables.{names_of, is_section};
 use crate::section::Section;
 use std::alloc::Global;
 use std::marker::Model;
+use vg_names::Names;
 use vg_num::Memory;
-use vg_scan::Names;
 
 /// The nets of a file: the canonical name of each, and where it stands. Contracts see the list of them, in the order of the
 /// file. All names stand in one buffer.

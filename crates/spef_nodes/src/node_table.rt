@@ -9,8 +9,8 @@ ghost use Rattle.spef_nodes.specs.NodeTables.{node_at, hash_with, bucket_of, nod
 use crate::members::is_inner;
 use std::alloc::Global;
 use std::marker::Model;
+use vg_names::{Chains, Texts};
 use vg_num::Memory;
-use vg_scan::{Chains, Texts};
 
 /// The names of nodes, and chains of those that are in one bucket.
 #[derive(Drop)]

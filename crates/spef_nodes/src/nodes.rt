@@ -7,8 +7,9 @@ ghost use Rattle.spef_nodes.specs.NodeTables.{nodes_in};
 use crate::notes::Notes;
 use std::alloc::Global;
 use std::marker::Model;
+use vg_names::Texts;
 use vg_num::Memory;
-use vg_scan::{Name, NodeName, Texts};
+use vg_scan::{Name, NodeName};
 
 /// The nodes of a net, numbered from 0, each with its name, whether it is no connection, and its note: the text after the
 /// direction of its connection, or after the node of its first `*N` line, without blanks and carriage returns at its ends;

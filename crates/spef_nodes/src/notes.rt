@@ -7,8 +7,8 @@ ghost use Rattle.spef_nodes.specs.declared.notes.Mark.TheVariants.{Fresh};
 
 use std::alloc::Global;
 use std::marker::Model;
+use vg_names::Texts;
 use vg_num::Memory;
-use vg_scan::Texts;
 
 /// What is noted of a node, with the number of the note's text.
 #[derive(Clone, Copy, Debug)]

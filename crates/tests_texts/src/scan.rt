@@ -4,8 +4,9 @@ ghost use Rattle.vg_scan.specs.Printed.{IsPrintable};
 
 use std::alloc::Global;
 use std::test::Fail;
+use vg_names::Names;
 use vg_scan::{
-    Chars, Comments, Name, NameFault, Names, Span, Words, index_of, inner_name, line_of, next_line,
+    Chars, Comments, Name, NameFault, Span, Words, index_of, inner_name, line_of, next_line,
     next_word, node_name, port_name, print_spef_name, skip_comments, spef_name, split_node,
     text_at,
 };

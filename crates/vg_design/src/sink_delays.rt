@@ -5,8 +5,8 @@ ghost use Rattle.vg_scan.specs.declared.name.NodeName.{NodeName};
 
 use std::alloc::Global;
 use std::marker::Model;
+use vg_names::Texts;
 use vg_num::Memory;
-use vg_scan::Texts;
 
 /// Sinks, each with the wire delay to it (zs). Contracts see the list of names and delays. The names stand in few buffers, so
 /// that no sink takes memory of its own.

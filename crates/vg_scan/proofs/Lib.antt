@@ -7,9 +7,6 @@ pub mod FoundLemmas
 pub mod NodeLemmas
 pub mod PrintedLemmas
 pub mod CutLemmas
-pub mod TextsLemmas
-pub mod ChainLemmas
-pub mod NameTableLemmas
 pub mod FirstLemmas
 pub mod InLineLemmas
 pub mod TurnLemmas

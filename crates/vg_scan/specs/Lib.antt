@@ -1,12 +1,7 @@
 pub mod Lines
 pub mod Spans
-pub mod Texts
-pub mod Chains
-pub mod Hashes
-pub mod NameTables
 pub mod Comments
 pub mod Separators
-pub mod Distinct
 pub mod Names
 pub mod Clearing
 pub mod Readings

@@ -3,40 +3,32 @@
 //! The parts of a text are spans. Only a name, and the one copy of a text without its comments, take memory.
 #![tactic(auto)]
 
-mod chains;
 mod chars;
 mod clear;
 mod comments;
 mod fault;
-mod hash;
 mod laws;
 mod liberty;
 mod liberty_laws;
 mod lines;
 mod name;
-mod names;
 mod nodes;
 mod print;
 mod reference;
 mod scan;
 mod spef;
-mod texts;
 mod words;
 
-pub use chains::Chains;
 pub use chars::Chars;
 pub use clear::clear_comments;
 pub use comments::{Comments, skip_comments};
 pub use fault::{LineFault, NameFault};
-pub use hash::hash_of;
 pub use laws::{comments_keep_lines, parts_keep_comments, reads_names_again, texts_are_pieces};
 pub use liberty_laws::liberty_texts_are_pieces;
 pub use lines::{Span, line_of, next_line, next_word, text_at, text_from};
 pub use name::{Name, NetNames, NodeName};
-pub use names::Names;
 pub use nodes::{inner_name, node_name, port_name};
 pub use print::print_spef_name;
 pub use reference::{are_digits, index_of, is_reference};
 pub use spef::{spef_name, spell_name, split_node};
-pub use texts::Texts;
 pub use words::{Words, words_of};

@@ -1,0 +1,5 @@
+pub mod Texts
+pub mod Chains
+pub mod Hashes
+pub mod Distinct
+pub mod NameTables

@@ -1,0 +1,12 @@
+//! Names that stand in one buffer, numbered, and found by hash chains.
+#![tactic(auto)]
+
+mod chains;
+mod hash;
+mod names;
+mod texts;
+
+pub use chains::Chains;
+pub use hash::hash_of;
+pub use names::Names;
+pub use texts::Texts;
