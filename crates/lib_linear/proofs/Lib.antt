@@ -4,4 +4,5 @@ pub mod JoinLemmas
 pub mod MoveLemmas
 pub mod ArgumentLemmas
 pub mod ReadLemmas
+pub mod ReduceLemmas
 pub mod RowLemmas

@@ -6,6 +6,8 @@ pub mod Joining
 pub mod Grammar
 pub mod Moves
 pub mod Arguments
+pub mod Function
+pub mod Reducing
 pub mod Kinds
 pub mod Syntax
 pub mod Reading

@@ -1,9 +1,11 @@
-//! The text of a Liberty library: its tokens, whether they are a library, and its statements as rows.
+//! The text of a Liberty library: its tokens, whether they are a library, its statements as rows, and functions of pins that
+//! are an input.
 //!
 //! The text is read in place, token by token: nothing is copied, and no token is kept.
 #![tactic(auto)]
 
 mod arguments;
+mod function;
 mod join;
 mod kind;
 mod lexer;
@@ -16,6 +18,7 @@ mod syntax;
 mod text;
 mod token;
 
+pub use function::reduces_to;
 pub use kind::Kind;
 pub use row::{Form, Row};
 pub use rows::rows_of;
