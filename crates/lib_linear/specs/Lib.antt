@@ -10,6 +10,7 @@ pub mod Function
 pub mod Reducing
 pub mod Kinds
 pub mod Syntax
+pub mod Faults
 pub mod Reading
 pub mod Rows
 pub mod Growing

@@ -5,6 +5,8 @@
 #![tactic(auto)]
 
 mod arguments;
+mod checked;
+mod fault;
 mod function;
 mod join;
 mod kind;
@@ -18,6 +20,8 @@ mod syntax;
 mod text;
 mod token;
 
+pub use checked::checked_text;
+pub use fault::{LibFault, LibKind};
 pub use function::reduces_to;
 pub use kind::Kind;
 pub use row::{Form, Row};
