@@ -131,3 +131,29 @@ is_one list end e h =
           let k : end ≡ length list = omega arith in
           rw (k, same (length list), alone Outside list (sym e ∙ k)) refl
     ]
+
+two_more : (n : ℕ) → 0 < n → (suc (suc n) == 2) ≡ false
+two_more n h = grind (arith, nat_tests)
+
+module _ (list : List ℕ) (end : ℕ) (e : end ≡ 0 + until is_comma Outside (drop 0 list)) (within : end ≤ length list) where
+  pub not_two : end ≡ length list → (length (arguments_of list) == 2) ≡ false
+  not_two h = let f : parts_of Outside list ≡ take (end - 0) list ∷ [] = last list 0 end (omega arith) e within h in rw f refl
+
+  module _ (after : ℕ) (low : end < length list) (f : after ≡ (end + 1) + until is_comma Outside (drop (end + 1) list)) (in_list : after ≤ length list) where
+    first : parts_of Outside list ≡ take end list ∷ parts_of Outside (drop (end + 1) list)
+    first =
+        let k : end - 0 ≡ end = omega arith in
+        more list 0 end (omega arith) e within low ∙ rw k refl
+
+    pub are_two : after ≡ length list → arguments_of list ≡ unquoted (trimmed (take end list)) ∷ unquoted (trimmed (drop (end + 1) list)) ∷ []
+    are_two h =
+        let g = last list (end + 1) after (omega (arith, low)) f in_list h in
+        let w : take (after - (end + 1)) (drop (end + 1) list) ≡ drop (end + 1) list =
+        take_all (after - (end + 1)) (drop (end + 1) list) (omega (arith, h, length-drop (end + 1) list)) in
+        rw (first, g, w) refl
+
+    pub are_more : after < length list → (length (arguments_of list) == 2) ≡ false
+    are_more h =
+        let g = more list (end + 1) after (omega (arith, low)) f in_list h in
+        rw (first, g, length-map (parts_of Outside (drop (after + 1) list)) (λ part. unquoted (trimmed part)))
+        (two_more (length (parts_of Outside (drop (after + 1) list))) (some_part Outside (drop (after + 1) list)))

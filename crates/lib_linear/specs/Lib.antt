@@ -8,6 +8,7 @@ pub mod Moves
 pub mod Arguments
 pub mod Function
 pub mod Reducing
+pub mod Units
 pub mod Kinds
 pub mod Syntax
 pub mod Faults

@@ -1,6 +1,6 @@
 //! The arguments of a complex attribute or of a group.
 
-ghost use Rattle.std.specs.Prelude.{◌≡◌, ◌==◌, ◌+◌, ◌≤◌, false, length, drop, MatchOption};
+ghost use Rattle.std.specs.Prelude.{◌≡◌, ◌==◌, ◌+◌, ◌≤◌, false, length, drop, MatchOption, [], ◌∷◌};
 ghost use Rattle.std.specs.List.{list_all, position, position_or_len};
 ghost use Rattle.vg_scan.specs.Lines.{is_ink};
 ghost use Rattle.lib_linear.specs.declared.quoting.Quoting.TheVariants.{Outside};
@@ -146,4 +146,22 @@ pub(crate) fn list_kind(list: &[u8]) -> Kind
     } else {
         Kind::Several
     }
+}
+
+/// The arguments of a list that has two.
+pub(crate) fn two_arguments(list: &[u8]) -> Option<(&[u8], &[u8])>
+    ensures { MatchOption result ((length (arguments_of list.now) == 2) ≡ false) (λ two. arguments_of list.now ≡ two.0.now ∷ two.1.now ∷ []) }
+{
+    let end = argument_end(list, 0);
+    if end == list.len() {
+        return None;
+    }
+    let last = argument_end(list, end + 1);
+    if last < list.len() {
+        return None;
+    }
+    Some((
+        unquote(trim(&list[..end])),
+        unquote(trim(text_from(list, end + 1))),
+    ))
 }

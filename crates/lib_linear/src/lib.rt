@@ -1,5 +1,5 @@
-//! The text of a Liberty library: its tokens, whether they are a library, its statements as rows, and functions of pins that
-//! are an input.
+//! The text of a Liberty library: its tokens, whether they are a library, its statements as rows, its units, and functions of
+//! pins that are an input.
 //!
 //! The text is read in place, token by token: nothing is copied, and no token is kept.
 #![tactic(auto)]
@@ -19,6 +19,7 @@ mod step;
 mod syntax;
 mod text;
 mod token;
+mod units;
 
 pub use checked::checked_text;
 pub use fault::{LibFault, LibKind};
@@ -29,3 +30,4 @@ pub use rows::rows_of;
 pub use syntax::{check_syntax, line_at};
 pub use text::plain_text;
 pub use token::{Token, TokenKind};
+pub use units::{Units, load_power, time_power};
