@@ -1,6 +1,9 @@
 //! Texts that are libraries or not, taken from the format.
 
-use lib_linear::{Form, Row, check_syntax, line_at, plain_text, rows_of};
+use lib_linear::{
+    Form, Row, Units, check_syntax, checked_text, line_at, load_power, plain_text, reduces_to,
+    rows_of, time_power,
+};
 use std::alloc::Global;
 use std::test::Fail;
 use vg_scan::{Span, text_at};
@@ -209,6 +212,171 @@ fn rows(rt: HostRuntime) -> Result<(), Fail> {
     assert!(rt; rows.len() == ROWS.len());
     for (row, wanted) in rows.iter().zip(&ROWS) {
         assert!(rt; says(*row, wanted), "{}", wanted.2);
+    }
+    Ok(())
+}
+
+/// The functions of an output pin, and whether each inverts the input `A`, if it reduces to it.
+static FUNCTIONS: [(&str, Option<bool>); 24] = [
+    ("A", Some(false)),
+    ("!A", Some(true)),
+    ("A'", Some(true)),
+    ("(A)", Some(false)),
+    ("!(A')", Some(false)),
+    ("(!A)'", Some(false)),
+    ("( ! A )", Some(true)),
+    ("!!A", Some(false)),
+    ("A''", Some(false)),
+    ("!(!(A')')", Some(false)),
+    ("\t(\t( A ) ' ) ", Some(true)),
+    ("", None),
+    ("!", None),
+    ("'", None),
+    ("()", None),
+    ("(A", None),
+    ("A)", None),
+    (")A(", None),
+    ("A!", None),
+    ("'A", None),
+    ("A B", None),
+    ("A A", None),
+    ("AB", None),
+    ("B", None),
+];
+
+#[test]
+fn functions(rt: HostRuntime) -> Result<(), Fail> {
+    for (text, inverts) in &FUNCTIONS {
+        assert!(rt; reduces_to(text.as_bytes(), b"A") == *inverts, "{text}");
+    }
+    Ok(())
+}
+
+/// The same for inputs whose names are other texts.
+static INPUTS: [(&str, &str, Option<bool>); 9] = [
+    ("IN[0]", "IN [ 0 ]", Some(false)),
+    ("AB", "!( A B )", Some(true)),
+    ("!A", "!A", Some(false)),
+    ("!A", "!A'", Some(true)),
+    ("!A", "A", None),
+    ("A'", "(A'')", Some(true)),
+    ("(A", "((A)", Some(false)),
+    ("(A)", "(A)", Some(false)),
+    ("(", "(!(')", Some(false)),
+];
+
+#[test]
+fn functions_of_other_names(rt: HostRuntime) -> Result<(), Fail> {
+    for (input, text, inverts) in &INPUTS {
+        assert!(rt;
+            reduces_to(text.as_bytes(), input.as_bytes()) == *inverts,
+            "{text}"
+        );
+    }
+    Ok(())
+}
+
+/// The first fault of a library's syntax as it is printed, or how many bytes its text has.
+fn told(alloc: Global, bytes: &[u8]) -> Result<String, Fail> {
+    match checked_text(alloc, bytes) {
+        Ok(text) => Ok(format!(in alloc; "{}", text.len())?),
+        Err(fault) => Ok(format!(in alloc; "{fault}")?),
+    }
+}
+
+static CHECKED: [(&str, &str); 4] = [
+    ("library (l) {\n}\n", "16"),
+    (
+        "library (l) {\n a\n}\n",
+        "line 3: not the syntax of a library",
+    ),
+    ("/*\n*/", "line 2: not the syntax of a library"),
+    ("", "line 1: not the syntax of a library"),
+];
+
+#[test]
+fn checked_texts(rt: HostRuntime) -> Result<(), Fail> {
+    for (text, wanted) in &CHECKED {
+        let found = told(rt.alloc(), text.as_bytes())?;
+        assert!(rt; found.as_str() == *wanted, "{text}");
+    }
+    Ok(())
+}
+
+/// Units of times, and the power of ten of each in picoseconds.
+static TIMES: [(&str, Option<u8>); 12] = [
+    ("1ps", Some(0)),
+    ("10ps", Some(1)),
+    ("100ps", Some(2)),
+    ("1ns", Some(3)),
+    ("1NS", Some(3)),
+    ("10pS", Some(1)),
+    ("1000ps", None),
+    ("10ns", None),
+    ("1us", None),
+    ("1 ns", None),
+    ("1.0ns", None),
+    ("", None),
+];
+
+#[test]
+fn units_of_times(rt: HostRuntime) -> Result<(), Fail> {
+    for (text, power) in &TIMES {
+        assert!(rt; time_power(text.as_bytes()) == *power, "{text}");
+    }
+    Ok(())
+}
+
+/// The arguments of units of loads, and the power of ten of each in femtofarads.
+static LOADS: [(&str, Option<u8>); 18] = [
+    ("1,ff", Some(0)),
+    ("1, pf", Some(3)),
+    (" 10 ,\t\"FF\" ", Some(1)),
+    ("\"100\", pF", Some(5)),
+    ("1000, Pf", Some(6)),
+    ("1.000, pf", Some(3)),
+    ("1e3, ff", Some(3)),
+    ("9.9995, ff", Some(1)),
+    ("9.9994, ff", None),
+    ("0.1, pf", None),
+    ("-1, pf", None),
+    ("10000, ff", None),
+    ("1, nf", None),
+    ("1", None),
+    ("1, pf, pf", None),
+    ("pf, 1", None),
+    ("\"1, pf\"", None),
+    ("", None),
+];
+
+#[test]
+fn units_of_loads(rt: HostRuntime) -> Result<(), Fail> {
+    for (arguments, power) in &LOADS {
+        assert!(rt; load_power(arguments.as_bytes()) == *power, "{arguments}");
+    }
+    Ok(())
+}
+
+/// Powers of the units of times and of loads, and the places of times, capacitances and resistances.
+static PLACES: [(u8, u8, i32, i32, i32); 4] = [
+    (0, 0, 9, 3, 6),
+    (3, 3, 12, 6, 6),
+    (3, 0, 12, 3, 9),
+    (0, 6, 9, 9, 0),
+];
+
+#[test]
+fn places_of_units(rt: HostRuntime) -> Result<(), Fail> {
+    for (time, load, times, capacitances, resistances) in &PLACES {
+        let units = Units {
+            time: *time,
+            load: *load,
+        };
+        let places = (units.times(), units.capacitances(), units.resistances());
+        assert!(rt;
+            places == (*times, *capacitances, *resistances),
+            "{time} {load}"
+        );
     }
     Ok(())
 }
