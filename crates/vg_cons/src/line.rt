@@ -56,7 +56,7 @@ pub(crate) fn is_heading(bytes: &[u8], words: &[Span]) -> bool
 ///
 /// Answers `Word` and `Number` where they are none, in this order, and `Memory` where there is no room for a name.
 #[tactic(auto, unfolding(crate::specs::Statements::statement_of))]
-pub(crate) fn say(alloc: Global, bytes: &[u8], words: &[Span]) -> Result<Row, ConsKind>
+pub(crate) fn read_row(alloc: Global, bytes: &[u8], words: &[Span]) -> Result<Row, ConsKind>
     ensures { Agrees as_statement result (statement_of (words_at bytes.now words.now)) }
 {
     let [word, rest @ ..] = words else {
@@ -64,30 +64,30 @@ pub(crate) fn say(alloc: Global, bytes: &[u8], words: &[Span]) -> Result<Row, Co
     };
     let word = *word;
     if is_word(bytes, word, b"default") {
-        return say_default(bytes, rest);
+        return read_default(bytes, rest);
     }
     if is_word(bytes, word, b"required") {
-        return say_required(alloc, bytes, rest);
+        return read_required(alloc, bytes, rest);
     }
     if is_word(bytes, word, b"arrival") {
-        return say_arrival(alloc, bytes, rest);
+        return read_arrival(alloc, bytes, rest);
     }
     if is_word(bytes, word, b"want") {
-        return say_want(alloc, bytes, rest);
+        return read_want(alloc, bytes, rest);
     }
     if is_word(bytes, word, b"drive") {
-        return say_drive(alloc, bytes, rest);
+        return read_drive(alloc, bytes, rest);
     }
     if is_word(bytes, word, b"load") {
-        return say_load(alloc, bytes, rest);
+        return read_load(alloc, bytes, rest);
     }
     if is_word(bytes, word, b"block") {
-        return say_block(alloc, bytes, rest);
+        return read_block(alloc, bytes, rest);
     }
     Err(ConsKind::Word)
 }
 
-fn say_default(bytes: &[u8], words: &[Span]) -> Result<Row, ConsKind>
+fn read_default(bytes: &[u8], words: &[Span]) -> Result<Row, ConsKind>
     ensures { Agrees as_statement result (default_line (words_at bytes.now words.now)) }
 {
     let [word, time] = words else {
@@ -100,7 +100,7 @@ fn say_default(bytes: &[u8], words: &[Span]) -> Result<Row, ConsKind>
     Ok(Row::Default(time))
 }
 
-fn say_timed(alloc: Global, bytes: &[u8], words: &[Span]) -> Result<(NodeName, i128), ConsKind>
+fn read_timed(alloc: Global, bytes: &[u8], words: &[Span]) -> Result<(NodeName, i128), ConsKind>
     ensures { Agrees (λ (row : NodeName × ℤ). row) result (timed (words_at bytes.now words.now)) }
 {
     let [pin, time] = words else {
@@ -111,21 +111,21 @@ fn say_timed(alloc: Global, bytes: &[u8], words: &[Span]) -> Result<(NodeName, i
     Ok((pin, time))
 }
 
-fn say_required(alloc: Global, bytes: &[u8], words: &[Span]) -> Result<Row, ConsKind>
+fn read_required(alloc: Global, bytes: &[u8], words: &[Span]) -> Result<Row, ConsKind>
     ensures { Agrees as_statement result (of_one required (timed (words_at bytes.now words.now))) }
 {
-    let (pin, time) = say_timed(alloc, bytes, words)?;
+    let (pin, time) = read_timed(alloc, bytes, words)?;
     Ok(Row::Required(pin, time))
 }
 
-fn say_arrival(alloc: Global, bytes: &[u8], words: &[Span]) -> Result<Row, ConsKind>
+fn read_arrival(alloc: Global, bytes: &[u8], words: &[Span]) -> Result<Row, ConsKind>
     ensures { Agrees as_statement result (of_one arrival (timed (words_at bytes.now words.now))) }
 {
-    let (pin, time) = say_timed(alloc, bytes, words)?;
+    let (pin, time) = read_timed(alloc, bytes, words)?;
     Ok(Row::Arrival(pin, time))
 }
 
-fn say_want(alloc: Global, bytes: &[u8], words: &[Span]) -> Result<Row, ConsKind>
+fn read_want(alloc: Global, bytes: &[u8], words: &[Span]) -> Result<Row, ConsKind>
     ensures { Agrees as_statement result (want_line (words_at bytes.now words.now)) }
 {
     let [pin, word] = words else {
@@ -138,7 +138,7 @@ fn say_want(alloc: Global, bytes: &[u8], words: &[Span]) -> Result<Row, ConsKind
     Ok(Row::Want(pin))
 }
 
-fn say_drive(alloc: Global, bytes: &[u8], words: &[Span]) -> Result<Row, ConsKind>
+fn read_drive(alloc: Global, bytes: &[u8], words: &[Span]) -> Result<Row, ConsKind>
     ensures { Agrees as_statement result (drive_line (words_at bytes.now words.now)) }
 {
     let [port, resistance, delay] = words else {
@@ -150,7 +150,7 @@ fn say_drive(alloc: Global, bytes: &[u8], words: &[Span]) -> Result<Row, ConsKin
     Ok(Row::Drive(port, (resistance, delay)))
 }
 
-fn say_load(alloc: Global, bytes: &[u8], words: &[Span]) -> Result<Row, ConsKind>
+fn read_load(alloc: Global, bytes: &[u8], words: &[Span]) -> Result<Row, ConsKind>
     ensures { Agrees as_statement result (load_line (words_at bytes.now words.now)) }
 {
     let [port, load] = words else {
@@ -161,7 +161,7 @@ fn say_load(alloc: Global, bytes: &[u8], words: &[Span]) -> Result<Row, ConsKind
     Ok(Row::Load(port, load))
 }
 
-fn say_block(alloc: Global, bytes: &[u8], words: &[Span]) -> Result<Row, ConsKind>
+fn read_block(alloc: Global, bytes: &[u8], words: &[Span]) -> Result<Row, ConsKind>
     ensures { Agrees as_statement result (block_line (words_at bytes.now words.now)) }
 {
     let [node] = words else {

@@ -13,7 +13,7 @@ ghost use Rattle.vg_cons.specs.Views.{Takes};
 
 use crate::constraints::Constraints;
 use crate::fault::{ConsFault, ConsKind};
-use crate::line::{is_heading, say, without_comment};
+use crate::line::{is_heading, read_row, without_comment};
 use std::alloc::Global;
 use vg_scan::{Span, next_line, words_of};
 
@@ -36,7 +36,7 @@ fn take_words(
         }
         return Err(ConsKind::Version);
     }
-    let row = say(alloc, bytes, words)?;
+    let row = read_row(alloc, bytes, words)?;
     cons.add(row)?;
     Ok(true)
 }
