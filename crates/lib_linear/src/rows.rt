@@ -2,7 +2,7 @@
 
 ghost use Rattle.std.specs.Prelude.{◌≡◌, ◌^◌, ◌<◌, ◌≤◌, ◌∷◌, ◌++◌, [], length, reverse, IfOk};
 ghost use Rattle.lib_linear.specs.Found.{tokens_next};
-ghost use Rattle.lib_linear.specs.Growing.{TakesToken};
+ghost use Rattle.lib_linear.specs.Growing.{TakesFound};
 ghost use Rattle.lib_linear.specs.Rows.{is_byte, form_before, open_group, row, top, pop, open_after, name_after, rows_of};
 ghost use Rattle.lib_linear.specs.declared.token.TokenKind.TheVariants.{Mark};
 
@@ -112,7 +112,7 @@ fn take_token(
     requires within { found.at ≤ length text.now }
     requires places { (found.token.from < 2 ^ 32) × (found.token.to < 2 ^ 32) }
     requires few { length rows.old.items < 2 ^ 32 }
-    ensures { IfOk result (λ _. TakesToken found.token (tokens_next text.now found.content found.at) name groups.old.items groups.new.items rows.old.items rows.new.items) }
+    ensures { IfOk result (λ _. TakesFound text.now found name (groups.old.items, groups.new.items) (rows.old.items, rows.new.items)) }
 {
     let token = found.token;
     let parent = top(groups);

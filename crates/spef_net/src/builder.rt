@@ -36,7 +36,13 @@ impl<'a> Model for NetBuilder<'a> {
 
     ghost Value = { PartialNet };
 
-    ghost view = { λ b. record (start_of b.nodes) { notes = b.notes; conns = b.conns.items; caps = b.caps.items; ress = b.ress.items; inductive = b.inductive } };
+    ghost view = { λ builder. record (start_of builder.nodes) {
+      notes = builder.notes;
+      conns = builder.conns.items;
+      caps = builder.caps.items;
+      ress = builder.ress.items;
+      inductive = builder.inductive;
+    } };
 }
 
 fn is_inductance(part: Part) -> bool

@@ -47,6 +47,10 @@ pub record HasRead (files : FilesState) (bytes : List ℕ) : Type 0 where
 abbrev pub ReadFaultAt : FilesState → FilesState → (List ℕ → Type 0) → Type 0
 ReadFaultAt old new IsBlamed = Rose old.read_faults new.read_faults × IfSome new.read_blame IsBlamed
 
+-- the same of the file that was open
+abbrev pub FailsOnOpenFile : FilesState → FilesState → Type 0
+FailsOnOpenFile old new = ReadFaultAt old new (λ blamed. old.source ≡ Some blamed)
+
 -- a file is too long to be read: 2^28 + 1 bytes were taken, and the file, where it is told, has more than 2^28
 abbrev pub IsTooLong : FilesState → Option (List ℕ) → Type 0
 IsTooLong new file = (new.taken ≡ 2 ^ 28 + 1) × IfSome file (λ bytes. 2 ^ 28 < length bytes)

@@ -1,6 +1,6 @@
 //! A file as a whole.
 ghost use Rattle.std.specs.Prelude.{◌≡◌, ℕ, ◌+◌, ◌^◌, ◌<◌, ◌≤◌, List, length, Some, IfOk, OnOk, IfSome, IsErrOf, vec_len, []};
-ghost use Rattle.vg_store.specs.Reading.{HasRead, IsTooLong, ReadFaultAt, read_file};
+ghost use Rattle.vg_store.specs.Reading.{FailsOnOpenFile, HasRead, IsTooLong, ReadFaultAt, read_file};
 ghost use Rattle.vg_store.specs.declared.read.ReadAll.TheVariants.{Failed, Memory};
 
 use crate::files::{Failed, Files};
@@ -57,7 +57,7 @@ fn take_piece<F: Files>(
     ensures count { IfOk result (λ count. vec_len bytes.new ≡ vec_len bytes.old + count) }
     ensures bound { OnOk result (vec_len bytes.new ≤ 2 ^ 28 + 1) }
     ensures ended { IfOk result (λ count. count ≡ 0 → IfSome (read_file (F.state files.old)) (λ file. bytes.new.items ≡ file)) }
-    ensures failed { IsErrOf result ReadAll.Failed → ReadFaultAt (F.state files.old) (F.state files.new) (λ blamed. (F.state files.old).source ≡ Some blamed) }
+    ensures failed { IsErrOf result ReadAll.Failed → FailsOnOpenFile (F.state files.old) (F.state files.new) }
     ensures never_too_long { IsErrOf result ReadAll.TooLong → ⊥ }
     ensures never_falls { (F.state files.old).read_faults ≤ (F.state files.new).read_faults }
     ensures same_source { (F.state files.new).source ≡ (F.state files.old).source }
@@ -78,7 +78,7 @@ fn take_pieces<F: Files>(alloc: Global, files: &mut F, buf: &mut [u8]) -> Result
     ensures whole { IfOk result (λ bytes. IfSome (read_file (F.state files.old)) (λ file. bytes.items ≡ file)) }
     ensures all_taken { IfOk result (λ bytes. (length bytes.items ≡ (F.state files.new).taken) × ((F.state files.new).taken ≤ 2 ^ 28)) }
     ensures too_long { IsErrOf result ReadAll.TooLong → IsTooLong (F.state files.new) (read_file (F.state files.old)) }
-    ensures failed { IsErrOf result ReadAll.Failed → ReadFaultAt (F.state files.old) (F.state files.new) (λ blamed. (F.state files.old).source ≡ Some blamed) }
+    ensures failed { IsErrOf result ReadAll.Failed → FailsOnOpenFile (F.state files.old) (F.state files.new) }
     ensures never_falls { (F.state files.old).read_faults ≤ (F.state files.new).read_faults }
     ensures kept { (file : List ℕ) → (F.state files.new).holds file ≡ (F.state files.old).holds file }
 {
