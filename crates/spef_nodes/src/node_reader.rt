@@ -183,6 +183,7 @@ impl<'a> NodeReader<'a> {
         requires { Writes leaf.now number }
         ensures seen { SeesNode result self.old.net self.old.nodes (Some (node_named self.old.net leaf.now)) self.new.nodes }
         ensures rest { self.new ≡ record self.old { nodes = self.new.nodes } }
+        ensures unchanged { OnErr result (self.new ≡ self.old) }
     {
         match self.find(number) {
             Some(id) => Ok(Some(id)),
@@ -195,6 +196,7 @@ impl<'a> NodeReader<'a> {
         requires { Writes leaf.now number }
         ensures seen { SeesNode result self.old.net self.old.nodes (Some (node_named self.old.net leaf.now)) self.new.nodes }
         ensures rest { self.new ≡ record self.old { nodes = self.new.nodes } }
+        ensures unchanged { OnErr result (self.new ≡ self.old) }
     {
         let Ok(id) = self.nodes.intern(self.net, leaf) else {
             return Err(NameFault::Memory);
@@ -219,6 +221,7 @@ impl<'a> NodeReader<'a> {
     fn own(&mut self, node: &Node) -> Result<Option<u32>, Memory>
         ensures owned { Owns result self.old.net self.old.nodes (named_by node.now) self.new.nodes }
         ensures rest { self.new ≡ record self.old { nodes = self.new.nodes } }
+        ensures unchanged { OnErr result (self.new ≡ self.old) }
     {
         self.nodes
             .own(self.net, node.owner.as_bytes(), node.leaf.as_bytes())
@@ -226,10 +229,11 @@ impl<'a> NodeReader<'a> {
 
     /// The number of the node that a text names, if it is the net's; it is put last where it is new.
     ///
-    /// Answers `Bad` where the text names no node, and `Memory` where there is no room.
+    /// Answers `Bad` where the text names no node, and `Memory` where there is no room; nothing changes then.
     pub fn see(&mut self, text: &'a [u8]) -> Result<Option<u32>, NameFault>
         ensures seen { SeesNode result self.old.net self.old.nodes (node_in self.old.file text.now) self.new.nodes }
         ensures rest { self.new ≡ record self.old { nodes = self.new.nodes } }
+        ensures unchanged { OnErr result (self.new ≡ self.old) }
     {
         match self.inner_leaf(text) {
             Some((leaf, number)) => self.see_inner(leaf, number),
@@ -275,6 +279,7 @@ impl<'a> NodeReader<'a> {
     fn see_other(&mut self, text: &'a [u8]) -> Result<Option<u32>, NameFault>
         ensures seen { SeesNode result self.old.net self.old.nodes (node_in self.old.file text.now) self.new.nodes }
         ensures rest { self.new ≡ record self.old { nodes = self.new.nodes } }
+        ensures unchanged { OnErr result (self.new ≡ self.old) }
     {
         match self.recall(text) {
             Some(id) => Ok(Some(id)),
@@ -286,6 +291,7 @@ impl<'a> NodeReader<'a> {
     fn read(&mut self, text: &'a [u8]) -> Result<Option<u32>, NameFault>
         ensures seen { SeesNode result self.old.net self.old.nodes (node_in self.old.file text.now) self.new.nodes }
         ensures rest { self.new ≡ record self.old { nodes = self.new.nodes } }
+        ensures unchanged { OnErr result (self.new ≡ self.old) }
     {
         match read_node(self.alloc, self.index, text) {
             Err(NameFault::Bad) => Err(NameFault::Bad),
