@@ -37,59 +37,59 @@ passed caps k place old k_m other =
     ap (λ (b : Bool). cond {A = ℕ} b (cap_at caps k).1 0) (ne_eqb (cap_at caps k).0 place.node other) in
     ap (with_capacitance old) (omega (arith, sum_more caps k place.node k_m))
 
--- the seat of a capacitor's node is that of its place
-pub record IsSeatOf (places : List Place) (node seat : ℕ) : Type 0 where
-  pub some : 0 < seat
-  pub within : seat ≤ length places
-  pub node_is : (place_at places (seat - 1)).node ≡ node
+-- the rank of a capacitor's node is that of its place
+pub record IsRankOf (places : List Place) (node rank : ℕ) : Type 0 where
+  pub some : 0 < rank
+  pub within : rank ≤ length places
+  pub node_is : (place_at places (rank - 1)).node ≡ node
 
-pub seat_read : (caps : List (ℕ × ℕ)) (places : List Place) (seats : List ℕ) (k seat : ℕ) → HavePlaces caps places seats → k < length caps
-    → seat ≡ get_or seats (cap_at caps k).0 seat
-    → IsSeatOf places (cap_at caps k).0 seat
-seat_read caps places seats k seat have k_m read =
+pub rank_read : (caps : List (ℕ × ℕ)) (places : List Place) (ranks : List ℕ) (k rank : ℕ) → HavePlaces caps places ranks → k < length caps
+    → rank ≡ get_or ranks (cap_at caps k).0 rank
+    → IsRankOf places (cap_at caps k).0 rank
+rank_read caps places ranks k rank have k_m read =
     let (i, i_n, at) = have.found k k_m in
-    let is : seat ≡ i + 1 =
-    get_or_read_under seats (cap_at caps k).0 (length seats) seat 0 read (have.within k k_m) refl ∙ ap (λ (v : ℕ). get_or seats v 0) (sym at) ∙ have.seated i i_n in
+    let is : rank ≡ i + 1 =
+    get_or_read_under ranks (cap_at caps k).0 (length ranks) rank 0 read (have.within k k_m) refl ∙ ap (λ (v : ℕ). get_or ranks v 0) (sym at) ∙ have.ranked i i_n in
     record {
       some = omega arith;
       within = omega arith;
-      node_is = ap (λ (p : ℕ). (place_at places p).node) (let same : seat - 1 ≡ i = omega arith in same) ∙ at;
+      node_is = ap (λ (p : ℕ). (place_at places p).node) (let same : rank - 1 ≡ i = omega arith in same) ∙ at;
     }
 
-pub caps_more : (caps : List (ℕ × ℕ)) (places : List Place) (seats : List ℕ) (bare nodes : List Node) (k seat : ℕ) (node : Node)
-    → HavePlaces caps places seats
+pub caps_more : (caps : List (ℕ × ℕ)) (places : List Place) (ranks : List ℕ) (bare nodes : List Node) (k rank : ℕ) (node : Node)
+    → HavePlaces caps places ranks
     → HaveCaps caps places bare k nodes
     → length bare ≡ length places
     → length nodes ≡ length bare
     → k < length caps
     → (cap_at caps k).1 ≤ 10 ^ 15
-    → seat ≡ get_or seats (cap_at caps k).0 seat
-    → node ≡ with_capacitance (get_or nodes (seat - 1) (record { parent = 0; r = 0; c = 0 })) ((get_or nodes (seat - 1) (record { parent = 0; r = 0; c = 0 })).c + (cap_at caps k).1)
-    → HaveCaps caps places bare (k + 1) (set nodes (seat - 1) node)
-caps_more caps places seats bare nodes k seat node have before size each k_m small read node_is = record {
+    → rank ≡ get_or ranks (cap_at caps k).0 rank
+    → node ≡ with_capacitance (get_or nodes (rank - 1) (record { parent = 0; r = 0; c = 0 })) ((get_or nodes (rank - 1) (record { parent = 0; r = 0; c = 0 })).c + (cap_at caps k).1)
+    → HaveCaps caps places bare (k + 1) (set nodes (rank - 1) node)
+caps_more caps places ranks bare nodes k rank node have before size each k_m small read node_is = record {
   each = λ i i_n.
-      elim (cases_eq i (seat - 1)) [
+      elim (cases_eq i (rank - 1)) [
         | inl e ↦ rw e
-            (get_or-set_same nodes (seat - 1) node (record { parent = seat - 1; r = 0; c = 0 }) (omega arith)
+            (get_or-set_same nodes (rank - 1) node (record { parent = rank - 1; r = 0; c = 0 }) (omega arith)
             ∙ node_is
             ∙ ap (λ (x : Node). with_capacitance x (x.c + (cap_at caps k).1))
-            (get_or_default nodes (seat - 1) (record { parent = 0; r = 0; c = 0 }) (record { parent = seat - 1; r = 0; c = 0 }) (omega arith)
-            ∙ before.each (seat - 1) (omega arith))
-            ∙ added caps k (place_at places (seat - 1)) (node_at bare (seat - 1)) k_m (sym at.node_is))
+            (get_or_default nodes (rank - 1) (record { parent = 0; r = 0; c = 0 }) (record { parent = rank - 1; r = 0; c = 0 }) (omega arith)
+            ∙ before.each (rank - 1) (omega arith))
+            ∙ added caps k (place_at places (rank - 1)) (node_at bare (rank - 1)) k_m (sym at.node_is))
         | inr e ↦
-            get_or-set_other nodes (seat - 1) i node (record { parent = i; r = 0; c = 0 }) e
+            get_or-set_other nodes (rank - 1) i node (record { parent = i; r = 0; c = 0 }) e
             ∙ before.each i i_n
             ∙ passed caps k (place_at places i) (node_at bare i) k_m
-            (λ same. e (let seat_is : seat ≡ i + 1 = seat_of ∙ ap (λ (v : ℕ). get_or seats v 0) same ∙ have.seated i (omega arith) in omega arith))
+            (λ same. e (let rank_is : rank ≡ i + 1 = rank_of ∙ ap (λ (v : ℕ). get_or ranks v 0) same ∙ have.ranked i (omega arith) in omega arith))
       ];
   least = λ v. omega (arith, sum_more caps k v k_m, most (eqb (cap_at caps k).0 v) (cap_at caps k).1 (10 ^ 15) small, before.least v);
 }
   where
-    at : IsSeatOf places (cap_at caps k).0 seat
-    at = seat_read caps places seats k seat have k_m read
+    at : IsRankOf places (cap_at caps k).0 rank
+    at = rank_read caps places ranks k rank have k_m read
 
-    seat_of : seat ≡ get_or seats (cap_at caps k).0 0
-    seat_of = get_or_read_under seats (cap_at caps k).0 (length seats) seat 0 read (have.within k k_m) refl
+    rank_of : rank ≡ get_or ranks (cap_at caps k).0 0
+    rank_of = get_or_read_under ranks (cap_at caps k).0 (length ranks) rank 0 read (have.within k k_m) refl
 
 -- with all of them the bare nodes of the places are those of the tree
 pub nodes_done : (edges : List (ℕ × ℕ × ℕ)) (caps : List (ℕ × ℕ)) (places : List Place) (bare nodes : List Node)

@@ -30,14 +30,14 @@ joined_below n root edges places r (suc k) i i_k i_n =
     ]
 
 -- what no resistor leaves has each node that is joined to one of it
-closed_chain : (edges : List (ℕ × ℕ × ℕ)) (seats : List ℕ) → ((u w : ℕ) → IsSeen seats u → AreNeighbours edges u w → IsSeen seats w)
-    → (u : ℕ) (path : List ℕ) (v : ℕ) → IsSeen seats u → IsChain edges u path v → IsSeen seats v
-closed_chain edges seats closed u [] v is chain = subst (λ (x : ℕ). IsSeen seats x) chain is
-closed_chain edges seats closed u (w ∷ path) v is chain = closed_chain edges seats closed w path v (closed u w is chain.0) chain.1
+closed_chain : (edges : List (ℕ × ℕ × ℕ)) (ranks : List ℕ) → ((u w : ℕ) → IsSeen ranks u → AreNeighbours edges u w → IsSeen ranks w)
+    → (u : ℕ) (path : List ℕ) (v : ℕ) → IsSeen ranks u → IsChain edges u path v → IsSeen ranks v
+closed_chain edges ranks closed u [] v is chain = subst (λ (x : ℕ). IsSeen ranks x) chain is
+closed_chain edges ranks closed u (w ∷ path) v is chain = closed_chain edges ranks closed w path v (closed u w is chain.0) chain.1
 
-pub search_end : (n root : ℕ) (edges : List (ℕ × ℕ × ℕ)) (places : List Place) (seats : List ℕ) (p : ℕ)
-    → IsScan n root edges places seats p 0 → length places ≤ p → IsSearch n root edges places seats
-search_end n root edges places seats p s all = record {
+pub search_end : (n root : ℕ) (edges : List (ℕ × ℕ × ℕ)) (places : List Place) (ranks : List ℕ) (p : ℕ)
+    → IsScan n root edges places ranks p 0 → length places ≤ p → IsSearch n root edges places ranks
+search_end n root edges places ranks p s all = record {
   reached = s.reached;
   marks = s.marks;
   joined = λ v. (
@@ -45,49 +45,49 @@ search_end n root edges places seats p s all = record {
         let (i, i_n, at) = s.marks.found v is in
         subst (λ (x : ℕ). AreJoined edges root x) at (joined_below n root edges places s.reached (suc i) i (omega arith) i_n)),
     (λ (path, chain).
-        closed_chain edges seats closed root path v
-        (omega (arith, ap (λ (v : ℕ). get_or seats v 0) s.reached.begins, s.marks.seated 0 s.reached.some))
+        closed_chain edges ranks closed root path v
+        (omega (arith, ap (λ (v : ℕ). get_or ranks v 0) s.reached.begins, s.marks.ranked 0 s.reached.some))
         chain),
   );
 }
   where
-    closed : (u w : ℕ) → IsSeen seats u → AreNeighbours edges u w → IsSeen seats w
+    closed : (u w : ℕ) → IsSeen ranks u → AreNeighbours edges u w → IsSeen ranks w
     closed u w is (j, j_m, joins) =
         let (i, i_n, at) = s.marks.found u is in
         (s.before i (omega arith)).each j w j_m j_m (subst (λ (x : ℕ). Joins (edge_at edges j) x w) (sym at) joins)
 
 -- counts of what was seen
-count_few : (seats : List ℕ) → seen_count seats ≤ length seats
-count_few seats = omega (arith, sum_by-le (λ seat. cond (eqb seat 0) 0 1) 1 seats (λ k d _. one (eqb (get_or seats k d) 0)))
+count_few : (ranks : List ℕ) → seen_count ranks ≤ length ranks
+count_few ranks = omega (arith, sum_by-le (λ rank. cond (eqb rank 0) 0 1) 1 ranks (λ k d _. one (eqb (get_or ranks k d) 0)))
   where
     one : (none : Bool) → cond {A = ℕ} none 0 1 ≤ 1
     one true = omega arith
     one false = omega arith
 
-count_all : (seats : List ℕ) → ((v : ℕ) → v < length seats → IsSeen seats v) → seen_count seats ≡ length seats
+count_all : (ranks : List ℕ) → ((v : ℕ) → v < length ranks → IsSeen ranks v) → seen_count ranks ≡ length ranks
 count_all [] all = search rules
-count_all (seat ∷ seats) all =
-    let more : seen_count seats ≡ length seats = count_all seats (λ v v_n. all (suc v) (omega arith)) in
-    let some : 0 < seat = all 0 (omega arith) in
-    let one : cond {A = ℕ} (eqb seat 0) 0 1 ≡ 1 = ap (λ (b : Bool). cond {A = ℕ} b 0 1) (ne_eqb seat 0 (λ e. omega arith)) in
-    omega (arith, sum_by-cons (λ seat. cond (eqb seat 0) 0 1) seat seats)
+count_all (rank ∷ ranks) all =
+    let more : seen_count ranks ≡ length ranks = count_all ranks (λ v v_n. all (suc v) (omega arith)) in
+    let some : 0 < rank = all 0 (omega arith) in
+    let one : cond {A = ℕ} (eqb rank 0) 0 1 ≡ 1 = ap (λ (b : Bool). cond {A = ℕ} b 0 1) (ne_eqb rank 0 (λ e. omega arith)) in
+    omega (arith, sum_by-cons (λ rank. cond (eqb rank 0) 0 1) rank ranks)
 
-pub places_few : (n : ℕ) (places : List Place) (seats : List ℕ) → AreSeen n places seats → length places ≤ n
-places_few n places seats s = omega (arith, count_few seats, s.count, s.nodes)
+pub places_few : (n : ℕ) (places : List Place) (ranks : List ℕ) → AreSeen n places ranks → length places ≤ n
+places_few n places ranks s = omega (arith, count_few ranks, s.count, s.nodes)
 
-pub places_all : (n : ℕ) (places : List Place) (seats : List ℕ) → AreSeen n places seats → ((v : ℕ) → v < n → IsSeen seats v) → length places ≡ n
-places_all n places seats s all =
-    let full : seen_count seats ≡ length seats = count_all seats (λ v v_n. all v (omega (arith, s.nodes))) in
+pub places_all : (n : ℕ) (places : List Place) (ranks : List ℕ) → AreSeen n places ranks → ((v : ℕ) → v < n → IsSeen ranks v) → length places ≡ n
+places_all n places ranks s all =
+    let full : seen_count ranks ≡ length ranks = count_all ranks (λ v v_n. all v (omega (arith, s.nodes))) in
     omega (arith, s.count, s.nodes)
 
 -- what the marks say of the net
-pub all_joined : (n root : ℕ) (edges : List (ℕ × ℕ × ℕ)) (places : List Place) (seats : List ℕ) → IsSearch n root edges places seats
-    → ((v : ℕ) → v < length seats → IsSeen seats v) → NoneFloats n edges root
-all_joined n root edges places seats s all = λ v v_n. (s.joined v).0 (all v (omega (arith, s.marks.nodes)))
+pub all_joined : (n root : ℕ) (edges : List (ℕ × ℕ × ℕ)) (places : List Place) (ranks : List ℕ) → IsSearch n root edges places ranks
+    → ((v : ℕ) → v < length ranks → IsSeen ranks v) → NoneFloats n edges root
+all_joined n root edges places ranks s all = λ v v_n. (s.joined v).0 (all v (omega (arith, s.marks.nodes)))
 
-pub least_floating : (n root : ℕ) (edges : List (ℕ × ℕ × ℕ)) (places : List Place) (seats : List ℕ) (v : ℕ) → IsSearch n root edges places seats
-    → (v < length seats) × (get_or seats v 0 ≡ 0) × ((u : ℕ) → u < v → IsSeen seats u) → IsLeastFloating n edges root v
-least_floating n root edges places seats v s (node, new, before) = record {
+pub least_floating : (n root : ℕ) (edges : List (ℕ × ℕ × ℕ)) (places : List Place) (ranks : List ℕ) (v : ℕ) → IsSearch n root edges places ranks
+    → (v < length ranks) × (get_or ranks v 0 ≡ 0) × ((u : ℕ) → u < v → IsSeen ranks u) → IsLeastFloating n edges root v
+least_floating n root edges places ranks v s (node, new, before) = record {
   node = omega (arith, s.marks.nodes);
   floats = λ joined. omega (arith, new, (s.joined v).1 joined);
   before = λ u u_v. (s.joined u).0 (before u u_v);

@@ -30,16 +30,16 @@ at_each places x P each last i i_n =
           subst (P i) (sym (place_before places x i low)) (each i low)
     ]
 
--- a node that was seen stays so, whichever gets a seat
-pub seen_stays : (seats : List ℕ) (w v seat : ℕ) → w < length seats → 0 < seat → IsSeen seats v → IsSeen (set seats w seat) v
-seen_stays seats w v seat w_n some was =
+-- a node that was seen stays so, whichever gets a rank
+pub seen_stays : (ranks : List ℕ) (w v rank : ℕ) → w < length ranks → 0 < rank → IsSeen ranks v → IsSeen (set ranks w rank) v
+seen_stays ranks w v rank w_n some was =
     elim (cases_eq v w) [
-      | inl e ↦ omega (arith, ap (λ (u : ℕ). get_or (set seats w seat) u 0) e, get_or-set_same seats w seat 0 w_n)
-      | inr e ↦ omega (arith, get_or-set_other seats w v seat 0 e, was)
+      | inl e ↦ omega (arith, ap (λ (u : ℕ). get_or (set ranks w rank) u 0) e, get_or-set_same ranks w rank 0 w_n)
+      | inr e ↦ omega (arith, get_or-set_other ranks w v rank 0 e, was)
     ]
 
-pub seen_by_stays : (edges : List (ℕ × ℕ × ℕ)) (seats : List ℕ) (w v limit seat : ℕ) → w < length seats → 0 < seat → AreSeenBy edges seats v limit → AreSeenBy edges (set seats w seat) v limit
-seen_by_stays edges seats w v limit seat w_n some before = record { each = λ j u j_l j_m joins. seen_stays seats w u seat w_n some (before.each j u j_l j_m joins) }
+pub seen_by_stays : (edges : List (ℕ × ℕ × ℕ)) (ranks : List ℕ) (w v limit rank : ℕ) → w < length ranks → 0 < rank → AreSeenBy edges ranks v limit → AreSeenBy edges (set ranks w rank) v limit
+seen_by_stays edges ranks w v limit rank w_n some before = record { each = λ j u j_l j_m joins. seen_stays ranks w u rank w_n some (before.each j u j_l j_m joins) }
 
 pub other_end : (edge : ℕ × ℕ × ℕ) (v w u : ℕ) → Joins edge v w → Joins edge v u → u ≡ w
 other_end edge v w u (inl (a, b)) (inl (c, d)) = sym d ∙ b
@@ -48,14 +48,14 @@ other_end edge v w u (inr (a, b)) (inl (c, d)) = sym d ∙ b ∙ sym c ∙ a
 other_end edge v w u (inr (a, b)) (inr (c, d)) = sym c ∙ a
 
 -- one more resistor, whose other end was seen
-pub seen_by_more : (edges : List (ℕ × ℕ × ℕ)) (seats : List ℕ) (w v j : ℕ) → IsSeen seats w → Joins (edge_at edges j) v w
-    → AreSeenBy edges seats v j → AreSeenBy edges seats v (j + 1)
-seen_by_more edges seats w v j is joins before = record {
+pub seen_by_more : (edges : List (ℕ × ℕ × ℕ)) (ranks : List ℕ) (w v j : ℕ) → IsSeen ranks w → Joins (edge_at edges j) v w
+    → AreSeenBy edges ranks v j → AreSeenBy edges ranks v (j + 1)
+seen_by_more edges ranks w v j is joins before = record {
   each = λ k u k_l k_m reads.
       elim (cases_eq k j) [
         | inl e ↦
             let same : u ≡ w = other_end (edge_at edges j) v w u joins (subst (λ (i : ℕ). Joins (edge_at edges i) v u) e reads) in
-            subst (IsSeen seats) (sym same) is
+            subst (IsSeen ranks) (sym same) is
         | inr e ↦ before.each k u (omega arith) k_m reads
       ];
 }
@@ -98,33 +98,33 @@ reached_more n root edges places x r node fresh above wired later = record {
       k k_n i some i_k;
 }
 
-pub seen_more : (n : ℕ) (places : List Place) (seats : List ℕ) (x : Place) → x.node < n → get_or seats x.node 0 ≡ 0 → AreSeen n places seats
-    → AreSeen n (places ++ (x ∷ [])) (set seats x.node (length places + 1))
-seen_more n places seats x node new s = record {
-  nodes = length-set seats x.node (length places + 1) ∙ s.nodes;
-  seated = at_each places x (λ i p. get_or (set seats x.node (length places + 1)) p.node 0 ≡ i + 1)
+pub seen_more : (n : ℕ) (places : List Place) (ranks : List ℕ) (x : Place) → x.node < n → get_or ranks x.node 0 ≡ 0 → AreSeen n places ranks
+    → AreSeen n (places ++ (x ∷ [])) (set ranks x.node (length places + 1))
+seen_more n places ranks x node new s = record {
+  nodes = length-set ranks x.node (length places + 1) ∙ s.nodes;
+  ranked = at_each places x (λ i p. get_or (set ranks x.node (length places + 1)) p.node 0 ≡ i + 1)
       (λ i i_n.
-      get_or-set_other seats x.node (place_at places i).node (length places + 1) 0
-      (λ e. omega (arith, s.seated i i_n, ap (λ (v : ℕ). get_or seats v 0) e))
-      ∙ s.seated i i_n)
-      (get_or-set_same seats x.node (length places + 1) 0 room);
+      get_or-set_other ranks x.node (place_at places i).node (length places + 1) 0
+      (λ e. omega (arith, s.ranked i i_n, ap (λ (v : ℕ). get_or ranks v 0) e))
+      ∙ s.ranked i i_n)
+      (get_or-set_same ranks x.node (length places + 1) 0 room);
   found = λ v is.
       elim (cases_eq v x.node) [
         | inl e ↦ (length places, omega (arith, length_more places x), ap (λ (p : Place). p.node) (place_last places x) ∙ sym e)
         | inr e ↦
-            let (i, i_n, at) = s.found v (omega (arith, get_or-set_other seats x.node v (length places + 1) 0 e, is)) in
+            let (i, i_n, at) = s.found v (omega (arith, get_or-set_other ranks x.node v (length places + 1) 0 e, is)) in
             (i, omega (arith, length_more places x), ap (λ (p : Place). p.node) (place_before places x i i_n) ∙ at)
       ];
   count =
-      let more : seen_count (set seats x.node (length places + 1)) + one_if (get_or seats x.node 0) ≡ seen_count seats + one_if (length places + 1) =
-      sum_by-set one_if seats x.node (length places + 1) 0 room in
-      let none : one_if (get_or seats x.node 0) ≡ 0 = ap one_if new in
+      let more : seen_count (set ranks x.node (length places + 1)) + one_if (get_or ranks x.node 0) ≡ seen_count ranks + one_if (length places + 1) =
+      sum_by-set one_if ranks x.node (length places + 1) 0 room in
+      let none : one_if (get_or ranks x.node 0) ≡ 0 = ap one_if new in
       let some : one_if (length places + 1) ≡ 1 = ap (λ (b : Bool). cond {A = ℕ} b 0 1) (ne_eqb (length places + 1) 0 (λ e. omega arith)) in
       omega (arith, length_more places x, s.count);
 }
   where
-    room : x.node < length seats
+    room : x.node < length ranks
     room = omega (arith, s.nodes)
 
     one_if : ℕ → ℕ
-    one_if seat = cond (eqb seat 0) 0 1
+    one_if rank = cond (eqb rank 0) 0 1

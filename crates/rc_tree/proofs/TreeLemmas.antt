@@ -105,12 +105,12 @@ wires_are n root edges places caps r count = record {
     edge : (i : ℕ) → i < length places → get_or (map (λ (p : Place). p.edge) places) i 0 ≡ (place_at places i).edge
     edge = number_is (λ p. p.edge) places
 
-pub tree_done : (n root : ℕ) (caps : List (ℕ × ℕ)) (edges : List (ℕ × ℕ × ℕ)) (places : List Place) (seats : List ℕ)
-    → IsSearch n root edges places seats
-    → ((v : ℕ) → v < length seats → IsSeen seats v)
+pub tree_done : (n root : ℕ) (caps : List (ℕ × ℕ)) (edges : List (ℕ × ℕ × ℕ)) (places : List Place) (ranks : List ℕ)
+    → IsSearch n root edges places ranks
+    → ((v : ℕ) → v < length ranks → IsSeen ranks v)
     → length edges + 1 ≡ n
     → IsTreeOf n root caps edges (map (node_of edges caps) places) (map (λ (p : Place). p.node) places)
-tree_done n root caps edges places seats s all count = record {
+tree_done n root caps edges places ranks s all count = record {
   count = length-map places (node_of edges caps) ∙ full;
   a_tree = a_tree n root edges places caps s.reached;
   lists = record {
@@ -127,24 +127,24 @@ tree_done n root caps edges places seats s all count = record {
       let low : i < length places = omega (arith, full) in
       ap (λ (x : Node). x.c) (node_is edges caps places i low)
       ∙ ap (capacitance_at caps) (sym (node i i_n));
-  joined = all_joined n root edges places seats s all;
+  joined = all_joined n root edges places ranks s all;
   no_loop = count;
 }
   where
     full : length places ≡ n
-    full = places_all n places seats s.marks (λ v v_n. all v (omega (arith, s.marks.nodes)))
+    full = places_all n places ranks s.marks (λ v v_n. all v (omega (arith, s.marks.nodes)))
 
     node : (i : ℕ) → i < n → get_or (map (λ (p : Place). p.node) places) i 0 ≡ (place_at places i).node
     node i i_n = number_is (λ p. p.node) places i (omega (arith, full))
 
 -- each capacitor finds the place of its node
-pub have_places : (n root : ℕ) (caps : List (ℕ × ℕ)) (edges : List (ℕ × ℕ × ℕ)) (places : List Place) (seats : List ℕ)
-    → IsSearch n root edges places seats
-    → ((v : ℕ) → v < length seats → IsSeen seats v)
+pub have_places : (n root : ℕ) (caps : List (ℕ × ℕ)) (edges : List (ℕ × ℕ × ℕ)) (places : List Place) (ranks : List ℕ)
+    → IsSearch n root edges places ranks
+    → ((v : ℕ) → v < length ranks → IsSeen ranks v)
     → ((k : ℕ) → k < length caps → (cap_at caps k).0 < n)
-    → HavePlaces caps places seats
-have_places n root caps edges places seats s all nodes = record {
+    → HavePlaces caps places ranks
+have_places n root caps edges places ranks s all nodes = record {
   within = λ k k_m. omega (arith, nodes k k_m, s.marks.nodes);
-  seated = s.marks.seated;
+  ranked = s.marks.ranked;
   found = λ k k_m. s.marks.found (cap_at caps k).0 (all (cap_at caps k).0 (omega (arith, nodes k k_m, s.marks.nodes)));
 }

@@ -13,29 +13,29 @@ place_at places i = slice_index_or places i (record { node = 0; parent = 0; edge
 abbrev pub root_of : List Place → ℕ
 root_of places = (place_at places 0).node
 
--- the node v was reached: its seat is one more than the number of its place, and 0 where it has none
+-- the node v was reached: its rank is one more than the number of its place, and 0 where it has none
 abbrev pub IsSeen : List ℕ → ℕ → Type 0
-IsSeen seats v = 0 < slice_index seats v
+IsSeen ranks v = 0 < slice_index ranks v
 
--- a node that has no seat by now gets the next place, and its seat
+-- a node that has no rank by now gets the next place, and its rank
 abbrev pub with_place : ℕ → List Place → Place → List Place
-with_place seat places place = if seat == 0 then places ++ (place ∷ []) else places
+with_place rank places place = if rank == 0 then places ++ (place ∷ []) else places
 
-abbrev pub with_seat : ℕ → List ℕ → ℕ → ℕ → List ℕ
-with_seat seat seats node next = if seat == 0 then slice_set seats node next else seats
+abbrev pub with_rank : ℕ → List ℕ → ℕ → ℕ → List ℕ
+with_rank rank ranks node next = if rank == 0 then slice_set ranks node next else ranks
 
 abbrev pub places_with : Reached → Place → List Place
-places_with old place = with_place (slice_index old.seats.items place.node) old.places.items place
+places_with old place = with_place (slice_index old.ranks.items place.node) old.places.items place
 
-abbrev pub seats_with : Reached → Place → List ℕ
-seats_with old place = with_seat (slice_index old.seats.items place.node) old.seats.items place.node (length old.places.items + 1)
+abbrev pub ranks_with : Reached → Place → List ℕ
+ranks_with old place = with_rank (slice_index old.ranks.items place.node) old.ranks.items place.node (length old.places.items + 1)
 
--- all nodes have a seat, or this is the first that has none
+-- all nodes have a rank, or this is the first that has none
 abbrev pub AreAllSeen : List ℕ → Type 0
-AreAllSeen seats = (v : ℕ) → v < length seats → IsSeen seats v
+AreAllSeen ranks = (v : ℕ) → v < length ranks → IsSeen ranks v
 
 abbrev pub IsFirstUnseen : List ℕ → ℕ → Type 0
-IsFirstUnseen seats v = (v < length seats) × (slice_index seats v ≡ 0) × ((u : ℕ) → u < v → IsSeen seats u)
+IsFirstUnseen ranks v = (v < length ranks) × (slice_index ranks v ≡ 0) × ((u : ℕ) → u < v → IsSeen ranks u)
 
 pub record IsWiredTo (edges : List (ℕ × ℕ × ℕ)) (places : List Place) (place : Place) : Type 0 where
   pub number : place.edge < length edges
@@ -57,36 +57,36 @@ pub record AreReached (n root : ℕ) (edges : List (ℕ × ℕ × ℕ)) (places 
   pub breadth_first : (i k : ℕ) → 0 < i → i < k → k < length places → IsEarlier (place_at places i) (place_at places k)
 
 abbrev pub seen_count : List ℕ → ℕ
-seen_count seats = sum_by (λ seat. if seat == 0 then 0 else 1) seats
+seen_count ranks = sum_by (λ rank. if rank == 0 then 0 else 1) ranks
 
 -- just the nodes that have a place were seen, each at its own
-pub record AreSeen (n : ℕ) (places : List Place) (seats : List ℕ) : Type 0 where
-  pub nodes : length seats ≡ n
-  pub seated : (i : ℕ) → i < length places → slice_index seats (place_at places i).node ≡ i + 1
-  pub found : (v : ℕ) → IsSeen seats v → (i : ℕ) × (i < length places) × ((place_at places i).node ≡ v)
-  pub count : seen_count seats ≡ length places
+pub record AreSeen (n : ℕ) (places : List Place) (ranks : List ℕ) : Type 0 where
+  pub nodes : length ranks ≡ n
+  pub ranked : (i : ℕ) → i < length places → slice_index ranks (place_at places i).node ≡ i + 1
+  pub found : (v : ℕ) → IsSeen ranks v → (i : ℕ) × (i < length places) × ((place_at places i).node ≡ v)
+  pub count : seen_count ranks ≡ length places
 
 -- the neighbours of v by resistors before the number limit were seen
-pub record AreSeenBy (edges : List (ℕ × ℕ × ℕ)) (seats : List ℕ) (v limit : ℕ) : Type 0 where
-  pub each : (j w : ℕ) → j < limit → j < length edges → Joins (edge_at edges j) v w → IsSeen seats w
+pub record AreSeenBy (edges : List (ℕ × ℕ × ℕ)) (ranks : List ℕ) (v limit : ℕ) : Type 0 where
+  pub each : (j w : ℕ) → j < limit → j < length edges → Joins (edge_at edges j) v w → IsSeen ranks w
 
 -- the search has scanned the places before p, and of p's resistors those before the number limit
-pub record IsScan (n root : ℕ) (edges : List (ℕ × ℕ × ℕ)) (places : List Place) (seats : List ℕ) (p limit : ℕ) : Type 0 where
+pub record IsScan (n root : ℕ) (edges : List (ℕ × ℕ × ℕ)) (places : List Place) (ranks : List ℕ) (p limit : ℕ) : Type 0 where
   pub reached : AreReached n root edges places
-  pub marks : AreSeen n places seats
+  pub marks : AreSeen n places ranks
   pub latest : (i : ℕ) → 0 < i → i < length places → ((place_at places i).parent < p) ⊎ (((place_at places i).parent ≡ p) × ((place_at places i).edge < limit))
-  pub before : (i : ℕ) → i < p → AreSeenBy edges seats (place_at places i).node (length edges)
-  pub now : AreSeenBy edges seats (place_at places p).node limit
+  pub before : (i : ℕ) → i < p → AreSeenBy edges ranks (place_at places i).node (length edges)
+  pub now : AreSeenBy edges ranks (place_at places p).node limit
 
 -- the places before p are scanned, in the net that the search has begun
 abbrev pub HasScanned : Reached → List (ℕ × ℕ × ℕ) → Reached → ℕ → Type 0
-HasScanned begun edges reached p = IsScan (length begun.seats.items) (root_of begun.places.items) edges reached.places.items reached.seats.items p 0
+HasScanned begun edges reached p = IsScan (length begun.ranks.items) (root_of begun.places.items) edges reached.places.items reached.ranks.items p 0
 
 -- the whole search: it saw just the nodes that are joined to the root
-pub record IsSearch (n root : ℕ) (edges : List (ℕ × ℕ × ℕ)) (places : List Place) (seats : List ℕ) : Type 0 where
+pub record IsSearch (n root : ℕ) (edges : List (ℕ × ℕ × ℕ)) (places : List Place) (ranks : List ℕ) : Type 0 where
   pub reached : AreReached n root edges places
-  pub marks : AreSeen n places seats
-  pub joined : (v : ℕ) → IsSeen seats v ↔ AreJoined edges root v
+  pub marks : AreSeen n places ranks
+  pub joined : (v : ℕ) → IsSeen ranks v ↔ AreJoined edges root v
 
 -- a place as a node of the tree, whose wire is the place's resistor, and the root's none: without capacitors, and with
 -- those of the net
@@ -102,8 +102,8 @@ with_caps caps place node = with_capacitance node (capacitance_at caps place.nod
 abbrev pub node_of : List (ℕ × ℕ × ℕ) → List (ℕ × ℕ) → Place → Node
 node_of edges caps place = with_caps caps place (bare_node_of edges place)
 
--- each capacitor is at a node that has a place, and the nodes have the seats of their places
-pub record HavePlaces (caps : List (ℕ × ℕ)) (places : List Place) (seats : List ℕ) : Type 0 where
-  pub within : (k : ℕ) → k < length caps → (cap_at caps k).0 < length seats
-  pub seated : (i : ℕ) → i < length places → slice_index seats (place_at places i).node ≡ i + 1
+-- each capacitor is at a node that has a place, and the nodes have the ranks of their places
+pub record HavePlaces (caps : List (ℕ × ℕ)) (places : List Place) (ranks : List ℕ) : Type 0 where
+  pub within : (k : ℕ) → k < length caps → (cap_at caps k).0 < length ranks
+  pub ranked : (i : ℕ) → i < length places → slice_index ranks (place_at places i).node ≡ i + 1
   pub found : (k : ℕ) → k < length caps → (i : ℕ) × (i < length places) × ((place_at places i).node ≡ (cap_at caps k).0)

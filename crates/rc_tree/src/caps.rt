@@ -12,15 +12,15 @@ use elmore::Node;
 pub(crate) fn add_caps(caps: &[(u32, u64)], reached: &Reached, nodes: &mut [Node])
     requires count { length caps.now ≤ 2 ^ 28 }
     requires values { (k : ℕ) → k < length caps.now → (cap_at caps.now k).1 ≤ 10 ^ 15 }
-    requires places { HavePlaces caps.now reached.now.places.items reached.now.seats.items }
+    requires places { HavePlaces caps.now reached.now.places.items reached.now.ranks.items }
     requires each { length nodes.old ≡ length reached.now.places.items }
     requires none { (i : ℕ) → i < length nodes.old → capacitance nodes.old i ≡ 0 }
     ensures { (i : ℕ) → i < length nodes.old → node_at nodes.new i ≡ with_caps caps.now (place_at reached.now.places.items i) (node_at nodes.old i) }
 {
     'caps: for k in 0..caps.len() {
         let (node, c) = caps[k];
-        let seat = reached.seats[node as usize] as usize;
-        add_cap(&mut nodes[seat - 1], c);
+        let rank = reached.ranks[node as usize] as usize;
+        add_cap(&mut nodes[rank - 1], c);
     }
 }
 

@@ -42,7 +42,7 @@ pub fn build(
 {
     let links = link(alloc, n, edges)?;
     let reached = search(alloc, n, root, edges, &links)?;
-    if let Some(v) = first_unseen(&reached.seats) {
+    if let Some(v) = first_unseen(&reached.ranks) {
         return Err(TreeFault::Floating(v));
     }
     if edges.len() + 1 != n {
@@ -61,7 +61,7 @@ fn tree_of(
 ) -> Result<Built, Memory>
     requires count { length caps.now ≤ 2 ^ 28 }
     requires values { (k : ℕ) → k < length caps.now → (cap_at caps.now k).1 ≤ 10 ^ 15 }
-    requires places { HavePlaces caps.now reached.now.places.items reached.now.seats.items }
+    requires places { HavePlaces caps.now reached.now.places.items reached.now.ranks.items }
     requires tree { IsTree (map (node_of edges.now caps.now) reached.now.places.items) }
     ensures nodes { IfOk result (λ built. built.tree.nodes ≡ map (node_of edges.now caps.now) reached.now.places.items) }
     ensures order { IfOk result (λ built. built.order ≡ map (λ place. place.node) reached.now.places.items) }
@@ -86,7 +86,7 @@ fn nodes_of(
 ) -> Result<Vec<Node>, Memory>
     requires count { length caps.now ≤ 2 ^ 28 }
     requires values { (k : ℕ) → k < length caps.now → (cap_at caps.now k).1 ≤ 10 ^ 15 }
-    requires places { HavePlaces caps.now reached.now.places.items reached.now.seats.items }
+    requires places { HavePlaces caps.now reached.now.places.items reached.now.ranks.items }
     ensures { IfOk result (λ nodes. nodes.items ≡ map (node_of edges.now caps.now) reached.now.places.items) }
 {
     let mut nodes = bare_nodes_of(alloc, &reached.places, edges)?;

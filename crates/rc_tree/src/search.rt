@@ -3,7 +3,7 @@
 ghost use Rattle.std.specs.Prelude.{◌≡◌, ℕ, ◌+◌, ◌<◌, ◌≤◌, ◌^◌, ◌⊎◌, length, slice_index, IfOk, MatchOption};
 ghost use Rattle.rc_tree.specs.Chains.{edge_at, Joins};
 ghost use Rattle.rc_tree.specs.Links.{AreLinks, IsEndOf};
-ghost use Rattle.rc_tree.specs.Search.{places_with, seats_with, AreAllSeen, HasScanned, IsFirstUnseen, IsScan, IsSearch};
+ghost use Rattle.rc_tree.specs.Search.{places_with, ranks_with, AreAllSeen, HasScanned, IsFirstUnseen, IsScan, IsSearch};
 
 use crate::links::{Links, Next};
 use std::alloc::Global;
@@ -25,7 +25,7 @@ pub(crate) struct Place {
 pub(crate) struct Reached {
     pub(crate) places: Vec<Place>,
     /// For each node one more than its place; 0 where it was not reached.
-    pub(crate) seats: Vec<u32>,
+    pub(crate) ranks: Vec<u32>,
 }
 
 /// All nodes that are joined to the root, breadth first.
@@ -43,7 +43,7 @@ pub(crate) fn search(
     requires to_nodes { (j : ℕ) → j < length edges.now → (edge_at edges.now j).1 < n }
     requires linked { length links.now.first.items ≡ n }
     requires links { AreLinks edges.now links.now.first.items links.now.next.items }
-    ensures { IfOk result (λ reached. IsSearch n root edges.now reached.places.items reached.seats.items) }
+    ensures { IfOk result (λ reached. IsSearch n root edges.now reached.places.items reached.ranks.items) }
 {
     let mut reached = begin(alloc, n, root, edges)?;
     let mut p = 0;
@@ -58,17 +58,17 @@ pub(crate) fn search(
 fn begin(alloc: Global, n: usize, root: u32, edges: &[(u32, u32, u64)]) -> Result<Reached, Memory>
     requires root_node { root < n }
     requires count { length edges.now ≤ 2 ^ 28 }
-    ensures { IfOk result (λ reached. IsScan n root edges.now reached.places.items reached.seats.items 0 0) }
+    ensures { IfOk result (λ reached. IsScan n root edges.now reached.places.items reached.ranks.items 0 0) }
 {
-    let mut seats = vec![in alloc; 0; n]?;
-    seats[root as usize] = 1;
+    let mut ranks = vec![in alloc; 0; n]?;
+    ranks[root as usize] = 1;
     let mut places = Vec::with_capacity(alloc, n)?;
     places.push(Place {
         node: root,
         parent: 0,
         edge: edges.len() as u32,
     })?;
-    Ok(Reached { places, seats })
+    Ok(Reached { places, ranks })
 }
 
 /// Reaches the neighbours of the node at the place `p`, in the order of its resistors.
@@ -79,10 +79,10 @@ fn scan(
     reached: &mut Reached,
 ) -> Result<(), Memory>
     requires count { length edges.now ≤ 2 ^ 28 }
-    requires from_nodes { (j : ℕ) → j < length edges.now → (edge_at edges.now j).0 < length reached.old.seats.items }
-    requires to_nodes { (j : ℕ) → j < length edges.now → (edge_at edges.now j).1 < length reached.old.seats.items }
-    requires linked { length links.now.first.items ≡ length reached.old.seats.items }
-    requires most { length reached.old.seats.items ≤ 2 ^ 30 }
+    requires from_nodes { (j : ℕ) → j < length edges.now → (edge_at edges.now j).0 < length reached.old.ranks.items }
+    requires to_nodes { (j : ℕ) → j < length edges.now → (edge_at edges.now j).1 < length reached.old.ranks.items }
+    requires linked { length links.now.first.items ≡ length reached.old.ranks.items }
+    requires most { length reached.old.ranks.items ≤ 2 ^ 30 }
     requires links { AreLinks edges.now links.now.first.items links.now.next.items }
     requires place { p < length reached.old.places.items }
     requires low { p < 2 ^ 30 }
@@ -126,26 +126,26 @@ fn following(edge: (u32, u32, u64), node: u32, next: Next) -> u32
 
 /// Gives the node the next place, unless it has one.
 fn reach(reached: &mut Reached, place: Place) -> Result<(), Memory>
-    requires node { place.node < length reached.old.seats.items }
+    requires node { place.node < length reached.old.ranks.items }
     requires few { length reached.old.places.items ≤ 2 ^ 30 }
-    ensures seats { IfOk result (λ _. reached.new.seats.items ≡ seats_with reached.old place) }
+    ensures ranks { IfOk result (λ _. reached.new.ranks.items ≡ ranks_with reached.old place) }
     ensures places { IfOk result (λ _. reached.new.places.items ≡ places_with reached.old place) }
 {
     let node = place.node as usize;
-    if reached.seats[node] == 0 {
+    if reached.ranks[node] == 0 {
         reached.places.push(place)?;
-        reached.seats[node] = reached.places.len() as u32;
+        reached.ranks[node] = reached.places.len() as u32;
     }
     Ok(())
 }
 
 /// The node of the least number that was not reached.
-pub(crate) fn first_unseen(seats: &[u32]) -> Option<u32>
-    requires { length seats.now ≤ 2 ^ 30 }
-    ensures { MatchOption result (AreAllSeen seats.now) (IsFirstUnseen seats.now) }
+pub(crate) fn first_unseen(ranks: &[u32]) -> Option<u32>
+    requires { length ranks.now ≤ 2 ^ 30 }
+    ensures { MatchOption result (AreAllSeen ranks.now) (IsFirstUnseen ranks.now) }
 {
-    'nodes: for v in 0..seats.len() {
-        if seats[v] == 0 {
+    'nodes: for v in 0..ranks.len() {
+        if ranks[v] == 0 {
             return Some(v as u32);
         }
     }

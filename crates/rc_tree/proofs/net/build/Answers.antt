@@ -22,8 +22,8 @@ returns-then-edges-n c = record {
 
 pub tree_of-requires-clause-places : goal.tree_of-requires-clause-places
 tree_of-requires-clause-places c =
-    have_places c.args.n c.args.root c.args.caps.now c.args.edges.now c.in_ok-reached.reached.places.items c.in_ok-reached.reached.seats.items c.in_ok-reached.ensures
-    (subst (λ (seats : List ℕ). (v : ℕ) → v < length seats → IsSeen seats v) c.deref.ensures.value c.in_default.ensures)
+    have_places c.args.n c.args.root c.args.caps.now c.args.edges.now c.in_ok-reached.reached.places.items c.in_ok-reached.reached.ranks.items c.in_ok-reached.ensures
+    (subst (λ (ranks : List ℕ). (v : ℕ) → v < length ranks → IsSeen ranks v) c.deref.ensures.value c.in_default.ensures)
     c.requires.cap_nodes
 
 pub tree_of-requires-clause-tree : goal.tree_of-requires-clause-tree
@@ -34,7 +34,7 @@ pub returns : goal.returns
 returns c =
     subst (λ (nodes : List Node). IsTreeOf c.args.n c.args.root c.args.caps.now c.args.edges.now nodes c.in_ok-built.built.order) (sym c.in_ok-built.ensures.nodes)
     (subst (λ (order : List ℕ). IsTreeOf c.args.n c.args.root c.args.caps.now c.args.edges.now (map (node_of c.args.edges.now c.args.caps.now) c.in_ok-reached.reached.places.items) order) (sym c.in_ok-built.ensures.order)
-    (tree_done c.args.n c.args.root c.args.caps.now c.args.edges.now c.in_ok-reached.reached.places.items c.in_ok-reached.reached.seats.items
+    (tree_done c.args.n c.args.root c.args.caps.now c.args.edges.now c.in_ok-reached.reached.places.items c.in_ok-reached.reached.ranks.items
     c.in_ok-reached.ensures
-    (subst (λ (seats : List ℕ). (v : ℕ) → v < length seats → IsSeen seats v) c.deref.ensures.value c.in_default.ensures)
+    (subst (λ (ranks : List ℕ). (v : ℕ) → v < length ranks → IsSeen ranks v) c.deref.ensures.value c.in_default.ensures)
     c.if-edges-n.false))
