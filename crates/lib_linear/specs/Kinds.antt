@@ -32,17 +32,17 @@ mark_kind b =
     else (if b == 125 then End
     else (if b == 59 then Semicolon else Stray)))))
 
--- a token with these bytes
-abbrev pub kind_by : TokenKind → List ℕ → Kind
-kind_by AWord bytes = word_kind bytes
-kind_by AValue bytes = Value
-kind_by AList bytes = list_kind bytes
-kind_by Broken bytes = Stray
-kind_by (Mark b) bytes = mark_kind b
+-- a token of this kind, with these bytes
+abbrev pub grammar_kind : TokenKind → List ℕ → Kind
+grammar_kind AWord bytes = word_kind bytes
+grammar_kind AValue bytes = Value
+grammar_kind AList bytes = list_kind bytes
+grammar_kind Broken bytes = Stray
+grammar_kind (Mark b) bytes = mark_kind b
 
 -- a token of a text
 abbrev pub kind_in : List ℕ → Token → Kind
-kind_in text token = kind_by token.kind (part text token.from token.to)
+kind_in text token = grammar_kind token.kind (part text token.from token.to)
 
 -- the tokens of a text
 abbrev pub kinds_of : List ℕ → List Kind

@@ -19,7 +19,7 @@ pub fn checked_text(alloc: Global, bytes: &[u8]) -> Result<Vec<u8>, LibFault>
     ensures text { IfOk result (λ text. text.items ≡ joined (without_comments Liberty bytes.now)) }
     ensures length { IfOk result (λ text. length text.items ≡ length bytes.now) }
     ensures library { IfOk result (λ text. IsLibrary text.items) }
-    ensures fault { IfErr result (λ fault. (fault.kind ≡ Memory) ⊎ IsFirstSyntaxFault bytes.now fault) }
+    ensures fault { IfErr result (λ fault. ((fault.kind ≡ Memory) × (fault.line ≡ 1)) ⊎ IsFirstSyntaxFault bytes.now fault) }
 {
     let Ok(text) = plain_text(alloc, bytes) else {
         return Err(LibFault {
