@@ -6,8 +6,6 @@ mod cons;
 #[cfg(test)]
 mod file;
 #[cfg(test)]
-mod liberty;
-#[cfg(test)]
 mod net;
 #[cfg(test)]
 mod num;

@@ -1,7 +1,0 @@
-use Rattle.std.proofs.Common.{refl}
-use Rattle.lib_linear.specs.Reducing.{is_not}
-use Rattle.lib_linear.proofs.ReduceLemmas.{count_ink, not_ink}
-use Rattle.lib_linear.proofs.function.inverts.Goals as goal
-
-pub returns : goal.returns
-returns c = rw (c.count_nots.ensures.count, c.count_nots-2.ensures.count, count_ink is_not not_ink c.args.text.now) refl

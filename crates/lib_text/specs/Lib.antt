@@ -1,0 +1,15 @@
+pub mod Strings
+pub mod Tokens
+pub mod Found
+pub mod Joined
+pub mod Joining
+pub mod Grammar
+pub mod Moves
+pub mod Arguments
+pub mod Kinds
+pub mod Syntax
+pub mod Reading
+pub mod Statements
+pub mod Growing
+pub mod Groups
+pub mod GroupSteps
