@@ -6,6 +6,10 @@ mod cons;
 #[cfg(test)]
 mod file;
 #[cfg(test)]
+mod liberty;
+#[cfg(test)]
+mod library;
+#[cfg(test)]
 mod net;
 #[cfg(test)]
 mod num;

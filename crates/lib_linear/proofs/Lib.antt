@@ -1,0 +1,6 @@
+pub mod LookUpLemmas
+pub mod RepeaterLemmas
+pub mod RepeaterLaws
+pub mod RepeaterOrder
+pub mod RepeaterSteps
+pub mod LawLemmas

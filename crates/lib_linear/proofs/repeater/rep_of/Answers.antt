@@ -1,0 +1,6 @@
+use Rattle.std.proofs.lemmas.Option.{MatchOption-at_none}
+use Rattle.lib_linear.proofs.repeater.rep_of.Goals as goal
+
+pub returns-in_err-inverts : goal.returns-in_err-inverts
+returns-in_err-inverts c =
+    rw c.from_residual.ensures (λ rep h. MatchOption-at_none _ _ c.in_err-inverts.was c.follows.ensures rep.inverts (rw (← c.as_bytes.ensures) at h.follows))

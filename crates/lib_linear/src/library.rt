@@ -1,0 +1,125 @@
+//! A library, and what it says of pins.
+
+ghost use Rattle.std.specs.Prelude.{◌≡◌, [], ◌<◌, find, map, option_copied, slice_get};
+ghost use Rattle.std.specs.Str.{bytes_eq};
+ghost use Rattle.lib_linear.specs.Libraries.{cap_of, drive_in, limit_of, pin_in, related_to};
+
+use crate::repeater::Repeater;
+use lib_cells::{CellInfo, PinInfo};
+use std::marker::Model;
+use vg_names::Names;
+use vg_num::Row;
+use vg_scan::Name;
+
+/// The cells of a library, and those of them that are repeaters. Contracts see both as lists: the cells in the order of the
+/// text, the repeaters by rising resistance, then by name.
+#[derive(Drop)]
+pub struct Library {
+    names: Names,
+    cells: Row<CellInfo>,
+    repeaters: Row<Repeater>,
+}
+
+impl Model for Library {
+    ghost use Rattle.std.specs.Prelude.{◌≡◌, map};
+    ghost use Rattle.lib_linear.specs.Libraries.{Cells};
+
+    ghost Value = { Cells };
+
+    ghost view = { λ library. record { cells = library.cells; repeaters = library.repeaters } };
+
+    ghost invariant = { λ library. library.names ≡ map (λ info. info.name) library.cells };
+}
+
+impl Library {
+    /// The library of these cells with these names, and these repeaters.
+    pub(crate) fn new(names: Names, cells: Vec<CellInfo>, repeaters: Vec<Repeater>) -> Library
+        requires { names ≡ map (λ info. info.name) cells.items }
+        ensures cells { result.cells ≡ cells.items }
+        ensures repeaters { result.repeaters ≡ repeaters.items }
+    {
+        Library {
+            names,
+            cells: Row::from_vec(cells),
+            repeaters: Row::from_vec(repeaters),
+        }
+    }
+}
+
+/// The cell of this number.
+fn cell_at(cells: &[CellInfo], at: usize) -> Option<&CellInfo>
+    ensures { option_copied result ≡ slice_get cells.now at }
+{
+    if at < cells.len() {
+        Some(&cells[at])
+    } else {
+        None
+    }
+}
+
+/// The cell of this name, of cells with these names.
+fn cell_of<'a>(names: &Names, cells: &'a [CellInfo], name: &Name) -> Option<&'a CellInfo>
+    requires { names.now ≡ map (λ info. info.name) cells.now }
+    ensures { option_copied result ≡ find (λ info. bytes_eq name.now info.name) cells.now }
+{
+    match names.find(name.as_bytes()) {
+        Some(id) => cell_at(cells, id as usize),
+        None => None,
+    }
+}
+
+/// The first pin of this name of a cell.
+fn pin_of<'a>(cell: &'a CellInfo, name: &Name) -> Option<&'a PinInfo>
+    ensures { option_copied result ≡ find (λ p. bytes_eq name.now p.name) cell.now.pins }
+{
+    cell.pins.as_slice().iter().find(|pin| pin.name == *name)
+}
+
+/// The first pin of this name of the cell of this name.
+fn pin_in<'a>(library: &'a Library, cell: &Name, pin: &Name) -> Option<&'a PinInfo>
+    ensures { option_copied result ≡ pin_in library.now cell.now pin.now }
+{
+    let cell = cell_of(&library.names, library.cells.as_slice(), cell)?;
+    pin_of(cell, pin)
+}
+
+/// The repeaters of a library, by rising resistance, then by the names of their cells. It takes no memory.
+pub fn repeaters(library: &Library) -> &[Repeater]
+    ensures { result.now ≡ library.now.repeaters }
+{
+    library.repeaters.as_slice()
+}
+
+/// The capacitance of a pin (aF). `None`: the library has no such cell, the cell no such pin, or the pin no capacitance. Of two
+/// pins of one name the first counts. It takes no memory.
+pub fn pin_cap(library: &Library, cell: &Name, pin: &Name) -> Option<u64>
+    ensures { result ≡ cap_of library.now cell.now pin.now }
+{
+    pin_in(library, cell, pin)?.cap
+}
+
+/// The delay without a load (zs) and the resistance (mΩ) of a pin: the greatest that its timing groups give. `None`: no such
+/// cell or pin, the pin is no output, or its timing groups give no intrinsic time or no resistance. It takes no memory.
+pub fn pin_drive(library: &Library, cell: &Name, pin: &Name) -> Option<(u64, u64)>
+    ensures { result ≡ drive_in library.now cell.now pin.now }
+{
+    pin_in(library, cell, pin)?.drive
+}
+
+/// The greatest load that a pin may charge (aF). `None`: no such cell or pin, or it has no such limit. It takes no memory.
+pub fn pin_limit(library: &Library, cell: &Name, pin: &Name) -> Option<u64>
+    ensures { result ≡ limit_of library.now cell.now pin.now }
+{
+    pin_in(library, cell, pin)?.max
+}
+
+/// The pins that the timing groups of an output name as related, each once, in the order of the text; none of any other pin.
+/// It takes no memory.
+pub fn related<'a>(library: &'a Library, cell: &Name, pin: &Name) -> &'a [Name]
+    ensures { result.now ≡ related_to library.now cell.now pin.now }
+{
+    match pin_in(library, cell, pin) {
+        Some(info) => info.related.as_slice(),
+        None => &[],
+    }
+}

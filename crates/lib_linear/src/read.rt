@@ -1,0 +1,75 @@
+//! From the text of a library to the library.
+
+ghost use Rattle.std.specs.Prelude.{◌≡◌, ◌⊎◌, ◌≤◌, ◌^◌, length, IfOk, IfErr};
+ghost use Rattle.lib_cells.specs.Cells.{cell_groups, cells_of};
+ghost use Rattle.lib_cells.specs.Flaws.{IsOutOfMemory};
+ghost use Rattle.lib_cells.specs.Units.{AreUnits};
+ghost use Rattle.lib_linear.specs.Faults.{HasTooMany, IsFirstFault, IsLibraryFault};
+ghost use Rattle.lib_linear.specs.Libraries.{Denotes, Says};
+ghost use Rattle.lib_linear.specs.Repeaters.{AreRepeatersOf};
+
+use crate::checked::checked_text;
+use crate::library::Library;
+use crate::repeater::Repeater;
+use crate::repeater_search::{NoRepeaters, find_repeaters};
+use lib_cells::{
+    CellInfo, LibFault, LibKind, OUT_OF_MEMORY, Units, cells_of, check_cells, read_units,
+};
+use lib_text::{Group, line_at, statements_of};
+use std::alloc::Global;
+
+/// The repeaters of a library with these cells, or the line of the 257th.
+fn read_repeaters(
+    alloc: Global,
+    bytes: &[u8],
+    units: Units,
+    library: &Group<'_>,
+    cells: &[CellInfo],
+) -> Result<Vec<Repeater>, LibFault>
+    requires units { AreUnits units }
+    requires cells { cells.now ≡ cells_of units library.now }
+    ensures repeaters { IfOk result (λ reps. AreRepeatersOf units (cell_groups library.now) reps.items) }
+    ensures fault { IfErr result (λ fault. IsOutOfMemory fault ⊎ HasTooMany bytes.now units library.now fault) }
+{
+    match find_repeaters(alloc, units, library, cells) {
+        Ok(repeaters) => Ok(repeaters),
+        Err(NoRepeaters::TooMany(place)) => Err(LibFault {
+            kind: LibKind::TooManyRepeaters,
+            line: line_at(bytes, place),
+        }),
+        Err(NoRepeaters::Memory) => Err(OUT_OF_MEMORY),
+    }
+}
+
+/// What a library's statements say, or their first fault.
+fn read_statements(alloc: Global, bytes: &[u8], library: &Group<'_>) -> Result<Library, LibFault>
+    ensures says { IfOk result (Says library.now) }
+    ensures fault { IfErr result (λ fault. IsOutOfMemory fault ⊎ IsLibraryFault bytes.now library.now fault) }
+{
+    let units = read_units(bytes, library)?;
+    let names = check_cells(alloc, bytes, units, library)?;
+    let Ok(cells) = cells_of(alloc, units, library) else {
+        return Err(OUT_OF_MEMORY);
+    };
+    let repeaters = read_repeaters(alloc, bytes, units, library, &cells)?;
+    Ok(Library::new(names, cells, repeaters))
+}
+
+/// The library of a text; or the text's first fault, with the number of its line. Answers `Memory`, at line 1, where there is
+/// no room.
+///
+/// The text is a library of the Liberty User Guide, Synopsys, with the linear delay model `generic_cmos`. Its syntax is read
+/// first, then its model and its units, then its cells with their names, numbers and slopes, and then the repeaters are
+/// counted: of several faults the first of the first of these passes is told. Of two faults on one line of one pass that comes
+/// first whose kind `LibKind` names first.
+pub fn read_library(alloc: Global, bytes: &[u8]) -> Result<Library, LibFault>
+    requires { length bytes.now ≤ 2 ^ 28 }
+    ensures library { IfOk result (Denotes bytes.now) }
+    ensures fault { IfErr result (λ fault. IsOutOfMemory fault ⊎ IsFirstFault bytes.now fault) }
+{
+    let text = checked_text(alloc, bytes)?;
+    let Ok(statements) = statements_of(alloc, &text) else {
+        return Err(OUT_OF_MEMORY);
+    };
+    read_statements(alloc, bytes, &Group::library(&text, &statements))
+}
