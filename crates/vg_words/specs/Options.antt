@@ -2,13 +2,14 @@
 use Rattle.std.specs.Prelude.{ℕ, ◌==◌, Bool, List, [], ◌∷◌, codes, Option, Some, None, if◌then◌else◌}
 use Rattle.std.specs.Str.{bytes_eq}
 use Rattle.vg_words.specs.declared.option.Opt.{Opt}
-use Rattle.vg_words.specs.declared.option.Opt.TheVariants.{Mode, Spef, Cons, Net}
+use Rattle.vg_words.specs.declared.option.Opt.TheVariants.{Mode, Spef, Lib, Cons, Net}
 use Rattle.vg_words.specs.declared.ask.Mode.{Mode as ModeSpec}
 use Rattle.vg_words.specs.declared.ask.Mode.TheVariants.{Wire, Time}
 
 abbrev pub name_of : Opt → List ℕ
 name_of Mode = codes "--mode"
 name_of Spef = codes "--spef"
+name_of Lib = codes "--lib"
 name_of Cons = codes "--cons"
 name_of Net = codes "--net"
 
@@ -17,25 +18,27 @@ abbrev pub option_of : List ℕ → Option Opt
 option_of word =
     if bytes_eq word (codes "--mode") then Some Mode
     else (if bytes_eq word (codes "--spef") then Some Spef
+    else (if bytes_eq word (codes "--lib") then Some Lib
     else (if bytes_eq word (codes "--cons") then Some Cons
-    else (if bytes_eq word (codes "--net") then Some Net else None)))
+    else (if bytes_eq word (codes "--net") then Some Net else None))))
 
 -- the place of an option in the order of options
 abbrev pub place_of : Opt → ℕ
 place_of Mode = 0
 place_of Spef = 1
-place_of Cons = 2
-place_of Net = 3
+place_of Lib = 2
+place_of Cons = 3
+place_of Net = 4
 
 abbrev pub is_same : Opt → Opt → Bool
 is_same a b = place_of a == place_of b
 
 abbrev pub options : List Opt
-options = Mode ∷ Spef ∷ Cons ∷ Net ∷ []
+options = Mode ∷ Spef ∷ Lib ∷ Cons ∷ Net ∷ []
 
 -- the options that name files
 abbrev pub file_options : List Opt
-file_options = Spef ∷ Cons ∷ []
+file_options = Spef ∷ Lib ∷ Cons ∷ []
 
 -- the mode that a text names
 abbrev pub mode_of : List ℕ → Option ModeSpec
@@ -48,7 +51,7 @@ mode_name Time = codes "time"
 -- the options that a mode asks for
 abbrev pub required : ModeSpec → List Opt
 required Wire = Spef ∷ Net ∷ []
-required Time = Spef ∷ Cons ∷ Net ∷ []
+required Time = Spef ∷ Lib ∷ Cons ∷ Net ∷ []
 
 -- those that it may be given; it has no use for others
 abbrev pub allowed : ModeSpec → List Opt

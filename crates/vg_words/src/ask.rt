@@ -18,7 +18,7 @@ pub enum Mode {
 
 const WIRE_OPTIONS: [Opt; 2] = [Opt::Spef, Opt::Net];
 
-const TIME_OPTIONS: [Opt; 3] = [Opt::Spef, Opt::Cons, Opt::Net];
+const TIME_OPTIONS: [Opt; 4] = [Opt::Spef, Opt::Lib, Opt::Cons, Opt::Net];
 
 impl Mode {
     /// The options that the mode asks for.
@@ -59,6 +59,8 @@ pub struct Ask {
     pub mode: Mode,
     /// The name of the SPEF file.
     pub spef: Option<Text>,
+    /// The name of the library.
+    pub lib: Option<Text>,
     /// The name of the constraints file.
     pub cons: Option<Text>,
     /// The name of the net.
@@ -73,6 +75,7 @@ impl Ask {
         let value = match option {
             Opt::Mode => return self.mode.name(),
             Opt::Spef => &self.spef,
+            Opt::Lib => &self.lib,
             Opt::Cons => &self.cons,
             Opt::Net => &self.net,
         };

@@ -8,6 +8,8 @@ pub enum Opt {
     Mode,
     /// The name of the SPEF file.
     Spef,
+    /// The name of the library.
+    Lib,
     /// The name of the constraints file.
     Cons,
     /// The name of the net.
@@ -15,10 +17,10 @@ pub enum Opt {
 }
 
 /// All options, in order.
-pub const OPTIONS: [Opt; 4] = [Opt::Mode, Opt::Spef, Opt::Cons, Opt::Net];
+pub const OPTIONS: [Opt; 5] = [Opt::Mode, Opt::Spef, Opt::Lib, Opt::Cons, Opt::Net];
 
 /// Those that name files.
-pub const FILE_OPTIONS: [Opt; 2] = [Opt::Spef, Opt::Cons];
+pub const FILE_OPTIONS: [Opt; 3] = [Opt::Spef, Opt::Lib, Opt::Cons];
 
 impl Opt {
     /// The option as a word.
@@ -28,6 +30,7 @@ impl Opt {
         match self {
             Opt::Mode => "--mode",
             Opt::Spef => "--spef",
+            Opt::Lib => "--lib",
             Opt::Cons => "--cons",
             Opt::Net => "--net",
         }
@@ -48,6 +51,8 @@ impl Opt {
             Some(Opt::Mode)
         } else if word == "--spef" {
             Some(Opt::Spef)
+        } else if word == "--lib" {
+            Some(Opt::Lib)
         } else if word == "--cons" {
             Some(Opt::Cons)
         } else if word == "--net" {
