@@ -8,4 +8,6 @@ mod program;
 #[cfg(test)]
 mod texts;
 #[cfg(test)]
+mod time;
+#[cfg(test)]
 mod words;

@@ -7,7 +7,7 @@ use std::test::Fail;
 use vg_store::{MemFiles, MemOut};
 use vginsert_top::run;
 
-const NET: &str = "*D_NET n1 200
+pub(crate) const NET: &str = "*D_NET n1 200
 *CONN
 *I u1:Z O
 *I u2:A I
@@ -29,8 +29,8 @@ type Failing<'a> = (&'a [u64], &'a [u64], &'a [u64]);
 
 const NO_FAILING: Failing<'static> = (&[], &[], &[]);
 
-/// The words of a run, the text of the file `a.spef` and that of the file `c.txt`.
-type Given<'a> = (&'a str, &'a str, &'a str);
+/// The words of a run, the text of the file `a.spef`, that of `l.lib` and that of `c.txt`.
+type Given<'a> = (&'a str, &'a str, &'a str, &'a str);
 
 /// The status of a run, what it printed and what it told.
 type Ending<'a> = (u8, &'a str, &'a str);
@@ -38,6 +38,7 @@ type Ending<'a> = (u8, &'a str, &'a str);
 fn files_of(
     alloc: Global,
     text: &str,
+    lib: &str,
     cons: &str,
     chunk: usize,
     failing: &[u64],
@@ -46,6 +47,7 @@ fn files_of(
 {
     let mut files = MemFiles::new(alloc, chunk, failing)?;
     files.add("a.spef", text.as_bytes())?;
+    files.add("l.lib", lib.as_bytes())?;
     files.add("c.txt", cons.as_bytes())?;
     Ok(files)
 }
@@ -60,9 +62,9 @@ fn ends(
 ) -> Result<bool, Fail>
     requires { 1 ≤ chunk }
 {
-    let (words, text, cons) = given;
+    let (words, text, lib, cons) = given;
     let words = words_of(alloc, words)?;
-    let mut files = files_of(alloc, text, cons, chunk, failing.0)?;
+    let mut files = files_of(alloc, text, lib, cons, chunk, failing.0)?;
     ends_over(
         alloc,
         &words,
@@ -92,7 +94,7 @@ fn ends_over(
 }
 
 /// The words, the text after the header, the status, and the text of the output that is not empty.
-type Row<'a> = (&'a str, &'a str, u8, &'a str);
+pub(crate) type Row<'a> = (&'a str, &'a str, u8, &'a str);
 
 /// How a run ends with this status and this line.
 fn ending(status: u8, line: &str) -> Ending<'_> {
@@ -103,13 +105,27 @@ fn ending(status: u8, line: &str) -> Ending<'_> {
     }
 }
 
-fn is_answered(alloc: Global, row: Row<'_>, cons: &str, chunk: usize) -> Result<bool, Fail>
+/// Whether a run with a library and under constraints ends so.
+pub(crate) fn is_timed(
+    alloc: Global,
+    row: Row<'_>,
+    lib: &str,
+    cons: &str,
+    chunk: usize,
+) -> Result<bool, Fail>
     requires { 1 ≤ chunk }
 {
     let (words, section, status, line) = row;
     let text = format!(in alloc; "{HEADER}{section}")?;
-    let given = (words, text.as_str(), cons);
+    let given = (words, text.as_str(), lib, cons);
     ends(alloc, given, chunk, NO_FAILING, ending(status, line))
+}
+
+/// Whether a run without these ends so.
+fn is_answered(alloc: Global, row: Row<'_>, chunk: usize) -> Result<bool, Fail>
+    requires { 1 ≤ chunk }
+{
+    is_timed(alloc, row, "", "", chunk)
 }
 
 static ANSWERS: [Row; 16] = [
@@ -297,8 +313,8 @@ static ANSWERS: [Row; 16] = [
 #[test]
 fn answers_each_row(rt: HostRuntime) -> Result<(), Fail> {
     for row in &ANSWERS {
-        assert!(rt; is_answered(rt.alloc(), *row, "", 1)?, "{}", row.1);
-        assert!(rt; is_answered(rt.alloc(), *row, "", 1 << 20)?, "{}", row.1);
+        assert!(rt; is_answered(rt.alloc(), *row, 1)?, "{}", row.1);
+        assert!(rt; is_answered(rt.alloc(), *row, 1 << 20)?, "{}", row.1);
     }
     Ok(())
 }
@@ -390,7 +406,7 @@ static REFUSED: [(&str, &str); 14] = [
 fn is_refused(alloc: Global, lines: &str, reason: &str) -> Result<bool, Fail> {
     let section = format!(in alloc; "*D_NET n1 0\n{lines}*END\n")?;
     let line = format!(in alloc; "net n1 refused {reason}\n")?;
-    is_answered(alloc, (WORDS, section.as_str(), 2, line.as_str()), "", 64)
+    is_answered(alloc, (WORDS, section.as_str(), 2, line.as_str()), 64)
 }
 
 #[test]
@@ -404,7 +420,7 @@ fn refuses_nets(rt: HostRuntime) -> Result<(), Fail> {
         2,
         "net n1 refused 3 Reduced\n",
     );
-    assert!(rt; is_answered(rt.alloc(), reduced, "", 64)?);
+    assert!(rt; is_answered(rt.alloc(), reduced, 64)?);
     Ok(())
 }
 
@@ -435,14 +451,15 @@ fn ends_with(
     new: &str,
     wanted: Ending<'_>,
 ) -> Result<bool, Fail> {
-    let (words, text, cons) = given;
+    let (words, text, lib, cons) = given;
     let text = text.replace(alloc, old, new)?;
-    ends(alloc, (words, text.as_str(), cons), 100, NO_FAILING, wanted)
+    let given = (words, text.as_str(), lib, cons);
+    ends(alloc, given, 100, NO_FAILING, wanted)
 }
 
 fn is_read(alloc: Global, old: &str, new: &str, wanted: Ending<'_>) -> Result<bool, Fail> {
     let text = format!(in alloc; "{HEADER}{NET}")?;
-    ends_with(alloc, (WORDS, text.as_str(), ""), old, new, wanted)
+    ends_with(alloc, (WORDS, text.as_str(), "", ""), old, new, wanted)
 }
 
 #[test]
@@ -467,7 +484,7 @@ static NO_HEADERS: [(&str, &str); 2] = [
 #[test]
 fn wants_a_header(rt: HostRuntime) -> Result<(), Fail> {
     for (text, told) in &NO_HEADERS {
-        let given = (WORDS, *text, "");
+        let given = (WORDS, *text, "", "");
         assert!(rt;
             ends(rt.alloc(), given, 100, NO_FAILING, (4, "", told))?,
             "{text}"
@@ -510,7 +527,7 @@ fn extracted(alloc: Global) -> Result<String, Fail> {
 fn extracted_ends(alloc: Global, old: &str, new: &str, wanted: Ending<'_>) -> Result<bool, Fail> {
     let text = extracted(alloc)?;
     let words = "--mode wire --spef a.spef --net n[3]";
-    ends_with(alloc, (words, text.as_str(), ""), old, new, wanted)
+    ends_with(alloc, (words, text.as_str(), "", ""), old, new, wanted)
 }
 
 /// What a row of the name map becomes, and how the run ends.
@@ -592,7 +609,8 @@ fn net_ends(
     requires { 1 ≤ chunk }
 {
     let text = format!(in alloc; "{HEADER}{NET}")?;
-    ends(alloc, (words, text.as_str(), ""), chunk, failing, wanted)
+    let given = (words, text.as_str(), "", "");
+    ends(alloc, given, chunk, failing, wanted)
 }
 
 /// Whether the run for the net ends so where the files' call of this number fails.
@@ -634,166 +652,6 @@ fn tells_what_it_can(rt: HostRuntime) -> Result<(), Fail> {
             net_ends(rt.alloc(), words, 8, failing, *wanted)?,
             "{words}"
         );
-    }
-    Ok(())
-}
-
-/// A net from a port to a port.
-const PORTS: &str = "*D_NET p 200
-*CONN
-*P a I
-*P z O
-*CAP
-1 p:1 100
-2 z 100
-*RES
-1 a p:1 1000
-2 p:1 z 1000
-*END
-";
-
-const TIME: &str = "--mode time --spef a.spef --cons c.txt --net p";
-
-/// The words, the text after the header, the constraints, the status, and the text of the output that is not empty.
-static TIMES: [(&str, &str, &str, u8, &str); 16] = [
-    (
-        TIME,
-        PORTS,
-        "vgcons 1
-required z 400
-drive a 1000 10
-load z 2
-",
-        0,
-        "net p slack -116000000000 polarity right\n",
-    ),
-    (
-        TIME,
-        PORTS,
-        "vgcons 1
-required z 400
-drive a 1000 10
-load z 2
-arrival a 5
-want z inverted",
-        0,
-        "net p slack -121000000000 polarity wrong z\n",
-    ),
-    (
-        TIME,
-        PORTS,
-        "vgcons 1\ndrive a 1000 10\nload z 2\n",
-        2,
-        "net p refused 15 Unconstrained z\n",
-    ),
-    (
-        TIME,
-        PORTS,
-        "vgcons 1
-required z 400
-drive a 1000 10
-load z -2
-",
-        4,
-        "vginsert: c.txt: Number Negative line 4\n",
-    ),
-    (
-        TIME,
-        PORTS,
-        "vgcons 1\ndefault required 400\ndrive a 1000000.001 0\n",
-        2,
-        "net p refused 16 TooLarge\n",
-    ),
-    (
-        "--mode time --spef a.spef --cons c.txt --net n1",
-        NET,
-        "vgcons 1\nrequired u2:A 400\n",
-        2,
-        "net n1 refused 0 NotYet\n",
-    ),
-    (
-        "--mode time --spef a.spef --cons c.txt --net q",
-        PORTS,
-        "vgcons 1",
-        2,
-        "net q refused 1 UnknownNet\n",
-    ),
-    (TIME, "*END\n", "", 4, "vginsert: a.spef: Stray line 15\n"),
-    // what refuses the net alone comes before what the constraints lack
-    (
-        TIME,
-        "*D_NET p 0
-*CONN
-*P a I
-*P z O
-*I u:A I
-*END
-",
-        "vgcons 1",
-        2,
-        "net p refused 12 Floating z\n",
-    ),
-    (
-        TIME,
-        "*D_NET p 0
-*CONN
-*P a I
-*P z O
-*CAP
-1 z 1e9
-*RES
-1 a z 1
-*END
-",
-        "vgcons 1",
-        2,
-        "net p refused 15 Unconstrained z\n",
-    ),
-    (TIME, PORTS, "", 4, "vginsert: c.txt: Version line 1\n"),
-    (
-        "--mode time --spef a.spef --cons d.txt --net p",
-        PORTS,
-        "",
-        5,
-        "vginsert: read failed: d.txt\n",
-    ),
-    // the first missing file is told, and a missing one before a faulty one
-    (
-        "--mode time --spef b.spef --cons d.txt --net p",
-        PORTS,
-        "",
-        5,
-        "vginsert: read failed: b.spef\n",
-    ),
-    (
-        "--mode time --spef a.spef --cons d.txt --net p",
-        "*END\n",
-        "",
-        5,
-        "vginsert: read failed: d.txt\n",
-    ),
-    (
-        "--mode time --spef a.spef --cons a.spef --net p",
-        PORTS,
-        "",
-        3,
-        "vginsert: words refused: equal names --spef --cons\n",
-    ),
-    (
-        "--mode wire --spef a.spef --net p",
-        PORTS,
-        "",
-        0,
-        "net p total 200000\nsink z 300000000000\n",
-    ),
-];
-
-#[test]
-fn times_each_row(rt: HostRuntime) -> Result<(), Fail> {
-    for (words, section, cons, status, line) in &TIMES {
-        let row = (*words, *section, *status, *line);
-        assert!(rt; is_answered(rt.alloc(), row, cons, 1)?, "{line}");
-        assert!(rt; is_answered(rt.alloc(), row, cons, 1 << 20)?, "{line}");
     }
     Ok(())
 }

@@ -5,29 +5,38 @@ use std::alloc::Global;
 use std::test::Fail;
 use vg_words::{Mode, Opt, WordFault, read_words};
 
-/// Words, their mode, and the file of constraints.
-static REQUESTS: [(&str, Mode, Option<&str>); 5] = [
-    ("--mode wire --spef a --net n", Mode::Wire, None),
-    ("--net=n --spef=a --mode=wire", Mode::Wire, None),
+/// Words, their mode, and the files of a library and of constraints.
+static REQUESTS: [(&str, Mode, Option<&str>, Option<&str>); 5] = [
+    ("--mode wire --spef a --net n", Mode::Wire, None, None),
+    ("--net=n --spef=a --mode=wire", Mode::Wire, None, None),
     (
-        "--cons c --net n --mode time --spef=a",
+        "--cons c --net n --lib l --mode time --spef=a",
         Mode::Time,
+        Some("l"),
         Some("c"),
     ),
     (
-        "--mode=time --cons=-c --spef=a --net=n",
+        "--mode=time --lib=l --cons=-c --spef=a --net=n",
         Mode::Time,
+        Some("l"),
         Some("-c"),
     ),
     (
-        "--mode=time --cons==c --spef=a --net n",
+        "--lib=--cons --mode=time --cons==c --spef=a --net n",
         Mode::Time,
+        Some("--cons"),
         Some("=c"),
     ),
 ];
 
 /// Whether the words ask for this, with the SPEF file `a` and the net `n`.
-fn asks(alloc: Global, line: &str, mode: Mode, cons: Option<&str>) -> Result<bool, Fail> {
+fn asks(
+    alloc: Global,
+    line: &str,
+    mode: Mode,
+    lib: Option<&str>,
+    cons: Option<&str>,
+) -> Result<bool, Fail> {
     let words = words_of(alloc, line)?;
     let Ok(ask) = read_words(alloc, &words) else {
         return Ok(false);
@@ -35,6 +44,7 @@ fn asks(alloc: Global, line: &str, mode: Mode, cons: Option<&str>) -> Result<boo
     Ok(
         ask.mode == mode
             && ask.spef.as_ref().map(|name| name.as_str()) == Some("a")
+            && ask.lib.as_ref().map(|name| name.as_str()) == lib
             && ask.cons.as_ref().map(|name| name.as_str()) == cons
             && ask.net.as_ref().map(|name| name.as_str()) == Some("n"),
     )
@@ -42,13 +52,13 @@ fn asks(alloc: Global, line: &str, mode: Mode, cons: Option<&str>) -> Result<boo
 
 #[test]
 fn reads_each_spelling(rt: HostRuntime) -> Result<(), Fail> {
-    for (line, mode, cons) in &REQUESTS {
-        assert!(rt; asks(rt.alloc(), line, *mode, *cons)?, "{line}");
+    for (line, mode, lib, cons) in &REQUESTS {
+        assert!(rt; asks(rt.alloc(), line, *mode, *lib, *cons)?, "{line}");
     }
     Ok(())
 }
 
-static FAULTY: [(&str, WordFault); 21] = [
+static FAULTY: [(&str, WordFault); 26] = [
     ("--mode wire --spef a --net n --fast", WordFault::Unread),
     ("--mode wire --spef a --net n --", WordFault::Unread),
     ("--mode wire --spef a --net n --net n", WordFault::Unread),
@@ -67,8 +77,9 @@ static FAULTY: [(&str, WordFault); 21] = [
     ("--mode ~ --spef a --net n", WordFault::BadValue(Opt::Mode)),
     ("--mode wire --cons c", WordFault::Missing(Opt::Spef)),
     ("--mode wire --spef a", WordFault::Missing(Opt::Net)),
+    ("--mode time --spef a --net n", WordFault::Missing(Opt::Lib)),
     (
-        "--mode time --spef a --net n",
+        "--mode time --spef a --lib l --net n",
         WordFault::Missing(Opt::Cons),
     ),
     (
@@ -76,20 +87,36 @@ static FAULTY: [(&str, WordFault); 21] = [
         WordFault::Excluded(Opt::Cons),
     ),
     (
+        "--mode wire --spef a --net n --cons c --lib l",
+        WordFault::Excluded(Opt::Lib),
+    ),
+    (
         "--mode wire --spef= --net ~",
         WordFault::BadValue(Opt::Spef),
     ),
     (
-        "--mode time --spef ~ --cons= --net ~",
+        "--mode time --spef ~ --lib ~ --cons= --net ~",
         WordFault::BadValue(Opt::Spef),
     ),
     (
-        "--mode time --spef a --cons a --net ~",
+        "--mode time --spef a --lib= --cons= --net ~",
+        WordFault::BadValue(Opt::Lib),
+    ),
+    (
+        "--mode time --spef a --lib l --cons a --net ~",
         WordFault::BadValue(Opt::Net),
     ),
     (
-        "--mode time --spef a --cons=a --net n",
+        "--mode time --spef a --lib l --cons=a --net n",
         WordFault::Equal(Opt::Spef, Opt::Cons),
+    ),
+    (
+        "--mode time --spef a --lib=a --cons a --net n",
+        WordFault::Equal(Opt::Spef, Opt::Lib),
+    ),
+    (
+        "--mode time --spef a --lib l --cons l --net n",
+        WordFault::Equal(Opt::Lib, Opt::Cons),
     ),
 ];
 

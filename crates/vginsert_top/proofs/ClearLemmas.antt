@@ -97,17 +97,17 @@ module _ (raw clear : List ℕ) (same : without_comments Spef clear ≡ without_
   spef_same line h = record { fault = h.fault; found = fault_of_file_same h.fault h.found; text_is = h.text_is }
 
   -- an answer of the one is an answer of the other
-  pub wire_answers : (cons name : List ℕ) (result : Result Answer NoAnswer) → AnswersFor Wire (texts_of clear []) name result → AnswersFor Wire (texts_of raw cons) name result
-  wire_answers cons name (Ok (Report text)) h = record { wire = h.wire; wire_of = wire_same name h.wire h.wire_of; text_is = h.text_is }
-  wire_answers cons name (Ok (Refused text)) h = record { refusal = h.refusal; refused = refusal_same name h.refusal h.refused; text_is = h.text_is }
-  wire_answers cons name (Err (FaultyInput input line)) (inl (is, fault)) = inl (is, spef_same line fault)
-  wire_answers cons name (Err (FaultyInput input line)) (inr (good, none)) = absurd none
-  wire_answers cons name (Err Memory) h = tt
+  pub wire_answers : (lib cons name : List ℕ) (result : Result Answer NoAnswer) → AnswersFor Wire (texts_of clear [] []) name result → AnswersFor Wire (texts_of raw lib cons) name result
+  wire_answers lib cons name (Ok (Report text)) h = record { wire = h.wire; wire_of = wire_same name h.wire h.wire_of; text_is = h.text_is }
+  wire_answers lib cons name (Ok (Refused text)) h = record { refusal = h.refusal; refused = refusal_same name h.refusal h.refused; text_is = h.text_is }
+  wire_answers lib cons name (Err (FaultyInput input line)) (inl (is, fault)) = inl (is, spef_same line fault)
+  wire_answers lib cons name (Err (FaultyInput input line)) (inr (good, none)) = absurd none
+  wire_answers lib cons name (Err Memory) h = tt
 
-  pub time_answers : (cons name : List ℕ) (result : Result Answer NoAnswer) → AnswersFor Time (texts_of clear cons) name result → AnswersFor Time (texts_of raw cons) name result
-  time_answers cons name (Ok (Report text)) h = record { rows = h.rows; constraints = h.constraints; timed = h.timed; timed_of = timed_same name h.rows h.timed h.timed_of; text_is = h.text_is }
-  time_answers cons name (Ok (Refused text)) h =
-      record { rows = h.rows; constraints = h.constraints; refusal = h.refusal; refused = time_refusal_same name h.rows h.refusal h.refused; text_is = h.text_is }
-  time_answers cons name (Err (FaultyInput input line)) (inl (is, fault)) = inl (is, spef_same line fault)
-  time_answers cons name (Err (FaultyInput input line)) (inr (good, more)) = inr ((good.0, file_same good.0 good.1), more)
-  time_answers cons name (Err Memory) h = tt
+  pub time_answers : (lib cons name : List ℕ) (result : Result Answer NoAnswer) → AnswersFor Time (texts_of clear lib cons) name result → AnswersFor Time (texts_of raw lib cons) name result
+  time_answers lib cons name (Ok (Report text)) h = record { library = h.library; rows = h.rows; constraints = h.constraints; timed = h.timed; timed_of = timed_same name h.rows h.timed h.timed_of; text_is = h.text_is }
+  time_answers lib cons name (Ok (Refused text)) h =
+      record { library = h.library; rows = h.rows; constraints = h.constraints; refusal = h.refusal; refused = time_refusal_same name h.rows h.refusal h.refused; text_is = h.text_is }
+  time_answers lib cons name (Err (FaultyInput input line)) (inl (is, fault)) = inl (is, spef_same line fault)
+  time_answers lib cons name (Err (FaultyInput input line)) (inr (good, more)) = inr ((good.0, file_same good.0 good.1), more)
+  time_answers lib cons name (Err Memory) h = tt

@@ -52,10 +52,11 @@ pub all_one : (P : Input → Type 0) (x : Input) → P x → All P (x ∷ [])
 all_one P x p zero d h = p
 all_one P x p (suc k) d h = absurd (omega (arith, h))
 
-pub all_two : (P : Input → Type 0) (x y : Input) → P x → P y → All P (x ∷ y ∷ [])
-all_two P x y p q zero d h = p
-all_two P x y p q (suc zero) d h = q
-all_two P x y p q (suc (suc k)) d h = absurd (omega (arith, h))
+pub all_three : (P : Input → Type 0) (x y z : Input) → P x → P y → P z → All P (x ∷ y ∷ z ∷ [])
+all_three P x y z p q r zero d h = p
+all_three P x y z p q r (suc zero) d h = q
+all_three P x y z p q r (suc (suc zero)) d h = r
+all_three P x y z p q r (suc (suc (suc k))) d h = absurd (omega (arith, h))
 
 -- what was read of a file that is held as before
 pub read_as : (held before : Option (List ℕ)) (text : List ℕ) → held ≡ before → IfSome held (λ file. text ≡ file) → IsShort text → IsRead before text

@@ -5,6 +5,7 @@ use Rattle.std.proofs.lemmas.Bool.{false≢true}
 use Rattle.vg_store.specs.Causes.{Rose}
 use Rattle.vg_store.specs.Reading.{FilesState}
 use Rattle.vg_store.specs.Writing.{OutState, Gains, GainsPrefix}
+use Rattle.lib_linear.proofs.LawLemmas.{excludes}
 use Rattle.vg_cons.specs.Faults.{IsFaultless, IsFaultIn}
 use Rattle.vg_cons.specs.Lines.{Line as ConsLine}
 use Rattle.vg_scan.specs.declared.fault.LineFault.{LineFault}
@@ -34,11 +35,11 @@ use Rattle.vginsert_top.specs.Inputs.{inputs, told, Change, IsShort, IsLong, IsR
 use Rattle.vginsert_top.specs.Run.{AreTold, AreShort, IsExact, IsStatusFor, PrintsReport, PrintsRefusal, PrintsEither, Says, TellsFlaw}
 use Rattle.vginsert_top.specs.Outcomes.{Ends, IsStatusOf, Tells, status_of, fault_status}
 use Rattle.vginsert_top.specs.declared.input.Input.{Input}
-use Rattle.vginsert_top.specs.declared.input.Input.TheVariants.{Spef, Cons}
+use Rattle.vginsert_top.specs.declared.input.Input.TheVariants.{Spef, Lib, Cons}
 use Rattle.vginsert_top.specs.declared.input.Flaw.TheVariants.{Failed, TooLong, Faulty}
 use Rattle.vginsert_top.specs.declared.outcome.Outcome.{Outcome}
 use Rattle.vginsert_top.specs.declared.outcome.Outcome.TheVariants.{Done, Refused, Flawed, WriteFault, Memory}
-use Rattle.vginsert_top.proofs.InputLemmas.{all_one, all_two, none_first}
+use Rattle.vginsert_top.proofs.InputLemmas.{all_one, all_three, none_first}
 
 abbrev Bytes : Type 0
 Bytes = List ℕ
@@ -115,15 +116,17 @@ module _ (net : Bytes) (texts : Input → Bytes) where
   report_not_faulty Wire t line input d (inl (_, f)) = no_both d.wire_of.named.file f.fault (texts Spef) d.wire_of.named.head_of.said f.found
   report_not_faulty Wire t line input d (inr (_, none)) = none
   report_not_faulty Time t line input d (inl (_, f)) = no_both d.timed_of.named.named.file f.fault (texts Spef) d.timed_of.named.named.head_of.said f.found
-  report_not_faulty Time t line input d (inr (_, inl (_, f))) = apart_faults _ f.fault d.constraints.faultless f.found
-  report_not_faulty Time t line input d (inr (_, inr (_, none))) = none
+  report_not_faulty Time t line input d (inr (_, inl (_, f))) = excludes (texts Lib) d.library.0 f.fault d.library.1 f.found
+  report_not_faulty Time t line input d (inr (_, inr (_, inl (_, f)))) = apart_faults _ f.fault d.constraints.faultless f.found
+  report_not_faulty Time t line input d (inr (_, inr (_, inr (_, none)))) = none
 
   refusal_not_faulty : (mode : Mode) (t line : Bytes) (input : Input) → IsRefusalFor mode texts net t → IsFirstFault texts (inputs mode) line input → ⊥
   refusal_not_faulty Wire t line input r (inl (_, f)) = (let file = has_file (texts Spef) net r.refusal r.refused in no_both file.0 f.fault (texts Spef) file.1 f.found)
   refusal_not_faulty Wire t line input r (inr (_, none)) = none
   refusal_not_faulty Time t line input r (inl (_, f)) = (let file = has_time_file (texts Spef) net r.rows r.refusal r.refused in no_both file.0 f.fault (texts Spef) file.1 f.found)
-  refusal_not_faulty Time t line input r (inr (_, inl (_, f))) = apart_faults _ f.fault r.constraints.faultless f.found
-  refusal_not_faulty Time t line input r (inr (_, inr (_, none))) = none
+  refusal_not_faulty Time t line input r (inr (_, inl (_, f))) = excludes (texts Lib) r.library.0 f.fault r.library.1 f.found
+  refusal_not_faulty Time t line input r (inr (_, inr (_, inl (_, f)))) = apart_faults _ f.fault r.constraints.faultless f.found
+  refusal_not_faulty Time t line input r (inr (_, inr (_, inr (_, none)))) = none
 
 module _ (ask : Ask) (texts : Input → Bytes) where
   report_status : AreShort ask texts → (t : Bytes) → IsReportFor ask.mode texts (text_for ask Net) t → IsStatusFor ask texts 0
@@ -161,36 +164,42 @@ module _ (ask : Ask) (texts : Input → Bytes) where
 -- texts that were read are those that are told, as far as the mode reads them
 abbrev Agree : Mode → (Input → Bytes) → (Input → Bytes) → Type 0
 Agree Wire a b = a Spef ≡ b Spef
-Agree Time a b = (a Spef ≡ b Spef) × (a Cons ≡ b Cons)
+Agree Time a b = (a Spef ≡ b Spef) × (a Lib ≡ b Lib) × (a Cons ≡ b Cons)
 
 told_is : (file : Option Bytes) (a b : Bytes) → IsRead file a → file ≡ Some b → a ≡ b
 told_is file a b read is = subst (λ (o : Option Bytes). IfSome o (λ bytes. a ≡ bytes)) is read.is_file
 
 agree : (mode : Mode) (tell : Input → Option Bytes) (a b : Input → Bytes) → All (λ i. IsRead (tell i) (a i)) (inputs mode) → All (λ i. tell i ≡ Some (b i)) (inputs mode) → Agree mode a b
 agree Wire tell a b read told = told_is (tell Spef) (a Spef) (b Spef) (read 0 Spef (omega arith)) (told 0 Spef (omega arith))
-agree Time tell a b read told =
-    (told_is (tell Spef) (a Spef) (b Spef) (read 0 Spef (omega arith)) (told 0 Spef (omega arith)), told_is (tell Cons) (a Cons) (b Cons) (read 1 Spef (omega arith)) (told 1 Spef (omega arith)))
+agree Time tell a b read told = (
+  told_is (tell Spef) (a Spef) (b Spef) (read 0 Spef (omega arith)) (told 0 Spef (omega arith)),
+  told_is (tell Lib) (a Lib) (b Lib) (read 1 Spef (omega arith)) (told 1 Spef (omega arith)),
+  told_is (tell Cons) (a Cons) (b Cons) (read 2 Spef (omega arith)) (told 2 Spef (omega arith)),
+)
 
 -- what is said of the ones is said of the others
-along : (P : (Input → Bytes) → Type 0) (a b : Input → Bytes) → a Spef ≡ b Spef → a Cons ≡ b Cons → P (texts_of (a Spef) (a Cons)) → P (texts_of (b Spef) (b Cons))
-along P a b s c p = subst (λ (cons : Bytes). P (texts_of (b Spef) cons)) c (subst (λ (spef : Bytes). P (texts_of spef (a Cons))) s p)
+along : (P : (Input → Bytes) → Type 0) (a b : Input → Bytes) → Agree Time a b → P (texts_of (a Spef) (a Lib) (a Cons)) → P (texts_of (b Spef) (b Lib) (b Cons))
+along P a b (s, l, c) p =
+    subst (λ (cons : Bytes). P (texts_of (b Spef) (b Lib) cons)) c
+    (subst (λ (lib : Bytes). P (texts_of (b Spef) lib (a Cons))) l (subst (λ (spef : Bytes). P (texts_of spef (a Lib) (a Cons))) s p))
 
 report_as : (mode : Mode) (a b : Input → Bytes) (net t : Bytes) → Agree mode a b → IsReportFor mode a net t → IsReportFor mode b net t
-report_as Wire a b net t e is = subst (λ (s : Bytes). IsReportFor Wire (texts_of s (b Cons)) net t) e is
-report_as Time a b net t e is = along (λ texts. IsReportFor Time texts net t) a b e.0 e.1 is
+report_as Wire a b net t e is = subst (λ (s : Bytes). IsReportFor Wire (texts_of s (b Lib) (b Cons)) net t) e is
+report_as Time a b net t e is = along (λ texts. IsReportFor Time texts net t) a b e is
 
 refusal_as : (mode : Mode) (a b : Input → Bytes) (net t : Bytes) → Agree mode a b → IsRefusalFor mode a net t → IsRefusalFor mode b net t
-refusal_as Wire a b net t e is = subst (λ (s : Bytes). IsRefusalFor Wire (texts_of s (b Cons)) net t) e is
-refusal_as Time a b net t e is = along (λ texts. IsRefusalFor Time texts net t) a b e.0 e.1 is
+refusal_as Wire a b net t e is = subst (λ (s : Bytes). IsRefusalFor Wire (texts_of s (b Lib) (b Cons)) net t) e is
+refusal_as Time a b net t e is = along (λ texts. IsRefusalFor Time texts net t) a b e is
 
 faulty_as : (mode : Mode) (a b : Input → Bytes) (line : Bytes) (input : Input) → Agree mode a b → IsFirstFault a (inputs mode) line input → IsFirstFault b (inputs mode) line input
-faulty_as Wire a b line input e is = subst (λ (s : Bytes). IsFirstFault (texts_of s (b Cons)) (inputs Wire) line input) e is
-faulty_as Time a b line input e is = along (λ texts. IsFirstFault texts (inputs Time) line input) a b e.0 e.1 is
+faulty_as Wire a b line input e is = subst (λ (s : Bytes). IsFirstFault (texts_of s (b Lib) (b Cons)) (inputs Wire) line input) e is
+faulty_as Time a b line input e is = along (λ texts. IsFirstFault texts (inputs Time) line input) a b e is
 
 shorts : (mode : Mode) (tell : Input → Option Bytes) (a b : Input → Bytes) → All (λ i. IsRead (tell i) (a i)) (inputs mode) → Agree mode a b → All (λ i. IsShort (b i)) (inputs mode)
 shorts Wire tell a b read e = all_one (λ i. IsShort (b i)) Spef (subst (λ (s : Bytes). IsShort s) e (read 0 Spef (omega arith)).short)
 shorts Time tell a b read e =
-    all_two (λ i. IsShort (b i)) Spef Cons (subst (λ (s : Bytes). IsShort s) e.0 (read 0 Spef (omega arith)).short) (subst (λ (s : Bytes). IsShort s) e.1 (read 1 Spef (omega arith)).short)
+    all_three (λ i. IsShort (b i)) Spef Lib Cons (subst (λ (s : Bytes). IsShort s) e.0 (read 0 Spef (omega arith)).short)
+    (subst (λ (s : Bytes). IsShort s) e.1 (read 1 Spef (omega arith)).short) (subst (λ (s : Bytes). IsShort s) e.2 (read 2 Spef (omega arith)).short)
 
 -- what is told and short is not too long
 not_long : (file : Option Bytes) (text : Bytes) → (file ≡ Some text) → IsShort text → IsLong file → ⊥

@@ -6,9 +6,9 @@ use Rattle.vg_cons.specs.declared.constraints.Constraints.{Constraints}
 use Rattle.vg_words.specs.declared.ask.Mode.{Mode}
 use Rattle.vg_words.specs.declared.ask.Mode.TheVariants.{Wire, Time}
 use Rattle.vginsert_top.specs.Inputs.{inputs, IsFirstFault}
-use Rattle.vginsert_top.specs.Results.{AreRowsOf, IsDelays, IsRefusal, IsTimes, IsTimeRefusal, IsSpefFault, IsConsFault}
+use Rattle.vginsert_top.specs.Results.{AreRowsOf, IsLib, IsDelays, IsRefusal, IsTimes, IsTimeRefusal, IsSpefFault, IsLibFault, IsConsFault}
 use Rattle.vginsert_top.specs.declared.input.Input.{Input}
-use Rattle.vginsert_top.specs.declared.input.Input.TheVariants.{Spef, Cons}
+use Rattle.vginsert_top.specs.declared.input.Input.TheVariants.{Spef, Lib, Cons}
 use Rattle.vginsert_top.specs.declared.input.Texts.{Texts}
 use Rattle.vginsert_top.specs.declared.answer.Answer.{Answer}
 use Rattle.vginsert_top.specs.declared.answer.Answer.TheVariants.{Report, Refused}
@@ -18,12 +18,12 @@ use Rattle.vginsert_top.specs.declared.answer.NoAnswer.TheVariants.{Faulty, Memo
 -- the text is the report that a mode prints
 abbrev pub IsReportFor : Mode → (Input → List ℕ) → List ℕ → List ℕ → Type 0
 IsReportFor Wire texts net text = IsDelays (texts Spef) net text
-IsReportFor Time texts net text = IsTimes (texts Spef) (texts Cons) net text
+IsReportFor Time texts net text = IsTimes (texts Spef) (texts Lib) (texts Cons) net text
 
 -- the text refuses the net
 abbrev pub IsRefusalFor : Mode → (Input → List ℕ) → List ℕ → List ℕ → Type 0
 IsRefusalFor Wire texts net text = IsRefusal (texts Spef) net text
-IsRefusalFor Time texts net text = IsTimeRefusal (texts Spef) (texts Cons) net text
+IsRefusalFor Time texts net text = IsTimeRefusal (texts Spef) (texts Lib) (texts Cons) net text
 
 -- what judging the texts of a mode may answer: the report, why the net is refused, the first fault, or out of memory
 abbrev pub AnswersFor : Mode → (Input → List ℕ) → List ℕ → Result Answer NoAnswer → Type 0
@@ -32,14 +32,15 @@ AnswersFor mode texts net (Ok (Refused text)) = IsRefusalFor mode texts net text
 AnswersFor mode texts net (Err (Faulty input line)) = IsFirstFault texts (inputs mode) line input
 AnswersFor mode texts net (Err Memory) = Unit {0}
 
--- these two texts
-abbrev pub texts_of : List ℕ → List ℕ → Input → List ℕ
-texts_of spef cons Spef = spef
-texts_of spef cons Cons = cons
+-- these texts
+abbrev pub texts_of : List ℕ → List ℕ → List ℕ → Input → List ℕ
+texts_of spef lib cons Spef = spef
+texts_of spef lib cons Lib = lib
+texts_of spef lib cons Cons = cons
 
 -- the texts that were read
 abbrev pub texts_in : Texts → Input → List ℕ
-texts_in texts = texts_of texts.spef.items texts.cons.items
+texts_in texts = texts_of texts.spef.items texts.lib.items texts.cons.items
 
 -- the answer refuses with this text
 abbrev pub IsRefusedWith : List ℕ → Answer → Type 0
@@ -50,12 +51,22 @@ IsRefusedWith wanted (Report text) = ⊥
 abbrev pub Indexes : Result SpefIndex NoAnswer → List ℕ → Type 0
 Indexes (Ok index) file = IsIndexOf file index
 Indexes (Err (Faulty Spef line)) file = IsSpefFault file line
+Indexes (Err (Faulty Lib line)) file = ⊥
 Indexes (Err (Faulty Cons line)) file = ⊥
 Indexes (Err Memory) file = Unit {0}
+
+-- what checking a library may answer
+abbrev pub ChecksLib : Result (Unit {0}) NoAnswer → List ℕ → Type 0
+ChecksLib (Ok _) lib = IsLib lib
+ChecksLib (Err (Faulty Spef line)) lib = ⊥
+ChecksLib (Err (Faulty Lib line)) lib = IsLibFault lib line
+ChecksLib (Err (Faulty Cons line)) lib = ⊥
+ChecksLib (Err Memory) lib = Unit {0}
 
 -- what reading constraints may answer
 abbrev pub ReadsCons : Result Constraints NoAnswer → List ℕ → Type 0
 ReadsCons (Ok rows) cons = AreRowsOf cons rows
 ReadsCons (Err (Faulty Spef line)) cons = ⊥
+ReadsCons (Err (Faulty Lib line)) cons = ⊥
 ReadsCons (Err (Faulty Cons line)) cons = IsConsFault cons line
 ReadsCons (Err Memory) cons = Unit {0}

@@ -7,6 +7,8 @@ use Rattle.spef_file.specs.declared.fault.SpefKind.TheVariants.{Header, Unit as 
 use Rattle.vg_scan.specs.declared.fault.LineFault.{LineFault}
 use Rattle.spef_net.specs.declared.fault.NetKind.{NetKind}
 use Rattle.spef_net.specs.declared.fault.NetKind.TheVariants.{Conn, Cap, Res, Number as NetNumber, Foreign, SelfCoupled, Memory as NetMemory}
+use Rattle.lib_cells.specs.declared.fault.LibKind.{LibKind}
+use Rattle.lib_cells.specs.declared.fault.LibKind.TheVariants.{Syntax, NotLinear, Slope, Unit as LibUnit, Number as LibNumber, CellTwice, TooManyRepeaters, Memory as LibMemory}
 use Rattle.vg_cons.specs.declared.fault.ConsKind.{ConsKind}
 use Rattle.vg_cons.specs.declared.fault.ConsKind.TheVariants.{Version, Word, Number, Twice, Memory}
 
@@ -25,6 +27,19 @@ cons_kind Memory = codes "Memory"
 -- `KIND line L`
 abbrev pub cons_fault : LineFault ConsKind → List ℕ
 cons_fault fault = cons_kind fault.kind ++ (codes " line " ++ decimal fault.line)
+
+abbrev pub lib_kind : LibKind → List ℕ
+lib_kind Syntax = codes "Syntax"
+lib_kind NotLinear = codes "NotLinear"
+lib_kind Slope = codes "Slope"
+lib_kind LibUnit = codes "Unit"
+lib_kind (LibNumber fault) = codes "Number " ++ number_kind fault
+lib_kind CellTwice = codes "CellTwice"
+lib_kind TooManyRepeaters = codes "TooManyRepeaters"
+lib_kind LibMemory = codes "Memory"
+
+abbrev pub lib_fault : LineFault LibKind → List ℕ
+lib_fault fault = lib_kind fault.kind ++ (codes " line " ++ decimal fault.line)
 
 abbrev pub spef_kind : SpefKind → List ℕ
 spef_kind Header = codes "Header"

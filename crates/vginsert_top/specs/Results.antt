@@ -3,6 +3,9 @@ use Rattle.std.specs.Prelude.{◌≡◌, ℕ, List}
 use Rattle.spef_file.specs.Files.{File, IsFileOf, IsFileFault}
 use Rattle.vg_scan.specs.declared.fault.LineFault.{LineFault}
 use Rattle.spef_file.specs.declared.fault.SpefKind.{SpefKind}
+use Rattle.lib_linear.specs.Faults.{IsFirstFault as IsFirstLibFault}
+use Rattle.lib_linear.specs.Libraries.{Cells, Denotes}
+use Rattle.lib_cells.specs.declared.fault.LibKind.{LibKind}
 use Rattle.vg_cons.specs.Lines.{lines_of as cons_lines}
 use Rattle.vg_cons.specs.Faults.{IsFaultless, IsFaultIn}
 use Rattle.vg_cons.specs.Rows.{Rows, rows_of}
@@ -13,7 +16,7 @@ use Rattle.vg_design.specs.Wires.{IsWireOf}
 use Rattle.vg_design.specs.declared.refusal.Refusal.{Refusal}
 use Rattle.vg_design.specs.declared.time.slack.Timed.{Timed}
 use Rattle.vg_design.specs.declared.wire.WireNet.{WireNet}
-use Rattle.vginsert_top.specs.Faults.{cons_fault, spef_fault}
+use Rattle.vginsert_top.specs.Faults.{cons_fault, lib_fault, spef_fault}
 use Rattle.vginsert_top.specs.Reports.{wire_report, slack_line, refusal_line}
 
 -- the net of this name has wire delays, and the text is their report
@@ -38,6 +41,16 @@ pub record IsSpefFault (file text : List ℕ) : Type 0 where
 abbrev pub IsSpef : List ℕ → Type 0
 IsSpef file = (said : File) × IsFileOf file said
 
+-- the text is a library without a fault
+abbrev pub IsLib : List ℕ → Type 0
+IsLib lib = (said : Cells) × Denotes lib said
+
+-- the library has a fault, and the text tells it
+pub record IsLibFault (lib text : List ℕ) : Type 0 where
+  pub fault : LineFault LibKind
+  pub found : IsFirstLibFault lib fault
+  pub text_is : text ≡ lib_fault fault
+
 -- the constraints have these rows
 pub record AreRowsOf (cons : List ℕ) (rows : Rows) : Type 0 where
   pub faultless : IsFaultless (cons_lines cons)
@@ -49,16 +62,18 @@ pub record IsConsFault (cons text : List ℕ) : Type 0 where
   pub found : IsFaultIn (cons_lines cons) fault
   pub text_is : text ≡ cons_fault fault
 
--- the net of this name has a slack under the constraints, and the text reports it
-pub record IsTimes (spef cons name text : List ℕ) : Type 0 where
+-- the library has no fault, the net of this name has a slack under the constraints, and the text reports it
+pub record IsTimes (spef lib cons name text : List ℕ) : Type 0 where
+  pub library : IsLib lib
   pub rows : Rows
   pub constraints : AreRowsOf cons rows
   pub timed : Timed
   pub timed_of : IsTimedOf spef name rows timed
   pub text_is : text ≡ slack_line name timed
 
--- it is not timed, and the text says why
-pub record IsTimeRefusal (spef cons name text : List ℕ) : Type 0 where
+-- nor has the library one, the net is not timed, and the text says why
+pub record IsTimeRefusal (spef lib cons name text : List ℕ) : Type 0 where
+  pub library : IsLib lib
   pub rows : Rows
   pub constraints : AreRowsOf cons rows
   pub refusal : Refusal

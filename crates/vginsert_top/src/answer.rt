@@ -1,13 +1,15 @@
 //! What is said of a net that is asked for.
 
 ghost use Rattle.std.specs.Prelude.{◌≡◌, ◌≤◌, ◌^◌, length, IfOk};
-ghost use Rattle.vginsert_top.specs.Answer.{IsRefusedWith, Indexes, ReadsCons};
+ghost use Rattle.vginsert_top.specs.Answer.{IsRefusedWith, Indexes, ReadsCons, ChecksLib};
 ghost use Rattle.vginsert_top.specs.Reports.{refused_line};
 ghost use Rattle.vginsert_top.specs.declared.answer.NoAnswer.TheVariants.{Memory as out_of_memory};
 
-use crate::faults::{cons_fault, spef_fault};
+use crate::faults::{cons_fault, lib_fault, spef_fault};
 use crate::input::Input;
 use crate::report::print_refused;
+use lib_cells::LibKind;
+use lib_linear::read_library;
 use spef_file::{SpefIndex, SpefKind, SpefText, index};
 use std::alloc::Global;
 use vg_cons::{ConsKind, Constraints, read_constraints};
@@ -57,6 +59,20 @@ pub fn index_of(alloc: Global, file: &SpefText) -> Result<SpefIndex, NoAnswer>
         Err(fault) => match fault.kind {
             SpefKind::Memory => Err(NoAnswer::Memory),
             _ => Err(NoAnswer::Faulty(Input::Spef, spef_fault(alloc, fault)?)),
+        },
+    }
+}
+
+/// Whether a text is a library without a fault, or the text of its fault. What the library says is let go.
+pub fn check_library(alloc: Global, lib: &[u8]) -> Result<(), NoAnswer>
+    requires { length lib.now ≤ 2 ^ 28 }
+    ensures { ChecksLib result lib.now }
+{
+    match read_library(alloc, lib) {
+        Ok(_) => Ok(()),
+        Err(fault) => match fault.kind {
+            LibKind::Memory => Err(NoAnswer::Memory),
+            _ => Err(NoAnswer::Faulty(Input::Lib, lib_fault(alloc, fault)?)),
         },
     }
 }

@@ -1,9 +1,10 @@
 //! The faults of files, as text.
 
 ghost use Rattle.std.specs.Prelude.{◌≡◌, ◌++◌, OnOk, IfOk, codes, decimal};
-ghost use Rattle.vginsert_top.specs.Faults.{cons_kind, cons_fault, spef_kind, spef_fault, net_kind, net_fault};
+ghost use Rattle.vginsert_top.specs.Faults.{cons_kind, cons_fault, lib_kind, lib_fault, spef_kind, spef_fault, net_kind, net_fault};
 
 use crate::report::push;
+use lib_cells::{LibFault, LibKind};
 use spef_file::{SpefFault, SpefKind};
 use spef_net::{NetFault, NetKind};
 use std::alloc::Global;
@@ -22,6 +23,24 @@ fn cons_kind(kind: ConsKind) -> &'static [u8]
         ConsKind::Number(NumFault::TooLarge) => b"Number TooLarge",
         ConsKind::Twice => b"Twice",
         ConsKind::Memory => b"Memory",
+    }
+}
+
+/// The name of a fault of a library.
+fn lib_kind(kind: LibKind) -> &'static [u8]
+    ensures { result.now ≡ lib_kind kind }
+{
+    match kind {
+        LibKind::Syntax => b"Syntax",
+        LibKind::NotLinear => b"NotLinear",
+        LibKind::Slope => b"Slope",
+        LibKind::Unit => b"Unit",
+        LibKind::Number(NumFault::Form) => b"Number Form",
+        LibKind::Number(NumFault::Negative) => b"Number Negative",
+        LibKind::Number(NumFault::TooLarge) => b"Number TooLarge",
+        LibKind::CellTwice => b"CellTwice",
+        LibKind::TooManyRepeaters => b"TooManyRepeaters",
+        LibKind::Memory => b"Memory",
     }
 }
 
@@ -75,6 +94,15 @@ pub fn cons_fault(alloc: Global, fault: ConsFault) -> Result<Row<u8>, Memory>
 {
     let mut text = Vec::new(alloc);
     print_fault(cons_kind(fault.kind), fault.line, &mut text)?;
+    Ok(Row::from_vec(text))
+}
+
+/// A fault of a library as text: `KIND line L`.
+pub fn lib_fault(alloc: Global, fault: LibFault) -> Result<Row<u8>, Memory>
+    ensures { IfOk result (λ text. text ≡ lib_fault fault) }
+{
+    let mut text = Vec::new(alloc);
+    print_fault(lib_kind(fault.kind), fault.line, &mut text)?;
     Ok(Row::from_vec(text))
 }
 

@@ -14,6 +14,8 @@ use vg_words::{Ask, Mode, Opt};
 pub enum Input {
     /// The parasitics.
     Spef,
+    /// The library.
+    Lib,
     /// The constraints.
     Cons,
 }
@@ -33,12 +35,13 @@ pub enum Flaw {
 #[derive(Drop)]
 pub struct Texts {
     pub spef: Vec<u8>,
+    pub lib: Vec<u8>,
     pub cons: Vec<u8>,
 }
 
 const WIRE_INPUTS: [Input; 1] = [Input::Spef];
 
-const TIME_INPUTS: [Input; 2] = [Input::Spef, Input::Cons];
+const TIME_INPUTS: [Input; 3] = [Input::Spef, Input::Lib, Input::Cons];
 
 impl Input {
     /// The option that names the input.
@@ -47,6 +50,7 @@ impl Input {
     {
         match self {
             Input::Spef => Opt::Spef,
+            Input::Lib => Opt::Lib,
             Input::Cons => Opt::Cons,
         }
     }
@@ -65,10 +69,12 @@ fn inputs(mode: Mode) -> &'static [Input]
 impl Texts {
     fn new(alloc: Global) -> Texts
         ensures spef { result.spef.items ≡ [] }
+        ensures lib { result.lib.items ≡ [] }
         ensures cons { result.cons.items ≡ [] }
     {
         Texts {
             spef: Vec::new(alloc),
+            lib: Vec::new(alloc),
             cons: Vec::new(alloc),
         }
     }
@@ -80,6 +86,7 @@ impl Texts {
     {
         match input {
             Input::Spef => self.spef = text,
+            Input::Lib => self.lib = text,
             Input::Cons => self.cons = text,
         }
     }

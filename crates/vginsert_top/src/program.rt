@@ -26,20 +26,27 @@ use vg_words::{Ask, Mode, Opt, WordFault, read_words};
 /// What is said of the wire delays of a net of the file of these bytes.
 fn wire_in(alloc: Global, spef: Vec<u8>, net: &[u8]) -> Result<Answer, NoAnswer>
     requires { length spef.items ≤ 2 ^ 28 }
-    ensures { (cons : List ℕ) → AnswersFor ModeSpec.Wire (texts_of spef.items cons) net.now result }
+    ensures { (lib cons : List ℕ) → AnswersFor ModeSpec.Wire (texts_of spef.items lib cons) net.now result }
 {
     let text = SpefText::new(spef);
     wire_for(alloc, &text, net)
 }
 
-/// What is said of the slack of a net of the file of these bytes, under constraints.
-fn time_in(alloc: Global, spef: Vec<u8>, cons: &[u8], net: &[u8]) -> Result<Answer, NoAnswer>
+/// What is said of the slack of a net of the file of these bytes, with a library and under constraints.
+fn time_in(
+    alloc: Global,
+    spef: Vec<u8>,
+    lib: &[u8],
+    cons: &[u8],
+    net: &[u8],
+) -> Result<Answer, NoAnswer>
     requires spef { length spef.items ≤ 2 ^ 28 }
+    requires lib { length lib.now ≤ 2 ^ 28 }
     requires cons { length cons.now ≤ 2 ^ 28 }
-    ensures { AnswersFor ModeSpec.Time (texts_of spef.items cons.now) net.now result }
+    ensures { AnswersFor ModeSpec.Time (texts_of spef.items lib.now cons.now) net.now result }
 {
     let text = SpefText::new(spef);
-    time_for(alloc, &text, cons, net)
+    time_for(alloc, &text, lib, cons, net)
 }
 
 /// What is said of a net of the inputs that a mode has read.
@@ -47,10 +54,10 @@ fn answer(alloc: Global, mode: Mode, texts: Texts, net: &[u8]) -> Result<Answer,
     requires { All (λ input. IsShort (texts_in texts input)) (inputs mode) }
     ensures { AnswersFor mode (texts_in texts) net.now result }
 {
-    let Texts { spef, cons } = texts;
+    let Texts { spef, lib, cons } = texts;
     match mode {
         Mode::Wire => wire_in(alloc, spef, net),
-        Mode::Time => time_in(alloc, spef, &cons, net),
+        Mode::Time => time_in(alloc, spef, &lib, &cons, net),
     }
 }
 

@@ -4,7 +4,7 @@ ghost use Rattle.vginsert_top.specs.Reports.{slack_line};
 ghost use Rattle.vginsert_top.specs.Answer.{AnswersFor, texts_of};
 ghost use Rattle.vg_words.specs.declared.ask.Mode.{Mode};
 
-use crate::answer::{Answer, NoAnswer, constraints_of, index_of};
+use crate::answer::{Answer, NoAnswer, check_library, constraints_of, index_of};
 use crate::report::{print_node, print_slack};
 use crate::wire::refuse;
 use spef_file::SpefText;
@@ -29,17 +29,20 @@ fn report_slack(alloc: Global, name: &[u8], timed: &Timed) -> Result<Vec<u8>, Me
     Ok(text)
 }
 
-/// What is said of the slack of the net of this name under constraints.
+/// What is said of the slack of the net of this name under constraints. The library has to be in its form.
 pub fn time_for(
     alloc: Global,
     spef: &SpefText,
+    lib: &[u8],
     cons: &[u8],
     name: &[u8],
 ) -> Result<Answer, NoAnswer>
-    requires { length cons.now ≤ 2 ^ 28 }
-    ensures { AnswersFor Mode.Time (texts_of spef.now cons.now) name.now result }
+    requires lib { length lib.now ≤ 2 ^ 28 }
+    requires cons { length cons.now ≤ 2 ^ 28 }
+    ensures { AnswersFor Mode.Time (texts_of spef.now lib.now cons.now) name.now result }
 {
     let index = index_of(alloc, spef)?;
+    check_library(alloc, lib)?;
     let rows = constraints_of(alloc, cons)?;
     let net = Name::from_bytes(alloc, name)?;
     match time_net(alloc, spef, &index, &rows, &net) {
