@@ -2,8 +2,9 @@
 """Times vginsert on inputs that it makes in a temporary folder, and prints a table: `run.py PROGRAM MODE [MB...]`.
 
 MODE is `wire` (nets of 65,536 nodes, each alone in its file), `time` (the same nets between ports, with 131,072 and with
-1,000,000 rows of constraints) or `design` (mode `wire` on a small and the large net of extracted designs of 1, 16, 64
-and 256 MB, or of the sizes given, each with its comments and without them). With `--beside OTHER` each row of `wire` and
+1,000,000 rows of constraints), `design` (mode `wire` on a small and the large net of extracted designs of 1, 16, 64
+and 256 MB, or of the sizes given, each with its comments and without them) or `library` (mode `time` on a small net with
+libraries of 64 MB, or of the sizes given: of mixed cells, of deep and of wide groups, and of tables). With `--beside OTHER` each row of `wire` and
 `design` also tells the seconds and the memory of another program with the same arguments, run right after. Seconds are
 the least of five runs of the whole process, peak memory is what GNU time tells, 1 MB is 2^20 bytes.
 """
@@ -15,6 +16,7 @@ import tempfile
 import time
 
 HERE = os.path.dirname(os.path.abspath(__file__))
+LIBRARY = os.path.join(HERE, "..", "examples", "cells.lib")
 SHAPES = {"chain": "a chain", "star": "a star", "tree": "a binary tree"}
 
 
@@ -85,8 +87,8 @@ def run_time(programs):
         make("constraints.py", [str(rows)], "net.cons")
         for shape, name in SHAPES.items():
             make("one_net.py", ["65536", shape, "ports"], "net.spef")
-            words = [programs[0], "--mode", "time", "--spef", "net.spef", "--cons", "net.cons", "--net", "n"]
-            _, seconds, peak = measure_good(words)
+            files = ["--spef", "net.spef", "--lib", LIBRARY, "--cons", "net.cons"]
+            _, seconds, peak = measure_good([programs[0], "--mode", "time", *files, "--net", "n"])
             row(name, f"{rows:,}", mb(os.path.getsize("net.cons")), f"{seconds:.2f}", mb(peak))
 
 
@@ -110,18 +112,31 @@ def run_design(programs, *sizes):
                 row(mb(os.path.getsize(path)), comments, net, *cells)
 
 
-MODES = {"wire": run_wire, "time": run_time, "design": run_design}
+def run_library(programs, *sizes):
+    head("library", "of", "seconds", "peak memory", "of the file")
+    make("one_net.py", ["3", "chain", "ports"], "net.spef")
+    make("constraints.py", ["8"], "net.cons")
+    for size in sizes or ["64"]:
+        for part in ["mixed", "deep", "wide", "values"]:
+            make("library.py", [size, part], "made.lib")
+            words = ["--mode", "time", "--spef", "net.spef", "--lib", "made.lib", "--cons", "net.cons", "--net", "n"]
+            _, seconds, peak = measure_good([programs[0], *words])
+            bytes_of_file = os.path.getsize("made.lib")
+            row(mb(bytes_of_file), part, f"{seconds:.2f}", mb(peak), f"{peak / bytes_of_file:.2f}")
+
+
+MODES = {"wire": run_wire, "time": run_time, "design": run_design, "library": run_library}
 
 
 def main():
-    words = argparse.ArgumentParser(usage="run.py PROGRAM wire|time|design [MB...] [--beside OTHER]")
+    words = argparse.ArgumentParser(usage="run.py PROGRAM wire|time|design|library [MB...] [--beside OTHER]")
     words.add_argument("program")
     words.add_argument("mode", choices=MODES)
     words.add_argument("sizes", nargs="*")
     words.add_argument("--beside")
     given = words.parse_intermixed_args()
-    if given.sizes and given.mode != "design":
-        words.error("only the mode design has sizes")
+    if given.sizes and given.mode not in ["design", "library"]:
+        words.error("only the modes design and library have sizes")
     programs = [os.path.abspath(path) for path in [given.program, given.beside] if path]
     with tempfile.TemporaryDirectory() as work:
         os.chdir(work)
