@@ -19,3 +19,5 @@ mod scan;
 mod store;
 #[cfg(test)]
 mod texts;
+#[cfg(test)]
+mod verilog;

@@ -1,0 +1,6 @@
+pub mod MoveLemmas
+pub mod FaultLemmas
+pub mod ReadLemmas
+pub mod RowLemmas
+pub mod LawLemmas
+pub mod PlaceLemmas

@@ -1,0 +1,95 @@
+//! The tokens of a module with what each stands in, one after another.
+
+ghost use Rattle.std.specs.Prelude.{◌≡◌};
+ghost use Rattle.ver_syntax.specs.Rows.{item_after, place_after};
+
+use crate::row::{Place, Row};
+use std::marker::Model;
+use ver_text::{Kind, Tokens, kind_in};
+
+fn item_after(kind: Kind) -> Place
+    ensures { result ≡ item_after kind }
+{
+    match kind {
+        Kind::Module => Place::Head,
+        Kind::Direction | Kind::Wire | Kind::NetType => Place::Declaration,
+        Kind::Assign => Place::Assignment,
+        Kind::Semicolon => Place::Start,
+        _ => Place::Instances,
+    }
+}
+
+/// What the token after one of this kind stands in.
+fn place_after(place: Place, kind: Kind) -> Place
+    ensures { result ≡ place_after place kind }
+{
+    match (place, kind) {
+        (Place::Start, _) => item_after(kind),
+        (_, Kind::Semicolon) => Place::Start,
+        (Place::Head, Kind::Open) => Place::Ports,
+        (Place::Ports, Kind::Close) => Place::Head,
+        (Place::Instances, Kind::Open) => Place::Pins,
+        (Place::Pins, Kind::Open) => Place::Connection,
+        (Place::Connection, Kind::Close) => Place::Pins,
+        (Place::Pins, Kind::Close) => Place::Instances,
+        _ => place,
+    }
+}
+
+/// The tokens of a module in order, each with what it stands in. Contracts see the list of those that are left.
+#[derive(Debug, Drop)]
+pub struct Rows<'a> {
+    text: &'a [u8],
+    tokens: Tokens<'a>,
+    place: Place,
+}
+
+impl<'a> Model for Rows<'a> {
+    ghost use Rattle.std.specs.Prelude.{List};
+    ghost use Rattle.ver_syntax.specs.declared.row.Row.{Row as RowSpec};
+    ghost use Rattle.ver_syntax.specs.Rows.{rows_from};
+
+    ghost Value = { List RowSpec };
+
+    ghost view = { λ left. rows_from left.text.now left.place left.tokens };
+}
+
+impl<'a> Rows<'a> {
+    ghost use Rattle.ver_syntax.specs.Rows.{rows_of};
+
+    /// All tokens of a text.
+    pub fn new(text: &'a [u8]) -> Rows<'a>
+        ensures { result ≡ rows_of text.now }
+    {
+        Rows {
+            text,
+            tokens: Tokens::new(text),
+            place: Place::Start,
+        }
+    }
+}
+
+impl<'a> Iterator for Rows<'a> {
+    ghost use Rattle.std.specs.Iterator.{YieldsFirst, item_count};
+
+    type Item = Row;
+
+    ghost next_gives = { YieldsFirst (λ left. left) };
+
+    ghost remaining = { item_count (λ left. left) };
+
+    fn next(&mut self) -> Option<Row> {
+        let Some(token) = self.tokens.next() else {
+            return None;
+        };
+        let kind = kind_in(self.text, token);
+        let place = self.place;
+        self.place = place_after(place, kind);
+        Some(Row {
+            place,
+            kind,
+            from: token.from,
+            to: token.to,
+        })
+    }
+}

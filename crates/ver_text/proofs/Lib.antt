@@ -1,0 +1,5 @@
+pub mod RunLemmas
+pub mod TokenLemmas
+pub mod KindLemmas
+pub mod OrderLemmas
+pub mod WrittenLemmas

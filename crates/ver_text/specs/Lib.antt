@@ -1,0 +1,9 @@
+pub mod Bytes
+pub mod Classes
+pub mod Tokens
+pub mod Found
+pub mod Kinds
+pub mod Keywords
+pub mod Names
+pub mod Written
+pub mod Laws
