@@ -1,0 +1,13 @@
+pub mod TableLemmas
+pub mod FlawLemmas
+pub mod ListLemmas
+pub mod SaidLemmas
+pub mod KnownLemmas
+pub mod SectionInLemmas
+pub mod FirstLemmas
+pub mod CheckLemmas
+pub mod FaultLemmas
+pub mod NetLemmas
+pub mod BuildLemmas
+pub mod LinkLemmas
+pub mod LawLemmas

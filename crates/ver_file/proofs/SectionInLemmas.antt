@@ -1,0 +1,25 @@
+-- The one section that an item is.
+use Rattle.std.proofs.Common.{◌≡◌, ℕ, List, [], ◌∷◌, ◌++◌, flat_map, refl, sym, ap, ◌∙◌, append_assoc}
+use Rattle.std.proofs.lemmas.List.{append-nil}
+use Rattle.ver_syntax.specs.declared.row.Row.{Row}
+use Rattle.ver_items.specs.Declarations.{declared_by}
+use Rattle.ver_file.specs.Firsts.{declared_among}
+use Rattle.ver_items.specs.Sections.{Section, sections}
+use Rattle.ver_items.specs.SectionSteps.{section_in}
+use Rattle.ver_file.proofs.ListLemmas.{flat_map-append}
+
+-- what an item declares is declared among its tokens
+pub declared_item : (text : List ℕ) (rows : List Row) → flat_map (declared_by text) (section_in rows) ≡ declared_among text rows
+unfolding sections
+declared_item text [] = refl
+declared_item text (r ∷ rows) = append-nil (declared_among text (r ∷ rows))
+
+-- one item more
+pub item_more : {X : Type 0} (f : Section → List X) (done all : List X) (left after : List Section) (rows : List Row) → all ≡ done ++ flat_map f left
+    → left ≡ section_in rows ++ after → all ≡ (done ++ flat_map f (section_in rows)) ++ flat_map f after
+item_more f done all left after rows e g =
+    e ∙ ap (λ s. done ++ flat_map f s) g ∙ ap (λ xs. done ++ xs) (flat_map-append f (section_in rows) after)
+    ∙ sym (append_assoc done (flat_map f (section_in rows)) (flat_map f after))
+
+pub items_done : {X : Type 0} (f : Section → List X) (done all : List X) (left : List Section) → all ≡ done ++ flat_map f left → left ≡ [] → done ≡ all
+items_done f done all left e g = sym (e ∙ ap (λ s. done ++ flat_map f s) g ∙ append-nil done)

@@ -1,0 +1,9 @@
+use Rattle.std.proofs.Common.{◌≡◌, flat_map}
+use Rattle.ver_file.specs.Firsts.{first_of}
+use Rattle.ver_file.specs.Flaws.{select_flaws}
+use Rattle.ver_file.proofs.check.select_flaws.Given as goal
+
+abbrev pub invariant-name : goal.invariant-name
+invariant-name l = record {
+  left : first_of l.first (flat_map (select_flaws l.text) l.name-iterator) ≡ first_of l.initial.first (flat_map (select_flaws l.text) l.initial.name-iterator);
+}

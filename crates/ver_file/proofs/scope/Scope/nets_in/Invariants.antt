@@ -1,0 +1,10 @@
+use Rattle.std.proofs.Common.{◌≡◌, ◌++◌, flat_map}
+use Rattle.ver_file.specs.Netlists.{nets_named}
+use Rattle.ver_file.proofs.scope.Scope.nets_in.Given as goal
+
+abbrev pub invariant-name : goal.invariant-name
+invariant-name l = record {
+  left :
+      l.nets.items ++ flat_map (nets_named l.self.text.now) l.name-iterator
+      ≡ l.initial.nets.items ++ flat_map (nets_named l.self.text.now) l.initial.name-iterator;
+}

@@ -1,0 +1,20 @@
+use Rattle.std.proofs.Common.{◌<◌, ◌+◌, ◌++◌, ◌∷◌, [], Some, drop, map, length, sym, ap, ◌∙◌, arith, append_assoc}
+use Rattle.ver_items.specs.Bits.{bits_from}
+use Rattle.ver_file.specs.Netlists.{net_number}
+use Rattle.ver_file.proofs.FirstLemmas.{next_bit}
+use Rattle.ver_file.proofs.scope.Scope.push_bits.Goals as goal
+
+pub turn-preserved : goal.turn-preserved
+turn-preserved c =
+    let f = net_number c.args.self.now.text.now c.args.row in
+    let bits = bits_from c.args.range in
+    let low : c.turn.at < length bits = omega (arith, c.turn-test.true, c.count-at-end.ensures) in
+    let e = next_bit f bits c.turn.at c.bit.result low c.bit.ensures in
+    let rest = map f (map Some (drop (c.turn.at + 1) bits)) in
+    record {
+      left =
+          ap (λ items. items ++ rest) (c.in_ok-push.ensures.items ∙ ap (λ n. c.turn.to.items ++ n ∷ []) c.in_ok-number.ensures)
+          ∙ append_assoc c.turn.to.items (f (Some c.bit.result) ∷ []) rest
+          ∙ ap (λ ns. c.turn.to.items ++ ns) (sym e)
+          ∙ c.turn.invariant.left;
+    }

@@ -1,0 +1,10 @@
+pub mod Nets
+pub mod Netlists
+pub mod Flaws
+pub mod Modules
+pub mod Said
+pub mod Tables
+pub mod Firsts
+pub mod Scopes
+pub mod FirstFlaws
+pub mod Laws

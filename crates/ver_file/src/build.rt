@@ -1,0 +1,183 @@
+//! The instances and the assignments of a module without a flaw.
+
+ghost use Rattle.std.specs.Prelude.{◌≡◌, ◌++◌, ◌∷◌, [], fold, map, find, IfOk, OnOk};
+ghost use Rattle.ver_module.specs.Netlists.{with_pin};
+ghost use Rattle.ver_syntax.specs.declared.row.Place.TheVariants.{Head};
+ghost use Rattle.ver_syntax.specs.Grammar.{is};
+ghost use Rattle.ver_syntax.specs.Rows.{rows_of};
+ghost use Rattle.ver_items.specs.Sections.{is_name_in, pins_in};
+ghost use Rattle.ver_file.specs.Netlists.{assigned_by, assigned_of, end_at, head_end, instance_of, instances_by, instances_of, module_name, pin_of};
+ghost use Rattle.ver_file.specs.Scopes.{IsScope};
+
+use crate::scope::Scope;
+use std::alloc::Global;
+use ver_items::{
+    Begin, Items, Section, Sections, connection_of, expression_of, is, is_name_in, name_at, span_of,
+};
+use ver_module::Instances;
+use ver_syntax::{Place, Row, Rows};
+use ver_text::Kind;
+use vg_num::Memory;
+use vg_scan::Name;
+
+/// Puts a pin last in the last instance. Answers `Memory` where there is no room.
+fn push_pin(
+    alloc: Global,
+    scope: &Scope<'_>,
+    pin: &Section<'_>,
+    to: &mut Instances,
+) -> Result<(), Memory>
+    requires { IsScope scope.now }
+    ensures { OnOk result (to.new ≡ with_pin to.old (pin_of scope.now.text.now pin.now)) }
+{
+    let connection = connection_of(pin);
+    let link = scope.link(alloc, expression_of(pin))?;
+    to.push_pin(name_at(scope.text, pin.head), span_of(connection), link)?;
+    Ok(())
+}
+
+/// Puts pins last in the last instance. Answers `Memory` where there is no room.
+fn push_pins(
+    alloc: Global,
+    scope: &Scope<'_>,
+    instance: &Section<'_>,
+    to: &mut Instances,
+) -> Result<(), Memory>
+    requires { IsScope scope.now }
+    ensures { OnOk result (to.new ≡ fold with_pin to.old (map (pin_of scope.now.text.now) (pins_in instance.now))) }
+{
+    'pin: for pin in Sections::new(Begin::Pin, instance.body) {
+        push_pin(alloc, scope, &pin, to)?;
+    }
+    Ok(())
+}
+
+/// Puts an instance of this cell last. Answers `Memory` where there is no room.
+fn push_instance(
+    alloc: Global,
+    scope: &Scope<'_>,
+    cell: Row,
+    instance: &Section<'_>,
+    to: &mut Instances,
+) -> Result<(), Memory>
+    requires { IsScope scope.now }
+    ensures { OnOk result (to.new ≡ to.old ++ instance_of scope.now.text.now cell instance.now ∷ []) }
+{
+    to.push(
+        name_at(scope.text, instance.head),
+        name_at(scope.text, cell),
+    )?;
+    push_pins(alloc, scope, instance, to)?;
+    Ok(())
+}
+
+/// Puts the instances of an item last. Answers `Memory` where there is no room.
+fn push_instances(
+    alloc: Global,
+    scope: &Scope<'_>,
+    item: &Section<'_>,
+    to: &mut Instances,
+) -> Result<(), Memory>
+    requires { IsScope scope.now }
+    ensures { OnOk result (to.new ≡ to.old ++ instances_by scope.now.text.now item.now) }
+{
+    'instance: for instance in Sections::new(Begin::Instance, item.body) {
+        push_instance(alloc, scope, item.head, &instance, to)?;
+    }
+    Ok(())
+}
+
+/// Puts the nets in the assignments of an item last. Answers `Memory` where there is no room.
+fn push_assigned(
+    alloc: Global,
+    scope: &Scope<'_>,
+    item: &Section<'_>,
+    to: &mut Vec<u32>,
+) -> Result<(), Memory>
+    requires { IsScope scope.now }
+    ensures { OnOk result (to.new.items ≡ to.old.items ++ assigned_by scope.now.text.now item.now) }
+{
+    'name: for name in Sections::new(Begin::Assigned, item.body) {
+        scope.push_named(alloc, &name, to)?;
+    }
+    Ok(())
+}
+
+/// The instances of a text, and the nets in its assignments. Answers `Memory` where there is no room.
+pub(crate) fn instances_of(
+    alloc: Global,
+    scope: &Scope<'_>,
+) -> Result<(Instances, Vec<u32>), Memory>
+    requires { IsScope scope.now }
+    ensures instances { IfOk result (λ found. found.0 ≡ instances_of scope.now.text.now) }
+    ensures assigned { IfOk result (λ found. found.1.items ≡ assigned_of scope.now.text.now) }
+{
+    let mut instances = Instances::new(alloc);
+    let mut assigned = Vec::new(alloc);
+    let mut items = Items::new(scope.text);
+    let mut item = Vec::new(alloc);
+    'item: while items.read(&mut item)? {
+        let section = Section::of(&item);
+        push_instances(alloc, scope, &section, &mut instances)?;
+        push_assigned(alloc, scope, &section, &mut assigned)?;
+    }
+    Ok((instances, assigned))
+}
+
+/// The first token of a text that is this kind.
+fn first_of_kind(text: &[u8], kind: Kind) -> Option<Row>
+    ensures { result ≡ find (λ r. is kind r.kind) (rows_of text.now) }
+{
+    let mut rows = Rows::new(text);
+    'row: while let Some(row) = rows.next() {
+        if is(kind, row.kind) {
+            return Some(row);
+        }
+    }
+    None
+}
+
+/// Where the head of a module ends: after its first `;`.
+pub(crate) fn head_end(text: &[u8]) -> usize
+    ensures { result ≡ head_end text.now }
+{
+    match first_of_kind(text, Kind::Semicolon) {
+        Some(row) => row.to,
+        None => 0,
+    }
+}
+
+/// Where the `endmodule` of a module begins.
+pub(crate) fn end_at(text: &[u8]) -> usize
+    ensures { result ≡ end_at text.now }
+{
+    match first_of_kind(text, Kind::EndModule) {
+        Some(row) => row.from,
+        None => 0,
+    }
+}
+
+/// The token that names a module.
+fn name_token(text: &[u8]) -> Option<Row>
+    ensures { result ≡ find (is_name_in Head) (rows_of text.now) }
+{
+    let mut rows = Rows::new(text);
+    'row: while let Some(row) = rows.next() {
+        if is_name_in(Place::Head, row) {
+            return Some(row);
+        }
+    }
+    None
+}
+
+/// The name of a module. Answers `Memory` where there is no room.
+pub(crate) fn module_name(alloc: Global, text: &[u8]) -> Result<Name, Memory>
+    ensures { IfOk result (λ name. name ≡ module_name text.now) }
+{
+    let name: &[u8] = match name_token(text) {
+        Some(row) => name_at(text, row),
+        None => b"",
+    };
+    let name = Name::from_bytes(alloc, name)?;
+    Ok(name)
+}

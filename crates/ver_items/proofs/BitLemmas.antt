@@ -1,0 +1,49 @@
+-- The bits of vectors.
+use Rattle.std.proofs.Common.{◌≡◌, ℕ, ◌+◌, ◌-◌, ◌≤◌, ◌<◌, nat_le, Bool, true, false, List, length, reverse, refl, ap, ◌∙◌, arith, get_or, if◌then◌else◌}
+use Rattle.std.specs.List.{range_with_len}
+use Rattle.std.proofs.lemmas.Bool.Decides.{nat_tests}
+use Rattle.std.proofs.lemmas.List.{length-reverse, get_or-reverse}
+use Rattle.std.proofs.lemmas.List.FromFn.{length-range_with_len, get_or-range_with_len}
+use Rattle.ver_items.specs.declared.bits.Range.{Range}
+use Rattle.ver_items.specs.Bits.{bits_from}
+
+-- the bits between two bounds, by whether they rise
+abbrev bits : Bool → ℕ → ℕ → List ℕ
+bits rises l r = if rises then range_with_len l (r - l + 1) else reverse (range_with_len r (l - r + 1))
+
+count_up : (l r : ℕ) → length (bits true l r) ≡ r - l + 1
+count_up l r = length-range_with_len l (r - l + 1)
+
+count_down : (l r : ℕ) → length (bits false l r) ≡ l - r + 1
+count_down l r = length-reverse (range_with_len r (l - r + 1)) ∙ length-range_with_len r (l - r + 1)
+
+pub rising : (range : Range) → range.left ≤ range.right → length (bits_from range) ≡ range.right - range.left + 1
+rising range h = let e : nat_le range.left range.right ≡ true = grind (arith, nat_tests, h) in rw e (count_up range.left range.right)
+
+pub falling : (range : Range) → range.right < range.left → length (bits_from range) ≡ range.left - range.right + 1
+falling range h = let e : nat_le range.left range.right ≡ false = grind (arith, nat_tests, h) in rw e (count_down range.left range.right)
+
+pub bits_count : (range : Range) → length (bits_from range) ≡ (range.left - range.right) + (range.right - range.left) + 1
+bits_count range = by_test (nat_le range.left range.right) refl
+  where
+    by_test : (b : Bool) → nat_le range.left range.right ≡ b → length (bits_from range) ≡ (range.left - range.right) + (range.right - range.left) + 1
+    by_test true e = let h : range.left ≤ range.right = grind (arith, nat_tests, e) in rising range h ∙ omega (arith, h)
+    by_test false e = let h : range.right < range.left = grind (arith, nat_tests, e) in falling range h ∙ omega (arith, h)
+
+pub rising_bit : (range : Range) (i : ℕ) → range.left ≤ range.right → i < range.right - range.left + 1 → get_or (bits_from range) i 0 ≡ range.left + i
+rising_bit range i h l =
+    let e : nat_le range.left range.right ≡ true = grind (arith, nat_tests, h) in
+    rw e (get_or-range_with_len range.left (range.right - range.left + 1) i 0 l)
+
+pub falling_bit : (range : Range) (i : ℕ) → range.right < range.left → i < range.left - range.right + 1 → get_or (bits_from range) i 0 ≡ range.left - i
+falling_bit range i h l =
+    let e : nat_le range.left range.right ≡ false = grind (arith, nat_tests, h) in
+    rw e (down range.left range.right i l h)
+  where
+    down : (l r i : ℕ) → i < l - r + 1 → r < l → get_or (reverse (range_with_len r (l - r + 1))) i 0 ≡ l - i
+    down l r i h g =
+        let n = length-range_with_len r (l - r + 1) in
+        get_or-reverse (range_with_len r (l - r + 1)) i 0 (rw n h)
+        ∙ ap (λ m. get_or (range_with_len r (l - r + 1)) (m - 1 - i) 0) n
+        ∙ get_or-range_with_len r (l - r + 1) (l - r + 1 - 1 - i) 0 (omega arith)
+        ∙ omega (arith, h, g)

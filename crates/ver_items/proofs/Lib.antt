@@ -1,0 +1,5 @@
+pub mod SectionLemmas
+pub mod BitLemmas
+pub mod ItemLemmas
+pub mod SpanLemmas
+pub mod CutLemmas

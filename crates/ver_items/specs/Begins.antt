@@ -1,0 +1,16 @@
+-- What begins sections, as the code names it: for the functions between.
+use Rattle.std.specs.Prelude.{Bool}
+use Rattle.ver_syntax.specs.declared.row.Place.TheVariants.{Assignment, Instances, Pins}
+use Rattle.ver_syntax.specs.declared.row.Row.{Row}
+use Rattle.ver_items.specs.declared.section.Begin.{Begin}
+use Rattle.ver_items.specs.declared.section.Begin.TheVariants.{Declaration, Assigned, Identifier, Instance, Pin}
+use Rattle.ver_items.specs.Sections.{is_identifier, is_name_in}
+use Rattle.ver_items.specs.Declarations.{begins_declaration}
+
+-- a token begins a section
+abbrev pub begins : Begin → Row → Bool
+begins Declaration r = begins_declaration r
+begins Assigned r = is_name_in Assignment r
+begins Identifier r = is_identifier r
+begins Instance r = is_name_in Instances r
+begins Pin r = is_name_in Pins r

@@ -1,0 +1,6 @@
+pub mod Sections
+pub mod SectionSteps
+pub mod Begins
+pub mod Bits
+pub mod Declarations
+pub mod Connections

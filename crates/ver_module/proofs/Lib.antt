@@ -1,0 +1,5 @@
+pub mod NameLemmas
+pub mod NetLemmas
+pub mod InstanceLemmas
+pub mod GrowthLemmas
+pub mod PushLemmas

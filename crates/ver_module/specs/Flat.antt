@@ -1,0 +1,66 @@
+-- Nets and instances, as a module keeps them: for the functions between.
+use Rattle.std.specs.Prelude.{◌≡◌, ℕ, ◌<◌, ◌≤◌, ◌^◌, List, [], ◌∷◌, map, length, take, slice_index_or, ⊤}
+use Rattle.std.specs.List.{All, between}
+use Rattle.ver_module.specs.declared.nets.NetRow.{NetRow}
+use Rattle.ver_module.specs.declared.instances.InstanceRow.{InstanceRow}
+use Rattle.ver_module.specs.declared.instances.PinRow.{PinRow}
+use Rattle.ver_module.specs.Netlists.{Net, Instance, Pin}
+
+-- a net of this name: its identifier is the front of the name
+abbrev pub net_with : List ℕ → NetRow → Net
+net_with name row = record {
+  name = name;
+  base = take row.base name;
+  bit = row.bit;
+  escaped = row.escaped;
+  port = row.port;
+  supply = row.supply;
+}
+
+-- the nets of these names
+unfoldable pub nets_with : List (List ℕ) → List NetRow → List Net
+nets_with [] rows = []
+nets_with (name ∷ names) [] = []
+nets_with (name ∷ names) (row ∷ rows) = net_with name row ∷ nets_with names rows
+
+-- a pin, by the number of its name
+abbrev pub pin_with : List (List ℕ) → PinRow → Pin
+pin_with names row = record { name = slice_index_or names row.name []; span = row.span; link = row.link }
+
+-- the tables of names, and the pins of all instances
+pub record Tables : Type 0 where
+  pub cells : List (List ℕ)
+  pub pin_names : List (List ℕ)
+  pub pins : List PinRow
+
+-- where the pins before some instances end: where those of the first begin, else where all end
+abbrev pub pins_end : ℕ → List InstanceRow → ℕ
+pins_end all [] = all
+pins_end all (row ∷ rows) = row.pins
+
+-- an instance of this name, whose pins end here
+abbrev pub instance_with : Tables → ℕ → List ℕ → InstanceRow → Instance
+instance_with tables end name row = record {
+  name = name;
+  cell = slice_index_or tables.cells row.cell [];
+  pins = map (pin_with tables.pin_names) (between row.pins end tables.pins);
+}
+
+-- the instances of these names
+unfoldable pub instances_with : Tables → List (List ℕ) → List InstanceRow → List Instance
+instances_with tables [] rows = []
+instances_with tables (name ∷ names) [] = []
+instances_with tables (name ∷ names) (row ∷ rows) = instance_with tables (pins_end (length tables.pins) rows) name row ∷ instances_with tables names rows
+
+-- the pins of instances stand one after another
+unfoldable pub StandIn : Tables → List InstanceRow → Type 0
+StandIn tables [] = ⊤
+StandIn tables (row ∷ rows) = (row.cell < length tables.cells) × (row.pins ≤ pins_end (length tables.pins) rows) × StandIn tables rows
+
+-- these rows are instances of these names
+pub record AreInstances (tables : Tables) (names : List (List ℕ)) (rows : List InstanceRow) : Type 0 where
+  pub count : length names ≡ length rows
+  pub stand : StandIn tables rows
+  pub named : All (λ pin. pin.name < length tables.pin_names) tables.pins
+  pub few : length rows < 2 ^ 32
+  pub few_pins : length tables.pins < 2 ^ 32

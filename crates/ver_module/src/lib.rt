@@ -1,0 +1,16 @@
+//! What a structural Verilog module is: its nets, its instances, and their connections.
+#![tactic(auto)]
+
+mod direction;
+mod instances;
+mod link;
+mod module;
+mod name;
+mod nets;
+
+pub use direction::PortDir;
+pub use instances::{Instance, Instances, Pin};
+pub use link::Link;
+pub use module::Module;
+pub use name::{add_name, name_number};
+pub use nets::{Net, Nets};
