@@ -1,0 +1,5 @@
+pub mod Connections
+pub mod Tables
+pub mod Laws
+pub mod Texts
+pub mod ReadAgain
