@@ -16,5 +16,5 @@ abbrev pub first_of : List ℕ → Option Flaw → List Flaw → Option Flaw
 first_of bytes first flaws = fold (earlier bytes) first flaws
 
 -- a flaw, told by its line
-abbrev pub told : List ℕ → Flaw → LineFault LibKind
-told bytes flaw = record { kind = flaw.kind; line = line_at bytes flaw.place }
+abbrev pub fault_of : List ℕ → Flaw → LineFault LibKind
+fault_of bytes flaw = record { kind = flaw.kind; line = line_at bytes flaw.place }

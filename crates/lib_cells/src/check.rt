@@ -182,6 +182,6 @@ pub fn check_cells(
     };
     match first_in_cells(bytes, units, library, first) {
         None => Ok(names),
-        Some(flaw) => Err(flaw.told(bytes)),
+        Some(flaw) => Err(flaw.to_fault(bytes)),
     }
 }

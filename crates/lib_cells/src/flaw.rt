@@ -4,7 +4,7 @@ ghost use Rattle.std.specs.Prelude.{◌≡◌, option_to_list, nat_lt};
 ghost use Rattle.std.specs.List.{list_any};
 ghost use Rattle.vg_scan.specs.Lines.{is_newline};
 ghost use Rattle.lib_text.specs.Syntax.{line_at};
-ghost use Rattle.lib_cells.specs.FirstFlaws.{earlier, first_of, told};
+ghost use Rattle.lib_cells.specs.FirstFlaws.{earlier, fault_of, first_of};
 ghost use Rattle.lib_cells.specs.Flaws.{flaw, is_before, is_before_on_line, rank};
 
 use crate::fault::{LibFault, LibKind};
@@ -61,8 +61,8 @@ impl Flaw {
     }
 
     /// The fault that tells it by its line.
-    pub fn told(self, bytes: &[u8]) -> LibFault
-        ensures { result ≡ told bytes.now self }
+    pub fn to_fault(self, bytes: &[u8]) -> LibFault
+        ensures { result ≡ fault_of bytes.now self }
     {
         LibFault {
             kind: self.kind,

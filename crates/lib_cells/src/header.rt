@@ -83,7 +83,7 @@ fn load_of(library: &Group<'_>) -> Option<u8>
     load_power(library.list(attribute))
 }
 
-/// The units of a library.
+/// The units of a library, with 0 for the power of one that its attribute does not give.
 fn units_of(library: &Group<'_>) -> Units
     ensures units { result ≡ units_of library.now }
     ensures small { AreUnits result }
@@ -94,8 +94,9 @@ fn units_of(library: &Group<'_>) -> Units
     }
 }
 
-/// The units of a library, of a text of these bytes, whose model is the linear one and which gives both units; or the first
-/// fault of its model and its units: `NotLinear` or `Unit`. The unit of times is a nanosecond where it is not given.
+/// The units of a library, of a text of these bytes; or the first fault of its model and its units: `NotLinear` where it names
+/// another model than the linear one, `Unit` where it gives no unit of loads, or a unit that is none. Neither the model nor the
+/// unit of times need be given: the unit is then a nanosecond.
 #[tactic(auto, using(crate::proofs::OrderLemmas::first_flaw, crate::proofs::OrderLemmas::no_flaw))]
 pub fn read_units(bytes: &[u8], library: &Group<'_>) -> Result<Units, LibFault>
     ensures units { IfOk result (λ units. units ≡ units_of library.now) }
@@ -105,6 +106,6 @@ pub fn read_units(bytes: &[u8], library: &Group<'_>) -> Result<Units, LibFault>
 {
     match first_in_header(bytes, library) {
         None => Ok(units_of(library)),
-        Some(flaw) => Err(flaw.told(bytes)),
+        Some(flaw) => Err(flaw.to_fault(bytes)),
     }
 }

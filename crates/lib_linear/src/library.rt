@@ -58,25 +58,28 @@ fn cell_at(cells: &[CellInfo], at: usize) -> Option<&CellInfo>
 }
 
 /// The cell of this name, of cells with these names.
-fn cell_of<'a>(names: &Names, cells: &'a [CellInfo], name: &Name) -> Option<&'a CellInfo>
+fn cell_of<'a>(names: &Names, cells: &'a [CellInfo], name: &[u8]) -> Option<&'a CellInfo>
     requires { names.now ≡ map (λ info. info.name) cells.now }
     ensures { option_copied result ≡ find (λ info. bytes_eq name.now info.name) cells.now }
 {
-    match names.find(name.as_bytes()) {
+    match names.find(name) {
         Some(id) => cell_at(cells, id as usize),
         None => None,
     }
 }
 
 /// The first pin of this name of a cell.
-fn pin_of<'a>(cell: &'a CellInfo, name: &Name) -> Option<&'a PinInfo>
+fn pin_of<'a>(cell: &'a CellInfo, name: &[u8]) -> Option<&'a PinInfo>
     ensures { option_copied result ≡ find (λ p. bytes_eq name.now p.name) cell.now.pins }
 {
-    cell.pins.as_slice().iter().find(|pin| pin.name == *name)
+    cell.pins
+        .as_slice()
+        .iter()
+        .find(|pin| name == pin.name.as_bytes())
 }
 
 /// The first pin of this name of the cell of this name.
-fn pin_in<'a>(library: &'a Library, cell: &Name, pin: &Name) -> Option<&'a PinInfo>
+fn pin_in<'a>(library: &'a Library, cell: &[u8], pin: &[u8]) -> Option<&'a PinInfo>
     ensures { option_copied result ≡ pin_in library.now cell.now pin.now }
 {
     let cell = cell_of(&library.names, library.cells.as_slice(), cell)?;
@@ -92,7 +95,7 @@ pub fn repeaters(library: &Library) -> &[Repeater]
 
 /// The capacitance of a pin (aF). `None`: the library has no such cell, the cell no such pin, or the pin no capacitance. Of two
 /// pins of one name the first counts. It takes no memory.
-pub fn pin_cap(library: &Library, cell: &Name, pin: &Name) -> Option<u64>
+pub fn pin_cap(library: &Library, cell: &[u8], pin: &[u8]) -> Option<u64>
     ensures { result ≡ cap_of library.now cell.now pin.now }
 {
     pin_in(library, cell, pin)?.cap
@@ -100,14 +103,14 @@ pub fn pin_cap(library: &Library, cell: &Name, pin: &Name) -> Option<u64>
 
 /// The delay without a load (zs) and the resistance (mΩ) of a pin: the greatest that its timing groups give. `None`: no such
 /// cell or pin, the pin is no output, or its timing groups give no intrinsic time or no resistance. It takes no memory.
-pub fn pin_drive(library: &Library, cell: &Name, pin: &Name) -> Option<(u64, u64)>
+pub fn pin_drive(library: &Library, cell: &[u8], pin: &[u8]) -> Option<(u64, u64)>
     ensures { result ≡ drive_in library.now cell.now pin.now }
 {
     pin_in(library, cell, pin)?.drive
 }
 
 /// The greatest load that a pin may charge (aF). `None`: no such cell or pin, or it has no such limit. It takes no memory.
-pub fn pin_limit(library: &Library, cell: &Name, pin: &Name) -> Option<u64>
+pub fn pin_limit(library: &Library, cell: &[u8], pin: &[u8]) -> Option<u64>
     ensures { result ≡ limit_of library.now cell.now pin.now }
 {
     pin_in(library, cell, pin)?.max
@@ -115,7 +118,7 @@ pub fn pin_limit(library: &Library, cell: &Name, pin: &Name) -> Option<u64>
 
 /// The pins that the timing groups of an output name as related, each once, in the order of the text; none of any other pin.
 /// It takes no memory.
-pub fn related<'a>(library: &'a Library, cell: &Name, pin: &Name) -> &'a [Name]
+pub fn related<'a>(library: &'a Library, cell: &[u8], pin: &[u8]) -> &'a [Name]
     ensures { result.now ≡ related_to library.now cell.now pin.now }
 {
     match pin_in(library, cell, pin) {

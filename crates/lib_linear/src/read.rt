@@ -60,8 +60,8 @@ fn read_statements(alloc: Global, bytes: &[u8], library: &Group<'_>) -> Result<L
 ///
 /// The text is a library of the Liberty User Guide, Synopsys, with the linear delay model `generic_cmos`. Its syntax is read
 /// first, then its model and its units, then its cells with their names, numbers and slopes, and then the repeaters are
-/// counted: of several faults the first of the first of these passes is told. Of two faults on one line of one pass that comes
-/// first whose kind `LibKind` names first.
+/// counted. The first of these passes that finds a fault decides, and of its faults that on the earliest line. On one line
+/// `NotLinear` comes before `Unit`, and `CellTwice` before `Number`, and this before `Slope`; of one kind the first in the text.
 pub fn read_library(alloc: Global, bytes: &[u8]) -> Result<Library, LibFault>
     requires { length bytes.now ≤ 2 ^ 28 }
     ensures library { IfOk result (Denotes bytes.now) }

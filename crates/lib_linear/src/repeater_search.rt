@@ -85,11 +85,8 @@ fn repeaters_in_text(
     ensures many { (place : ℕ) → result ≡ Err (TooMany place) → IsOver units (cell_groups library.now) place }
 {
     let mut found = Vec::new(alloc);
-    let mut groups = library.groups(b"cell");
-    let mut at = 0;
-    'cell: while let Some(cell) = groups.next() {
+    for (at, cell) in library.groups(b"cell").enumerate() {
         take_cell(alloc, units, &cell, &cells[at], &mut found)?;
-        at += 1;
     }
     Ok(found)
 }

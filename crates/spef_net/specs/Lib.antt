@@ -12,3 +12,4 @@ pub mod Sights
 pub mod Connections
 pub mod Laws
 pub mod Values
+pub mod Positions

@@ -4,6 +4,7 @@
 mod builder;
 mod conn_line;
 mod connections;
+mod coordinates;
 mod fault;
 mod finish;
 mod laws;
@@ -15,6 +16,7 @@ mod section;
 mod take;
 mod value;
 
+pub use coordinates::position;
 pub use fault::{NetFault, NetKind};
 pub use laws::one_net;
 pub use net::{ConnKind, Direction, ParConn, ParNet};

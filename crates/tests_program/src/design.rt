@@ -1,234 +1,274 @@
-//! Nets of whole files: their wire delays, and why they are refused.
+//! Nets of designs: their problems, and what they are without constraints.
+ghost use Rattle.std.specs.Prelude.{◌≤◌, ◌^◌, length, IfOk};
 
-use crate::texts::HEADER;
-use spef_file::{SpefText, index};
-use spef_net::NetKind;
+use crate::texts::{HEADER, LIB, NETLIST};
+use elmore::{Allowed, Driver, Node, Problem, Sink};
 use std::alloc::Global;
 use std::test::Fail;
-use vg_design::{Refusal, Refused, WireNet, wire_net};
+use vg_design::{BareNet, Design, NetProblem, TreeNames, bare_net, problem};
+use vg_inputs::{Inputs, read_design};
 use vg_scan::Name;
+use vg_wire::{Refusal, Refused};
 
-/// A file with these lines behind its header.
-fn file(alloc: Global, lines: &str) -> Result<SpefText, Fail> {
-    let text = format!(in alloc; "{HEADER}{lines}")?;
-    if text.len() > 2000 {
-        return Err("a long text".into());
-    }
-    Ok(SpefText::new(Vec::from_slice(alloc, text.as_bytes())?))
-}
-
-/// The wire delays of the net `n` of such a file.
-fn wire(alloc: Global, lines: &str) -> Result<Result<WireNet, Refused>, Fail> {
-    let text = file(alloc, lines)?;
-    let index = index(alloc, &text)?;
-    let net = Name::from_bytes(alloc, b"n")?;
-    Ok(wire_net(alloc, &text, &index, &net))
-}
-
-fn refusal(alloc: Global, lines: &str) -> Result<Refusal, Fail> {
-    match wire(alloc, lines)? {
-        Err(Refused::Net(refusal)) => Ok(refusal),
-        Err(Refused::Memory) => Err("no memory".into()),
-        Ok(_) => Err("not refused".into()),
-    }
-}
-
-/// A fork behind a chain, whose sinks come in the order of the resistors and not of the connections.
-const FORK: &str = "*D_NET n 10
+/// A net whose inner node says where it is.
+const NET: &str = "*D_NET n1 200
 *CONN
-*P p O
-*I u1:y O
-*I u2:a I
+*I u1:Z O
+*I u2:A I
+*N n1:1 *C 5 2
 *CAP
-1 u2:a 2
-2 n:1 2
-3 u2:a m:1 1
-4 p 4
-5 u1:y 1
+1 n1:1 100
+2 u2:A 100
 *RES
-1 u1:y n:1 5
-2 u2:a n:1 7
-3 n:1 p 11
+1 u1:Z n1:1 1000
+2 n1:1 u2:A 1000
 *END
 ";
 
-static SINKS: [(&[u8], &[u8], i128); 2] = [(b"u2", b"a", 66_000_000), (b"p", b"", 89_000_000)];
+/// An inverter, before the buffer of the library.
+const INV: &str = "cell (INV) { area : 1;
+    pin (A) { direction : input; capacitance : 1; }
+    pin (ZN) { direction : output; function : \"!A\";
+      timing () { related_pin : \"A\"; intrinsic_rise : 10; intrinsic_fall : 10;
+        rise_resistance : 0.5; fall_resistance : 0.5; } } }
+  cell (BUF)";
 
-fn has_sinks(wire: &WireNet) -> bool {
-    for (at, (owner, leaf, delay)) in SINKS.iter().enumerate() {
-        if at >= wire.sinks.len()
-            || wire.sinks.owner(at) != *owner
-            || wire.sinks.leaf(at) != *leaf
-            || wire.sinks.delay(at) != *delay
+/// The bytes of a short text.
+fn bytes_of(alloc: Global, text: &str) -> Result<Vec<u8>, Fail>
+    ensures { IfOk result (λ bytes. length bytes.items ≤ 2 ^ 28) }
+{
+    if text.len() > 1 << 20 {
+        return Err("a long text".into());
+    }
+    Ok(Vec::from_slice(alloc, text.as_bytes())?)
+}
+
+/// The design of a net, a netlist and rows of constraints. Its library has a buffer and an inverter; the outputs `Z` have a greatest load.
+fn design(alloc: Global, net: &str, verilog: &str, rows: &str) -> Result<Design, Fail> {
+    let spef = format!(in alloc; "{HEADER}{net}")?;
+    let lib = LIB.replace(alloc, "cell (BUF)", INV)?;
+    let lib = lib.replace(alloc, "pin (Z) {", "pin (Z) { max_capacitance : 202;")?;
+    let cons = format!(in alloc; "vgcons 2\n{rows}\n")?;
+    let inputs = Inputs {
+        spef: bytes_of(alloc, spef.as_str())?,
+        lib: bytes_of(alloc, lib.as_str())?,
+        verilog: bytes_of(alloc, verilog)?,
+        cons: bytes_of(alloc, cons.as_str())?,
+    };
+    match read_design(alloc, inputs) {
+        Ok(design) => Ok(design),
+        Err(_) => Err("no design".into()),
+    }
+}
+
+/// The problem of the net `n1` under rows of constraints.
+fn net_problem(alloc: Global, rows: &str) -> Result<NetProblem, Fail> {
+    let design = design(alloc, NET, NETLIST, rows)?;
+    let net = Name::from_bytes(alloc, b"n1")?;
+    match problem(alloc, &design, &net) {
+        Ok(found) => Ok(found),
+        Err(_) => Err("refused".into()),
+    }
+}
+
+/// Whether these are the names of nodes.
+fn are_names(names: &TreeNames, wanted: &[(&str, &str)]) -> bool {
+    for (at, (owner, leaf)) in wanted.iter().enumerate() {
+        if at >= names.len()
+            || names.owner(at) != owner.as_bytes()
+            || names.leaf(at) != leaf.as_bytes()
         {
             return false;
         }
     }
-    wire.sinks.len() == SINKS.len()
+    names.len() == wanted.len()
 }
 
-fn has_delays(alloc: Global) -> Result<bool, Fail> {
-    let Ok(wire) = wire(alloc, FORK)? else {
-        return Err("no wire".into());
+static NODES: [Node; 3] = [
+    Node {
+        parent: 0,
+        r: 0,
+        c: 0,
+    },
+    Node {
+        parent: 0,
+        r: 1_000_000,
+        c: 100_000,
+    },
+    Node {
+        parent: 1,
+        r: 1_000_000,
+        c: 102_000,
+    },
+];
+
+static SINKS: [Option<Sink>; 3] = [
+    None,
+    None,
+    Some(Sink {
+        required: 400_000_000_000,
+        inverted: true,
+    }),
+];
+
+const DRIVER: Driver = Driver {
+    k: 10_000_000_000,
+    r: 1_000_000,
+    arrival: 5_000_000_000,
+    limit: Some(202_000),
+};
+
+/// Whether the repeaters are the buffer, which has a greatest load, and the inverter, which has none.
+fn has_repeaters(problem: &Problem) -> bool {
+    let [buffer, inverter] = problem.reps.as_slice() else {
+        return false;
     };
-    Ok(wire.total == 10_000 && has_sinks(&wire))
+    !buffer.inverts
+        && buffer.cin == 2_000
+        && buffer.limit == Some(202_000)
+        && inverter.inverts
+        && inverter.k == 10_000_000_000
+        && inverter.limit.is_none()
+}
+
+fn is_worked(alloc: Global) -> Result<bool, Fail> {
+    let found = net_problem(
+        alloc,
+        "required u2:A 400\nwant u2:A inverted\narrival u1:Z 5",
+    )?;
+    let problem = &found.problem;
+    Ok(
+        problem.tree.nodes.as_slice() == NODES.as_slice()
+            && problem.sinks.as_slice() == SINKS.as_slice()
+            && problem.driver == DRIVER
+            && has_repeaters(problem)
+            && are_names(&found.names, &[("u1", "Z"), ("n1", "1"), ("u2", "A")]),
+    )
 }
 
 #[test]
-fn delays_of_sinks(rt: HostRuntime) -> Result<(), Fail> {
-    assert!(rt; has_delays(rt.alloc())?);
+fn parts_of_a_problem(rt: HostRuntime) -> Result<(), Fail> {
+    assert!(rt; is_worked(rt.alloc())?);
     Ok(())
 }
 
-/// Each reason, with one that comes later where there is such a net.
-static REASONS: [(&str, u8); 11] = [
-    ("*D_NET m 1\n*END\n", 1),
-    (
-        "*D_NET n 1
-*INDUC
-*CONN
-*I u1:y X
-*END
-",
-        2,
-    ),
-    ("*R_NET n 1\n*END\n", 3),
-    (
-        "*D_NET n 1
-*CONN
-*I u1:y B
-*INDUC
-*END
-",
-        4,
-    ),
-    (
-        "*D_NET n 1
-*CONN
-*I u1:y B
-*END
-",
-        5,
-    ),
-    (
-        "*D_NET n 1
-*CONN
-*I u1:a I
-*P p O
-*END
-",
-        6,
-    ),
-    (
-        "*D_NET n 1
-*CONN
-*I u1:y O
-*P p I
-*END
-",
-        7,
-    ),
-    (
-        "*D_NET n 1
-*CONN
-*P p I
-*I u1:a I
-*END
-",
-        12,
-    ),
-    (
-        "*D_NET n 1
-*CONN
-*P p I
-*I u1:a I
-*RES
-1 p u1:a 1
-2 p u1:a 1
-*END
-",
-        13,
-    ),
-    (
-        "*D_NET n 1
-*CONN
-*I u1:y O
-*END
-",
-        14,
-    ),
-    (
-        "*D_NET n 1
-*CONN
-*P p I
-*I u1:a I
-*RES
-1 p u1:a 1000000001
-*END
-",
-        16,
-    ),
+/// Rows of constraints, whether the inner node is a place, and the numbers of the repeaters that it allows, if not all.
+static NODE_ROWS: [(&str, bool, Option<&[u32]>); 8] = [
+    ("", true, None),
+    ("block n1:1", false, None),
+    ("block_box 5 2 0 0", false, None),
+    ("block_box 4.999 2 0 0", true, None),
+    ("allow n1:1 INV", true, Some(&[1])),
+    ("allow n1:1 INV BUF", true, Some(&[0, 1])),
+    ("allow n1:1 DRV", true, Some(&[])),
+    ("allow n1:2 INV", true, None),
 ];
 
-/// Each reason, with one that comes later where there is such a net.
-fn number_of(alloc: Global, lines: &str) -> Result<u8, Fail> {
-    Ok(refusal(alloc, lines)?.number())
+/// Whether a node allows these repeaters.
+fn allows(allowed: &Allowed, wanted: Option<&[u32]>) -> bool {
+    match allowed {
+        Allowed::All => wanted.is_none(),
+        Allowed::Only(numbers) => wanted == Some(numbers.as_slice()),
+    }
+}
+
+fn is_node_so(
+    alloc: Global,
+    rows: &str,
+    place: bool,
+    wanted: Option<&[u32]>,
+) -> Result<bool, Fail> {
+    let rows = format!(in alloc; "required u2:A 400\n{rows}")?;
+    let found = net_problem(alloc, rows.as_str())?;
+    let problem = &found.problem;
+    let [root, inner, sink] = problem.allowed.as_slice() else {
+        return Ok(false);
+    };
+    Ok(
+        problem.places.as_slice() == [false, place, false].as_slice()
+            && allows(root, None)
+            && allows(inner, wanted)
+            && allows(sink, None),
+    )
 }
 
 #[test]
-fn numbers_of_refusals(rt: HostRuntime) -> Result<(), Fail> {
-    for (lines, number) in &REASONS {
-        assert!(rt; number_of(rt.alloc(), lines)? == *number, "{lines}");
+fn rows_of_nodes(rt: HostRuntime) -> Result<(), Fail> {
+    for (rows, place, wanted) in &NODE_ROWS {
+        assert!(rt; is_node_so(rt.alloc(), rows, *place, *wanted)?, "{rows}");
     }
     Ok(())
 }
 
-const AT_LIMITS: &str = "*D_NET n 1
+/// A net whose second sink is nearer to the driver than its first.
+const FORK: &str = "*D_NET n1 0
 *CONN
-*P p I
-*I u1:a I
-*CAP
-1 p 100000000
+*I u1:Z O
+*I u2:A I
+*I u3:A I
 *RES
-1 p u1:a 1000000000
+1 n1:1 u2:A 1000
+2 u1:Z n1:1 1000
+3 u3:A u1:Z 500
 *END
 ";
 
+const FORK_NETLIST: &str = "module top (in1);
+input in1;
+DRV u1 (.A(in1), .Z(n1));
+BUF u2 (.A(n1)), u3 (.A(n1));
+endmodule
+";
+
+/// Whether the sinks of a net are these.
+fn are_sinks(net: &BareNet, owners: &[&str]) -> bool {
+    for (at, owner) in owners.iter().enumerate() {
+        let Some(node) = net.sinks.as_slice().get(at) else {
+            return false;
+        };
+        let node = *node as usize;
+        if node >= net.names.len() || net.names.owner(node) != owner.as_bytes() {
+            return false;
+        }
+    }
+    net.sinks.len() == owners.len() && net.tree.nodes.len() == 4 && net.driver.r == DRIVER.r
+}
+
+/// Whether the net is given without its constraints, and has no problem, since a sink of this owner is not constrained.
+fn is_bare(alloc: Global, rows: &str, unconstrained: &[u8]) -> Result<bool, Fail> {
+    let design = design(alloc, FORK, FORK_NETLIST, rows)?;
+    let name = Name::from_bytes(alloc, b"n1")?;
+    let Ok(net) = bare_net(alloc, &design, &name) else {
+        return Ok(false);
+    };
+    let Err(Refused::Net(Refusal::Unconstrained(sink))) = problem(alloc, &design, &name) else {
+        return Ok(false);
+    };
+    Ok(are_sinks(&net, &["u3", "u2"]) && sink.owner.as_bytes() == unconstrained)
+}
+
 #[test]
-fn limits(rt: HostRuntime) -> Result<(), Fail> {
-    assert!(rt; wire(rt.alloc(), AT_LIMITS)?.is_ok());
+fn nets_without_constraints(rt: HostRuntime) -> Result<(), Fail> {
+    assert!(rt; is_bare(rt.alloc(), "", b"u2")?);
+    assert!(rt; is_bare(rt.alloc(), "required u2:A 400", b"u3")?);
     Ok(())
 }
 
-const FAULTY: &str = "*D_NET n 1\n*CONN\n*I u1:y X\n*END\n";
-
-fn fault_of(alloc: Global, lines: &str) -> Result<(NetKind, usize), Fail> {
-    let Refusal::Section(fault) = refusal(alloc, lines)? else {
-        return Err("no fault".into());
+/// Whether a net has no tree, whatever its constraints.
+fn is_refused(alloc: Global, net: &str, number: u8) -> Result<bool, Fail> {
+    let design = design(alloc, net, NETLIST, "")?;
+    let name = Name::from_bytes(alloc, b"n1")?;
+    let Err(Refused::Net(refusal)) = bare_net(alloc, &design, &name) else {
+        return Ok(false);
     };
-    Ok((fault.kind, fault.line))
-}
-
-const FLOATING: &str = "*D_NET n 1
-*CONN
-*P p I
-*I u1:a I
-*RES
-1 n:1 n:2 1
-2 p u1:a 1
-*END
-";
-
-fn is_floating(alloc: Global, lines: &str, owner: &[u8], leaf: &[u8]) -> Result<bool, Fail> {
-    let Refusal::Floating(node) = refusal(alloc, lines)? else {
-        return Err("no node floats".into());
-    };
-    Ok(node.owner.as_bytes() == owner && node.leaf.as_bytes() == leaf)
+    Ok(refusal.number() == number)
 }
 
 #[test]
-fn what_refusals_say(rt: HostRuntime) -> Result<(), Fail> {
-    assert!(rt; fault_of(rt.alloc(), FAULTY)? == (NetKind::Conn, 17));
-    assert!(rt; is_floating(rt.alloc(), FLOATING, b"n", b"1")?);
+fn refusals_without_constraints(rt: HostRuntime) -> Result<(), Fail> {
+    assert!(rt; is_refused(rt.alloc(), "", 1)?);
+    assert!(rt; is_refused(rt.alloc(), FORK, 8)?);
+    let large = NET.replace(rt.alloc(), "1000", "1e10")?;
+    assert!(rt; is_refused(rt.alloc(), large.as_str(), 16)?);
     Ok(())
 }

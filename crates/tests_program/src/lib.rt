@@ -1,4 +1,4 @@
-//! Tests of the public calls of the program: its words, the nets of a design, and whole runs.
+//! Tests of the public calls of the program: its words, the nets of a SPEF file and of a design, and whole runs.
 #![tactic(auto)]
 
 #[cfg(test)]
@@ -6,8 +6,12 @@ mod design;
 #[cfg(test)]
 mod program;
 #[cfg(test)]
+mod runs;
+#[cfg(test)]
 mod texts;
 #[cfg(test)]
 mod time;
+#[cfg(test)]
+mod wire;
 #[cfg(test)]
 mod words;

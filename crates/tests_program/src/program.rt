@@ -1,58 +1,28 @@
-//! Whole runs over files in memory.
+//! Whole runs of mode `wire`.
 ghost use Rattle.std.specs.Prelude.{◌≤◌};
 
-use crate::texts::{HEADER, words_of};
+use crate::runs::{Ending, ending, ends_over};
+use crate::texts::{HEADER, NET, words_of};
 use std::alloc::Global;
 use std::test::Fail;
-use vg_store::{MemFiles, MemOut};
-use vginsert_top::run;
-
-pub(crate) const NET: &str = "*D_NET n1 200
-*CONN
-*I u1:Z O
-*I u2:A I
-*CAP
-1 n1:1 100
-2 u2:A 100
-*RES
-1 u1:Z n1:1 1000
-2 n1:1 u2:A 1000
-*END
-";
+use vg_store::MemFiles;
 
 const WORDS: &str = "--mode wire --spef a.spef --net n1";
 
 const DELAYS: &str = "net n1 total 200000\nsink u2:A 300000000000\n";
+
+/// The words, the text after the header, the status, and the text of the output that is not empty.
+type Row<'a> = (&'a str, &'a str, u8, &'a str);
 
 /// The numbers of the calls that fail, of the files, of standard output and of standard error.
 type Failing<'a> = (&'a [u64], &'a [u64], &'a [u64]);
 
 const NO_FAILING: Failing<'static> = (&[], &[], &[]);
 
-/// The words of a run, the text of the file `a.spef`, that of `l.lib` and that of `c.txt`.
-type Given<'a> = (&'a str, &'a str, &'a str, &'a str);
+/// The words of a run, and the text of `a.spef`.
+type Given<'a> = (&'a str, &'a str);
 
-/// The status of a run, what it printed and what it told.
-type Ending<'a> = (u8, &'a str, &'a str);
-
-fn files_of(
-    alloc: Global,
-    text: &str,
-    lib: &str,
-    cons: &str,
-    chunk: usize,
-    failing: &[u64],
-) -> Result<MemFiles, Fail>
-    requires { 1 ≤ chunk }
-{
-    let mut files = MemFiles::new(alloc, chunk, failing)?;
-    files.add("a.spef", text.as_bytes())?;
-    files.add("l.lib", lib.as_bytes())?;
-    files.add("c.txt", cons.as_bytes())?;
-    Ok(files)
-}
-
-/// Whether a run ends so, where the files and the outputs move so many bytes a call and these calls fail.
+/// Whether a run ends so, where the file and the outputs move so many bytes a call and these calls fail.
 fn ends(
     alloc: Global,
     given: Given<'_>,
@@ -62,9 +32,9 @@ fn ends(
 ) -> Result<bool, Fail>
     requires { 1 ≤ chunk }
 {
-    let (words, text, lib, cons) = given;
-    let words = words_of(alloc, words)?;
-    let mut files = files_of(alloc, text, lib, cons, chunk, failing.0)?;
+    let words = words_of(alloc, given.0)?;
+    let mut files = MemFiles::new(alloc, chunk, failing.0)?;
+    files.add("a.spef", given.1.as_bytes())?;
     ends_over(
         alloc,
         &words,
@@ -75,57 +45,14 @@ fn ends(
     )
 }
 
-/// Whether a run over these files ends so, where the outputs move so many bytes a call and these calls fail.
-fn ends_over(
-    alloc: Global,
-    words: &[String],
-    files: &mut MemFiles,
-    chunk: usize,
-    failing: (&[u64], &[u64]),
-    wanted: Ending<'_>,
-) -> Result<bool, Fail>
-    requires { 1 ≤ chunk }
-{
-    let (status, printed, told) = wanted;
-    let mut out = MemOut::new(alloc, chunk, failing.0)?;
-    let mut err = MemOut::new(alloc, chunk, failing.1)?;
-    let found = run(alloc, words, files, &mut out, &mut err);
-    Ok(found == status && out.as_bytes() == printed.as_bytes() && err.as_bytes() == told.as_bytes())
-}
-
-/// The words, the text after the header, the status, and the text of the output that is not empty.
-pub(crate) type Row<'a> = (&'a str, &'a str, u8, &'a str);
-
-/// How a run ends with this status and this line.
-fn ending(status: u8, line: &str) -> Ending<'_> {
-    if status == 0 || status == 2 {
-        (status, line, "")
-    } else {
-        (status, "", line)
-    }
-}
-
-/// Whether a run with a library and under constraints ends so.
-pub(crate) fn is_timed(
-    alloc: Global,
-    row: Row<'_>,
-    lib: &str,
-    cons: &str,
-    chunk: usize,
-) -> Result<bool, Fail>
+/// Whether a run ends so.
+fn is_answered(alloc: Global, row: Row<'_>, chunk: usize) -> Result<bool, Fail>
     requires { 1 ≤ chunk }
 {
     let (words, section, status, line) = row;
     let text = format!(in alloc; "{HEADER}{section}")?;
-    let given = (words, text.as_str(), lib, cons);
+    let given = (words, text.as_str());
     ends(alloc, given, chunk, NO_FAILING, ending(status, line))
-}
-
-/// Whether a run without these ends so.
-fn is_answered(alloc: Global, row: Row<'_>, chunk: usize) -> Result<bool, Fail>
-    requires { 1 ≤ chunk }
-{
-    is_timed(alloc, row, "", "", chunk)
 }
 
 static ANSWERS: [Row; 16] = [
@@ -451,15 +378,14 @@ fn ends_with(
     new: &str,
     wanted: Ending<'_>,
 ) -> Result<bool, Fail> {
-    let (words, text, lib, cons) = given;
-    let text = text.replace(alloc, old, new)?;
-    let given = (words, text.as_str(), lib, cons);
+    let text = given.1.replace(alloc, old, new)?;
+    let given = (given.0, text.as_str());
     ends(alloc, given, 100, NO_FAILING, wanted)
 }
 
 fn is_read(alloc: Global, old: &str, new: &str, wanted: Ending<'_>) -> Result<bool, Fail> {
     let text = format!(in alloc; "{HEADER}{NET}")?;
-    ends_with(alloc, (WORDS, text.as_str(), "", ""), old, new, wanted)
+    ends_with(alloc, (WORDS, text.as_str()), old, new, wanted)
 }
 
 #[test]
@@ -484,7 +410,7 @@ static NO_HEADERS: [(&str, &str); 2] = [
 #[test]
 fn wants_a_header(rt: HostRuntime) -> Result<(), Fail> {
     for (text, told) in &NO_HEADERS {
-        let given = (WORDS, *text, "", "");
+        let given = (WORDS, *text);
         assert!(rt;
             ends(rt.alloc(), given, 100, NO_FAILING, (4, "", told))?,
             "{text}"
@@ -527,7 +453,7 @@ fn extracted(alloc: Global) -> Result<String, Fail> {
 fn extracted_ends(alloc: Global, old: &str, new: &str, wanted: Ending<'_>) -> Result<bool, Fail> {
     let text = extracted(alloc)?;
     let words = "--mode wire --spef a.spef --net n[3]";
-    ends_with(alloc, (words, text.as_str(), "", ""), old, new, wanted)
+    ends_with(alloc, (words, text.as_str()), old, new, wanted)
 }
 
 /// What a row of the name map becomes, and how the run ends.
@@ -609,7 +535,7 @@ fn net_ends(
     requires { 1 ≤ chunk }
 {
     let text = format!(in alloc; "{HEADER}{NET}")?;
-    let given = (words, text.as_str(), "", "");
+    let given = (words, text.as_str());
     ends(alloc, given, chunk, failing, wanted)
 }
 

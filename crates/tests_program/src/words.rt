@@ -3,62 +3,75 @@
 use crate::texts::words_of;
 use std::alloc::Global;
 use std::test::Fail;
+use vg_num::Text;
 use vg_words::{Mode, Opt, WordFault, read_words};
 
-/// Words, their mode, and the files of a library and of constraints.
-static REQUESTS: [(&str, Mode, Option<&str>, Option<&str>); 5] = [
-    ("--mode wire --spef a --net n", Mode::Wire, None, None),
-    ("--net=n --spef=a --mode=wire", Mode::Wire, None, None),
+/// Words, their mode, and the files of a library, of a netlist and of constraints.
+type Request = (
+    &'static str,
+    Mode,
+    Option<&'static str>,
+    Option<&'static str>,
+    Option<&'static str>,
+);
+
+static REQUESTS: [Request; 5] = [
+    ("--mode wire --spef a --net n", Mode::Wire, None, None, None),
+    ("--net=n --spef=a --mode=wire", Mode::Wire, None, None, None),
     (
-        "--cons c --net n --lib l --mode time --spef=a",
+        "--cons c --net n --verilog v --lib l --mode time --spef=a",
         Mode::Time,
         Some("l"),
+        Some("v"),
         Some("c"),
     ),
     (
-        "--mode=time --lib=l --cons=-c --spef=a --net=n",
+        "--mode=time --lib=l --cons=-c --verilog=-v --spef=a --net=n",
         Mode::Time,
         Some("l"),
+        Some("-v"),
         Some("-c"),
     ),
     (
-        "--lib=--cons --mode=time --cons==c --spef=a --net n",
+        "--lib=--cons --mode=time --verilog=--lib=l --cons==c --spef=a --net n",
         Mode::Time,
         Some("--cons"),
+        Some("--lib=l"),
         Some("=c"),
     ),
 ];
 
+/// Whether the value of an option is this one.
+fn is_value(value: &Option<Text>, wanted: Option<&str>) -> bool {
+    value.as_ref().map(|text| text.as_str()) == wanted
+}
+
 /// Whether the words ask for this, with the SPEF file `a` and the net `n`.
-fn asks(
-    alloc: Global,
-    line: &str,
-    mode: Mode,
-    lib: Option<&str>,
-    cons: Option<&str>,
-) -> Result<bool, Fail> {
+fn asks(alloc: Global, request: &Request) -> Result<bool, Fail> {
+    let (line, mode, lib, verilog, cons) = *request;
     let words = words_of(alloc, line)?;
     let Ok(ask) = read_words(alloc, &words) else {
         return Ok(false);
     };
     Ok(
         ask.mode == mode
-            && ask.spef.as_ref().map(|name| name.as_str()) == Some("a")
-            && ask.lib.as_ref().map(|name| name.as_str()) == lib
-            && ask.cons.as_ref().map(|name| name.as_str()) == cons
-            && ask.net.as_ref().map(|name| name.as_str()) == Some("n"),
+            && is_value(&ask.spef, Some("a"))
+            && is_value(&ask.lib, lib)
+            && is_value(&ask.verilog, verilog)
+            && is_value(&ask.cons, cons)
+            && is_value(&ask.net, Some("n")),
     )
 }
 
 #[test]
 fn reads_each_spelling(rt: HostRuntime) -> Result<(), Fail> {
-    for (line, mode, lib, cons) in &REQUESTS {
-        assert!(rt; asks(rt.alloc(), line, *mode, *lib, *cons)?, "{line}");
+    for request in &REQUESTS {
+        assert!(rt; asks(rt.alloc(), request)?, "{}", request.0);
     }
     Ok(())
 }
 
-static FAULTY: [(&str, WordFault); 26] = [
+static FAULTY: [(&str, WordFault); 29] = [
     ("--mode wire --spef a --net n --fast", WordFault::Unread),
     ("--mode wire --spef a --net n --", WordFault::Unread),
     ("--mode wire --spef a --net n --net n", WordFault::Unread),
@@ -80,6 +93,10 @@ static FAULTY: [(&str, WordFault); 26] = [
     ("--mode time --spef a --net n", WordFault::Missing(Opt::Lib)),
     (
         "--mode time --spef a --lib l --net n",
+        WordFault::Missing(Opt::Verilog),
+    ),
+    (
+        "--mode time --spef a --lib l --verilog v --net n",
         WordFault::Missing(Opt::Cons),
     ),
     (
@@ -87,7 +104,11 @@ static FAULTY: [(&str, WordFault); 26] = [
         WordFault::Excluded(Opt::Cons),
     ),
     (
-        "--mode wire --spef a --net n --cons c --lib l",
+        "--mode wire --spef a --net n --cons c --verilog v",
+        WordFault::Excluded(Opt::Verilog),
+    ),
+    (
+        "--mode wire --spef a --net n --verilog v --lib l",
         WordFault::Excluded(Opt::Lib),
     ),
     (
@@ -95,28 +116,32 @@ static FAULTY: [(&str, WordFault); 26] = [
         WordFault::BadValue(Opt::Spef),
     ),
     (
-        "--mode time --spef ~ --lib ~ --cons= --net ~",
-        WordFault::BadValue(Opt::Spef),
-    ),
-    (
-        "--mode time --spef a --lib= --cons= --net ~",
+        "--mode time --spef a --lib= --verilog ~ --cons= --net ~",
         WordFault::BadValue(Opt::Lib),
     ),
     (
-        "--mode time --spef a --lib l --cons a --net ~",
+        "--mode time --spef a --lib l --verilog= --cons= --net ~",
+        WordFault::BadValue(Opt::Verilog),
+    ),
+    (
+        "--mode time --spef a --lib l --verilog v --cons a --net ~",
         WordFault::BadValue(Opt::Net),
     ),
     (
-        "--mode time --spef a --lib l --cons=a --net n",
+        "--mode time --spef a --lib l --verilog l --cons=a --net n",
         WordFault::Equal(Opt::Spef, Opt::Cons),
     ),
     (
-        "--mode time --spef a --lib=a --cons a --net n",
+        "--mode time --spef a --lib=a --verilog a --cons a --net n",
         WordFault::Equal(Opt::Spef, Opt::Lib),
     ),
     (
-        "--mode time --spef a --lib l --cons l --net n",
-        WordFault::Equal(Opt::Lib, Opt::Cons),
+        "--mode time --spef a --lib l --verilog l --cons l --net n",
+        WordFault::Equal(Opt::Lib, Opt::Verilog),
+    ),
+    (
+        "--mode time --spef a --lib l --verilog=v --cons v --net n",
+        WordFault::Equal(Opt::Verilog, Opt::Cons),
     ),
 ];
 

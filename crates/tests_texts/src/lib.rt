@@ -2,6 +2,8 @@
 #![tactic(auto)]
 
 #[cfg(test)]
+mod connections;
+#[cfg(test)]
 mod cons;
 #[cfg(test)]
 mod file;
@@ -11,6 +13,8 @@ mod liberty;
 mod library;
 #[cfg(test)]
 mod net;
+#[cfg(test)]
+mod netlist;
 #[cfg(test)]
 mod num;
 #[cfg(test)]

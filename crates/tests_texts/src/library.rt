@@ -6,7 +6,6 @@ use lib_linear::{Library, pin_cap, pin_drive, pin_limit, read_library, related, 
 use std::alloc::Global;
 use std::test::Fail;
 use vg_num::NumFault;
-use vg_scan::Name;
 
 /// A fault's kind and its line.
 type Told = Option<(LibKind, usize)>;
@@ -411,13 +410,12 @@ fn sold(alloc: Global) -> Result<Library, Fail> {
 
 fn said_of(alloc: Global, cell: &str, pin: &str) -> Result<SaidOfPin, Fail> {
     let library = sold(alloc)?;
-    let cell = Name::from_bytes(alloc, cell.as_bytes())?;
-    let pin = Name::from_bytes(alloc, pin.as_bytes())?;
+    let (cell, pin) = (cell.as_bytes(), pin.as_bytes());
     Ok((
-        pin_cap(&library, &cell, &pin),
-        pin_drive(&library, &cell, &pin),
-        pin_limit(&library, &cell, &pin),
-        related(&library, &cell, &pin).len(),
+        pin_cap(&library, cell, pin),
+        pin_drive(&library, cell, pin),
+        pin_limit(&library, cell, pin),
+        related(&library, cell, pin).len(),
     ))
 }
 

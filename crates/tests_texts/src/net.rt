@@ -2,7 +2,9 @@
 
 use crate::texts::text_of;
 use spef_file::index;
-use spef_net::{ConnKind, Direction, NetFault, NetKind, Nodes, ParConn, ParNet, read_net};
+use spef_net::{
+    ConnKind, Direction, NetFault, NetKind, Nodes, ParConn, ParNet, position, read_net,
+};
 use std::alloc::Global;
 use std::test::Fail;
 use vg_num::NumFault;
@@ -330,6 +332,32 @@ fn count_of(alloc: Global, lines: &str) -> Result<Option<usize>, Fail> {
 fn nodes_by_their_numbers(rt: HostRuntime) -> Result<(), Fail> {
     for (lines, count) in &COUNTS {
         assert!(rt; count_of(rt.alloc(), lines)? == Some(*count), "{lines}");
+    }
+    Ok(())
+}
+
+/// Notes, and the position of their node.
+static POSITIONS: [(&str, Option<(i128, i128)>); 14] = [
+    ("*C 5 2", Some((5000, 2000))),
+    ("*L 0.002 *C -1.5\t2e1 *D DRV", Some((-1500, 20_000))),
+    ("*D *C 0.0004 -0.0005", Some((0, -1))),
+    ("*C *C 1 2", None),
+    ("*C 1 *C 2 3", None),
+    ("*C 1 2 *C 3 4", Some((1000, 2000))),
+    ("*C 1 2,3", None),
+    ("*C x 2", None),
+    ("*C 1 1e21", None),
+    ("*C 1", None),
+    ("*C", None),
+    ("*c 1 2", None),
+    ("*D C 1 2", None),
+    ("", None),
+];
+
+#[test]
+fn positions(rt: HostRuntime) -> Result<(), Fail> {
+    for (note, point) in &POSITIONS {
+        assert!(rt; position(note.as_bytes()) == *point, "{note}");
     }
     Ok(())
 }

@@ -1,3 +1,4 @@
 pub mod TableLemmas
 pub mod LineLemmas
 pub mod WordLemmas
+pub mod BoxLemmas

@@ -1,5 +1,5 @@
 -- What a line states by itself: a row, or the fault of its words.
-use Rattle.std.specs.Prelude.{ℕ, ◌^◌, List, [], ◌∷◌, ℤ, pos, Option, Some, None, Result, Ok, Err, if◌then◌else◌, codes, refl}
+use Rattle.std.specs.Prelude.{ℕ, ◌^◌, ◌||◌, Bool, false, List, [], ◌∷◌, ℤ, pos, Option, Some, None, Result, Ok, Err, if◌then◌else◌, codes, refl}
 use Rattle.std.specs.Str.{bytes_eq}
 use Rattle.vg_num.specs.Number.{scaled, signed_scaled}
 use Rattle.vg_num.specs.declared.fault.NumFault.{NumFault}
@@ -15,7 +15,14 @@ use Rattle.vg_scan.specs.declared.name.NodeName.{NodeName}
 abbrev pub CHARS : Chars
 CHARS = record { divider = 47; delimiter = 58; bus_left = 91; bus_right = 93; divides = refl; delimits = refl; encloses = refl }
 
--- times are in zeptoseconds, resistances in milliohms, capacitances in attofarads
+-- a point by its x and y, and a box by two corners that lie across from each other
+abbrev pub Point : Type 0
+Point = ℤ × ℤ
+
+abbrev pub Box : Type 0
+Box = Point × Point
+
+-- times are in zeptoseconds, resistances in milliohms, capacitances in attofarads, coordinates in thousandths
 pub data Statement : Type 0 where
   default : ℤ → Statement
   required : NodeName × ℤ → Statement
@@ -24,6 +31,8 @@ pub data Statement : Type 0 where
   drive : List ℕ × (ℕ × ℤ) → Statement
   load : List ℕ × ℕ → Statement
   block : NodeName → Statement
+  allow : NodeName × List (List ℕ) → Statement
+  block_box : Box → Statement
 
 abbrev pub or_word : {A : Type 0} → Option A → Result A ConsKind
 or_word (Some name) = Ok name
@@ -51,6 +60,10 @@ time_in word = or_number (signed_scaled (pos 9) (10 ^ 23) word)
 -- ohms, or femtofarads
 unfoldable pub thousandths_in : List ℕ → Result ℕ ConsKind
 thousandths_in word = or_number (scaled (pos 3) (10 ^ 15) word)
+
+-- coordinates
+unfoldable pub coordinate_in : List ℕ → Result ℤ ConsKind
+coordinate_in word = or_number (signed_scaled (pos 3) (10 ^ 23) word)
 
 -- what is made of a part, or the part's fault
 abbrev pub of_one : {A B : Type 0} → (A → B) → Result A ConsKind → Result B ConsKind
@@ -92,6 +105,20 @@ abbrev pub block_line : Line → Result Statement ConsKind
 block_line (node ∷ []) = of_one block (inner_in node)
 block_line _ = Err Word
 
+-- `allow NODE CELL ..`: a cell is a word as it stands
+abbrev pub allow_line : Line → Result Statement ConsKind
+allow_line (node ∷ cell ∷ cells) = of_one (λ n. allow (n, cell ∷ cells)) (inner_in node)
+allow_line _ = Err Word
+
+-- `X Y`
+abbrev pub point_in : List ℕ → List ℕ → Result Point ConsKind
+point_in x y = of_two (coordinate_in x) (coordinate_in y)
+
+-- `block_box X1 Y1 X2 Y2`
+abbrev pub box_line : Line → Result Statement ConsKind
+box_line (x1 ∷ y1 ∷ x2 ∷ y2 ∷ []) = of_one block_box (of_two (point_in x1 y1) (point_in x2 y2))
+box_line _ = Err Word
+
 -- what a line states, by its first word
 unfoldable pub statement_of : Line → Result Statement ConsKind
 statement_of [] = Err Word
@@ -103,4 +130,11 @@ statement_of (first ∷ words) =
     else (if bytes_eq first (codes "drive") then drive_line words
     else (if bytes_eq first (codes "load") then load_line words
     else (if bytes_eq first (codes "block") then block_line words
-    else Err Word))))))
+    else (if bytes_eq first (codes "allow") then allow_line words
+    else (if bytes_eq first (codes "block_box") then box_line words
+    else Err Word))))))))
+
+-- a line that only version 2 has
+abbrev pub is_of_second : Line → Bool
+is_of_second [] = false
+is_of_second (first ∷ words) = bytes_eq first (codes "allow") || bytes_eq first (codes "block_box")

@@ -1,21 +1,25 @@
 //! The rows of a constraints text, and look-ups in them.
 
-ghost use Rattle.std.specs.Prelude.{◌≡◌};
+ghost use Rattle.std.specs.Prelude.{◌≡◌, option_copied};
 ghost use Rattle.vg_cons.specs.Statements.{default};
-ghost use Rattle.vg_cons.specs.Views.{Adds, added_as, as_statement};
-ghost use Rattle.vg_cons.specs.Rows.{Rows, required_of, arrival_of, wants_inverted_of, drive_of, load_of, is_blocked_of};
+ghost use Rattle.vg_cons.specs.Views.{Adds, Begins, added_as, stored_as, as_statement};
+ghost use Rattle.vg_cons.specs.Rows.{Rows, required_of, arrival_of, wants_inverted_of, drive_of, load_of, is_blocked_of, allowed_of, in_box_of};
 ghost use Rattle.vg_cons.specs.Growth.{no_rows};
 
+use crate::boxes::Boxes;
 use crate::fault::ConsKind;
+use crate::format::Format;
 use crate::row::Row;
-use crate::tables::{NodeSet, NodeTimes, PortDrives, PortLoads};
+use crate::tables::{NodeCells, NodeSet, NodeTimes, PortDrives, PortLoads};
 use std::alloc::Global;
 use std::marker::Model;
 use vg_num::Memory;
 use vg_scan::{Name, NodeName};
 
-/// The rows of a constraints text, by kind. Contracts see them as the record `Rows`, in the order of the text.
+/// The version of a constraints text, and its rows by kind. Contracts see the record `Rows`, with the rows in the order of the
+/// text.
 pub struct Constraints {
+    format: Option<Format>,
     default: Option<i128>,
     required: NodeTimes,
     arrival: NodeTimes,
@@ -23,12 +27,15 @@ pub struct Constraints {
     drive: PortDrives,
     load: PortLoads,
     block: NodeSet,
+    allow: NodeCells,
+    boxes: Boxes,
 }
 
 impl Model for Constraints {
     ghost Value = { Rows };
 
     ghost view = { λ cons. record {
+      format = cons.format;
       default = cons.default;
       required = cons.required;
       arrival = cons.arrival;
@@ -36,6 +43,8 @@ impl Model for Constraints {
       drive = cons.drive;
       load = cons.load;
       block = cons.block;
+      allow = cons.allow;
+      boxes = cons.boxes;
     } };
 }
 
@@ -43,6 +52,7 @@ impl Drop for Constraints {
     // Written out, so that it is one step in the proof of whoever drops it.
     fn drop(self) {
         let Constraints {
+            format: _format,
             default: _default,
             required: _required,
             arrival: _arrival,
@@ -50,6 +60,8 @@ impl Drop for Constraints {
             drive: _drive,
             load: _load,
             block: _block,
+            allow: _allow,
+            boxes: _boxes,
         } = self;
     }
 }
@@ -60,6 +72,7 @@ impl Constraints {
         ensures { result ≡ no_rows }
     {
         Constraints {
+            format: None,
             default: None,
             required: NodeTimes::new(alloc),
             arrival: NodeTimes::new(alloc),
@@ -67,7 +80,29 @@ impl Constraints {
             drive: PortDrives::new(alloc),
             load: PortLoads::new(alloc),
             block: NodeSet::new(alloc),
+            allow: NodeCells::new(alloc),
+            boxes: Boxes::new(alloc),
         }
+    }
+
+    /// The version, once a heading has named it.
+    pub(crate) fn format(&self) -> Option<Format>
+        ensures { result ≡ self.now.format }
+    {
+        self.format
+    }
+
+    /// Takes the version that a heading names.
+    ///
+    /// Answers `Version` where it names none.
+    pub(crate) fn begin(&mut self, heading: Option<Format>) -> Result<(), ConsKind>
+        ensures { Begins result self.old self.new heading }
+    {
+        let Some(format) = heading else {
+            return Err(ConsKind::Version);
+        };
+        self.format = Some(format);
+        Ok(())
     }
 
     /// Adds a row, the last of its kind.
@@ -84,6 +119,8 @@ impl Constraints {
             Row::Drive(port, drive) => check_fresh(self.drive.insert(port, drive)),
             Row::Load(port, load) => check_fresh(self.load.insert(port, load)),
             Row::Block(node) => check_fresh(self.block.insert(node)),
+            Row::Allow(node, cells) => check_fresh(self.allow.insert(node, cells)),
+            Row::BlockBox(corners) => check_room(self.boxes.add(corners)),
         }
     }
 
@@ -105,6 +142,16 @@ fn check_fresh(fresh: Result<bool, Memory>) -> Result<(), ConsKind>
     match fresh {
         Ok(true) => Ok(()),
         Ok(false) => Err(ConsKind::Twice),
+        Err(Memory) => Err(ConsKind::Memory),
+    }
+}
+
+/// What storing a row that may be given again says of it: there was room, or none.
+fn check_room(stored: Result<(), Memory>) -> Result<(), ConsKind>
+    ensures { result ≡ stored_as stored }
+{
+    match stored {
+        Ok(()) => Ok(()),
         Err(Memory) => Err(ConsKind::Memory),
     }
 }
@@ -150,4 +197,19 @@ pub fn is_blocked(cons: &Constraints, node: &NodeName) -> bool
     ensures { result ≡ is_blocked_of cons.now node.now }
 {
     cons.block.contains(node)
+}
+
+/// The cells that a row names for a node, in its order: no other may be placed there. `None`: no row names any, and all may be.
+/// It takes no memory.
+pub fn allows<'a>(cons: &'a Constraints, node: &NodeName) -> Option<&'a [Name]>
+    ensures { option_copied result ≡ allowed_of cons.now node.now }
+{
+    cons.allow.get(node)
+}
+
+/// Whether a box has the point (x, y) inside or on its border; both are in thousandths. It takes no memory.
+pub fn in_box(cons: &Constraints, x: i128, y: i128) -> bool
+    ensures { result ≡ in_box_of cons.now (x, y) }
+{
+    cons.boxes.hold((x, y))
 }

@@ -2,7 +2,7 @@
 
 ghost use Rattle.std.specs.Prelude.{◌≡◌, ℕ, List};
 ghost use Rattle.vg_scan.specs.declared.name.NodeName.{NodeName};
-ghost use Rattle.vg_cons.specs.Statements.{CHARS, pin_in, port_in, inner_in, time_in, thousandths_in};
+ghost use Rattle.vg_cons.specs.Statements.{CHARS, pin_in, port_in, inner_in, time_in, thousandths_in, coordinate_in};
 ghost use Rattle.vg_cons.specs.Views.{Agrees};
 
 use crate::fault::ConsKind;
@@ -84,6 +84,17 @@ pub(crate) fn read_thousandths(word: &[u8]) -> Result<u64, ConsKind>
     ensures { result ≡ thousandths_in word.now }
 {
     match read_scaled(word, 3) {
+        Ok(number) => Ok(number),
+        Err(fault) => Err(ConsKind::Number(fault)),
+    }
+}
+
+/// A coordinate, in thousandths.
+#[tactic(auto, unfolding(crate::specs::Statements::coordinate_in))]
+pub(crate) fn read_coordinate(word: &[u8]) -> Result<i128, ConsKind>
+    ensures { result ≡ coordinate_in word.now }
+{
+    match read_signed(word, 3) {
         Ok(number) => Ok(number),
         Err(fault) => Err(ConsKind::Number(fault)),
     }

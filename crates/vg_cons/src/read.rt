@@ -9,53 +9,64 @@ ghost use Rattle.vg_cons.specs.Lines.{is_hash, lines_of};
 ghost use Rattle.vg_cons.specs.Rows.{rows_of};
 ghost use Rattle.vg_cons.specs.Growth.{no_rows};
 ghost use Rattle.vg_cons.specs.Faults.{IsFaultless, IsFaultIn};
-ghost use Rattle.vg_cons.specs.Views.{Takes};
+ghost use Rattle.vg_cons.specs.Views.{Takes, TakesRow};
 
 use crate::constraints::Constraints;
 use crate::fault::{ConsFault, ConsKind};
-use crate::line::{is_heading, read_row, without_comment};
+use crate::format::Format;
+use crate::line::{heading_of, is_of_second, read_row, without_comment};
 use std::alloc::Global;
 use vg_scan::{Span, next_line, words_of};
 
-/// Takes a line's words, after lines of which one has words or none has, and says whether one has by now.
+/// Takes the words of a line that states a row, in a text of this version.
+fn take_row(
+    alloc: Global,
+    cons: &mut Constraints,
+    format: Format,
+    bytes: &[u8],
+    words: &[Span],
+) -> Result<(), ConsKind>
+    ensures { TakesRow result format cons.old cons.new (words_at bytes.now words.now) }
+{
+    if format == Format::First && is_of_second(bytes, words) {
+        return Err(ConsKind::Word);
+    }
+    let row = read_row(alloc, bytes, words)?;
+    cons.add(row)
+}
+
+/// Takes a line's words: the first line that has any is the heading, and the others state rows.
 fn take_words(
     alloc: Global,
     cons: &mut Constraints,
-    started: bool,
     bytes: &[u8],
     words: &[Span],
-) -> Result<bool, ConsKind>
-    ensures { Takes result started cons.old cons.new (words_at bytes.now words.now) }
+) -> Result<(), ConsKind>
+    ensures { Takes result cons.old cons.new (words_at bytes.now words.now) }
 {
     if words.is_empty() {
-        return Ok(started);
+        return Ok(());
     }
-    if !started {
-        if is_heading(bytes, words) {
-            return Ok(true);
-        }
-        return Err(ConsKind::Version);
+    match cons.format() {
+        None => cons.begin(heading_of(bytes, words)),
+        Some(format) => take_row(alloc, cons, format, bytes, words),
     }
-    let row = read_row(alloc, bytes, words)?;
-    cons.add(row)?;
-    Ok(true)
 }
 
 /// The same of a line with its comment. The list is to hold its words.
 fn take_line(
     alloc: Global,
     cons: &mut Constraints,
-    started: bool,
     bytes: &[u8],
     line: Span,
     found: &mut Vec<Span>,
-) -> Result<bool, ConsKind>
+) -> Result<(), ConsKind>
     requires { IsIn bytes.now line }
-    ensures { Takes result started cons.old cons.new (words (before_first is_hash (part_at bytes.now line))) }
+    ensures { Takes result cons.old cons.new (words (before_first is_hash (part_at bytes.now line))) }
 {
     match words_of(bytes, without_comment(bytes, line), found) {
         Err(_) => Err(ConsKind::Memory),
-        Ok(()) => take_words(alloc, cons, started, bytes, found.as_slice()),
+        Ok(()) => take_words(alloc, cons, bytes, found.as_slice()),
     }
 }
 
@@ -68,20 +79,17 @@ fn read_lines(alloc: Global, cons: &mut Constraints, bytes: &[u8]) -> Result<(),
     ensures fault { IfErr result (λ fault. (fault.kind ≡ Memory) ⊎ IsFaultIn (lines_of bytes.now) fault) }
 {
     let mut found = Vec::new(alloc);
-    let mut started = false;
     let mut count = 0usize;
     let mut at = 0usize;
     'line: while let Some((line, next)) = next_line(bytes, at) {
         count += 1;
-        match take_line(alloc, cons, started, bytes, line, &mut found) {
+        match take_line(alloc, cons, bytes, line, &mut found) {
             Err(kind) => return Err(ConsFault { kind, line: count }),
-            Ok(now) => {
-                started = now;
-            }
+            Ok(()) => {}
         }
         at = next;
     }
-    if !started {
+    if cons.format().is_none() {
         return Err(ConsFault {
             kind: ConsKind::Version,
             line: count.max(1),
@@ -90,7 +98,7 @@ fn read_lines(alloc: Global, cons: &mut Constraints, bytes: &[u8]) -> Result<(),
     Ok(())
 }
 
-/// The rows of a constraints text, or its first fault with the number of its line.
+/// The version and the rows of a constraints text, or its first fault with the number of its line.
 ///
 /// Answers `Memory` where there is no room, with the line at which it was wanted.
 pub fn read_constraints(alloc: Global, bytes: &[u8]) -> Result<Constraints, ConsFault>

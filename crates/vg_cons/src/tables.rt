@@ -1,6 +1,6 @@
 //! The tables of the rows: a look-up takes no memory and no walk.
 
-ghost use Rattle.std.specs.Prelude.{◌≡◌, ℕ, ℤ, List, [], ◌∷◌, ◌++◌, not, is_some, true, IfOk};
+ghost use Rattle.std.specs.Prelude.{◌≡◌, ℕ, ℤ, List, [], ◌∷◌, ◌++◌, not, is_some, true, IfOk, option_copied};
 ghost use Rattle.vg_scan.specs.Nodes.{node_value, has_node};
 ghost use Rattle.vg_scan.specs.declared.name.NodeName.{NodeName};
 ghost use Rattle.vg_cons.specs.Names.{port_value};
@@ -8,7 +8,7 @@ ghost use Rattle.vg_cons.specs.Names.{port_value};
 use indexmap::{IndexMap, IndexSet};
 use std::alloc::Global;
 use std::marker::Model;
-use vg_num::Memory;
+use vg_num::{Memory, Row};
 use vg_scan::{Name, NodeName};
 
 /// A time for each of some pins or nodes, in the order in which they came.
@@ -84,6 +84,47 @@ impl NodeSet {
         ensures { result ≡ has_node self.now node.now }
     {
         self.nodes.contains(node)
+    }
+}
+
+/// Cells for each of some nodes, in the order in which they came.
+#[derive(Drop)]
+pub(crate) struct NodeCells {
+    cells: IndexMap<NodeName, Row<Name>>,
+}
+
+impl Model for NodeCells {
+    ghost Value = { List (NodeName × List (List ℕ)) };
+
+    ghost view = { λ table. table.cells.entries };
+}
+
+impl NodeCells {
+    pub fn new(alloc: Global) -> NodeCells
+        ensures { result ≡ [] }
+    {
+        NodeCells {
+            cells: IndexMap::new(alloc),
+        }
+    }
+
+    /// Puts cells last where their node is new, and says whether it was.
+    pub fn insert(&mut self, node: NodeName, cells: Vec<Name>) -> Result<bool, Memory>
+        ensures fresh { IfOk result (λ fresh. fresh ≡ not (is_some (node_value self.old node))) }
+        ensures last { IfOk result (λ fresh. fresh ≡ true → self.new ≡ self.old ++ (node, cells.items) ∷ []) }
+    {
+        let before = self.cells.insert(node, Row::from_vec(cells))?;
+        Ok(before.is_none())
+    }
+
+    /// The cells of a node.
+    pub fn get(&self, node: &NodeName) -> Option<&[Name]>
+        ensures { option_copied result ≡ node_value self.now node.now }
+    {
+        match self.cells.get(node) {
+            Some(cells) => Some(cells.as_slice()),
+            None => None,
+        }
     }
 }
 

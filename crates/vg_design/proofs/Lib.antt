@@ -1,10 +1,14 @@
-mod TimeAnswerLemmas
-mod TimeLemmas
-pub mod AnswerLemmas
-pub mod EndLemmas
-pub mod NamedLemmas
 pub mod PassLemmas
-pub mod RefusedLemmas
-pub mod SinkLemmas
-pub mod WireLemmas
-pub mod TimeLawLemmas
+pub mod NameLemmas
+pub mod LawLemmas
+pub mod EndLemmas
+pub mod SeeLemmas
+pub mod SeenLemmas
+pub mod ConnectedLemmas
+pub mod ConnectionLemmas
+pub mod NumberLemmas
+pub mod PartLemmas
+pub mod ReadyLemmas
+pub mod AcceptLemmas
+pub mod TimeLemmas
+pub mod NameListLemmas

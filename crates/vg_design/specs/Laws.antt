@@ -1,32 +1,38 @@
--- What a user knows of the answers for the net of a name.
-use Rattle.std.specs.Prelude.{◌≡◌, ℕ, ◌<◌, ◌≤◌, List}
-use Rattle.elmore.specs.declared.tree.Node.{Node}
-use Rattle.spef_net.specs.declared.net.ParNet.{ParNet}
-use Rattle.vg_design.specs.Refusals.{number_of, IsNetTree, PassesUpTo}
-use Rattle.vg_cons.specs.Rows.{Rows}
-use Rattle.vg_design.specs.Nets.{IsNetNamed, IsRefusalOf}
-use Rattle.vg_design.specs.Timings.{IsTimedOf, IsTimeRefusalOf}
-use Rattle.vg_design.specs.declared.refusal.Refusal.{Refusal}
-use Rattle.vg_design.specs.declared.time.slack.Timed.{Timed}
+-- What is true of the problems and the refusals of all nets.
+use Rattle.std.specs.Prelude.{◌≡◌, ℕ, List}
+use Rattle.vg_scan.specs.declared.name.NodeName.{NodeName}
+use Rattle.vg_wire.specs.Refusals.{number_of}
+use Rattle.vg_wire.specs.declared.refusal.Refusal.{Refusal}
+use Rattle.vg_wire.specs.declared.refusal.Refusal.TheVariants.{Unconstrained}
+use Rattle.vg_design.specs.Designs.{Design}
+use Rattle.vg_design.specs.Nets.{IsNetProblem}
+use Rattle.vg_design.specs.Refusals.{IsFirstRefusal, IsFirstBareRefusal}
+use Rattle.vg_design.specs.declared.net_problem.NetProblem.{NetProblem}
 
--- a file has at most one net of a name
-abbrev pub OneNet : Type 0
-OneNet = (text name : List ℕ) (net other : ParNet) → IsNetNamed text name net → IsNetNamed text name other → net ≡ other
+-- two problems have the same parts
+pub record AreSame (a b : NetProblem) : Type 0 where
+  pub tree : a.problem.tree.nodes ≡ b.problem.tree.nodes
+  pub driver : a.problem.driver ≡ b.problem.driver
+  pub sinks : a.problem.sinks ≡ b.problem.sinks
+  pub places : a.problem.places ≡ b.problem.places
+  pub reps : a.problem.reps ≡ b.problem.reps
+  pub allowed : a.problem.allowed ≡ b.problem.allowed
+  pub names : a.names ≡ b.names
 
--- a net has at most one tree
-abbrev pub OneTree : Type 0
-OneTree =
-    (net : ParNet) (tree other : List Node) (order places : List ℕ) → IsNetTree net tree order → IsNetTree net other places
-    → (tree ≡ other) × (order ≡ places)
+-- a net of a design has one problem
+abbrev pub OneProblem : Type 0
+OneProblem = (d : Design) (name : List ℕ) (a b : NetProblem) → IsNetProblem d name a → IsNetProblem d name b → AreSame a b
 
--- where all refusals below a number are passed, none of them refuses the net
-abbrev pub PassedOrRefused : Type 0
-PassedOrRefused =
-    (text name : List ℕ) (net : ParNet) (n : ℕ) (refusal : Refusal) → IsNetNamed text name net → PassesUpTo n net → 3 ≤ n
-    → IsRefusalOf text name refusal → number_of refusal < n → ⊥
+-- a net that has one is not refused
+abbrev pub ProblemOrRefused : Type 0
+ProblemOrRefused = (d : Design) (name : List ℕ) (found : NetProblem) (refusal : Refusal) → IsNetProblem d name found → IsFirstRefusal d name refusal → ⊥
 
--- a net that is timed is not refused
-abbrev pub TimedOrRefused : Type 0
-TimedOrRefused =
-    (text name : List ℕ) (rows : Rows) (timed : Timed) (refusal : Refusal) → IsTimedOf text name rows timed
-    → IsTimeRefusalOf text name rows refusal → ⊥
+-- a net has one first refusal
+abbrev pub OneRefusal : Type 0
+OneRefusal = (d : Design) (name : List ℕ) (a b : Refusal) → IsFirstRefusal d name a → IsFirstRefusal d name b → number_of a ≡ number_of b
+
+-- what is refused for a missing required time alone, is not refused without the constraints, or only for its size
+abbrev pub BareAccepts : Type 0
+BareAccepts =
+    (d : Design) (name : List ℕ) (node : NodeName) (refusal : Refusal) → IsFirstRefusal d name (Unconstrained node) → IsFirstBareRefusal d name refusal
+    → number_of refusal ≡ 16

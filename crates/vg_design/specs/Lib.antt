@@ -1,8 +1,6 @@
+pub mod Designs
+pub mod Parts
 pub mod Refusals
 pub mod Nets
-pub mod Wires
-pub mod Steps
 pub mod Laws
-pub mod SinkRows
-pub mod Timings
-pub mod TimeSteps
+pub mod Steps

@@ -1,70 +1,88 @@
--- The net of a name in a file, and its refusal.
-use Rattle.std.specs.Prelude.{◌≡◌, ℕ, ◌<◌, List, Option, Some, None}
-use Rattle.std.specs.List.{find}
-use Rattle.std.specs.Str.{bytes_eq}
-use Rattle.spef_file.specs.Files.{File, IsFileOf}
-use Rattle.spef_file.specs.Nets.{NetHead}
-use Rattle.spef_net.specs.Sections.{IsNetOf, IsFaultOf}
-use Rattle.vg_scan.specs.declared.fault.LineFault.{LineFault}
-use Rattle.spef_net.specs.declared.fault.NetKind.{NetKind}
+-- The problem of a net, its parts without constraints, and its slack without cells.
+use Rattle.std.specs.Prelude.{◌≡◌, ℕ, List, map, filter, length, slice_index, slice_index_or, ℤ, Option, None, option_map, MatchOption}
+use Rattle.std.specs.List.{range_with_len}
+use Rattle.elmore.specs.Placements.{IsSlack, HasPolarity, IsFirstWrong}
+use Rattle.elmore.specs.declared.problem.Problem.{Problem}
+use Rattle.elmore.specs.declared.tree.Node.{Node}
 use Rattle.spef_net.specs.declared.net.ParNet.{ParNet}
-use Rattle.vg_design.specs.Refusals.{number_of, IsFirstRefusal}
-use Rattle.vg_design.specs.declared.refusal.Refused.{Refused}
-use Rattle.vg_design.specs.declared.refusal.Refused.TheVariants.{Net, Memory}
-use Rattle.vg_design.specs.declared.refusal.Refusal.{Refusal}
-use Rattle.vg_design.specs.declared.refusal.Refusal.TheVariants.{NotYet, UnknownNet, Section as Faulty, Reduced, Inductive, Bidirectional, NoDriver, ManyDrivers, Floating, Loop, NoSink, Unconstrained, TooLarge}
+use Rattle.vg_scan.specs.declared.name.NodeName.{NodeName}
+use Rattle.vg_wire.specs.Refusals.{IsNetTree}
+use Rattle.vg_wire.specs.Wires.{is_sink_node}
+use Rattle.vg_wire.specs.declared.refusal.Refused.{Refused}
+use Rattle.vg_wire.specs.declared.refusal.Refused.TheVariants.{Net, Memory}
+use Rattle.vg_design.specs.Designs.{Design, Joined, NO_NODE, name_of}
+use Rattle.vg_design.specs.Parts.{loaded_tree, driver_of, IsProblemOf}
+use Rattle.vg_design.specs.Refusals.{IsJoined, PassesUpTo, PassesBareUpTo, IsFirstRefusal, IsFirstBareRefusal}
+use Rattle.vg_design.specs.declared.net_problem.NetProblem.{NetProblem}
+use Rattle.vg_design.specs.declared.bare.BareNet.{BareNet}
+use Rattle.vg_design.specs.declared.time.Timed.{Timed}
 
--- the head of the net of this name, if the file has one
-abbrev pub head_named : File → List ℕ → Option NetHead
-head_named file name = find (λ head. bytes_eq name head.name) file.nets
+-- the names of the nodes of a tree
+abbrev pub names_of : ParNet → List ℕ → List NodeName
+names_of net order = map (name_of net) order
 
--- the file has no net of this name
-pub record IsMissing (text name : List ℕ) : Type 0 where
-  pub file : File
-  pub said : IsFileOf text file
-  pub none : head_named file name ≡ None
+-- the name of a node of a tree
+abbrev pub name_at : List NodeName → ℕ → NodeName
+name_at names i = slice_index_or names i NO_NODE.name
 
--- it has one with this head
-pub record IsHeadOf (text name : List ℕ) (file : File) (head : NetHead) : Type 0 where
-  pub said : IsFileOf text file
-  pub named : head_named file name ≡ Some head
+-- The net of this name, which nothing refuses, has this problem, whose nodes have these names. Tree node i is the net's node
+-- order[i].
+pub record IsNetProblem (d : Design) (name : List ℕ) (found : NetProblem) : Type 0 where
+  pub accepted : PassesUpTo 17 d name
+  pub net : Joined
+  pub joined : IsJoined d name net
+  pub tree : List Node
+  pub order : List ℕ
+  pub a_tree : IsNetTree net.par tree order
+  pub problem : IsProblemOf d net tree order found.problem
+  pub names : found.names ≡ names_of net.par order
 
--- the net of this name
-pub record IsNetNamed (text name : List ℕ) (net : ParNet) : Type 0 where
-  pub file : File
-  pub head : NetHead
-  pub head_of : IsHeadOf text name file head
-  pub read : IsNetOf text file head net
+-- the sinks as nodes of the tree, in tree order
+abbrev pub sink_nodes : ParNet → List ℕ → List ℕ
+sink_nodes net order = filter (λ i. is_sink_node net (slice_index order i)) (range_with_len 0 (length order))
 
--- its lines have this first fault
-pub record IsFaultNamed (text name : List ℕ) (fault : LineFault NetKind) : Type 0 where
-  pub file : File
-  pub head : NetHead
-  pub head_of : IsHeadOf text name file head
-  pub first : IsFaultOf text file head fault
+-- the net of this name, which nothing refuses but the constraints, has this tree and driver, whose nodes have these names, and
+-- these sinks
+pub record IsBareNet (d : Design) (name : List ℕ) (bare : BareNet) : Type 0 where
+  pub accepted : PassesBareUpTo 17 d name
+  pub net : Joined
+  pub joined : IsJoined d name net
+  pub tree : List Node
+  pub order : List ℕ
+  pub a_tree : IsNetTree net.par tree order
+  pub tree_is : bare.tree.nodes ≡ loaded_tree d net tree order
+  pub driver : bare.driver ≡ driver_of d net order
+  pub names : bare.names ≡ names_of net.par order
+  pub sinks : bare.sinks ≡ sink_nodes net.par order
 
-pub record IsNetRefused (text name : List ℕ) (refusal : Refusal) : Type 0 where
-  pub net : ParNet
-  pub named : IsNetNamed text name net
-  pub refused : IsFirstRefusal net refusal
+-- ---- without cells
 
--- why the net of this name is refused, by its parasitics alone
-abbrev pub IsRefusalOf : List ℕ → List ℕ → Refusal → Type 0
-IsRefusalOf text name NotYet = ⊥
-IsRefusalOf text name (Unconstrained node) = ⊥
-IsRefusalOf text name UnknownNet = IsMissing text name
-IsRefusalOf text name (Faulty fault) = IsFaultNamed text name fault
-IsRefusalOf text name Reduced = IsNetRefused text name Reduced
-IsRefusalOf text name Inductive = IsNetRefused text name Inductive
-IsRefusalOf text name Bidirectional = IsNetRefused text name Bidirectional
-IsRefusalOf text name NoDriver = IsNetRefused text name NoDriver
-IsRefusalOf text name ManyDrivers = IsNetRefused text name ManyDrivers
-IsRefusalOf text name (Floating node) = IsNetRefused text name (Floating node)
-IsRefusalOf text name Loop = IsNetRefused text name Loop
-IsRefusalOf text name NoSink = IsNetRefused text name NoSink
-IsRefusalOf text name TooLarge = IsNetRefused text name TooLarge
+-- no node has a cell
+pub record IsBare (p : Problem) (cells : List (Option ℕ)) : Type 0 where
+  pub one_each : length cells ≡ length p.tree.nodes
+  pub none : (v : ℕ) → slice_index_or cells v None ≡ None
 
--- a refusal of a smaller number, or out of memory
-abbrev pub IsRefusedBelow : ℕ → List ℕ → List ℕ → Refused → Type 0
-IsRefusedBelow n text name (Net refusal) = IsRefusalOf text name refusal × (number_of refusal < n)
-IsRefusedBelow n text name Memory = Unit {0}
+-- x is the slack of the problem without cells (zs), and wrong its first sink of the wrong polarity, if there is one
+pub record IsBareTiming (p : Problem) (x : ℤ) (wrong : Option ℕ) : Type 0 where
+  pub cells : List (Option ℕ)
+  pub bare : IsBare p cells
+  pub slack : IsSlack p cells x
+  pub polarity : MatchOption wrong ((w : ℕ) → HasPolarity p cells w) (IsFirstWrong p cells)
+
+-- the net of this name has this slack, and this is the name of its first sink of the wrong polarity
+pub record IsTimedOf (d : Design) (name : List ℕ) (timed : Timed) : Type 0 where
+  pub found : NetProblem
+  pub problem : IsNetProblem d name found
+  pub wrong : Option ℕ
+  pub timing : IsBareTiming found.problem timed.slack wrong
+  pub named : timed.wrong ≡ option_map (name_at found.names) wrong
+
+-- ---- or why there is none
+
+abbrev pub IsRefused : Design → List ℕ → Refused → Type 0
+IsRefused d name (Net refusal) = IsFirstRefusal d name refusal
+IsRefused d name Memory = Unit {0}
+
+abbrev pub IsBareRefused : Design → List ℕ → Refused → Type 0
+IsBareRefused d name (Net refusal) = IsFirstBareRefusal d name refusal
+IsBareRefused d name Memory = Unit {0}

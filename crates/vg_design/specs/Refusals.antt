@@ -1,132 +1,99 @@
--- Why a net is refused: by its parasitics alone.
-use Rattle.std.specs.Prelude.{◌≡◌, ℕ, ◌<◌, ◌≤◌, ◌^◌, not, Bool, true, false, List, [], ◌∷◌, length, filter, Some}
-use Rattle.std.specs.List.{list_any, slice_get}
-use Rattle.elmore.specs.Trees.{IsWithinLimits}
+-- Why a net of a design is refused: sixteen conditions, of which the first counts.
+use Rattle.std.specs.Prelude.{◌≡◌, ◌≢◌, ◌⊎◌, ℕ, ◌<◌, ◌&&◌, not, Bool, true, false, List, [], ◌∷◌, length, find, is_none, Some, None}
+use Rattle.std.specs.List.{list_any}
 use Rattle.elmore.specs.declared.tree.Node.{Node}
-use Rattle.rc_tree.specs.Faults.{IsLeastFloating, HasLoop}
-use Rattle.rc_tree.specs.Answers.{IsTreeOf}
-use Rattle.vg_scan.specs.declared.name.NodeName.{NodeName}
-use Rattle.spef_net.specs.declared.net.ConnKind.{ConnKind}
-use Rattle.spef_net.specs.declared.net.ConnKind.TheVariants.{Pin, Port}
-use Rattle.spef_net.specs.declared.net.Direction.{Direction}
-use Rattle.spef_net.specs.declared.net.Direction.TheVariants.{In, Out, Both}
+use Rattle.spef_net.specs.declared.net.ConnKind.TheVariants.{Pin as PinKind}
 use Rattle.spef_net.specs.declared.net.ParConn.{ParConn}
-use Rattle.spef_nodes.specs.Nodes.{ParNode}
 use Rattle.spef_net.specs.declared.net.ParNet.{ParNet}
-use Rattle.vg_design.specs.declared.refusal.Refusal.{Refusal}
-use Rattle.vg_design.specs.declared.refusal.Refusal.TheVariants.{NotYet, UnknownNet, Section, Reduced, Inductive, Bidirectional, NoDriver, ManyDrivers, Floating, Loop, NoSink, Unconstrained, TooLarge}
+use Rattle.ver_module.specs.declared.direction.PortDir.TheVariants.{Inout}
+use Rattle.ver_net.specs.Connections.{is_tied}
+use Rattle.vg_cons.specs.Rows.{Rows, required_of}
+use Rattle.vg_scan.specs.declared.name.NodeName.{NodeName}
+use Rattle.vg_wire.specs.Nets.{IsMissing, IsNetNamed, IsFaultNamed}
+use Rattle.vg_wire.specs.Refusals.{number_of, drivers_of, goes_both_ways, is_sink, IsFirstFloating, IsLooped, IsNetTree}
+use Rattle.vg_wire.specs.declared.refusal.Refusal.{Refusal}
+use Rattle.vg_wire.specs.declared.refusal.Refusal.TheVariants.{UnknownNet, Section, Reduced, Inductive, Bidirectional, NoDriver, ManyDrivers, Mismatch, Tied, NoDrive, NoLoad, Floating, Loop, NoSink, Unconstrained, TooLarge}
+use Rattle.vg_design.specs.Designs.{Design, Joined, name_of, net_number, port_of, is_port, pin_cap_of, pin_drive_of, IsConnected}
+use Rattle.vg_design.specs.Parts.{IsWithinLimits}
 
--- the order of refusals; numbers between are those of reasons that other files give
-abbrev pub number_of : Refusal → ℕ
-number_of NotYet = 0
-number_of UnknownNet = 1
-number_of (Section _) = 2
-number_of Reduced = 3
-number_of Inductive = 4
-number_of Bidirectional = 5
-number_of NoDriver = 6
-number_of ManyDrivers = 7
-number_of (Floating _) = 12
-number_of Loop = 13
-number_of NoSink = 14
-number_of (Unconstrained _) = 15
-number_of TooLarge = 16
-
--- the most nodes of a net, and the most capacitors
-abbrev pub most_nodes : ℕ
-most_nodes = 65536
-
-abbrev pub most_capacitors : ℕ
-most_capacitors = 2 ^ 20
-
--- a connection drives the net: the output of an instance, or an input of the design
-abbrev pub drives_at : ConnKind → Direction → Bool
-drives_at Pin Out = true
-drives_at Port In = true
-drives_at _ _ = false
-
-abbrev pub drives : ParConn → Bool
-drives conn = drives_at conn.kind conn.direction
-
-abbrev pub is_both : Direction → Bool
-is_both Both = true
-is_both _ = false
-
-abbrev pub goes_both_ways : ParConn → Bool
-goes_both_ways conn = is_both conn.direction
-
-abbrev pub is_sink : ParConn → Bool
-is_sink conn = not (drives conn)
-
-abbrev pub drivers_of : ParNet → List ParConn
-drivers_of net = filter drives net.conns
-
--- one connection alone drives the net, at this node
-pub record IsDrivenAt (net : ParNet) (root : ℕ) : Type 0 where
+-- the one driver of a net is a pin without a delay and a resistance
+pub record IsWithoutDrive (d : Design) (n : Joined) : Type 0 where
   pub driver : ParConn
-  pub alone : drivers_of net ≡ driver ∷ []
-  pub at : driver.node ≡ root
+  pub alone : drivers_of n.par ≡ driver ∷ []
+  pub pin : driver.kind ≡ PinKind
+  pub none : pin_drive_of d n (name_of n.par driver.node) ≡ None
 
--- the net's tree: tree node i is the net's node order[i]
-pub record IsNetTree (net : ParNet) (tree : List Node) (order : List ℕ) : Type 0 where
-  pub root : ℕ
-  pub driven : IsDrivenAt net root
-  pub a_tree : IsTreeOf (length net.nodes) root net.caps net.ress tree order
+-- a sink that is a pin without a capacitance
+abbrev pub is_unloaded : Design → Joined → ParConn → Bool
+is_unloaded d n conn = is_sink conn && (not (is_port (name_of n.par conn.node)) && is_none (pin_cap_of d n (name_of n.par conn.node)))
 
--- the name of a node
-pub record IsNamed (net : ParNet) (v : ℕ) (name : NodeName) : Type 0 where
-  pub node : ParNode
-  pub at : slice_get net.nodes v ≡ Some node
-  pub name_is : name ≡ node.name
+-- a sink without a required time
+abbrev pub is_unconstrained : Rows → ParNet → ParConn → Bool
+is_unconstrained rows net conn = is_sink conn && is_none (required_of rows (name_of net conn.node))
 
--- at most 65,536 nodes and 2^20 capacitors, and a tree within the limits of resistance and capacitance
-pub record IsWithinNetLimits (net : ParNet) (tree : List Node) : Type 0 where
-  pub nodes : length net.nodes ≤ most_nodes
-  pub capacitors : length net.caps ≤ most_capacitors
-  pub sums : IsWithinLimits tree
-
--- the first node that floats has this name
-pub record IsFirstFloating (net : ParNet) (name : NodeName) : Type 0 where
-  pub root : ℕ
-  pub driven : IsDrivenAt net root
-  pub v : ℕ
-  pub floating : IsLeastFloating (length net.nodes) net.ress root v
-  pub named : IsNamed net v name
-
--- no node floats, and it is no tree
-pub record IsLooped (net : ParNet) : Type 0 where
-  pub root : ℕ
-  pub driven : IsDrivenAt net root
-  pub loop : HasLoop (length net.nodes) net.ress root
+-- of the connections of a net the first of some kind has this name
+pub record IsFirstConn (net : ParNet) (kind : ParConn → Bool) (name : NodeName) : Type 0 where
+  pub conn : ParConn
+  pub first : find kind net.conns ≡ Some conn
+  pub name_is : name ≡ name_of net conn.node
 
 -- its tree passes a limit
-pub record IsPastLimits (net : ParNet) : Type 0 where
+pub record IsPastLimits (d : Design) (n : Joined) : Type 0 where
   pub tree : List Node
   pub order : List ℕ
-  pub a_tree : IsNetTree net tree order
-  pub past : IsWithinNetLimits net tree → ⊥
+  pub a_tree : IsNetTree n.par tree order
+  pub past : IsWithinLimits d n tree order → ⊥
 
--- the condition of a refusal by the parasitics alone, for a net that is there and whose lines have no fault
-abbrev pub Refuses : ParNet → Refusal → Type 0
-Refuses net NotYet = ⊥
-Refuses net (Unconstrained _) = ⊥
-Refuses net UnknownNet = ⊥
-Refuses net (Section _) = ⊥
-Refuses net Reduced = net.reduced ≡ true
-Refuses net Inductive = net.inductive ≡ true
-Refuses net Bidirectional = list_any goes_both_ways net.conns ≡ true
-Refuses net NoDriver = drivers_of net ≡ []
-Refuses net ManyDrivers = 1 < length (drivers_of net)
-Refuses net (Floating name) = IsFirstFloating net name
-Refuses net Loop = IsLooped net
-Refuses net NoSink = list_any is_sink net.conns ≡ false
-Refuses net TooLarge = IsPastLimits net
+-- the condition of a refusal, for a net that both the parasitics and the netlist have
+abbrev pub Holds : Design → Joined → Refusal → Type 0
+Holds d n UnknownNet = ⊥
+Holds d n (Section _) = ⊥
+Holds d n Reduced = n.par.reduced ≡ true
+Holds d n Inductive = n.par.inductive ≡ true
+Holds d n Bidirectional = (list_any goes_both_ways n.par.conns ≡ true) ⊎ (port_of d.netlist n.id ≡ Some Inout)
+Holds d n NoDriver = drivers_of n.par ≡ []
+Holds d n ManyDrivers = 1 < length (drivers_of n.par)
+Holds d n Mismatch = IsConnected d.netlist n.id n.par → ⊥
+Holds d n Tied = is_tied d.netlist n.id ≡ true
+Holds d n NoDrive = IsWithoutDrive d n
+Holds d n (NoLoad name) = IsFirstConn n.par (is_unloaded d n) name
+Holds d n (Floating name) = IsFirstFloating n.par name
+Holds d n Loop = IsLooped n.par
+Holds d n NoSink = list_any is_sink n.par.conns ≡ false
+Holds d n (Unconstrained name) = IsFirstConn n.par (is_unconstrained d.rows n.par) name
+Holds d n TooLarge = IsPastLimits d n
+
+-- the net of this name by the parasitics, and its number in the netlist
+pub record IsJoined (d : Design) (name : List ℕ) (n : Joined) : Type 0 where
+  pub named : IsNetNamed d.spef name n.par
+  pub number : net_number d.netlist name ≡ Some n.id
+
+-- a net of this name has the condition of a refusal
+pub record HasNet (d : Design) (name : List ℕ) (refusal : Refusal) : Type 0 where
+  pub net : Joined
+  pub joined : IsJoined d name net
+  pub holds : Holds d net refusal
+
+-- the condition of a refusal, for the net of a name
+abbrev pub Refuses : Design → List ℕ → Refusal → Type 0
+Refuses d name UnknownNet = IsMissing d.spef name ⊎ (net_number d.netlist name ≡ None)
+Refuses d name (Section fault) = IsFaultNamed d.spef name fault
+Refuses d name refusal = HasNet d name refusal
 
 -- no refusal of a smaller number has its condition
-abbrev pub PassesUpTo : ℕ → ParNet → Type 0
-PassesUpTo n net = (refusal : Refusal) → number_of refusal < n → Refuses net refusal → ⊥
+abbrev pub PassesUpTo : ℕ → Design → List ℕ → Type 0
+PassesUpTo n d name = (refusal : Refusal) → number_of refusal < n → Refuses d name refusal → ⊥
 
 -- a net is refused by the first refusal whose condition holds
-pub record IsFirstRefusal (net : ParNet) (refusal : Refusal) : Type 0 where
-  pub holds : Refuses net refusal
-  pub first : PassesUpTo (number_of refusal) net
+pub record IsFirstRefusal (d : Design) (name : List ℕ) (refusal : Refusal) : Type 0 where
+  pub holds : Refuses d name refusal
+  pub first : PassesUpTo (number_of refusal) d name
+
+-- whatever the constraints ask for: none but `Unconstrained` counts
+abbrev pub PassesBareUpTo : ℕ → Design → List ℕ → Type 0
+PassesBareUpTo n d name = (refusal : Refusal) → number_of refusal < n → number_of refusal ≢ 15 → Refuses d name refusal → ⊥
+
+pub record IsFirstBareRefusal (d : Design) (name : List ℕ) (refusal : Refusal) : Type 0 where
+  pub holds : Refuses d name refusal
+  pub counts : number_of refusal ≢ 15
+  pub first : PassesBareUpTo (number_of refusal) d name

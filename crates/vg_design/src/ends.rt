@@ -1,106 +1,129 @@
-//! The ends of a net: the connections that drive it, and its sinks.
+//! The ends of a net by its parasitics, and the pins of the netlist that they are.
 
-ghost use Rattle.std.specs.Prelude.{◌≡◌, ◌<◌, ◌++◌, ◌∷◌, [], List, filter, if◌then◌else◌, IfOk, IfErr};
-ghost use Rattle.std.specs.List.{list_any};
-ghost use Rattle.spef_net.specs.declared.net.ParConn.{ParConn};
-ghost use Rattle.vg_design.specs.Refusals.{drives, goes_both_ways, is_sink, number_of, IsDrivenAt, IsFirstRefusal, PassesUpTo};
-ghost use Rattle.vg_design.specs.Steps.{AreDrivers};
+ghost use Rattle.std.specs.Prelude.{◌≡◌, ◌<◌, ◌≤◌, ◌^◌, ℕ, None, true, false, length, option_map, IfOk};
+ghost use Rattle.spef_nodes.specs.Members.{node_named};
+ghost use Rattle.vg_scan.specs.Nodes.{has_node};
+ghost use Rattle.vg_design.specs.Designs.{ends_of, pin_name};
+ghost use Rattle.vg_design.specs.Steps.{FindsPins, IsPin, IsSeen, pin_at, pin_or};
 
-use crate::refusal::Refusal;
-use spef_net::{ConnKind, Direction, ParConn, ParNet};
+use crate::design::Design;
+use crate::joined::JoinedNet;
+use spef_net::ParNet;
+use spef_nodes::NodeTable;
+use std::alloc::Global;
+use std::marker::Model;
+use ver_net::PinRef;
+use vg_num::Memory;
 
-/// The connections that drive a net.
-#[derive(Clone, Copy)]
-enum Drivers {
-    Nothing,
-    One(ParConn),
-    Several,
+/// The ends of a net by its parasitics, found by their names, each with the pin that was seen of its name.
+#[derive(Drop)]
+struct Ends {
+    /// The ends, and behind them what was looked for in vain.
+    table: NodeTable,
+    pins: Vec<Option<PinRef>>,
 }
 
-fn drives(conn: &ParConn) -> bool
-    ensures { result ≡ drives conn.now }
+impl Model for Ends {
+    ghost use Rattle.std.specs.Prelude.{◌≤◌, length, take};
+    ghost use Rattle.spef_nodes.specs.Members.{AreApart};
+    ghost use Rattle.vg_design.specs.Steps.{Seen};
+
+    ghost Value = { Seen };
+
+    ghost view = { λ s. record { ends = take (length s.pins.items) s.table; pins = s.pins.items } };
+
+    ghost invariant = { λ s. AreApart s.table × (length s.pins.items ≤ length s.table) };
+}
+
+/// How many buckets there are for so many ends: a power of two.
+fn buckets_for(ends: usize) -> usize
+    ensures { (0 < result) × (result ≤ 2 ^ 32) }
 {
-    match conn.kind {
-        ConnKind::Pin => conn.direction == Direction::Out,
-        ConnKind::Port => conn.direction == Direction::In,
+    let mut buckets = 4usize;
+    'double: while buckets < ends && buckets < 1 << 31 {
+        buckets *= 2;
+    }
+    buckets
+}
+
+/// The names of a net's connections, in a table. Answers `Memory` where there is no room.
+fn table_of(alloc: Global, net: &ParNet) -> Result<NodeTable, Memory>
+    ensures { IfOk result (λ table. table ≡ ends_of net.now) }
+{
+    let count = net.conns.len();
+    let mut table = NodeTable::new(alloc, buckets_for(count))?;
+    'end: for at in 0..count {
+        table.intern(net.nodes.owner(at), net.nodes.leaf(at))?;
+    }
+    Ok(table)
+}
+
+/// Keeps a pin for this end, where none was seen before.
+fn keep_first(pins: &mut Vec<Option<PinRef>>, at: usize, pin: PinRef)
+    requires { at < length pins.old.items }
+    ensures size { length pins.new.items ≡ length pins.old.items }
+    ensures own { pin_at pins.new.items at ≡ pin_or (pin_at pins.old.items at) pin }
+    ensures others { (i : ℕ) → (i ≡ at → ⊥) → pin_at pins.new.items i ≡ pin_at pins.old.items i }
+{
+    if pins[at].is_none() {
+        pins[at] = Some(pin);
     }
 }
 
-pub fn is_sink(conn: &ParConn) -> bool
-    ensures { result ≡ is_sink conn.now }
-{
-    !drives(conn)
-}
+impl Ends {
+    /// The ends of a net, of which no pin was seen. Answers `Memory` where there is no room.
+    fn of(alloc: Global, net: &ParNet) -> Result<Ends, Memory>
+        ensures ends { IfOk result (λ s. s.ends ≡ ends_of net.now) }
+        ensures size { IfOk result (λ s. length s.pins ≡ length (ends_of net.now)) }
+        ensures none { IfOk result (λ s. (i : ℕ) → pin_at s.pins i ≡ None) }
+    {
+        let table = table_of(alloc, net)?;
+        let pins = vec![in alloc; None; net.conns.len()]?;
+        Ok(Ends { table, pins })
+    }
 
-pub(crate) fn has_sink(conns: &[ParConn]) -> bool
-    ensures { result ≡ list_any is_sink conns.now }
-{
-    conns.iter().any(is_sink)
-}
-
-fn goes_both_ways(conn: &ParConn) -> bool
-    ensures { result ≡ goes_both_ways conn.now }
-{
-    conn.direction == Direction::Both
-}
-
-fn is_bidirectional(conns: &[ParConn]) -> bool
-    ensures { result ≡ list_any goes_both_ways conns.now }
-{
-    conns.iter().any(goes_both_ways)
-}
-
-/// These drivers and one more.
-fn with_driver(drivers: Drivers, driver: ParConn) -> Drivers
-    ensures { (list : List ParConn) → AreDrivers list drivers → AreDrivers (list ++ driver ∷ []) result }
-{
-    match drivers {
-        Drivers::Nothing => Drivers::One(driver),
-        _ => Drivers::Several,
+    /// Sees a pin. Whether an end has its name; of two pins of one name the first counts. Answers `Memory` where there is no
+    /// room.
+    fn see(&mut self, owner: &[u8], leaf: &[u8], pin: PinRef) -> Result<bool, Memory>
+        ensures seen { IfOk result (λ found. found ≡ true → IsSeen self.old self.new (node_named owner.now leaf.now) pin) }
+        ensures none { IfOk result (λ found. found ≡ false → has_node self.old.ends (node_named owner.now leaf.now) ≡ false) }
+    {
+        let at = self.table.intern(owner, leaf)? as usize;
+        if at >= self.pins.len() {
+            return Ok(false);
+        }
+        keep_first(&mut self.pins, at, pin);
+        Ok(true)
     }
 }
 
-/// The drivers with this connection, where it is one.
-fn with_conn(drivers: Drivers, conn: ParConn) -> Drivers
-    ensures { (list : List ParConn) → AreDrivers list drivers → AreDrivers (list ++ (if drives conn then conn ∷ [] else [])) result }
+/// Sees a pin of the netlist. Whether an end has its name. Answers `Memory` where there is no room.
+fn see_pin(design: &Design, at: PinRef, ends: &mut Ends) -> Result<bool, Memory>
+    requires { IsPin design.now.netlist at }
+    ensures seen { IfOk result (λ found. found ≡ true → IsSeen ends.old ends.new (pin_name design.now.netlist at) at) }
+    ensures none { IfOk result (λ found. found ≡ false → has_node ends.old.ends (pin_name design.now.netlist at) ≡ false) }
 {
-    if drives(&conn) {
-        with_driver(drivers, conn)
-    } else {
-        drivers
-    }
+    let instance = design.instance_of(at);
+    let pin = instance.pin(at.pin as usize);
+    let found = ends.see(instance.name, pin.name, at)?;
+    Ok(found)
 }
 
-/// The connections that drive the net.
-fn drivers_of(conns: &[ParConn]) -> Drivers
-    ensures { AreDrivers (filter drives conns.now) result }
+/// For each connection of a net the pin on it that has its name, if there is one. `None`: some pin on the net is no connection.
+/// Answers `Memory` where there is no room.
+pub(crate) fn pins_of(
+    alloc: Global,
+    design: &Design,
+    net: &JoinedNet,
+) -> Result<Option<Vec<Option<PinRef>>>, Memory>
+    requires { net.now.id < length design.now.netlist.nets }
+    ensures { IfOk result (λ found. FindsPins design.now net.now (option_map (λ pins. pins.items) found)) }
 {
-    let mut drivers = Drivers::Nothing;
-    'conn: for conn in conns {
-        drivers = with_conn(drivers, *conn);
+    let mut ends = Ends::of(alloc, &net.par)?;
+    'pin: for at in design.pins_on(net.id) {
+        if !see_pin(design, *at, &mut ends)? {
+            return Ok(None);
+        }
     }
-    drivers
-}
-
-/// The node of the connection that alone drives the net.
-pub(crate) fn driver_node(net: &ParNet) -> Result<u32, Refusal>
-    ensures driven { IfOk result (IsDrivenAt net.now) }
-    ensures accepted { IfOk result (λ _. PassesUpTo 12 net.now) }
-    ensures refused { IfErr result (IsFirstRefusal net.now) }
-    ensures number { IfErr result (λ refusal. number_of refusal < 12) }
-{
-    if net.reduced {
-        return Err(Refusal::Reduced);
-    }
-    if net.inductive {
-        return Err(Refusal::Inductive);
-    }
-    if is_bidirectional(net.conns.as_slice()) {
-        return Err(Refusal::Bidirectional);
-    }
-    match drivers_of(net.conns.as_slice()) {
-        Drivers::Nothing => Err(Refusal::NoDriver),
-        Drivers::Several => Err(Refusal::ManyDrivers),
-        Drivers::One(driver) => Ok(driver.node),
-    }
+    Ok(Some(ends.pins))
 }

@@ -1,11 +1,12 @@
-//! Laws of the nets of a file. Their function does nothing: its contract is the laws, which a proof may cite.
+//! Laws of problems and refusals. Their function does nothing: its contract is the laws, which a proof may cite.
 
-ghost use Rattle.vg_design.specs.Laws.{OneNet, OneTree, PassedOrRefused, TimedOrRefused};
+ghost use Rattle.vg_design.specs.Laws.{BareAccepts, OneProblem, OneRefusal, ProblemOrRefused};
 
-/// A name has at most one net, a net at most one tree, and a net that passes or is timed is not refused.
-pub fn one_answer()
-    ensures net { OneNet }
-    ensures tree { OneTree }
-    ensures passed { PassedOrRefused }
-    ensures timed { TimedOrRefused }
+/// A net of a design has one problem, or one number of a refusal; and what is refused for a missing required time alone is not
+/// refused without the constraints, or only for its size.
+pub fn one_problem()
+    ensures problem { OneProblem }
+    ensures either { ProblemOrRefused }
+    ensures refusal { OneRefusal }
+    ensures bare { BareAccepts }
 {}

@@ -1,20 +1,26 @@
-//! What the files of a design say together: the tree, the wire delays and the slack of a net.
+//! What the four files of a design say together: the problem and the slack of each of its nets.
 //!
 //! Resistances are whole milliohms (mΩ), capacitances whole attofarads (aF), times whole zeptoseconds (zs).
 #![tactic(auto)]
 
+mod allowed;
+mod bare;
+mod connected;
+mod design;
 mod ends;
+mod joined;
 mod laws;
-mod limits;
-mod refusal;
-mod sink_delays;
-mod sink_marks;
+mod names;
+mod net_problem;
+mod numbers;
+mod parts;
+mod pins;
+mod ready;
 mod time;
-mod tree;
-mod wire;
 
-pub use laws::one_answer;
-pub use refusal::{Refusal, Refused};
-pub use sink_delays::SinkDelays;
+pub use bare::{BareNet, bare_net};
+pub use design::Design;
+pub use laws::one_problem;
+pub use names::TreeNames;
+pub use net_problem::{NetProblem, problem};
 pub use time::{Timed, time_net};
-pub use wire::{WireNet, wire_net};

@@ -2,7 +2,7 @@
 use Rattle.std.specs.Prelude.{ℕ, ◌==◌, Bool, List, [], ◌∷◌, codes, Option, Some, None, if◌then◌else◌}
 use Rattle.std.specs.Str.{bytes_eq}
 use Rattle.vg_words.specs.declared.option.Opt.{Opt}
-use Rattle.vg_words.specs.declared.option.Opt.TheVariants.{Mode, Spef, Lib, Cons, Net}
+use Rattle.vg_words.specs.declared.option.Opt.TheVariants.{Mode, Spef, Lib, Verilog, Cons, Net}
 use Rattle.vg_words.specs.declared.ask.Mode.{Mode as ModeSpec}
 use Rattle.vg_words.specs.declared.ask.Mode.TheVariants.{Wire, Time}
 
@@ -10,6 +10,7 @@ abbrev pub name_of : Opt → List ℕ
 name_of Mode = codes "--mode"
 name_of Spef = codes "--spef"
 name_of Lib = codes "--lib"
+name_of Verilog = codes "--verilog"
 name_of Cons = codes "--cons"
 name_of Net = codes "--net"
 
@@ -19,26 +20,28 @@ option_of word =
     if bytes_eq word (codes "--mode") then Some Mode
     else (if bytes_eq word (codes "--spef") then Some Spef
     else (if bytes_eq word (codes "--lib") then Some Lib
+    else (if bytes_eq word (codes "--verilog") then Some Verilog
     else (if bytes_eq word (codes "--cons") then Some Cons
-    else (if bytes_eq word (codes "--net") then Some Net else None))))
+    else (if bytes_eq word (codes "--net") then Some Net else None)))))
 
 -- the place of an option in the order of options
 abbrev pub place_of : Opt → ℕ
 place_of Mode = 0
 place_of Spef = 1
 place_of Lib = 2
-place_of Cons = 3
-place_of Net = 4
+place_of Verilog = 3
+place_of Cons = 4
+place_of Net = 5
 
 abbrev pub is_same : Opt → Opt → Bool
 is_same a b = place_of a == place_of b
 
 abbrev pub options : List Opt
-options = Mode ∷ Spef ∷ Lib ∷ Cons ∷ Net ∷ []
+options = Mode ∷ Spef ∷ Lib ∷ Verilog ∷ Cons ∷ Net ∷ []
 
 -- the options that name files
 abbrev pub file_options : List Opt
-file_options = Spef ∷ Lib ∷ Cons ∷ []
+file_options = Spef ∷ Lib ∷ Verilog ∷ Cons ∷ []
 
 -- the mode that a text names
 abbrev pub mode_of : List ℕ → Option ModeSpec
@@ -51,7 +54,7 @@ mode_name Time = codes "time"
 -- the options that a mode asks for
 abbrev pub required : ModeSpec → List Opt
 required Wire = Spef ∷ Net ∷ []
-required Time = Spef ∷ Lib ∷ Cons ∷ Net ∷ []
+required Time = Spef ∷ Lib ∷ Verilog ∷ Cons ∷ Net ∷ []
 
 -- those that it may be given; it has no use for others
 abbrev pub allowed : ModeSpec → List Opt

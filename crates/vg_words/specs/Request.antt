@@ -6,7 +6,7 @@ use Rattle.std.specs.Str.Parse.{starts_with_minus}
 use Rattle.std.specs.declared.alloc.Global.{Global}
 use Rattle.vg_words.specs.Options.{name_of, mode_of, mode_name, is_same, options, file_options, required, allowed}
 use Rattle.vg_words.specs.declared.option.Opt.{Opt}
-use Rattle.vg_words.specs.declared.option.Opt.TheVariants.{Mode, Spef, Lib, Cons, Net}
+use Rattle.vg_words.specs.declared.option.Opt.TheVariants.{Mode, Spef, Lib, Verilog, Cons, Net}
 use Rattle.vg_words.specs.declared.ask.Mode.{Mode as ModeSpec}
 use Rattle.vg_words.specs.declared.ask.Ask.{Ask}
 use Rattle.vg_words.specs.declared.ask.WordFault.{WordFault}
@@ -125,6 +125,7 @@ abbrev pub value : Ask → Opt → Option (List ℕ)
 value ask Mode = Some (mode_name ask.mode)
 value ask Spef = ask.spef
 value ask Lib = ask.lib
+value ask Verilog = ask.verilog
 value ask Cons = ask.cons
 value ask Net = ask.net
 

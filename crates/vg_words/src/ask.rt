@@ -18,7 +18,7 @@ pub enum Mode {
 
 const WIRE_OPTIONS: [Opt; 2] = [Opt::Spef, Opt::Net];
 
-const TIME_OPTIONS: [Opt; 4] = [Opt::Spef, Opt::Lib, Opt::Cons, Opt::Net];
+const TIME_OPTIONS: [Opt; 5] = [Opt::Spef, Opt::Lib, Opt::Verilog, Opt::Cons, Opt::Net];
 
 impl Mode {
     /// The options that the mode asks for.
@@ -61,6 +61,8 @@ pub struct Ask {
     pub spef: Option<Text>,
     /// The name of the library.
     pub lib: Option<Text>,
+    /// The name of the netlist.
+    pub verilog: Option<Text>,
     /// The name of the constraints file.
     pub cons: Option<Text>,
     /// The name of the net.
@@ -76,6 +78,7 @@ impl Ask {
             Opt::Mode => return self.mode.name(),
             Opt::Spef => &self.spef,
             Opt::Lib => &self.lib,
+            Opt::Verilog => &self.verilog,
             Opt::Cons => &self.cons,
             Opt::Net => &self.net,
         };

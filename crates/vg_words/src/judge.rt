@@ -161,17 +161,20 @@ fn ask_of(alloc: Global, mode: Mode, given: &Given<'_>) -> Result<Ask, Memory>
     ensures mode { IfOk result (λ ask. ask.mode ≡ mode) }
     ensures spef { IfOk result (λ ask. ask.spef ≡ given_by given.now Opt.Spef) }
     ensures lib { IfOk result (λ ask. ask.lib ≡ given_by given.now Opt.Lib) }
+    ensures verilog { IfOk result (λ ask. ask.verilog ≡ given_by given.now Opt.Verilog) }
     ensures cons { IfOk result (λ ask. ask.cons ≡ given_by given.now Opt.Cons) }
     ensures net { IfOk result (λ ask. ask.net ≡ given_by given.now Opt.Net) }
 {
     let spef = text_of(alloc, given.get(Opt::Spef))?;
     let lib = text_of(alloc, given.get(Opt::Lib))?;
+    let verilog = text_of(alloc, given.get(Opt::Verilog))?;
     let cons = text_of(alloc, given.get(Opt::Cons))?;
     let net = text_of(alloc, given.get(Opt::Net))?;
     Ok(Ask {
         mode,
         spef,
         lib,
+        verilog,
         cons,
         net,
     })
@@ -180,7 +183,7 @@ fn ask_of(alloc: Global, mode: Mode, given: &Given<'_>) -> Result<Ask, Memory>
 /// Reads the words of the command line, without the program's own name.
 ///
 /// Each option is `--name value` or `--name=value`, in any order, at most once; a value that stands in a word of its
-/// own does not begin with `-`. Mode `wire` asks for `--spef` and `--net`, mode `time` for `--lib` and `--cons` too. The faults
+/// own does not begin with `-`. Mode `wire` asks for `--spef` and `--net`, mode `time` for `--lib`, `--verilog` and `--cons` too. The faults
 /// come in the order of `WordFault`, and of one kind the first option in the order of `Opt`. Answers `Memory` where
 /// there is no room.
 pub fn read_words(alloc: Global, words: &[String]) -> Result<Ask, WordFault>

@@ -10,6 +10,8 @@ pub enum Opt {
     Spef,
     /// The name of the library.
     Lib,
+    /// The name of the netlist.
+    Verilog,
     /// The name of the constraints file.
     Cons,
     /// The name of the net.
@@ -17,10 +19,17 @@ pub enum Opt {
 }
 
 /// All options, in order.
-pub const OPTIONS: [Opt; 5] = [Opt::Mode, Opt::Spef, Opt::Lib, Opt::Cons, Opt::Net];
+pub const OPTIONS: [Opt; 6] = [
+    Opt::Mode,
+    Opt::Spef,
+    Opt::Lib,
+    Opt::Verilog,
+    Opt::Cons,
+    Opt::Net,
+];
 
 /// Those that name files.
-pub const FILE_OPTIONS: [Opt; 3] = [Opt::Spef, Opt::Lib, Opt::Cons];
+pub const FILE_OPTIONS: [Opt; 4] = [Opt::Spef, Opt::Lib, Opt::Verilog, Opt::Cons];
 
 impl Opt {
     /// The option as a word.
@@ -31,6 +40,7 @@ impl Opt {
             Opt::Mode => "--mode",
             Opt::Spef => "--spef",
             Opt::Lib => "--lib",
+            Opt::Verilog => "--verilog",
             Opt::Cons => "--cons",
             Opt::Net => "--net",
         }
@@ -53,6 +63,8 @@ impl Opt {
             Some(Opt::Spef)
         } else if word == "--lib" {
             Some(Opt::Lib)
+        } else if word == "--verilog" {
+            Some(Opt::Verilog)
         } else if word == "--cons" {
             Some(Opt::Cons)
         } else if word == "--net" {

@@ -16,19 +16,14 @@ use Rattle.spef_net.specs.Statements.{statements}
 use Rattle.spef_net.specs.Faults.{IsFaultless, IsFirstFaultIn}
 use Rattle.spef_net.specs.Denoted.{IsNet}
 use Rattle.spef_net.specs.declared.net.ParNet.{ParNet}
-use Rattle.vg_design.specs.Nets.{IsHeadOf, IsNetNamed, IsNetRefused, IsRefusalOf}
-use Rattle.vg_design.specs.Wires.{IsWireOf}
-use Rattle.vg_design.specs.declared.refusal.Refusal.{Refusal}
-use Rattle.vg_design.specs.declared.refusal.Refusal.TheVariants.{NotYet, UnknownNet, Section as Faulty, Reduced, Inductive, Bidirectional, NoDriver, ManyDrivers, Floating, Loop, NoSink, Unconstrained, TooLarge}
-use Rattle.vg_design.specs.declared.wire.WireNet.{WireNet}
-use Rattle.vg_design.specs.Wires.{IsTreeNamed}
-use Rattle.elmore.specs.declared.tree.Node.{Node}
-use Rattle.vg_words.specs.declared.ask.Mode.TheVariants.{Wire, Time}
+use Rattle.vg_wire.specs.Nets.{IsHeadOf, IsNetNamed, IsNetRefused, IsRefusalOf}
+use Rattle.vg_wire.specs.Wires.{IsWireOf}
+use Rattle.vg_wire.specs.declared.refusal.Refusal.{Refusal}
+use Rattle.vg_wire.specs.declared.refusal.Refusal.TheVariants.{UnknownNet, Section as Faulty, Reduced, Inductive, Bidirectional, NoDriver, ManyDrivers, Mismatch, Tied, NoDrive, NoLoad, Floating, Loop, NoSink, Unconstrained, TooLarge}
+use Rattle.vg_wire.specs.declared.wire.WireNet.{WireNet}
+use Rattle.vg_words.specs.declared.ask.Mode.TheVariants.{Wire}
 use Rattle.vginsert_top.specs.Answer.{AnswersFor, texts_of}
 use Rattle.vginsert_top.specs.Results.{IsSpefFault}
-use Rattle.vg_cons.specs.Rows.{Rows}
-use Rattle.vg_design.specs.Timings.{IsTimedOf, IsTimeRefusalOf}
-use Rattle.vg_design.specs.declared.time.slack.Timed.{Timed}
 use Rattle.vginsert_top.specs.declared.answer.Answer.{Answer}
 use Rattle.vginsert_top.specs.declared.answer.Answer.TheVariants.{Report, Refused}
 use Rattle.vginsert_top.specs.declared.answer.NoAnswer.{NoAnswer}
@@ -66,7 +61,10 @@ module _ (raw clear : List ℕ) (same : without_comments Spef clear ≡ without_
   refused_same name refusal h = record { net = h.net; named = named_same name h.net h.named; refused = h.refused }
 
   pub refusal_same : (name : List ℕ) (refusal : Refusal) → IsRefusalOf clear name refusal → IsRefusalOf raw name refusal
-  refusal_same name NotYet h = h
+  refusal_same name Mismatch h = h
+  refusal_same name Tied h = h
+  refusal_same name NoDrive h = h
+  refusal_same name (NoLoad node) h = h
   refusal_same name (Unconstrained node) h = h
   refusal_same name UnknownNet h = record { file = h.file; said = file_same h.file h.said; none = h.none }
   refusal_same name (Faulty fault) h = record { file = h.file; head = h.head; head_of = head_same name h.file h.head h.head_of; first = fault_same h.file h.head fault h.first }
@@ -83,31 +81,13 @@ module _ (raw clear : List ℕ) (same : without_comments Spef clear ≡ without_
   wire_same : (name : List ℕ) (wire : WireNet) → IsWireOf clear name wire → IsWireOf raw name wire
   wire_same name wire h = record { net = h.net; named = named_same name h.net h.named; accepted = h.accepted; wire_is = h.wire_is }
 
-  tree_same : (name : List ℕ) (net : ParNet) (tree : List Node) (order : List ℕ) → IsTreeNamed clear name net tree order → IsTreeNamed raw name net tree order
-  tree_same name net tree order h = record { named = named_same name net h.named; accepted = h.accepted; a_tree = h.a_tree }
-
-  timed_same : (name : List ℕ) (rows : Rows) (timed : Timed) → IsTimedOf clear name rows timed → IsTimedOf raw name rows timed
-  timed_same name rows timed h = record { net = h.net; tree = h.tree; order = h.order; named = tree_same name h.net h.tree h.order h.named; timing = h.timing }
-
-  time_refusal_same : (name : List ℕ) (rows : Rows) (refusal : Refusal) → IsTimeRefusalOf clear name rows refusal → IsTimeRefusalOf raw name rows refusal
-  time_refusal_same name rows refusal (inl h) = inl (refusal_same name refusal h.0, h.1)
-  time_refusal_same name rows refusal (inr h) = inr (record { net = h.net; tree = h.tree; order = h.order; named = tree_same name h.net h.tree h.order h.named; untimed = h.untimed })
-
   spef_same : (line : List ℕ) → IsSpefFault clear line → IsSpefFault raw line
   spef_same line h = record { fault = h.fault; found = fault_of_file_same h.fault h.found; text_is = h.text_is }
 
   -- an answer of the one is an answer of the other
-  pub wire_answers : (lib cons name : List ℕ) (result : Result Answer NoAnswer) → AnswersFor Wire (texts_of clear [] []) name result → AnswersFor Wire (texts_of raw lib cons) name result
-  wire_answers lib cons name (Ok (Report text)) h = record { wire = h.wire; wire_of = wire_same name h.wire h.wire_of; text_is = h.text_is }
-  wire_answers lib cons name (Ok (Refused text)) h = record { refusal = h.refusal; refused = refusal_same name h.refusal h.refused; text_is = h.text_is }
-  wire_answers lib cons name (Err (FaultyInput input line)) (inl (is, fault)) = inl (is, spef_same line fault)
-  wire_answers lib cons name (Err (FaultyInput input line)) (inr (good, none)) = absurd none
-  wire_answers lib cons name (Err Memory) h = tt
-
-  pub time_answers : (lib cons name : List ℕ) (result : Result Answer NoAnswer) → AnswersFor Time (texts_of clear lib cons) name result → AnswersFor Time (texts_of raw lib cons) name result
-  time_answers lib cons name (Ok (Report text)) h = record { library = h.library; rows = h.rows; constraints = h.constraints; timed = h.timed; timed_of = timed_same name h.rows h.timed h.timed_of; text_is = h.text_is }
-  time_answers lib cons name (Ok (Refused text)) h =
-      record { library = h.library; rows = h.rows; constraints = h.constraints; refusal = h.refusal; refused = time_refusal_same name h.rows h.refusal h.refused; text_is = h.text_is }
-  time_answers lib cons name (Err (FaultyInput input line)) (inl (is, fault)) = inl (is, spef_same line fault)
-  time_answers lib cons name (Err (FaultyInput input line)) (inr (good, more)) = inr ((good.0, file_same good.0 good.1), more)
-  time_answers lib cons name (Err Memory) h = tt
+  pub wire_answers : (lib verilog cons name : List ℕ) (result : Result Answer NoAnswer) → AnswersFor Wire (texts_of clear [] [] []) name result → AnswersFor Wire (texts_of raw lib verilog cons) name result
+  wire_answers lib verilog cons name (Ok (Report text)) h = record { wire = h.wire; wire_of = wire_same name h.wire h.wire_of; text_is = h.text_is }
+  wire_answers lib verilog cons name (Ok (Refused text)) h = record { refusal = h.refusal; refused = refusal_same name h.refusal h.refused; text_is = h.text_is }
+  wire_answers lib verilog cons name (Err (FaultyInput input line)) (inl (is, fault)) = inl (is, spef_same line fault)
+  wire_answers lib verilog cons name (Err (FaultyInput input line)) (inr (good, none)) = absurd none
+  wire_answers lib verilog cons name (Err Memory) h = tt

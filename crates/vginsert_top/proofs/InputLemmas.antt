@@ -52,11 +52,12 @@ pub all_one : (P : Input → Type 0) (x : Input) → P x → All P (x ∷ [])
 all_one P x p zero d h = p
 all_one P x p (suc k) d h = absurd (omega (arith, h))
 
-pub all_three : (P : Input → Type 0) (x y z : Input) → P x → P y → P z → All P (x ∷ y ∷ z ∷ [])
-all_three P x y z p q r zero d h = p
-all_three P x y z p q r (suc zero) d h = q
-all_three P x y z p q r (suc (suc zero)) d h = r
-all_three P x y z p q r (suc (suc (suc k))) d h = absurd (omega (arith, h))
+pub all_four : (P : Input → Type 0) (x y z w : Input) → P x → P y → P z → P w → All P (x ∷ y ∷ z ∷ w ∷ [])
+all_four P x y z w p q r s zero d h = p
+all_four P x y z w p q r s (suc zero) d h = q
+all_four P x y z w p q r s (suc (suc zero)) d h = r
+all_four P x y z w p q r s (suc (suc (suc zero))) d h = s
+all_four P x y z w p q r s (suc (suc (suc (suc k)))) d h = absurd (omega (arith, h))
 
 -- what was read of a file that is held as before
 pub read_as : (held before : Option (List ℕ)) (text : List ℕ) → held ≡ before → IfSome held (λ file. text ≡ file) → IsShort text → IsRead before text

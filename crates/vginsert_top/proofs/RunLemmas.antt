@@ -1,16 +1,10 @@
 -- What a status tells of a run.
-use Rattle.std.proofs.Common.{◌≡◌, ◌≢◌, ◌⊎◌, inl, inr, ℕ, ◌^◌, ◌<◌, ◌-◌, List, length, refl, sym, ◌∙◌, subst, arith, Option, Some, None, IfSome, Err}
+use Rattle.std.proofs.Common.{◌≡◌, ◌≢◌, ◌⊎◌, inl, inr, ℕ, ◌^◌, ◌<◌, List, length, refl, sym, ◌∙◌, subst, arith, Option, Some, IfSome, Err}
 use Rattle.std.specs.List.{All}
-use Rattle.std.proofs.lemmas.Bool.{false≢true}
 use Rattle.vg_store.specs.Causes.{Rose}
 use Rattle.vg_store.specs.Reading.{FilesState}
 use Rattle.vg_store.specs.Writing.{OutState, Gains, GainsPrefix}
-use Rattle.lib_linear.proofs.LawLemmas.{excludes}
-use Rattle.vg_cons.specs.Faults.{IsFaultless, IsFaultIn}
-use Rattle.vg_cons.specs.Lines.{Line as ConsLine}
 use Rattle.vg_scan.specs.declared.fault.LineFault.{LineFault}
-use Rattle.vg_cons.specs.Rows.{Rows}
-use Rattle.vg_cons.specs.declared.fault.ConsKind.{ConsKind}
 use Rattle.vg_words.specs.Request.{text_for, IsRequest, IsRefused, ReadsWords}
 use Rattle.vg_words.specs.declared.ask.Ask.{Ask}
 use Rattle.vg_words.specs.declared.ask.Mode.{Mode}
@@ -22,24 +16,25 @@ use Rattle.vg_words.proofs.JudgeLemmas.{refused_none, one}
 use Rattle.spef_file.specs.Files.{File, IsFileOf, IsFileFault}
 use Rattle.spef_file.proofs.LawLemmas.{file_or_fault}
 use Rattle.spef_file.specs.declared.fault.SpefKind.{SpefKind}
-use Rattle.vg_design.specs.Refusals.{number_of}
-use Rattle.vg_design.specs.Nets.{IsRefusalOf}
-use Rattle.vg_design.specs.Timings.{IsTimedOf, IsTimeRefusalOf}
-use Rattle.vg_design.specs.declared.refusal.Refusal.{Refusal}
-use Rattle.vg_design.specs.declared.refusal.Refusal.TheVariants.{NotYet, UnknownNet, Section, Reduced, Inductive, Bidirectional, NoDriver, ManyDrivers, Floating, Loop, NoSink, Unconstrained, TooLarge}
-use Rattle.vg_design.proofs.AnswerLemmas.{passed_is}
-use Rattle.vg_design.proofs.TimeLawLemmas.{timed_is}
-use Rattle.vginsert_top.specs.Results.{IsSpef}
-use Rattle.vginsert_top.specs.Answer.{IsReportFor, IsRefusalFor, texts_of}
+use Rattle.vg_wire.specs.Refusals.{number_of}
+use Rattle.vg_wire.specs.Nets.{IsRefusalOf}
+use Rattle.vg_wire.specs.declared.refusal.Refusal.{Refusal}
+use Rattle.vg_wire.specs.declared.refusal.Refusal.TheVariants.{UnknownNet, Section, Reduced, Inductive, Bidirectional, NoDriver, ManyDrivers, Mismatch, Tied, NoDrive, NoLoad, Floating, Loop, NoSink, Unconstrained, TooLarge}
+use Rattle.vg_wire.proofs.AnswerLemmas.{passed_is}
+use Rattle.vg_design.specs.Designs.{Design}
+use Rattle.vg_design.specs.Refusals.{IsFirstRefusal}
+use Rattle.vg_inputs.specs.Designs.{IsSpef, IsDesign}
+use Rattle.vg_inputs.proofs.LawLemmas.{apart_faults, library_apart, module_apart, one_is}
+use Rattle.vginsert_top.specs.Answer.{IsReportFor, IsRefusalFor, design_texts, texts_of}
 use Rattle.vginsert_top.specs.Inputs.{inputs, told, Change, IsShort, IsLong, IsRead, IsFirstFault}
 use Rattle.vginsert_top.specs.Run.{AreTold, AreShort, IsExact, IsStatusFor, PrintsReport, PrintsRefusal, PrintsEither, Says, TellsFlaw}
 use Rattle.vginsert_top.specs.Outcomes.{Ends, IsStatusOf, Tells, status_of, fault_status}
 use Rattle.vginsert_top.specs.declared.input.Input.{Input}
-use Rattle.vginsert_top.specs.declared.input.Input.TheVariants.{Spef, Lib, Cons}
+use Rattle.vginsert_top.specs.declared.input.Input.TheVariants.{Spef, Lib, Verilog, Cons}
 use Rattle.vginsert_top.specs.declared.input.Flaw.TheVariants.{Failed, TooLong, Faulty}
 use Rattle.vginsert_top.specs.declared.outcome.Outcome.{Outcome}
 use Rattle.vginsert_top.specs.declared.outcome.Outcome.TheVariants.{Done, Refused, Flawed, WriteFault, Memory}
-use Rattle.vginsert_top.proofs.InputLemmas.{all_one, all_three, none_first}
+use Rattle.vginsert_top.proofs.InputLemmas.{all_one, all_four, none_first}
 
 abbrev Bytes : Type 0
 Bytes = List ℕ
@@ -61,17 +56,15 @@ fault_two (BadValue o) = inl refl
 fault_two (Equal a b) = inl refl
 fault_two NoRoom = inr refl
 
--- constraints are faultless or faulty
-apart_faults : (lines : List ConsLine) (fault : LineFault ConsKind) → IsFaultless lines → IsFaultIn lines fault → ⊥
-apart_faults lines fault good (inl first) = let none : None ≡ Some fault.kind = sym (good.clear (fault.line - 1) (omega (arith, first.counted, first.within))) ∙ first.here in cc
-apart_faults lines fault good (inr missing) = false≢true (sym missing.empty ∙ good.heading)
-
 no_both : (file : File) (fault : LineFault SpefKind) (text : Bytes) → IsFileOf text file → IsFileFault text fault → ⊥
 no_both file fault text said found = file_or_fault text file fault said found
 
 -- a net is refused of a file that is in its form
 has_file : (text name : Bytes) (refusal : Refusal) → IsRefusalOf text name refusal → IsSpef text
-has_file text name NotYet r = absurd r
+has_file text name Mismatch r = absurd r
+has_file text name Tied r = absurd r
+has_file text name NoDrive r = absurd r
+has_file text name (NoLoad node) r = absurd r
 has_file text name (Unconstrained node) r = absurd r
 has_file text name UnknownNet r = (r.file, r.said)
 has_file text name (Section fault) r = (r.file, r.head_of.said)
@@ -85,12 +78,11 @@ has_file text name Loop r = (r.named.file, r.named.head_of.said)
 has_file text name NoSink r = (r.named.file, r.named.head_of.said)
 has_file text name TooLarge r = (r.named.file, r.named.head_of.said)
 
-has_time_file : (text name : Bytes) (rows : Rows) (refusal : Refusal) → IsTimeRefusalOf text name rows refusal → IsSpef text
-has_time_file text name rows refusal (inl r) = has_file text name refusal r.0
-has_time_file text name rows refusal (inr u) = (u.named.named.file, u.named.named.head_of.said)
-
 few_refusals : (refusal : Refusal) → number_of refusal < 17
-few_refusals NotYet = omega arith
+few_refusals Mismatch = omega arith
+few_refusals Tied = omega arith
+few_refusals NoDrive = omega arith
+few_refusals (NoLoad node) = omega arith
 few_refusals (Unconstrained node) = omega arith
 few_refusals UnknownNet = omega arith
 few_refusals (Section fault) = omega arith
@@ -109,24 +101,26 @@ module _ (net : Bytes) (texts : Input → Bytes) where
   report_not_refusal : (mode : Mode) (t u : Bytes) → IsReportFor mode texts net t → IsRefusalFor mode texts net u → ⊥
   report_not_refusal Wire t u d r = passed_is (texts Spef) net d.wire_of.net 17 r.refusal d.wire_of.named d.wire_of.accepted (omega arith) r.refused (few_refusals r.refusal)
   report_not_refusal Time t u d r =
-      let same : d.rows ≡ r.rows = d.constraints.rows_are ∙ sym r.constraints.rows_are in
-      timed_is (texts Spef) net r.rows d.timed r.refusal (subst (λ (rows : Rows). IsTimedOf (texts Spef) net rows d.timed) same d.timed_of) r.refused
+      let same : d.design ≡ r.design = one_is (design_texts texts) d.design r.design d.design_of r.design_of in
+      let refused : IsFirstRefusal d.design net r.refusal = subst (λ (design : Design). IsFirstRefusal design net r.refusal) (sym same) r.refused in
+      d.timed_of.problem.accepted r.refusal (few_refusals r.refusal) refused.holds
+
+  design_not_faulty : (design : Design) (line : Bytes) (input : Input) → IsDesign (design_texts texts) design → IsFirstFault texts (inputs Time) line input → ⊥
+  design_not_faulty d line input is (inl (_, f)) = no_both is.is_spef.0 f.fault (texts Spef) is.is_spef.1 f.found
+  design_not_faulty d line input is (inr (_, inl (_, f))) = library_apart (texts Lib) d.library f.fault is.library f.found
+  design_not_faulty d line input is (inr (_, inr (_, inl (_, f)))) = module_apart (texts Verilog) d.netlist f.fault is.netlist f.found
+  design_not_faulty d line input is (inr (_, inr (_, inr (_, inl (_, f))))) = apart_faults (texts Cons) f.fault is.rows.faultless f.found
+  design_not_faulty d line input is (inr (_, inr (_, inr (_, inr (_, none))))) = none
 
   report_not_faulty : (mode : Mode) (t line : Bytes) (input : Input) → IsReportFor mode texts net t → IsFirstFault texts (inputs mode) line input → ⊥
   report_not_faulty Wire t line input d (inl (_, f)) = no_both d.wire_of.named.file f.fault (texts Spef) d.wire_of.named.head_of.said f.found
   report_not_faulty Wire t line input d (inr (_, none)) = none
-  report_not_faulty Time t line input d (inl (_, f)) = no_both d.timed_of.named.named.file f.fault (texts Spef) d.timed_of.named.named.head_of.said f.found
-  report_not_faulty Time t line input d (inr (_, inl (_, f))) = excludes (texts Lib) d.library.0 f.fault d.library.1 f.found
-  report_not_faulty Time t line input d (inr (_, inr (_, inl (_, f)))) = apart_faults _ f.fault d.constraints.faultless f.found
-  report_not_faulty Time t line input d (inr (_, inr (_, inr (_, none)))) = none
+  report_not_faulty Time t line input d f = design_not_faulty d.design line input d.design_of f
 
   refusal_not_faulty : (mode : Mode) (t line : Bytes) (input : Input) → IsRefusalFor mode texts net t → IsFirstFault texts (inputs mode) line input → ⊥
   refusal_not_faulty Wire t line input r (inl (_, f)) = (let file = has_file (texts Spef) net r.refusal r.refused in no_both file.0 f.fault (texts Spef) file.1 f.found)
   refusal_not_faulty Wire t line input r (inr (_, none)) = none
-  refusal_not_faulty Time t line input r (inl (_, f)) = (let file = has_time_file (texts Spef) net r.rows r.refusal r.refused in no_both file.0 f.fault (texts Spef) file.1 f.found)
-  refusal_not_faulty Time t line input r (inr (_, inl (_, f))) = excludes (texts Lib) r.library.0 f.fault r.library.1 f.found
-  refusal_not_faulty Time t line input r (inr (_, inr (_, inl (_, f)))) = apart_faults _ f.fault r.constraints.faultless f.found
-  refusal_not_faulty Time t line input r (inr (_, inr (_, inr (_, none)))) = none
+  refusal_not_faulty Time t line input r f = design_not_faulty r.design line input r.design_of f
 
 module _ (ask : Ask) (texts : Input → Bytes) where
   report_status : AreShort ask texts → (t : Bytes) → IsReportFor ask.mode texts (text_for ask Net) t → IsStatusFor ask texts 0
@@ -164,7 +158,7 @@ module _ (ask : Ask) (texts : Input → Bytes) where
 -- texts that were read are those that are told, as far as the mode reads them
 abbrev Agree : Mode → (Input → Bytes) → (Input → Bytes) → Type 0
 Agree Wire a b = a Spef ≡ b Spef
-Agree Time a b = (a Spef ≡ b Spef) × (a Lib ≡ b Lib) × (a Cons ≡ b Cons)
+Agree Time a b = (a Spef ≡ b Spef) × (a Lib ≡ b Lib) × (a Verilog ≡ b Verilog) × (a Cons ≡ b Cons)
 
 told_is : (file : Option Bytes) (a b : Bytes) → IsRead file a → file ≡ Some b → a ≡ b
 told_is file a b read is = subst (λ (o : Option Bytes). IfSome o (λ bytes. a ≡ bytes)) is read.is_file
@@ -174,32 +168,35 @@ agree Wire tell a b read told = told_is (tell Spef) (a Spef) (b Spef) (read 0 Sp
 agree Time tell a b read told = (
   told_is (tell Spef) (a Spef) (b Spef) (read 0 Spef (omega arith)) (told 0 Spef (omega arith)),
   told_is (tell Lib) (a Lib) (b Lib) (read 1 Spef (omega arith)) (told 1 Spef (omega arith)),
-  told_is (tell Cons) (a Cons) (b Cons) (read 2 Spef (omega arith)) (told 2 Spef (omega arith)),
+  told_is (tell Verilog) (a Verilog) (b Verilog) (read 2 Spef (omega arith)) (told 2 Spef (omega arith)),
+  told_is (tell Cons) (a Cons) (b Cons) (read 3 Spef (omega arith)) (told 3 Spef (omega arith)),
 )
 
 -- what is said of the ones is said of the others
-along : (P : (Input → Bytes) → Type 0) (a b : Input → Bytes) → Agree Time a b → P (texts_of (a Spef) (a Lib) (a Cons)) → P (texts_of (b Spef) (b Lib) (b Cons))
-along P a b (s, l, c) p =
-    subst (λ (cons : Bytes). P (texts_of (b Spef) (b Lib) cons)) c
-    (subst (λ (lib : Bytes). P (texts_of (b Spef) lib (a Cons))) l (subst (λ (spef : Bytes). P (texts_of spef (a Lib) (a Cons))) s p))
+along : (P : (Input → Bytes) → Type 0) (a b : Input → Bytes) → Agree Time a b → P (texts_of (a Spef) (a Lib) (a Verilog) (a Cons)) → P (texts_of (b Spef) (b Lib) (b Verilog) (b Cons))
+along P a b (s, l, v, c) p =
+    subst (λ (cons : Bytes). P (texts_of (b Spef) (b Lib) (b Verilog) cons)) c
+    (subst (λ (verilog : Bytes). P (texts_of (b Spef) (b Lib) verilog (a Cons))) v
+    (subst (λ (lib : Bytes). P (texts_of (b Spef) lib (a Verilog) (a Cons))) l (subst (λ (spef : Bytes). P (texts_of spef (a Lib) (a Verilog) (a Cons))) s p)))
 
 report_as : (mode : Mode) (a b : Input → Bytes) (net t : Bytes) → Agree mode a b → IsReportFor mode a net t → IsReportFor mode b net t
-report_as Wire a b net t e is = subst (λ (s : Bytes). IsReportFor Wire (texts_of s (b Lib) (b Cons)) net t) e is
+report_as Wire a b net t e is = subst (λ (s : Bytes). IsReportFor Wire (texts_of s (b Lib) (b Verilog) (b Cons)) net t) e is
 report_as Time a b net t e is = along (λ texts. IsReportFor Time texts net t) a b e is
 
 refusal_as : (mode : Mode) (a b : Input → Bytes) (net t : Bytes) → Agree mode a b → IsRefusalFor mode a net t → IsRefusalFor mode b net t
-refusal_as Wire a b net t e is = subst (λ (s : Bytes). IsRefusalFor Wire (texts_of s (b Lib) (b Cons)) net t) e is
+refusal_as Wire a b net t e is = subst (λ (s : Bytes). IsRefusalFor Wire (texts_of s (b Lib) (b Verilog) (b Cons)) net t) e is
 refusal_as Time a b net t e is = along (λ texts. IsRefusalFor Time texts net t) a b e is
 
 faulty_as : (mode : Mode) (a b : Input → Bytes) (line : Bytes) (input : Input) → Agree mode a b → IsFirstFault a (inputs mode) line input → IsFirstFault b (inputs mode) line input
-faulty_as Wire a b line input e is = subst (λ (s : Bytes). IsFirstFault (texts_of s (b Lib) (b Cons)) (inputs Wire) line input) e is
+faulty_as Wire a b line input e is = subst (λ (s : Bytes). IsFirstFault (texts_of s (b Lib) (b Verilog) (b Cons)) (inputs Wire) line input) e is
 faulty_as Time a b line input e is = along (λ texts. IsFirstFault texts (inputs Time) line input) a b e is
 
 shorts : (mode : Mode) (tell : Input → Option Bytes) (a b : Input → Bytes) → All (λ i. IsRead (tell i) (a i)) (inputs mode) → Agree mode a b → All (λ i. IsShort (b i)) (inputs mode)
 shorts Wire tell a b read e = all_one (λ i. IsShort (b i)) Spef (subst (λ (s : Bytes). IsShort s) e (read 0 Spef (omega arith)).short)
 shorts Time tell a b read e =
-    all_three (λ i. IsShort (b i)) Spef Lib Cons (subst (λ (s : Bytes). IsShort s) e.0 (read 0 Spef (omega arith)).short)
+    all_four (λ i. IsShort (b i)) Spef Lib Verilog Cons (subst (λ (s : Bytes). IsShort s) e.0 (read 0 Spef (omega arith)).short)
     (subst (λ (s : Bytes). IsShort s) e.1 (read 1 Spef (omega arith)).short) (subst (λ (s : Bytes). IsShort s) e.2 (read 2 Spef (omega arith)).short)
+    (subst (λ (s : Bytes). IsShort s) e.3 (read 3 Spef (omega arith)).short)
 
 -- what is told and short is not too long
 not_long : (file : Option Bytes) (text : Bytes) → (file ≡ Some text) → IsShort text → IsLong file → ⊥

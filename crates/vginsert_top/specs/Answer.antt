@@ -2,28 +2,35 @@
 use Rattle.std.specs.Prelude.{◌≡◌, ℕ, List, Result, Ok, Err}
 use Rattle.spef_file.specs.Indexes.{IsIndexOf}
 use Rattle.spef_file.specs.declared.spef_index.SpefIndex.{SpefIndex}
-use Rattle.vg_cons.specs.declared.constraints.Constraints.{Constraints}
+use Rattle.vg_inputs.specs.Designs.{Texts}
+use Rattle.vg_inputs.specs.declared.design_fault.DesignFault.{DesignFault}
+use Rattle.vg_inputs.specs.declared.design_fault.DesignFault.TheVariants.{Spef as SpefFaulty, Lib as LibFaulty, Ver as VerFaulty, Cons as ConsFaulty, Memory as NoRoom}
 use Rattle.vg_words.specs.declared.ask.Mode.{Mode}
 use Rattle.vg_words.specs.declared.ask.Mode.TheVariants.{Wire, Time}
 use Rattle.vginsert_top.specs.Inputs.{inputs, IsFirstFault}
-use Rattle.vginsert_top.specs.Results.{AreRowsOf, IsLib, IsDelays, IsRefusal, IsTimes, IsTimeRefusal, IsSpefFault, IsLibFault, IsConsFault}
+use Rattle.vginsert_top.specs.Faults.{cons_fault, lib_fault, spef_fault, ver_fault}
+use Rattle.vginsert_top.specs.Results.{IsDelays, IsRefusal, IsTimes, IsTimeRefusal, IsSpefFault}
 use Rattle.vginsert_top.specs.declared.input.Input.{Input}
-use Rattle.vginsert_top.specs.declared.input.Input.TheVariants.{Spef, Lib, Cons}
-use Rattle.vginsert_top.specs.declared.input.Texts.{Texts}
+use Rattle.vginsert_top.specs.declared.input.Input.TheVariants.{Spef, Lib, Verilog, Cons}
+use Rattle.vginsert_top.specs.declared.input.Texts.{Texts as TextsRead}
 use Rattle.vginsert_top.specs.declared.answer.Answer.{Answer}
 use Rattle.vginsert_top.specs.declared.answer.Answer.TheVariants.{Report, Refused}
 use Rattle.vginsert_top.specs.declared.answer.NoAnswer.{NoAnswer}
 use Rattle.vginsert_top.specs.declared.answer.NoAnswer.TheVariants.{Faulty, Memory}
 
+-- the texts of the four files of a design
+abbrev pub design_texts : (Input → List ℕ) → Texts
+design_texts texts = record { spef = texts Spef; lib = texts Lib; verilog = texts Verilog; cons = texts Cons }
+
 -- the text is the report that a mode prints
 abbrev pub IsReportFor : Mode → (Input → List ℕ) → List ℕ → List ℕ → Type 0
 IsReportFor Wire texts net text = IsDelays (texts Spef) net text
-IsReportFor Time texts net text = IsTimes (texts Spef) (texts Lib) (texts Cons) net text
+IsReportFor Time texts net text = IsTimes (design_texts texts) net text
 
 -- the text refuses the net
 abbrev pub IsRefusalFor : Mode → (Input → List ℕ) → List ℕ → List ℕ → Type 0
 IsRefusalFor Wire texts net text = IsRefusal (texts Spef) net text
-IsRefusalFor Time texts net text = IsTimeRefusal (texts Spef) (texts Lib) (texts Cons) net text
+IsRefusalFor Time texts net text = IsTimeRefusal (design_texts texts) net text
 
 -- what judging the texts of a mode may answer: the report, why the net is refused, the first fault, or out of memory
 abbrev pub AnswersFor : Mode → (Input → List ℕ) → List ℕ → Result Answer NoAnswer → Type 0
@@ -33,14 +40,18 @@ AnswersFor mode texts net (Err (Faulty input line)) = IsFirstFault texts (inputs
 AnswersFor mode texts net (Err Memory) = Unit {0}
 
 -- these texts
-abbrev pub texts_of : List ℕ → List ℕ → List ℕ → Input → List ℕ
-texts_of spef lib cons Spef = spef
-texts_of spef lib cons Lib = lib
-texts_of spef lib cons Cons = cons
+abbrev pub texts_of : List ℕ → List ℕ → List ℕ → List ℕ → Input → List ℕ
+texts_of spef lib verilog cons Spef = spef
+texts_of spef lib verilog cons Lib = lib
+texts_of spef lib verilog cons Verilog = verilog
+texts_of spef lib verilog cons Cons = cons
+
+abbrev pub texts_by : Texts → Input → List ℕ
+texts_by texts = texts_of texts.spef texts.lib texts.verilog texts.cons
 
 -- the texts that were read
-abbrev pub texts_in : Texts → Input → List ℕ
-texts_in texts = texts_of texts.spef.items texts.lib.items texts.cons.items
+abbrev pub texts_in : TextsRead → Input → List ℕ
+texts_in texts = texts_of texts.spef.items texts.lib.items texts.verilog.items texts.cons.items
 
 -- the answer refuses with this text
 abbrev pub IsRefusedWith : List ℕ → Answer → Type 0
@@ -52,21 +63,20 @@ abbrev pub Indexes : Result SpefIndex NoAnswer → List ℕ → Type 0
 Indexes (Ok index) file = IsIndexOf file index
 Indexes (Err (Faulty Spef line)) file = IsSpefFault file line
 Indexes (Err (Faulty Lib line)) file = ⊥
+Indexes (Err (Faulty Verilog line)) file = ⊥
 Indexes (Err (Faulty Cons line)) file = ⊥
 Indexes (Err Memory) file = Unit {0}
 
--- what checking a library may answer
-abbrev pub ChecksLib : Result (Unit {0}) NoAnswer → List ℕ → Type 0
-ChecksLib (Ok _) lib = IsLib lib
-ChecksLib (Err (Faulty Spef line)) lib = ⊥
-ChecksLib (Err (Faulty Lib line)) lib = IsLibFault lib line
-ChecksLib (Err (Faulty Cons line)) lib = ⊥
-ChecksLib (Err Memory) lib = Unit {0}
+-- why four texts are no design, as an answer tells it
+abbrev pub IsNoDesign : Texts → NoAnswer → Type 0
+IsNoDesign texts (Faulty input line) = IsFirstFault (texts_by texts) (inputs Time) line input
+IsNoDesign texts Memory = Unit {0}
 
--- what reading constraints may answer
-abbrev pub ReadsCons : Result Constraints NoAnswer → List ℕ → Type 0
-ReadsCons (Ok rows) cons = AreRowsOf cons rows
-ReadsCons (Err (Faulty Spef line)) cons = ⊥
-ReadsCons (Err (Faulty Lib line)) cons = ⊥
-ReadsCons (Err (Faulty Cons line)) cons = IsConsFault cons line
-ReadsCons (Err Memory) cons = Unit {0}
+-- the answer tells this fault, or it is out of memory
+abbrev pub Tells : DesignFault → NoAnswer → Type 0
+Tells fault Memory = Unit {0}
+Tells (SpefFaulty fault) (Faulty input line) = (input ≡ Spef) × (line ≡ spef_fault fault)
+Tells (LibFaulty fault) (Faulty input line) = (input ≡ Lib) × (line ≡ lib_fault fault)
+Tells (VerFaulty fault) (Faulty input line) = (input ≡ Verilog) × (line ≡ ver_fault fault)
+Tells (ConsFaulty fault) (Faulty input line) = (input ≡ Cons) × (line ≡ cons_fault fault)
+Tells NoRoom (Faulty input line) = ⊥

@@ -9,6 +9,8 @@ use Rattle.spef_net.specs.declared.fault.NetKind.{NetKind}
 use Rattle.spef_net.specs.declared.fault.NetKind.TheVariants.{Conn, Cap, Res, Number as NetNumber, Foreign, SelfCoupled, Memory as NetMemory}
 use Rattle.lib_cells.specs.declared.fault.LibKind.{LibKind}
 use Rattle.lib_cells.specs.declared.fault.LibKind.TheVariants.{Syntax, NotLinear, Slope, Unit as LibUnit, Number as LibNumber, CellTwice, TooManyRepeaters, Memory as LibMemory}
+use Rattle.ver_syntax.specs.declared.fault.VerKind.{VerKind}
+use Rattle.ver_syntax.specs.declared.fault.VerKind.TheVariants.{Token, Grammar, SecondModule, Positional, Parameter, NameClash, InstanceTwice, Memory as VerMemory}
 use Rattle.vg_cons.specs.declared.fault.ConsKind.{ConsKind}
 use Rattle.vg_cons.specs.declared.fault.ConsKind.TheVariants.{Version, Word, Number, Twice, Memory}
 
@@ -40,6 +42,19 @@ lib_kind LibMemory = codes "Memory"
 
 abbrev pub lib_fault : LineFault LibKind → List ℕ
 lib_fault fault = lib_kind fault.kind ++ (codes " line " ++ decimal fault.line)
+
+abbrev pub ver_kind : VerKind → List ℕ
+ver_kind Token = codes "Token"
+ver_kind Grammar = codes "Grammar"
+ver_kind SecondModule = codes "SecondModule"
+ver_kind Positional = codes "Positional"
+ver_kind Parameter = codes "Parameter"
+ver_kind NameClash = codes "NameClash"
+ver_kind InstanceTwice = codes "InstanceTwice"
+ver_kind VerMemory = codes "Memory"
+
+abbrev pub ver_fault : LineFault VerKind → List ℕ
+ver_fault fault = ver_kind fault.kind ++ (codes " line " ++ decimal fault.line)
 
 abbrev pub spef_kind : SpefKind → List ℕ
 spef_kind Header = codes "Header"

@@ -9,34 +9,38 @@ use Rattle.vg_words.specs.declared.ask.Ask.{Ask}
 use Rattle.vg_words.specs.declared.ask.Mode.{Mode}
 use Rattle.vg_words.specs.declared.ask.Mode.TheVariants.{Wire, Time}
 use Rattle.vg_words.specs.declared.option.Opt.{Opt}
-use Rattle.vg_words.specs.declared.option.Opt.TheVariants.{Spef as SpefOption, Lib as LibOption, Cons as ConsOption}
-use Rattle.vginsert_top.specs.Results.{IsSpef, IsSpefFault, IsLib, IsLibFault, IsConsFault}
+use Rattle.vg_words.specs.declared.option.Opt.TheVariants.{Spef as SpefOption, Lib as LibOption, Verilog as VerilogOption, Cons as ConsOption}
+use Rattle.vg_inputs.specs.Designs.{IsSpef, IsLib, IsModule}
+use Rattle.vginsert_top.specs.Results.{IsSpefFault, IsLibFault, IsVerFault, IsConsFault}
 use Rattle.vginsert_top.specs.declared.input.Input.{Input}
-use Rattle.vginsert_top.specs.declared.input.Input.TheVariants.{Spef, Lib, Cons}
+use Rattle.vginsert_top.specs.declared.input.Input.TheVariants.{Spef, Lib, Verilog, Cons}
 use Rattle.vginsert_top.specs.declared.input.Flaw.{Flaw}
 use Rattle.vginsert_top.specs.declared.input.Flaw.TheVariants.{Failed, TooLong, Faulty}
 
 -- the inputs of a mode, in the order in which they are read and judged
 abbrev pub inputs : Mode → List Input
 inputs Wire = Spef ∷ []
-inputs Time = Spef ∷ Lib ∷ Cons ∷ []
+inputs Time = Spef ∷ Lib ∷ Verilog ∷ Cons ∷ []
 
 -- the option that names an input
 abbrev pub option_of : Input → Opt
 option_of Spef = SpefOption
 option_of Lib = LibOption
+option_of Verilog = VerilogOption
 option_of Cons = ConsOption
 
 -- an input is in its form
 abbrev pub IsInForm : Input → List ℕ → Type 0
 IsInForm Spef text = IsSpef text
 IsInForm Lib text = IsLib text
+IsInForm Verilog text = IsModule text
 IsInForm Cons text = IsFaultless (cons_lines text)
 
 -- it is not, and a line tells its fault
 abbrev pub IsFault : Input → List ℕ → List ℕ → Type 0
 IsFault Spef text line = IsSpefFault text line
 IsFault Lib text line = IsLibFault text line
+IsFault Verilog text line = IsVerFault text line
 IsFault Cons text line = IsConsFault text line
 
 -- the name of an input in the words

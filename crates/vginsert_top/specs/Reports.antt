@@ -3,11 +3,11 @@ use Rattle.std.specs.Prelude.{ℕ, ◌==◌, ℤ, pos, List, ◌∷◌, ◌++◌
 use Rattle.std.specs.Fmt.{signed_decimal}
 use Rattle.std.specs.List.{flat_map}
 use Rattle.vg_scan.specs.declared.name.NodeName.{NodeName}
-use Rattle.vg_design.specs.declared.refusal.Refusal.{Refusal}
-use Rattle.vg_design.specs.declared.refusal.Refusal.TheVariants.{NotYet, UnknownNet, Section, Reduced, Inductive, Bidirectional, NoDriver, ManyDrivers, Floating, Loop, NoSink, Unconstrained, TooLarge}
-use Rattle.vg_design.specs.declared.time.slack.Timed.{Timed}
-use Rattle.vg_design.specs.declared.wire.WireNet.{WireNet}
-use Rattle.vg_design.specs.Refusals.{number_of}
+use Rattle.vg_wire.specs.declared.refusal.Refusal.{Refusal}
+use Rattle.vg_wire.specs.declared.refusal.Refusal.TheVariants.{UnknownNet, Section, Reduced, Inductive, Bidirectional, NoDriver, ManyDrivers, Mismatch, Tied, NoDrive, NoLoad, Floating, Loop, NoSink, Unconstrained, TooLarge}
+use Rattle.vg_design.specs.declared.time.Timed.{Timed}
+use Rattle.vg_wire.specs.declared.wire.WireNet.{WireNet}
+use Rattle.vg_wire.specs.Refusals.{number_of}
 use Rattle.vginsert_top.specs.Faults.{net_fault}
 
 -- a node: its owner, and after a colon its leaf, where it has one
@@ -41,7 +41,6 @@ slack_line name timed = slack_before name timed.slack (polarity_text timed.wrong
 
 -- the kind of a refusal, and what it tells
 abbrev pub refusal_kind : Refusal → List ℕ
-refusal_kind NotYet = codes "NotYet"
 refusal_kind UnknownNet = codes "UnknownNet"
 refusal_kind (Section fault) = codes "Section " ++ net_fault fault
 refusal_kind Reduced = codes "Reduced"
@@ -49,6 +48,10 @@ refusal_kind Inductive = codes "Inductive"
 refusal_kind Bidirectional = codes "Bidirectional"
 refusal_kind NoDriver = codes "NoDriver"
 refusal_kind ManyDrivers = codes "ManyDrivers"
+refusal_kind Mismatch = codes "Mismatch"
+refusal_kind Tied = codes "Tied"
+refusal_kind NoDrive = codes "NoDrive"
+refusal_kind (NoLoad node) = codes "NoLoad " ++ printed_node node
 refusal_kind (Floating node) = codes "Floating " ++ printed_node node
 refusal_kind Loop = codes "Loop"
 refusal_kind NoSink = codes "NoSink"

@@ -1,18 +1,19 @@
 //! What is said of a net that is asked for.
 
-ghost use Rattle.std.specs.Prelude.{◌≡◌, ◌≤◌, ◌^◌, length, IfOk};
-ghost use Rattle.vginsert_top.specs.Answer.{IsRefusedWith, Indexes, ReadsCons, ChecksLib};
+ghost use Rattle.std.specs.Prelude.{◌≡◌, ◌≤◌, ◌^◌, length, IfOk, IfErr};
+ghost use Rattle.vg_inputs.specs.Designs.{IsDesign};
+ghost use Rattle.vg_inputs.specs.Steps.{texts_of};
+ghost use Rattle.vginsert_top.specs.Answer.{IsNoDesign, IsRefusedWith, Indexes, Tells};
 ghost use Rattle.vginsert_top.specs.Reports.{refused_line};
 ghost use Rattle.vginsert_top.specs.declared.answer.NoAnswer.TheVariants.{Memory as out_of_memory};
 
-use crate::faults::{cons_fault, lib_fault, spef_fault};
+use crate::faults::{cons_fault, lib_fault, spef_fault, ver_fault};
 use crate::input::Input;
 use crate::report::print_refused;
-use lib_cells::LibKind;
-use lib_linear::read_library;
 use spef_file::{SpefIndex, SpefKind, SpefText, index};
 use std::alloc::Global;
-use vg_cons::{ConsKind, Constraints, read_constraints};
+use vg_design::Design;
+use vg_inputs::{DesignFault, Inputs, read_design};
 use vg_num::{Memory, Row};
 
 /// What is said of a net, as text.
@@ -63,30 +64,34 @@ pub fn index_of(alloc: Global, file: &SpefText) -> Result<SpefIndex, NoAnswer>
     }
 }
 
-/// Whether a text is a library without a fault, or the text of its fault. What the library says is let go.
-pub fn check_library(alloc: Global, lib: &[u8]) -> Result<(), NoAnswer>
-    requires { length lib.now ≤ 2 ^ 28 }
-    ensures { ChecksLib result lib.now }
+/// Why four files are no design, as an answer.
+fn told(alloc: Global, fault: DesignFault) -> NoAnswer
+    ensures { Tells fault result }
 {
-    match read_library(alloc, lib) {
-        Ok(_) => Ok(()),
-        Err(fault) => match fault.kind {
-            LibKind::Memory => Err(NoAnswer::Memory),
-            _ => Err(NoAnswer::Faulty(Input::Lib, lib_fault(alloc, fault)?)),
-        },
+    let (input, line) = match fault {
+        DesignFault::Spef(fault) => (Input::Spef, spef_fault(alloc, fault)),
+        DesignFault::Lib(fault) => (Input::Lib, lib_fault(alloc, fault)),
+        DesignFault::Ver(fault) => (Input::Verilog, ver_fault(alloc, fault)),
+        DesignFault::Cons(fault) => (Input::Cons, cons_fault(alloc, fault)),
+        DesignFault::Memory => return NoAnswer::Memory,
+    };
+    match line {
+        Ok(line) => NoAnswer::Faulty(input, line),
+        Err(Memory) => NoAnswer::Memory,
     }
 }
 
-/// Constraints, or the text of their fault.
-pub fn constraints_of(alloc: Global, cons: &[u8]) -> Result<Constraints, NoAnswer>
-    requires { length cons.now ≤ 2 ^ 28 }
-    ensures { ReadsCons result cons.now }
+/// The design of four files, or the text of the first fault.
+pub fn design_of(alloc: Global, inputs: Inputs) -> Result<Design, NoAnswer>
+    requires spef { length inputs.spef.items ≤ 2 ^ 28 }
+    requires lib { length inputs.lib.items ≤ 2 ^ 28 }
+    requires verilog { length inputs.verilog.items ≤ 2 ^ 28 }
+    requires cons { length inputs.cons.items ≤ 2 ^ 28 }
+    ensures design { IfOk result (IsDesign (texts_of inputs)) }
+    ensures fault { IfErr result (IsNoDesign (texts_of inputs)) }
 {
-    match read_constraints(alloc, cons) {
-        Ok(rows) => Ok(rows),
-        Err(fault) => match fault.kind {
-            ConsKind::Memory => Err(NoAnswer::Memory),
-            _ => Err(NoAnswer::Faulty(Input::Cons, cons_fault(alloc, fault)?)),
-        },
+    match read_design(alloc, inputs) {
+        Ok(design) => Ok(design),
+        Err(fault) => Err(told(alloc, fault)),
     }
 }

@@ -1,13 +1,14 @@
 //! The faults of files, as text.
 
 ghost use Rattle.std.specs.Prelude.{◌≡◌, ◌++◌, OnOk, IfOk, codes, decimal};
-ghost use Rattle.vginsert_top.specs.Faults.{cons_kind, cons_fault, lib_kind, lib_fault, spef_kind, spef_fault, net_kind, net_fault};
+ghost use Rattle.vginsert_top.specs.Faults.{cons_kind, cons_fault, lib_kind, lib_fault, ver_kind, ver_fault, spef_kind, spef_fault, net_kind, net_fault};
 
 use crate::report::push;
 use lib_cells::{LibFault, LibKind};
 use spef_file::{SpefFault, SpefKind};
 use spef_net::{NetFault, NetKind};
 use std::alloc::Global;
+use ver_syntax::{VerFault, VerKind};
 use vg_cons::{ConsFault, ConsKind};
 use vg_num::{Memory, NumFault, Row, print_signed};
 
@@ -41,6 +42,22 @@ fn lib_kind(kind: LibKind) -> &'static [u8]
         LibKind::CellTwice => b"CellTwice",
         LibKind::TooManyRepeaters => b"TooManyRepeaters",
         LibKind::Memory => b"Memory",
+    }
+}
+
+/// The name of a fault of a netlist.
+fn ver_kind(kind: VerKind) -> &'static [u8]
+    ensures { result.now ≡ ver_kind kind }
+{
+    match kind {
+        VerKind::Token => b"Token",
+        VerKind::Grammar => b"Grammar",
+        VerKind::SecondModule => b"SecondModule",
+        VerKind::Positional => b"Positional",
+        VerKind::Parameter => b"Parameter",
+        VerKind::NameClash => b"NameClash",
+        VerKind::InstanceTwice => b"InstanceTwice",
+        VerKind::Memory => b"Memory",
     }
 }
 
@@ -103,6 +120,15 @@ pub fn lib_fault(alloc: Global, fault: LibFault) -> Result<Row<u8>, Memory>
 {
     let mut text = Vec::new(alloc);
     print_fault(lib_kind(fault.kind), fault.line, &mut text)?;
+    Ok(Row::from_vec(text))
+}
+
+/// A fault of a netlist as text: `KIND line L`.
+pub fn ver_fault(alloc: Global, fault: VerFault) -> Result<Row<u8>, Memory>
+    ensures { IfOk result (λ text. text ≡ ver_fault fault) }
+{
+    let mut text = Vec::new(alloc);
+    print_fault(ver_kind(fault.kind), fault.line, &mut text)?;
     Ok(Row::from_vec(text))
 }
 

@@ -16,6 +16,8 @@ pub enum Input {
     Spef,
     /// The library.
     Lib,
+    /// The netlist.
+    Verilog,
     /// The constraints.
     Cons,
 }
@@ -36,12 +38,13 @@ pub enum Flaw {
 pub struct Texts {
     pub spef: Vec<u8>,
     pub lib: Vec<u8>,
+    pub verilog: Vec<u8>,
     pub cons: Vec<u8>,
 }
 
 const WIRE_INPUTS: [Input; 1] = [Input::Spef];
 
-const TIME_INPUTS: [Input; 3] = [Input::Spef, Input::Lib, Input::Cons];
+const TIME_INPUTS: [Input; 4] = [Input::Spef, Input::Lib, Input::Verilog, Input::Cons];
 
 impl Input {
     /// The option that names the input.
@@ -51,6 +54,7 @@ impl Input {
         match self {
             Input::Spef => Opt::Spef,
             Input::Lib => Opt::Lib,
+            Input::Verilog => Opt::Verilog,
             Input::Cons => Opt::Cons,
         }
     }
@@ -70,11 +74,13 @@ impl Texts {
     fn new(alloc: Global) -> Texts
         ensures spef { result.spef.items ≡ [] }
         ensures lib { result.lib.items ≡ [] }
+        ensures verilog { result.verilog.items ≡ [] }
         ensures cons { result.cons.items ≡ [] }
     {
         Texts {
             spef: Vec::new(alloc),
             lib: Vec::new(alloc),
+            verilog: Vec::new(alloc),
             cons: Vec::new(alloc),
         }
     }
@@ -87,6 +93,7 @@ impl Texts {
         match input {
             Input::Spef => self.spef = text,
             Input::Lib => self.lib = text,
+            Input::Verilog => self.verilog = text,
             Input::Cons => self.cons = text,
         }
     }

@@ -20,33 +20,17 @@ use crate::time::time_for;
 use crate::wire::wire_for;
 use spef_file::SpefText;
 use std::alloc::Global;
+use vg_inputs::Inputs;
 use vg_store::{Failed, Files, Out, ReadAll, put_all};
 use vg_words::{Ask, Mode, Opt, WordFault, read_words};
 
 /// What is said of the wire delays of a net of the file of these bytes.
 fn wire_in(alloc: Global, spef: Vec<u8>, net: &[u8]) -> Result<Answer, NoAnswer>
     requires { length spef.items ≤ 2 ^ 28 }
-    ensures { (lib cons : List ℕ) → AnswersFor ModeSpec.Wire (texts_of spef.items lib cons) net.now result }
+    ensures { (lib verilog cons : List ℕ) → AnswersFor ModeSpec.Wire (texts_of spef.items lib verilog cons) net.now result }
 {
     let text = SpefText::new(spef);
     wire_for(alloc, &text, net)
-}
-
-/// What is said of the slack of a net of the file of these bytes, with a library and under constraints.
-fn time_in(
-    alloc: Global,
-    spef: Vec<u8>,
-    lib: &[u8],
-    cons: &[u8],
-    net: &[u8],
-) -> Result<Answer, NoAnswer>
-    requires spef { length spef.items ≤ 2 ^ 28 }
-    requires lib { length lib.now ≤ 2 ^ 28 }
-    requires cons { length cons.now ≤ 2 ^ 28 }
-    ensures { AnswersFor ModeSpec.Time (texts_of spef.items lib.now cons.now) net.now result }
-{
-    let text = SpefText::new(spef);
-    time_for(alloc, &text, lib, cons, net)
 }
 
 /// What is said of a net of the inputs that a mode has read.
@@ -54,10 +38,24 @@ fn answer(alloc: Global, mode: Mode, texts: Texts, net: &[u8]) -> Result<Answer,
     requires { All (λ input. IsShort (texts_in texts input)) (inputs mode) }
     ensures { AnswersFor mode (texts_in texts) net.now result }
 {
-    let Texts { spef, lib, cons } = texts;
+    let Texts {
+        spef,
+        lib,
+        verilog,
+        cons,
+    } = texts;
     match mode {
         Mode::Wire => wire_in(alloc, spef, net),
-        Mode::Time => time_in(alloc, spef, &lib, &cons, net),
+        Mode::Time => time_for(
+            alloc,
+            Inputs {
+                spef,
+                lib,
+                verilog,
+                cons,
+            },
+            net,
+        ),
     }
 }
 

@@ -1,17 +1,19 @@
 //! The slack of a net, as text.
 ghost use Rattle.std.specs.Prelude.{◌≡◌, ◌≤◌, ◌^◌, length, IfOk};
 ghost use Rattle.vginsert_top.specs.Reports.{slack_line};
-ghost use Rattle.vginsert_top.specs.Answer.{AnswersFor, texts_of};
+ghost use Rattle.vginsert_top.specs.Answer.{AnswersFor, texts_by};
+ghost use Rattle.vg_inputs.specs.Steps.{texts_of};
 ghost use Rattle.vg_words.specs.declared.ask.Mode.{Mode};
 
-use crate::answer::{Answer, NoAnswer, check_library, constraints_of, index_of};
+use crate::answer::{Answer, NoAnswer, design_of};
 use crate::report::{print_node, print_slack};
 use crate::wire::refuse;
-use spef_file::SpefText;
 use std::alloc::Global;
-use vg_design::{Refused, Timed, time_net};
+use vg_design::{Timed, time_net};
+use vg_inputs::Inputs;
 use vg_num::Memory;
 use vg_scan::Name;
+use vg_wire::Refused;
 
 /// The report of a net's slack.
 fn report_slack(alloc: Global, name: &[u8], timed: &Timed) -> Result<Vec<u8>, Memory>
@@ -29,23 +31,17 @@ fn report_slack(alloc: Global, name: &[u8], timed: &Timed) -> Result<Vec<u8>, Me
     Ok(text)
 }
 
-/// What is said of the slack of the net of this name under constraints. The library has to be in its form.
-pub fn time_for(
-    alloc: Global,
-    spef: &SpefText,
-    lib: &[u8],
-    cons: &[u8],
-    name: &[u8],
-) -> Result<Answer, NoAnswer>
-    requires lib { length lib.now ≤ 2 ^ 28 }
-    requires cons { length cons.now ≤ 2 ^ 28 }
-    ensures { AnswersFor Mode.Time (texts_of spef.now lib.now cons.now) name.now result }
+/// What is said of the slack of the net of this name in the design of four files.
+pub fn time_for(alloc: Global, inputs: Inputs, name: &[u8]) -> Result<Answer, NoAnswer>
+    requires spef { length inputs.spef.items ≤ 2 ^ 28 }
+    requires lib { length inputs.lib.items ≤ 2 ^ 28 }
+    requires verilog { length inputs.verilog.items ≤ 2 ^ 28 }
+    requires cons { length inputs.cons.items ≤ 2 ^ 28 }
+    ensures { AnswersFor Mode.Time (texts_by (texts_of inputs)) name.now result }
 {
-    let index = index_of(alloc, spef)?;
-    check_library(alloc, lib)?;
-    let rows = constraints_of(alloc, cons)?;
+    let design = design_of(alloc, inputs)?;
     let net = Name::from_bytes(alloc, name)?;
-    match time_net(alloc, spef, &index, &rows, &net) {
+    match time_net(alloc, &design, &net) {
         Ok(timed) => Ok(Answer::Report(report_slack(alloc, name, &timed)?)),
         Err(Refused::Net(refusal)) => Ok(refuse(alloc, name, &refusal)?),
         Err(Refused::Memory) => Err(NoAnswer::Memory),

@@ -11,9 +11,9 @@ use crate::faults::print_net_fault;
 use crate::report::{print_node, print_sink, print_total, push};
 use spef_file::SpefText;
 use std::alloc::Global;
-use vg_design::{Refusal, Refused, SinkDelays, WireNet, wire_net};
 use vg_num::Memory;
 use vg_scan::Name;
+use vg_wire::{Refusal, Refused, SinkDelays, WireNet, wire_net};
 
 /// Appends a line for each sink.
 fn print_sinks(sinks: &SinkDelays, to: &mut Vec<u8>) -> Result<(), Memory>
@@ -41,7 +41,6 @@ fn print_kind(refusal: &Refusal, to: &mut Vec<u8>) -> Result<(), Memory>
     ensures { OnOk result (to.new.items ≡ to.old.items ++ refusal_kind refusal.now) }
 {
     match refusal {
-        Refusal::NotYet => push(b"NotYet", to)?,
         Refusal::UnknownNet => push(b"UnknownNet", to)?,
         Refusal::Section(fault) => {
             push(b"Section ", to)?;
@@ -52,6 +51,13 @@ fn print_kind(refusal: &Refusal, to: &mut Vec<u8>) -> Result<(), Memory>
         Refusal::Bidirectional => push(b"Bidirectional", to)?,
         Refusal::NoDriver => push(b"NoDriver", to)?,
         Refusal::ManyDrivers => push(b"ManyDrivers", to)?,
+        Refusal::Mismatch => push(b"Mismatch", to)?,
+        Refusal::Tied => push(b"Tied", to)?,
+        Refusal::NoDrive => push(b"NoDrive", to)?,
+        Refusal::NoLoad(node) => {
+            push(b"NoLoad ", to)?;
+            print_node(node, to)?;
+        }
         Refusal::Floating(node) => {
             push(b"Floating ", to)?;
             print_node(node, to)?;
@@ -79,7 +85,7 @@ pub fn refuse(alloc: Global, name: &[u8], refusal: &Refusal) -> Result<Answer, M
 
 /// What is said of the wire delays of the net of this name.
 pub fn wire_for(alloc: Global, file: &SpefText, name: &[u8]) -> Result<Answer, NoAnswer>
-    ensures { AnswersFor Mode.Wire (texts_of file.now [] []) name.now result }
+    ensures { AnswersFor Mode.Wire (texts_of file.now [] [] []) name.now result }
 {
     let index = index_of(alloc, file)?;
     let net = Name::from_bytes(alloc, name)?;

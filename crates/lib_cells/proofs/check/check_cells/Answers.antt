@@ -30,4 +30,4 @@ returns-in-Some-clause-fault c =
     let e : c.first_in_cells.result ≡ first_of c.args.bytes.now None flaws =
     both_parts c.args.bytes.now c.in-Ok.first c.first_in_cells.result (twice_flaws [] (cell_groups c.args.library.now))
     (flat_map (cell_flaws c.args.units) (cell_groups c.args.library.now)) c.in-Ok.ensures.first c.first_in_cells.ensures in
-    inr (rw c.told.ensures (first_flaw c.args.bytes.now flaws c.in-Some.flaw (sym e ∙ c.in-Some.is)))
+    inr (rw c.to_fault.ensures (first_flaw c.args.bytes.now flaws c.in-Some.flaw (sym e ∙ c.in-Some.is)))

@@ -5,8 +5,8 @@ use Rattle.lib_linear.proofs.library.cell_of.Goals as goal
 
 pub returns-in-None : goal.returns-in-None
 returns-in-None c =
-    sym (by_no_table (λ info. info.name) (bytes_eq c.args.name.now) c.args.cells.now c.args.names.now c.requires (rw c.as_bytes.ensures at (sym c.find.ensures ∙ c.in-None.is)))
+    sym (by_no_table (λ info. info.name) (bytes_eq c.args.name.now) c.args.cells.now c.args.names.now c.requires (sym c.find.ensures ∙ c.in-None.is))
 
 pub returns-in-Some : goal.returns-in-Some
 returns-in-Some c =
-    c.cell_at.ensures ∙ sym (by_table (λ info. info.name) (bytes_eq c.args.name.now) c.args.cells.now c.args.names.now c.in-Some.id c.requires (rw c.as_bytes.ensures at (sym c.find.ensures ∙ c.in-Some.is)))
+    c.cell_at.ensures ∙ sym (by_table (λ info. info.name) (bytes_eq c.args.name.now) c.args.cells.now c.args.names.now c.in-Some.id c.requires (sym c.find.ensures ∙ c.in-Some.is))

@@ -1,27 +1,46 @@
-use Rattle.std.proofs.Common.{rules, sym, ◌∙◌}
+use Rattle.std.proofs.Common.{rules, sym, ◌∙◌, arith}
+use Rattle.std.proofs.lemmas.Grind.{common_steps}
 use Rattle.lib_cells.specs.Cells.{cell_groups, cell_info}
-use Rattle.lib_linear.proofs.RepeaterSteps.{start, info_at, step, over}
+use Rattle.lib_linear.proofs.RepeaterSteps.{start, finish, info_at, step, over}
 use Rattle.lib_linear.proofs.repeater_search.repeaters_in_text.Goals as goal
 
-pub cell-init : goal.cell-init
-cell-init c = rw (c.groups-groups.ensures, c.new-found.ensures.items) record { taken = start c.args.units (cell_groups c.args.library.now) }
+pub loop-at-init : goal.loop-at-init
+loop-at-init c =
+    rw (c.into_iter-at-iterator.ensures.into_iter_gives, c.enumerate-at-items.ensures.source, c.enumerate-at-items.ensures.count, c.groups.ensures, c.new-found.ensures.items)
+    record { taken = start c.args.units (cell_groups c.args.library.now) }
+
+pub bounds-cells-at : goal.bounds-cells-at
+bounds-cells-at c =
+    let left = sym c.in-Some.ensures.steps.0 ∙ c.loop-at.invariant.taken.rest in
+    let at = c.in-Some.ensures.steps.1 in
+    rw c.requires.cells (grind (arith, common_steps))
 
 pub take_cell-requires-clause-info : goal.take_cell-requires-clause-info
 take_cell-requires-clause-info c =
-    let read = rw c.requires.cells at c.index-cells-at.is in
+    let read = rw (c.requires.cells, c.in-Some.ensures.steps.1) at c.index-cells-at.is in
     read
-    ∙ info_at (cell_info c.args.units) (cell_groups c.args.library.now) c.cell.at c.in-Some.cell c.next.new.self c.index-cells-at.result
-    (sym c.in-Some.ensures.steps ∙ c.cell.invariant.taken.rest)
+    ∙ info_at (cell_info c.args.units) (cell_groups c.args.library.now) c.loop-at.at-iterator.count c.in-Some.cell c.next.new.self.iter c.index-cells-at.result
+    (sym c.in-Some.ensures.steps.0 ∙ c.loop-at.invariant.taken.rest)
 
 pub returns-in_err-take_cell-clause-many : goal.returns-in_err-take_cell-clause-many
 returns-in_err-take_cell-clause-many c =
     λ place e.
-    over c.args.units (cell_groups c.args.library.now) c.in-Some.cell c.next.new.self c.cell.at c.cell.found.items (rw c.in-Some.ensures.steps at c.cell.invariant.taken) place
-    (c.take_cell.ensures.many place (search rules))
+    over c.args.units (cell_groups c.args.library.now) c.in-Some.cell c.next.new.self.iter c.loop-at.at-iterator.count c.loop-at.found.items
+    (rw c.in-Some.ensures.steps.0 at c.loop-at.invariant.taken) place (c.take_cell.ensures.many place (search rules))
 
-pub cell-preserved : goal.cell-preserved
-cell-preserved c = record {
-  taken =
-      step c.args.units (cell_groups c.args.library.now) c.in-Some.cell c.next.new.self c.cell.at c.cell.found.items (rw c.in-Some.ensures.steps at c.cell.invariant.taken)
-      c.take_cell.new.found.items c.in_ok-take_cell.ensures.next;
-}
+pub loop-at-preserved : goal.loop-at-preserved
+loop-at-preserved c =
+    rw c.in-Some.ensures.steps.2
+    record {
+      taken =
+          step c.args.units (cell_groups c.args.library.now) c.in-Some.cell c.next.new.self.iter c.loop-at.at-iterator.count c.loop-at.found.items
+          (rw c.in-Some.ensures.steps.0 at c.loop-at.invariant.taken) c.take_cell.new.found.items c.in_ok-take_cell.ensures.next;
+    }
+
+pub returns-clause-found : goal.returns-clause-found
+returns-clause-found c =
+    finish c.args.units (cell_groups c.args.library.now) c.loop-at.at-iterator.count c.loop-at.found.items
+    (rw c.in-None.ensures.steps.0.0 at c.loop-at.invariant.taken)
+
+pub returns-clause-few : goal.returns-clause-few
+returns-clause-few c = c.loop-at.invariant.taken.few

@@ -1,4 +1,4 @@
-use Rattle.std.proofs.Common.{◌≡◌, ◌≤◌, ◌-◌, drop, take, length}
+use Rattle.std.proofs.Common.{◌≡◌, ◌≤◌, ◌-◌, is_some, drop, take, length}
 use Rattle.std.specs.List.{list_any}
 use Rattle.vg_cons.specs.Lines.{lines_of, has_words}
 use Rattle.vg_cons.specs.Rows.{rows_of}
@@ -12,7 +12,7 @@ invariant-line l = record {
   within : l.at ≤ length l.bytes;
   counted : l.count ≤ l.at;
   few : l.count ≤ length (lines_of l.bytes);
-  started : l.started ≡ list_any has_words (take l.count (lines_of l.bytes));
+  started : is_some l.cons.format ≡ list_any has_words (take l.count (lines_of l.bytes));
   clear : IsClear (fault_at (lines_of l.bytes)) l.count;
   rows : l.cons ≡ rows_of (take l.count (lines_of l.bytes));
 }

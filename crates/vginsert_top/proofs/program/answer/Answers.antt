@@ -3,4 +3,4 @@ use Rattle.vginsert_top.specs.Answer.{AnswersFor, texts_in}
 use Rattle.vginsert_top.proofs.program.answer.Goals as goal
 
 pub returns-in-Wire : goal.returns-in-Wire
-returns-in-Wire c = subst (λ mode. AnswersFor mode (texts_in c.args.texts) c.args.net.now c.wire_in.result) (sym c.in-Wire.is) (c.wire_in.ensures c.args.texts.lib.items c.args.texts.cons.items)
+returns-in-Wire c = subst (λ mode. AnswersFor mode (texts_in c.args.texts) c.args.net.now c.wire_in.result) (sym c.in-Wire.is) (c.wire_in.ensures c.args.texts.lib.items c.args.texts.verilog.items c.args.texts.cons.items)

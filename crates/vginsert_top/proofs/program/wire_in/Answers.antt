@@ -6,4 +6,4 @@ use Rattle.vginsert_top.proofs.ClearLemmas.{wire_answers}
 use Rattle.vginsert_top.proofs.program.wire_in.Goals as goal
 
 pub returns : goal.returns
-returns c = λ lib cons. wire_answers c.args.spef.items c.new-text.result (ap (without_comments Spef) c.new-text.ensures ∙ without_again Spef c.args.spef.items) lib cons c.args.net.now c.wire_for.result c.wire_for.ensures
+returns c = λ lib verilog cons. wire_answers c.args.spef.items c.new-text.result (ap (without_comments Spef) c.new-text.ensures ∙ without_again Spef c.args.spef.items) lib verilog cons c.args.net.now c.wire_for.result c.wire_for.ensures

@@ -1,0 +1,205 @@
+-- The refusals of a net, for its name.
+use Rattle.std.proofs.Common.{◌≡◌, ◌≢◌, ℕ, ◌<◌, ◌≤◌, List, arith, inl, inr, sym, ◌∙◌, subst, Some, None}
+use Rattle.std.proofs.lemmas.Bool.{cases_lt}
+use Rattle.spef_net.specs.declared.fault.NetKind.{NetKind}
+use Rattle.vg_scan.specs.declared.fault.LineFault.{LineFault}
+use Rattle.vg_wire.proofs.AnswerLemmas.{nets_are, not_missing, fault_not_missing, not_faulty}
+use Rattle.vg_wire.specs.Nets.{IsFaultNamed, IsRefusedBelow as IsWireRefusedBelow}
+use Rattle.vg_wire.specs.Refusals.{number_of}
+use Rattle.vg_wire.specs.declared.refusal.Refusal.{Refusal}
+use Rattle.vg_wire.specs.declared.refusal.Refusal.TheVariants.{UnknownNet, Section, Reduced, Inductive, Bidirectional, NoDriver, ManyDrivers, Mismatch, Tied, NoDrive, NoLoad, Floating, Loop, NoSink, Unconstrained, TooLarge}
+use Rattle.vg_wire.specs.declared.refusal.Refused.{Refused}
+use Rattle.vg_wire.specs.declared.refusal.Refused.TheVariants.{Net, Memory}
+use Rattle.vg_design.specs.Designs.{Design, Joined, net_number}
+use Rattle.vg_design.specs.Nets.{IsRefused, IsBareRefused}
+use Rattle.vg_design.specs.Refusals.{Holds, HasNet, IsJoined, Refuses, PassesUpTo, PassesBareUpTo, IsFirstRefusal, IsFirstBareRefusal}
+use Rattle.vg_design.specs.Steps.{IsFirstHeld, IsHeldBelow, IsRefusedBelow, PassesNet}
+
+some_number : (a b : ℕ) → Some a ≡ Some b → a ≡ b
+some_number a b e = cc
+
+-- a name has one net
+pub joined_once : (d : Design) (name : List ℕ) (a b : Joined) → IsJoined d name a → IsJoined d name b → a ≡ b
+joined_once d name a b p q =
+    let pars = nets_are d.spef name a.par b.par p.named q.named in
+    let ids = some_number a.id b.id (sym p.number ∙ q.number) in
+    λ i. record { par = pars i; id = ids i }
+
+module _ (d : Design) (name : List ℕ) (net : Joined) (joined : IsJoined d name net) where
+  here : (r : Refusal) → HasNet d name r → Holds d net r
+  here r h = subst (λ (n : Joined). Holds d n r) (joined_once d name h.net net h.joined joined) h.holds
+
+  there : (r : Refusal) → Holds d net r → HasNet d name r
+  there r h = record { net = net; joined = joined; holds = h }
+
+  pub passes_for : (n : ℕ) → PassesNet n d net → PassesUpTo n d name
+  passes_for n passes UnknownNet low h = elim h [
+    | inl missing ↦ not_missing d.spef name net.par joined.named missing
+    | inr none ↦ (let e : None ≡ Some net.id = sym none ∙ joined.number in cc)
+  ]
+  passes_for n passes (Section fault) low h = not_faulty d.spef name net.par fault joined.named h
+  passes_for n passes Reduced low h = passes Reduced low (here Reduced h)
+  passes_for n passes Inductive low h = passes Inductive low (here Inductive h)
+  passes_for n passes Bidirectional low h = passes Bidirectional low (here Bidirectional h)
+  passes_for n passes NoDriver low h = passes NoDriver low (here NoDriver h)
+  passes_for n passes ManyDrivers low h = passes ManyDrivers low (here ManyDrivers h)
+  passes_for n passes Mismatch low h = passes Mismatch low (here Mismatch h)
+  passes_for n passes Tied low h = passes Tied low (here Tied h)
+  passes_for n passes NoDrive low h = passes NoDrive low (here NoDrive h)
+  passes_for n passes (NoLoad node) low h = passes (NoLoad node) low (here (NoLoad node) h)
+  passes_for n passes (Floating node) low h = passes (Floating node) low (here (Floating node) h)
+  passes_for n passes Loop low h = passes Loop low (here Loop h)
+  passes_for n passes NoSink low h = passes NoSink low (here NoSink h)
+  passes_for n passes (Unconstrained node) low h = passes (Unconstrained node) low (here (Unconstrained node) h)
+  passes_for n passes TooLarge low h = passes TooLarge low (here TooLarge h)
+
+  refuses_for : (r : Refusal) → Holds d net r → Refuses d name r
+  refuses_for UnknownNet h = absurd h
+  refuses_for (Section fault) h = absurd h
+  refuses_for Reduced h = there Reduced h
+  refuses_for Inductive h = there Inductive h
+  refuses_for Bidirectional h = there Bidirectional h
+  refuses_for NoDriver h = there NoDriver h
+  refuses_for ManyDrivers h = there ManyDrivers h
+  refuses_for Mismatch h = there Mismatch h
+  refuses_for Tied h = there Tied h
+  refuses_for NoDrive h = there NoDrive h
+  refuses_for (NoLoad node) h = there (NoLoad node) h
+  refuses_for (Floating node) h = there (Floating node) h
+  refuses_for Loop h = there Loop h
+  refuses_for NoSink h = there NoSink h
+  refuses_for (Unconstrained node) h = there (Unconstrained node) h
+  refuses_for TooLarge h = there TooLarge h
+
+  pub first_for : (r : Refusal) → IsFirstHeld d net r → IsFirstRefusal d name r
+  first_for r first = record { holds = refuses_for r first.holds; first = passes_for (number_of r) first.first }
+
+  pub refused_for : (n : ℕ) (refused : Refused) → IsHeldBelow n d net refused → IsRefusedBelow n d name refused
+  refused_for n (Net r) h = (first_for r h.0, h.1)
+  refused_for n Memory h = tt
+
+some : (r : Refusal) → 0 < number_of r
+some UnknownNet = omega arith
+some (Section fault) = omega arith
+some Reduced = omega arith
+some Inductive = omega arith
+some Bidirectional = omega arith
+some NoDriver = omega arith
+some ManyDrivers = omega arith
+some Mismatch = omega arith
+some Tied = omega arith
+some NoDrive = omega arith
+some (NoLoad node) = omega arith
+some (Floating node) = omega arith
+some Loop = omega arith
+some NoSink = omega arith
+some (Unconstrained node) = omega arith
+some TooLarge = omega arith
+
+-- the net is missing
+pub first_unknown : (d : Design) (name : List ℕ) → Refuses d name UnknownNet → IsFirstRefusal d name UnknownNet
+first_unknown d name h = record { holds = h; first = λ r low. absurd (omega (arith, low, some r)) }
+
+module _ (d : Design) (name : List ℕ) (id : ℕ) (number : net_number d.netlist name ≡ Some id) where
+  passes_2 : (fault : LineFault NetKind) → IsFaultNamed d.spef name fault → PassesUpTo 2 d name
+  passes_2 fault faulty UnknownNet low h = elim h [
+    | inl missing ↦ fault_not_missing d.spef name fault faulty missing
+    | inr none ↦ (let e : None ≡ Some id = sym none ∙ number in cc)
+  ]
+  passes_2 fault faulty (Section _) low h = absurd (omega (arith, low))
+  passes_2 fault faulty Reduced low h = absurd (omega (arith, low))
+  passes_2 fault faulty Inductive low h = absurd (omega (arith, low))
+  passes_2 fault faulty Bidirectional low h = absurd (omega (arith, low))
+  passes_2 fault faulty NoDriver low h = absurd (omega (arith, low))
+  passes_2 fault faulty ManyDrivers low h = absurd (omega (arith, low))
+  passes_2 fault faulty Mismatch low h = absurd (omega (arith, low))
+  passes_2 fault faulty Tied low h = absurd (omega (arith, low))
+  passes_2 fault faulty NoDrive low h = absurd (omega (arith, low))
+  passes_2 fault faulty (NoLoad node) low h = absurd (omega (arith, low))
+  passes_2 fault faulty (Floating node) low h = absurd (omega (arith, low))
+  passes_2 fault faulty Loop low h = absurd (omega (arith, low))
+  passes_2 fault faulty NoSink low h = absurd (omega (arith, low))
+  passes_2 fault faulty (Unconstrained node) low h = absurd (omega (arith, low))
+  passes_2 fault faulty TooLarge low h = absurd (omega (arith, low))
+
+  -- why the parasitics have no net of the name
+  pub unnamed : (refused : Refused) → IsWireRefusedBelow 3 d.spef name refused → IsRefusedBelow 3 d name refused
+  unnamed (Net UnknownNet) h = (first_unknown d name (inl h.0), omega arith)
+  unnamed (Net (Section fault)) h = (record { holds = h.0; first = passes_2 fault h.0 }, omega arith)
+  unnamed (Net Reduced) h = absurd (omega (arith, h.1))
+  unnamed (Net Inductive) h = absurd (omega (arith, h.1))
+  unnamed (Net Bidirectional) h = absurd (omega (arith, h.1))
+  unnamed (Net NoDriver) h = absurd (omega (arith, h.1))
+  unnamed (Net ManyDrivers) h = absurd (omega (arith, h.1))
+  unnamed (Net Mismatch) h = absurd (omega (arith, h.1))
+  unnamed (Net Tied) h = absurd (omega (arith, h.1))
+  unnamed (Net NoDrive) h = absurd (omega (arith, h.1))
+  unnamed (Net (NoLoad node)) h = absurd (omega (arith, h.1))
+  unnamed (Net (Floating node)) h = absurd (omega (arith, h.1))
+  unnamed (Net Loop) h = absurd (omega (arith, h.1))
+  unnamed (Net NoSink) h = absurd (omega (arith, h.1))
+  unnamed (Net (Unconstrained node)) h = absurd (omega (arith, h.1))
+  unnamed (Net TooLarge) h = absurd (omega (arith, h.1))
+  unnamed Memory h = tt
+
+-- the refusal of the number 16
+large : (d : Design) (name : List ℕ) (r : Refusal) → number_of r ≡ 16 → Refuses d name r → HasNet d name TooLarge
+large d name UnknownNet is h = absurd (omega (arith, is))
+large d name (Section fault) is h = absurd (omega (arith, is))
+large d name Reduced is h = absurd (omega (arith, is))
+large d name Inductive is h = absurd (omega (arith, is))
+large d name Bidirectional is h = absurd (omega (arith, is))
+large d name NoDriver is h = absurd (omega (arith, is))
+large d name ManyDrivers is h = absurd (omega (arith, is))
+large d name Mismatch is h = absurd (omega (arith, is))
+large d name Tied is h = absurd (omega (arith, is))
+large d name NoDrive is h = absurd (omega (arith, is))
+large d name (NoLoad node) is h = absurd (omega (arith, is))
+large d name (Floating node) is h = absurd (omega (arith, is))
+large d name Loop is h = absurd (omega (arith, is))
+large d name NoSink is h = absurd (omega (arith, is))
+large d name (Unconstrained node) is h = absurd (omega (arith, is))
+large d name TooLarge is h = h
+
+-- what does not count without the constraints
+pub bare_17 : (d : Design) (name : List ℕ) → PassesUpTo 15 d name → (HasNet d name TooLarge → ⊥) → PassesBareUpTo 17 d name
+bare_17 d name passes never r low other h =
+    elim (cases_lt (number_of r) 15) [
+      | inl before ↦ passes r before h
+      | inr late ↦ never (large d name r (not_15 (number_of r) late low other) h)
+    ]
+  where
+    not_15 : (n : ℕ) → 15 ≤ n → n < 17 → n ≢ 15 → n ≡ 16
+    not_15 n a b c = elim (cases_lt n 16) [
+      | inl less ↦ absurd (c (omega (arith, a, less)))
+      | inr more ↦ omega (arith, b, more)
+    ]
+
+pub bare_large : (d : Design) (name : List ℕ) → PassesUpTo 15 d name → HasNet d name TooLarge → IsFirstBareRefusal d name TooLarge
+bare_large d name passes large = record {
+  holds = large;
+  counts = λ e. omega (arith, e);
+  first = λ r low other h. passes r (not_15 (number_of r) low other) h;
+}
+  where
+    not_15 : (n : ℕ) → n < 16 → n ≢ 15 → n < 15
+    not_15 n a c = elim (cases_lt n 15) [
+      | inl less ↦ less
+      | inr more ↦ absurd (c (omega (arith, a, more)))
+    ]
+
+pub bare_below : (d : Design) (name : List ℕ) (refused : Refused) → IsRefusedBelow 15 d name refused → IsBareRefused d name refused
+bare_below d name Memory h = tt
+bare_below d name (Net r) h = record {
+  holds = h.0.holds;
+  counts = λ e. omega (arith, e, h.1);
+  first = λ r low other. h.0.first r low;
+}
+
+pub below_refused : (n : ℕ) (d : Design) (name : List ℕ) (refused : Refused) → IsRefusedBelow n d name refused → IsRefused d name refused
+below_refused n d name Memory h = tt
+below_refused n d name (Net r) h = h.0
+
+pub below_more : (n m : ℕ) (d : Design) (name : List ℕ) (refused : Refused) → n ≤ m → IsRefusedBelow n d name refused → IsRefusedBelow m d name refused
+below_more n m d name Memory le h = tt
+below_more n m d name (Net r) le h = (h.0, omega (arith, le, h.1))

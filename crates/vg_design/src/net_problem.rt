@@ -1,0 +1,166 @@
+//! The problem of a net.
+
+ghost use Rattle.std.specs.Prelude.{◌≡◌, ◌<◌, ◌≤◌, find, None, length, IfOk, IfErr, IfSome, IfNone};
+ghost use Rattle.vg_wire.specs.Refusals.{most_capacitors};
+ghost use Rattle.vg_design.specs.Nets.{IsNetProblem, IsRefused};
+ghost use Rattle.vg_design.specs.Parts.{loaded_tree as loaded_in};
+ghost use Rattle.vg_wire.specs.Wires.{AreMarks};
+ghost use Rattle.vg_design.specs.Refusals.{is_unconstrained, IsFirstConn};
+ghost use Rattle.vg_design.specs.Steps.{IsReady, MakesProblem};
+
+use crate::allowed::allowed_of;
+use crate::design::Design;
+use crate::names::TreeNames;
+use crate::parts::{driver_at, free_of, loaded_nodes, name_of, reps_of, sinks_of};
+use crate::pins::PinnedNet;
+use crate::ready::{ReadyNet, ready_net};
+use elmore::{Node, Problem, Tree};
+use spef_net::{ParConn, ParNet};
+use std::alloc::Global;
+use vg_cons::{Constraints, required};
+use vg_num::{Memory, Row};
+use vg_scan::{Name, NodeName};
+use vg_wire::{MOST_CAPACITORS, Refusal, Refused, is_sink, sink_marks};
+
+/// The problem of a net, and the names of its nodes.
+#[derive(Drop)]
+pub struct NetProblem {
+    pub problem: Problem,
+    pub names: TreeNames,
+}
+
+/// Whether a connection is a sink without a required time. Answers `Memory` where there is no room.
+fn is_unconstrained(
+    alloc: Global,
+    cons: &Constraints,
+    net: &ParNet,
+    conn: &ParConn,
+) -> Result<bool, Memory>
+    requires { conn.now.node < length net.now.nodes }
+    ensures { IfOk result (λ free. free ≡ is_unconstrained cons.now net.now conn.now) }
+{
+    if !is_sink(conn) {
+        return Ok(false);
+    }
+    let name = name_of(alloc, net, conn.node)?;
+    Ok(required(cons, &name).is_none())
+}
+
+/// The first sink, in the order of the connections, without a required time. Answers `Memory` where there is no room.
+fn first_unconstrained(
+    alloc: Global,
+    cons: &Constraints,
+    net: &ParNet,
+) -> Result<Option<ParConn>, Memory>
+    ensures { IfOk result (λ first. first ≡ find (is_unconstrained cons.now net.now) net.now.conns) }
+{
+    'connection: for conn in net.conns.as_slice() {
+        if is_unconstrained(alloc, cons, net, conn)? {
+            return Ok(Some(*conn));
+        }
+    }
+    Ok(None)
+}
+
+/// The name of the first sink without a required time, if there is one. Answers `Memory` where there is no room.
+fn unconstrained_sink(
+    alloc: Global,
+    design: &Design,
+    ready: &ReadyNet,
+) -> Result<Option<NodeName>, Memory>
+    ensures some { IfOk result (λ sink. IfSome sink (IsFirstConn ready.now.pinned.net.par (is_unconstrained design.now.rows ready.now.pinned.net.par))) }
+    ensures none { IfOk result (λ sink. IfNone sink (find (is_unconstrained design.now.rows ready.now.pinned.net.par) ready.now.pinned.net.par.conns ≡ None)) }
+{
+    let par = &ready.pinned.net.par;
+    match first_unconstrained(alloc, design.cons(), par)? {
+        None => Ok(None),
+        Some(sink) => Ok(Some(name_of(alloc, par, sink.node)?)),
+    }
+}
+
+/// The tree of a net with the loads of its sinks. Answers `Memory` where there is no room.
+fn loaded_tree(
+    alloc: Global,
+    design: &Design,
+    net: &PinnedNet,
+    marks: &[bool],
+    tree: &[Node],
+    order: &[u32],
+) -> Result<Tree, Memory>
+    requires ready { IsReady design.now net.now.net net.now.pins tree.now order.now }
+    requires marks { AreMarks net.now.net.par marks.now }
+    ensures { IfOk result (λ loaded. loaded.nodes ≡ loaded_in design.now net.now.net tree.now order.now) }
+{
+    let nodes = loaded_nodes(alloc, design, net, marks, tree, order)?;
+    Ok(Tree {
+        nodes: Row::from_vec(nodes),
+    })
+}
+
+/// The problem of a net of few capacitors, with these parasitics and this tree, where it passes no limit. Answers `Memory` where
+/// there is no room.
+fn problem_within(
+    alloc: Global,
+    design: &Design,
+    net: &PinnedNet,
+    par: &ParNet,
+    tree: &[Node],
+    order: &[u32],
+) -> Result<Option<Problem>, Memory>
+    requires par { par.now ≡ net.now.net.par }
+    requires ready { IsReady design.now net.now.net net.now.pins tree.now order.now }
+    requires caps { length par.now.caps ≤ most_capacitors }
+    ensures { IfOk result (MakesProblem design.now net.now.net tree.now order.now) }
+{
+    let cons = design.cons();
+    let marks = sink_marks(alloc, par)?;
+    let tree = loaded_tree(alloc, design, net, &marks, tree, order)?;
+    let sinks = Row::from_vec(sinks_of(alloc, cons, par, &marks, order)?);
+    let driver = driver_at(alloc, design, net, order[0] as usize)?;
+    let free = free_of(alloc, cons, par, order)?;
+    let reps = Row::from_vec(reps_of(alloc, design)?);
+    let allowed = Row::from_vec(allowed_of(alloc, design, par, order)?);
+    let made = Problem::new(alloc, tree, driver, sinks, &free, reps, allowed)?;
+    Ok(made)
+}
+
+/// The problem of a net, where it passes no limit. Answers `Memory` where there is no room.
+pub(crate) fn problem_of(
+    alloc: Global,
+    design: &Design,
+    ready: &ReadyNet,
+) -> Result<Option<Problem>, Memory>
+    requires { IsReady design.now ready.now.pinned.net ready.now.pinned.pins ready.now.tree.nodes ready.now.order }
+    ensures { IfOk result (MakesProblem design.now ready.now.pinned.net ready.now.tree.nodes ready.now.order) }
+{
+    let par = &ready.pinned.net.par;
+    if par.caps.len() > MOST_CAPACITORS {
+        return Ok(None);
+    }
+    let tree = ready.tree.nodes.as_slice();
+    let order = ready.order.as_slice();
+    let made = problem_within(alloc, design, &ready.pinned, par, tree, order)?;
+    Ok(made)
+}
+
+/// The problem of the net of a name in a design, and the names of its nodes. The net is refused by the first reason of `Refusal`
+/// that holds. Answers `Memory` where there is no room.
+///
+/// Resistances are in mΩ, capacitances in aF, times in zs. The sinks' pins and ports are loads beside the capacitors. A node may
+/// have a cell where it is no connection, a sink is strictly below it, and neither a `block` row nor a box blocks it.
+pub fn problem(alloc: Global, design: &Design, net: &Name) -> Result<NetProblem, Refused>
+    ensures problem { IfOk result (IsNetProblem design.now net.now) }
+    ensures refused { IfErr result (IsRefused design.now net.now) }
+{
+    let ready = ready_net(alloc, design, net)?;
+    if let Some(sink) = unconstrained_sink(alloc, design, &ready)? {
+        return Err(Refused::Net(Refusal::Unconstrained(sink)));
+    }
+    let Some(problem) = problem_of(alloc, design, &ready)? else {
+        return Err(Refused::Net(Refusal::TooLarge));
+    };
+    Ok(NetProblem {
+        problem,
+        names: ready.into_names(),
+    })
+}

@@ -1,0 +1,3 @@
+pub mod Designs
+pub mod Steps
+pub mod Laws

@@ -1,0 +1,12 @@
+//! The four files of a design, read in order.
+#![tactic(auto)]
+
+mod design_fault;
+mod inputs;
+mod laws;
+mod read;
+
+pub use design_fault::DesignFault;
+pub use inputs::Inputs;
+pub use laws::one_design;
+pub use read::read_design;

@@ -1,0 +1,6 @@
+pub mod Refusals
+pub mod Nets
+pub mod Wires
+pub mod Steps
+pub mod Laws
+pub mod SinkRows

@@ -1,0 +1,10 @@
+//! Laws of the nets of a file. Their function does nothing: its contract is the laws, which a proof may cite.
+
+ghost use Rattle.vg_wire.specs.Laws.{OneNet, OneTree, PassedOrRefused};
+
+/// A name has at most one net, a net at most one tree, and a net that passes is not refused.
+pub fn one_answer()
+    ensures net { OneNet }
+    ensures tree { OneTree }
+    ensures passed { PassedOrRefused }
+{}
