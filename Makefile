@@ -9,7 +9,7 @@ demo:
 	@VGINSERT_BUILD=try ./vginsert --mode wire --spef examples/fork.spef --net n1
 
 time:
-	@VGINSERT_BUILD=try ./vginsert --mode time --spef examples/ports.spef --lib examples/cells.lib --cons examples/ports.cons --net p
+	@VGINSERT_BUILD=try ./vginsert --mode time --spef examples/soc.spef --lib examples/soc.lib --verilog examples/soc.v --cons examples/soc.cons --net 'rdata[0]'
 
 test:
 	rt ci

@@ -3,7 +3,7 @@
 
 PART is `mixed` (20,000 cells for 64 MB: buffers, inverters, gates and flip-flops with comments, continued lines, buses and,
 beside their linear attributes, tables that are passed over), `deep` (cells that are 62 groups deep), `wide` (one cell with a
-pin, a timing group and an attribute a line) or `values` (tables alone, in long lists).
+pin, a timing group and an attribute a line) or `values` (tables alone, in long lists). Each has the cell `BUF_X1` besides.
 """
 import sys
 
@@ -13,6 +13,11 @@ library (made) {
   time_unit : "1ps";
   capacitive_load_unit (1, ff);
   nom_voltage : 0.8; /* passed over */
+  cell (BUF_X1) {
+    pin (A) { direction : input; capacitance : 1; }
+    pin (Y) { direction : output; function : "A";
+      timing () { related_pin : "A"; intrinsic_rise : 20; intrinsic_fall : 19; rise_resistance : 1; fall_resistance : 0.95; } }
+  }
 """
 
 ROWS = [", ".join(f"0.{row}{column}7315" for column in range(8)) for row in range(8)]

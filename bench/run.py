@@ -1,7 +1,7 @@
 #!/usr/bin/env python3
 """Times vginsert on inputs that it makes in a temporary folder, and prints a table: `run.py PROGRAM MODE [MB...]`.
 
-MODE is `wire` (nets of 65,536 nodes, each alone in its file), `time` (the same nets between ports, with 131,072 and with
+MODE is `wire` (nets of 65,536 nodes, each alone in its file), `time` (the same nets with their netlists, and with 131,072 and
 1,000,000 rows of constraints), `design` (mode `wire` on a small and the large net of extracted designs of 1, 16, 64
 and 256 MB, or of the sizes given, each with its comments and without them) or `library` (mode `time` on a small net with
 libraries of 64 MB, or of the sizes given: of mixed cells, of deep and of wide groups, and of tables). With `--beside OTHER` each row of `wire` and
@@ -81,15 +81,27 @@ def run_wire(programs):
         row(name, mb(os.path.getsize("net.spef")), f"{printed.count(b'sink '):,}", *cells)
 
 
+def make_net(nodes, shape):
+    """Writes a net and its netlist."""
+    make("one_net.py", [nodes, shape], "net.spef")
+    make("one_net.py", [nodes, shape, "netlist"], "net.v")
+
+
+def time_words(library):
+    """The words of mode `time` for that net."""
+    files = ["--spef", "net.spef", "--lib", library, "--verilog", "net.v", "--cons", "net.cons"]
+    return ["--mode", "time", *files, "--net", "n"]
+
+
 def run_time(programs):
-    head("net", "rows of constraints", "constraints", "seconds", "peak memory")
+    head("net", "netlist", "rows of constraints", "constraints", "seconds", "peak memory")
     for rows in [131072, 1000000]:
         make("constraints.py", [str(rows)], "net.cons")
         for shape, name in SHAPES.items():
-            make("one_net.py", ["65536", shape, "ports"], "net.spef")
-            files = ["--spef", "net.spef", "--lib", LIBRARY, "--cons", "net.cons"]
-            _, seconds, peak = measure_good([programs[0], "--mode", "time", *files, "--net", "n"])
-            row(name, f"{rows:,}", mb(os.path.getsize("net.cons")), f"{seconds:.2f}", mb(peak))
+            make_net("65536", shape)
+            _, seconds, peak = measure_good([programs[0], *time_words(LIBRARY)])
+            netlist, constraints = (mb(os.path.getsize(path)) for path in ["net.v", "net.cons"])
+            row(name, netlist, f"{rows:,}", constraints, f"{seconds:.2f}", mb(peak))
 
 
 def drop_comments(path, out):
@@ -114,13 +126,12 @@ def run_design(programs, *sizes):
 
 def run_library(programs, *sizes):
     head("library", "of", "seconds", "peak memory", "of the file")
-    make("one_net.py", ["3", "chain", "ports"], "net.spef")
+    make_net("3", "chain")
     make("constraints.py", ["8"], "net.cons")
     for size in sizes or ["64"]:
         for part in ["mixed", "deep", "wide", "values"]:
             make("library.py", [size, part], "made.lib")
-            words = ["--mode", "time", "--spef", "net.spef", "--lib", "made.lib", "--cons", "net.cons", "--net", "n"]
-            _, seconds, peak = measure_good([programs[0], *words])
+            _, seconds, peak = measure_good([programs[0], *time_words("made.lib")])
             bytes_of_file = os.path.getsize("made.lib")
             row(mb(bytes_of_file), part, f"{seconds:.2f}", mb(peak), f"{peak / bytes_of_file:.2f}")
 
