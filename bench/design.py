@@ -1,10 +1,12 @@
 #!/usr/bin/env python3
-"""Writes a SPEF design as extractors write one, of nearly so many MB (2^20 bytes) and never more: `design.py MB FILE`.
+"""Writes a design of four files: `design.py MB PATH` writes PATH.spef, of nearly so many MB (2^20 bytes) and never more, as
+extractors write it, PATH.v, a flat netlist with each net that the SPEF file has, PATH.lib and PATH.cons.
 
 Prints the names of a small net and of the large one. Most nets have 2 to 12 nodes, one in 512 has some hundreds, and
 one in the middle has about a tenth of the file, at most 60,000 nodes. Each net is a tree below the pin that drives it,
-with its resistors in no order of the tree. A coupling capacitor stands in both of its nets. The same words write the
-same file.
+with its resistors in no order of the tree. A coupling capacitor stands in both of its nets. The library has the cells of
+the netlist and, as repeaters, 8 buffers and 8 inverters. The constraints give a required time to all sinks, and to some
+their own, and they block a part of the chip and some nodes. The same words write the same files.
 """
 import itertools
 import sys
@@ -38,7 +40,14 @@ MOST = 60000  # nodes of the large net
 TABLE = 1 << 16
 GROUP = 4  # nets that are written together
 KEPT = 1024  # groups of small nets that are written again and again, with other numbers
+APART = 37  # instances between two sinks of a small net
 BLOCK = 1 << 22
+LIBRARY = """/* the cells of a design that is made for measurements */
+library (bench) {
+  delay_model : generic_cmos;
+  time_unit : "1ps";
+  capacitive_load_unit (1, ff);
+"""
 
 
 def draws():
@@ -143,13 +152,14 @@ class Design:
         self.small, self.large = count // 4 // 16 * 16 + 1, count // 2 // 16 * 16 + 1
         self.draw = draws()
         self.kept = {}
+        self.sinks = {}  # how many sinks a net has, where it has been written
 
     def net_name(self, k):
         return f"blk{k % 61}/bus{k}\\[{k % 32}\\]" if k % 16 == 0 else f"blk{k % 61}/n{k}"
 
     def map_rows(self, k):
         """The rows of a net and its instance."""
-        return f"*{k} {self.net_name(k)}\n", f"*{self.count + k} blk{k % 61}/sub{k % 7}/u{k}\n"
+        return f"*{k} {self.net_name(k)}\n", f"*{self.count + k} {instance_name(k)}\n"
 
     def is_port(self, k):
         """Whether a net has an output port, of the same name."""
@@ -168,8 +178,7 @@ class Design:
         yield "\n"
 
     def net(self, k):
-        size = LARGE if k == self.large else MEDIUM if k % 512 == 0 else SMALL
-        return Net(self.draw, size, self.is_port(k), self.large_nodes)
+        return Net(self.draw, self.size(k), self.is_port(k), self.large_nodes)
 
     def open_group(self, nets):
         """Nets that are coupled to one another, with their text."""
@@ -192,6 +201,8 @@ class Design:
                 nets, text = self.open_group([self.net(k) for k in numbers])
             else:
                 nets, text = self.kept_group()
+            for k, net in zip(numbers, nets):
+                self.sinks[k] = net.sinks
             yield text % self.numbers(start, nets)
 
     def numbers(self, start, nets):
@@ -200,11 +211,97 @@ class Design:
         for i, net in enumerate(nets):
             k = start + i
             values[f"n{i}"], values[f"z{i}"], values[f"y{i}"] = k, count + k, CELLS[k % 8]
-            apart = 37 if net.size == SMALL else 1
+            apart = APART if net.size == SMALL else 1
             for s in range(net.sinks):
                 to = 1 + (k + apart * s) % count
                 values[f"i{i}_{s}"], values[f"c{i}_{s}"] = count + to, CELLS[to % 8]
         return values
+
+    def size(self, k):
+        return LARGE if k == self.large else MEDIUM if k % 512 == 0 else SMALL
+
+    def inputs(self, k):
+        """The input pins of instance k that are on nets, each with the number of its net."""
+        for s, name in enumerate("ABCD"):
+            net = (k - 2 - APART * s) % self.count + 1
+            if self.size(net) == SMALL and s < self.sinks.get(net, 0):
+                yield name, net
+        medium = (k - 1) // 512 * 512
+        if medium and self.size(medium) == MEDIUM and k - 1 - medium < self.sinks.get(medium, 0):
+            yield "S", medium
+        if (k - 1 - self.large) % self.count < self.sinks.get(self.large, 0):
+            yield "CK", self.large
+
+
+def escaped(name):
+    """A name as an escaped identifier, since the hierarchy is in it."""
+    return f"\\{name} "
+
+
+def netlist(design):
+    """The text of the netlist, in pieces: ports, nets, and a line for each connection of an instance."""
+    numbers = range(1, design.count + 1)
+    nets = [escaped(canonical(design.net_name(k))) for k in range(design.count + 1)]
+    ports = [nets[k] for k in numbers if design.is_port(k)]
+    yield "// written by design.py\nmodule bench (" + ",\n    ".join(ports) + ");\n"
+    yield from (f" output {port};\n" for port in ports)
+    yield from (f" wire {nets[k]};\n" for k in numbers if not design.is_port(k))
+    for k in numbers:
+        links = [f".{name}({nets[net]})" for name, net in design.inputs(k)]
+        links.append(f".Z({nets[k]})")
+        yield f" {CELLS[k % 8]} {escaped(instance_name(k))} (" + ",\n    ".join(links) + ");\n"
+    yield "endmodule\n"
+
+
+def library():
+    """The text of the library: the cells of the netlist, with any pin that a net may end at, and the repeaters."""
+    yield LIBRARY
+    for at, name in enumerate(CELLS):
+        pins = ["A", "B", "C", "D", "S", "CK"]
+        yield cell(name, pins, "Z", "(A & B) | (C & D)", at, "")
+    for at in range(8):
+        yield cell(f"BUFX{at + 1}", ["A"], "Z", "A", at, f"      max_capacitance : {40 * (at + 1)};\n")
+        yield cell(f"INVX{at + 1}", ["A"], "ZN", "!A", at, f"      max_capacitance : {50 * (at + 1)};\n")
+    yield "}\n"
+
+
+def cell(name, inputs, output, function, strength, limit):
+    """The text of a cell of one output."""
+    text = f"  cell ({name}) {{\n    area : {strength + 1}.2;\n"
+    for pin in inputs:
+        text += f"    pin ({pin}) {{\n      direction : input;\n      capacitance : {1 + strength * 0.4:.1f};\n    }}\n"
+    text += f"    pin ({output}) {{\n      direction : output;\n      function : \"{function}\";\n{limit}"
+    for pin in inputs:
+        text += (
+            f"      timing () {{\n        related_pin : \"{pin}\";\n"
+            f"        intrinsic_rise : {18 + strength};\n        intrinsic_fall : {17 + strength};\n"
+            f"        rise_resistance : {2 / (1 + strength):.3f};\n        fall_resistance : {1.9 / (1 + strength):.3f};\n"
+            "      }\n"
+        )
+    return text + "    }\n  }\n"
+
+
+def constraints(design):
+    """The text of the constraints, in pieces."""
+    yield "vgcons 2\n\n# in ps, kiloohms and fF\ndefault required 4000\n"
+    yield "block_box 200 200 400 900\nblock_box 1000.5 0 1200 150\n"
+    for k in range(1, design.count + 1):
+        if k % 8 == 0:
+            for pin, _ in itertools.islice(design.inputs(k), 1):
+                yield f"required {instance_name(k)}:{pin} {1500 + k % 977}.25\n"
+        if k % 32 == 1:
+            yield f"arrival {instance_name(k)}:Z {k % 200}.5\n"
+        if k % 64 == 3:
+            yield f"block {canonical(design.net_name(k))}:1\n"
+
+
+def canonical(name):
+    """A net's name without the backslashes that the SPEF file has before brackets."""
+    return name.replace("\\", "")
+
+
+def instance_name(k):
+    return f"blk{k % 61}/sub{k % 7}/u{k}"
 
 
 def nets_in(size, tables, large_nodes):
@@ -243,9 +340,12 @@ def main():
     tables = Tables(draws())
     large_nodes = min(MOST, size // 750)
     design = Design(tables, nets_in(size, tables, large_nodes), large_nodes)
-    write(pieces(design, size), path)
-    print("small", design.net_name(design.small))
-    print("large", design.net_name(design.large))
+    write(pieces(design, size), path + ".spef")
+    write(netlist(design), path + ".v")
+    write(library(), path + ".lib")
+    write(constraints(design), path + ".cons")
+    print("small", canonical(design.net_name(design.small)))
+    print("large", canonical(design.net_name(design.large)))
 
 
 main()

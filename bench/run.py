@@ -1,12 +1,19 @@
 #!/usr/bin/env python3
 """Times vginsert on inputs that it makes in a temporary folder, and prints a table: `run.py PROGRAM MODE [MB...]`.
 
-MODE is `wire` (nets of 65,536 nodes, each alone in its file), `time` (the same nets with their netlists, and with 131,072 and
-1,000,000 rows of constraints), `design` (mode `wire` on a small and the large net of extracted designs of 1, 16, 64
-and 256 MB, or of the sizes given, each with its comments and without them) or `library` (mode `time` on a small net with
-libraries of 64 MB, or of the sizes given: of mixed cells, of deep and of wide groups, and of tables). With `--beside OTHER` each row of `wire` and
-`design` also tells the seconds and the memory of another program with the same arguments, run right after. Seconds are
-the least of five runs of the whole process, peak memory is what GNU time tells, 1 MB is 2^20 bytes.
+| MODE | times | on |
+|---|---|---|
+| `wire` | `--mode wire` | nets of 65,536 nodes, each alone in its file |
+| `design` | `--mode wire` | a small and the large net of extracted designs, each with its comments and without them |
+| `time` | `--mode time` | a small and the large net of designs of four files |
+| `rows` | `--mode time` | nets of 65,536 nodes, with 131,072 and 1,000,000 rows of constraints |
+| `netlist` | `--mode time` | a small net, with netlists of wires, of escaped names, of bits and of undeclared nets |
+| `library` | `--mode time` | a small net, with libraries of mixed cells, of deep and of wide groups, and of tables |
+
+The sizes are those of the SPEF files in modes `design` and `time` (1, 16, 64 and 256 MB if none is given), of the netlists
+(256 MB) and of the libraries (64 MB). With `--beside OTHER` each row but those of `rows` and `library` also tells the seconds
+and the memory of another program with the same arguments, run right after. Seconds are the least of five runs of the whole
+process, peak memory is what GNU time tells, 1 MB is 2^20 bytes.
 """
 import argparse
 import os
@@ -87,13 +94,13 @@ def make_net(nodes, shape):
     make("one_net.py", [nodes, shape, "netlist"], "net.v")
 
 
-def time_words(library):
-    """The words of mode `time` for that net."""
-    files = ["--spef", "net.spef", "--lib", library, "--verilog", "net.v", "--cons", "net.cons"]
-    return ["--mode", "time", *files, "--net", "n"]
+def time_words(library="net.lib", netlist="net.v", net="n"):
+    """The words of mode `time` for a net."""
+    files = ["--spef", "net.spef", "--lib", library, "--verilog", netlist, "--cons", "net.cons"]
+    return ["--mode", "time", *files, "--net", net]
 
 
-def run_time(programs):
+def run_rows(programs):
     head("net", "netlist", "rows of constraints", "constraints", "seconds", "peak memory")
     for rows in [131072, 1000000]:
         make("constraints.py", [str(rows)], "net.cons")
@@ -113,15 +120,43 @@ def drop_comments(path, out):
                 plain.write(kept + b"\n")
 
 
+def designs(sizes):
+    """Writes designs, one after the other, and tells the names of two nets of each, with what they are."""
+    for size in sizes or ["1", "16", "64", "256"]:
+        nets = run_script("design.py", [size, "net"], subprocess.PIPE).decode().splitlines()
+        yield [line.split(" ") for line in nets]
+
+
 def run_design(programs, *sizes):
     head("file", "comments", "net", *titles(programs))
-    for size in sizes or ["1", "16", "64", "256"]:
-        nets = run_script("design.py", [size, "net.spef"], subprocess.PIPE).decode().splitlines()
+    for nets in designs(sizes):
         drop_comments("net.spef", "plain.spef")
         for path, comments in [("net.spef", "yes"), ("plain.spef", "no")]:
-            for net, name in [line.split(" ") for line in nets]:
+            for net, name in nets:
                 _, cells = measure_each(programs, ["--mode", "wire", "--spef", path, "--net", name])
                 row(mb(os.path.getsize(path)), comments, net, *cells)
+
+
+def run_time(programs, *sizes):
+    head("SPEF file", "netlist", "constraints", "net", *titles(programs))
+    for nets in designs(sizes):
+        files = [mb(os.path.getsize(path)) for path in ["net.spef", "net.v", "net.cons"]]
+        for net, name in nets:
+            _, cells = measure_each(programs, time_words(net=name))
+            row(*files, net, *cells)
+
+
+def run_netlist(programs, *sizes):
+    head("netlist", "of", "instances", *titles(programs))
+    make_net("3", "chain")
+    make("constraints.py", ["8"], "net.cons")
+    for size in sizes or ["256"]:
+        for part in ["scalars", "escaped", "bits", "undeclared"]:
+            make("netlist.py", [size, part], "made.v")
+            with open("made.v", "rb") as netlist:
+                instances = sum(b"(.A(" in line for line in netlist)
+            _, cells = measure_each(programs, time_words(LIBRARY, "made.v"))
+            row(mb(os.path.getsize("made.v")), part, f"{instances:,}", *cells)
 
 
 def run_library(programs, *sizes):
@@ -136,18 +171,25 @@ def run_library(programs, *sizes):
             row(mb(bytes_of_file), part, f"{seconds:.2f}", mb(peak), f"{peak / bytes_of_file:.2f}")
 
 
-MODES = {"wire": run_wire, "time": run_time, "design": run_design, "library": run_library}
+MODES = {
+    "wire": run_wire,
+    "design": run_design,
+    "time": run_time,
+    "rows": run_rows,
+    "netlist": run_netlist,
+    "library": run_library,
+}
 
 
 def main():
-    words = argparse.ArgumentParser(usage="run.py PROGRAM wire|time|design|library [MB...] [--beside OTHER]")
+    words = argparse.ArgumentParser(usage=f"run.py PROGRAM {'|'.join(MODES)} [MB...] [--beside OTHER]")
     words.add_argument("program")
     words.add_argument("mode", choices=MODES)
     words.add_argument("sizes", nargs="*")
     words.add_argument("--beside")
     given = words.parse_intermixed_args()
-    if given.sizes and given.mode not in ["design", "library"]:
-        words.error("only the modes design and library have sizes")
+    if given.sizes and given.mode in ["wire", "rows"]:
+        words.error("the modes wire and rows have no sizes")
     programs = [os.path.abspath(path) for path in [given.program, given.beside] if path]
     with tempfile.TemporaryDirectory() as work:
         os.chdir(work)
