@@ -1,3 +1,4 @@
 pub mod TextsLemmas
 pub mod ChainLemmas
+pub mod HashChainLemmas
 pub mod NameTableLemmas

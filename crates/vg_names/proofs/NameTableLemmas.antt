@@ -1,5 +1,5 @@
 -- Tables of names: their chains, and the number of a name.
-use Rattle.std.proofs.Common.{◌≡◌, ◌≢◌, ℕ, zero, suc, ◌+◌, ◌%◌, ◌<◌, ◌≤◌, inl, inr, Bool, true, false, List, [], ◌∷◌, ◌++◌, length, get_or, arith, refl, sym, ap, ◌∙◌, subst, length-append, ◌||◌, Some, None, slice_index}
+use Rattle.std.proofs.Common.{◌≡◌, ◌≢◌, ℕ, zero, suc, ◌+◌, ◌<◌, ◌≤◌, inl, inr, Bool, true, false, List, [], ◌∷◌, ◌++◌, length, get_or, arith, refl, sym, ap, ◌∙◌, subst, length-append, ◌||◌, Some, None, slice_index}
 use Rattle.std.specs.List.{list_any, position_or_len}
 use Rattle.std.specs.Str.{bytes_eq}
 use Rattle.std.proofs.lemmas.Slice.Eq.{bytes_eq-Decides}
@@ -8,29 +8,35 @@ use Rattle.std.proofs.lemmas.List.Quantifiers.{position-Some}
 use Rattle.std.proofs.lemmas.List.{get_or-map, length-map, map-append}
 use Rattle.std.proofs.Math.ListN.{get_or-append}
 use Rattle.std.proofs.Math.Seq.{get_or-append_seam}
-use Rattle.vg_names.specs.Chains.{AreChains, IsLastBelow}
 use Rattle.vg_names.specs.Distinct.{number_of, number_in, with_name}
-use Rattle.vg_names.specs.Hashes.{hash_of, buckets_of}
-use Rattle.vg_names.specs.NameTables.{AreDistinct, IsTable}
-use Rattle.vg_names.specs.declared.chains.Chains.{Chains}
+use Rattle.vg_names.specs.HashChains.{AreHashChains, LeadsTo, bucket_of}
+use Rattle.vg_names.specs.Hashes.{hash_of}
+use Rattle.vg_names.specs.NameTables.{AreDistinct, IsTable, hashes_of}
+use Rattle.vg_names.specs.declared.hash_chains.HashChains.{HashChains}
+use Rattle.vg_names.specs.declared.hash_chains.Link.{Link}
 use Rattle.vg_names.proofs.ChainLemmas.{lt_or_le}
 use Rattle.vg_scan.proofs.FirstLemmas.{lt_yes, lt_no, not_true}
 
-pub length-buckets_of : (n : ℕ) (texts : List (List ℕ)) → length (buckets_of n texts) ≡ length texts
-unfolding buckets_of
-length-buckets_of n texts = length-map texts (λ text. hash_of text % n)
+pub length-hashes_of : (texts : List (List ℕ)) → length (hashes_of texts) ≡ length texts
+unfolding hashes_of
+length-hashes_of texts = length-map texts hash_of
 
-pub get-buckets_of : (n : ℕ) (texts : List (List ℕ)) (row : ℕ) → row < length texts → get_or (buckets_of n texts) row 0 ≡ hash_of (get_or texts row []) % n
-unfolding buckets_of
-get-buckets_of n texts row l = get_or-map (λ text. hash_of text % n) texts row [] 0 l
+pub get-hashes_of : (texts : List (List ℕ)) (row : ℕ) → row < length texts → get_or (hashes_of texts) row 0 ≡ hash_of (get_or texts row [])
+unfolding hashes_of
+get-hashes_of texts row l = get_or-map hash_of texts row [] 0 l
 
-pub buckets_of-append : (n : ℕ) (texts : List (List ℕ)) (text : List ℕ) → buckets_of n (texts ++ text ∷ []) ≡ buckets_of n texts ++ (hash_of text % n) ∷ []
-unfolding buckets_of
-buckets_of-append n texts text = map-append (λ t. hash_of t % n) texts (text ∷ [])
+pub hashes_of-append : (texts : List (List ℕ)) (text : List ℕ) → hashes_of (texts ++ text ∷ []) ≡ hashes_of texts ++ hash_of text ∷ []
+unfolding hashes_of
+hashes_of-append texts text = map-append hash_of texts (text ∷ [])
+
+pub no_hashes : hashes_of [] ≡ []
+unfolding hashes_of
+no_hashes = refl
 
 -- a name is not where no row of its bucket is
-pub not_there : (n : ℕ) (texts : List (List ℕ)) (name : List ℕ) (bucket : ℕ) → bucket ≡ hash_of name % n → (row : ℕ) → row < length texts → slice_index (buckets_of n texts) row ≢ bucket → get_or texts row [] ≢ name
-not_there n texts name bucket e row l other same = other (get-buckets_of n texts row l ∙ ap (λ t. hash_of t % n) same ∙ sym e)
+pub not_there : (buckets : ℕ) (texts : List (List ℕ)) (name : List ℕ) (hash : ℕ) → hash ≡ hash_of name → (row : ℕ) → row < length texts
+    → bucket_of buckets (slice_index (hashes_of texts) row) ≢ bucket_of buckets hash → get_or texts row [] ≢ name
+not_there buckets texts name hash e row l other same = other (ap (bucket_of buckets) (get-hashes_of texts row l ∙ ap hash_of same ∙ sym e))
 
 eq_yes : (a b : List ℕ) → b ≡ a → bytes_eq a b ≡ true
 eq_yes a b e = (bytes_eq-Decides a b).1 (sym e)
@@ -82,32 +88,26 @@ distinct_more names name distinct absent i j less within same =
           absent i (omega arith) (sym left ∙ same ∙ ap (λ k. get_or (names ++ name ∷ []) k []) at ∙ get_or-append_seam names name [] [])
     ]
 
-pub table_more : (names : List (List ℕ)) (name : List ℕ) (old new : Chains) (bucket : ℕ) → AreDistinct names → AreChains old (buckets_of (length old.lasts.items) names)
-    → ((rows : List ℕ) → AreChains old rows → AreChains new (rows ++ bucket ∷ [])) → length new.lasts.items ≡ length old.lasts.items → bucket ≡ hash_of name % length old.lasts.items
+pub table_more : (names : List (List ℕ)) (name : List ℕ) (old new : HashChains) (hash : ℕ) → AreDistinct names → AreHashChains old (hashes_of names)
+    → ((hashes : List ℕ) → AreHashChains old hashes → AreHashChains new (hashes ++ hash ∷ [])) → length new.lasts.items ≡ length old.lasts.items → hash ≡ hash_of name
     → length names < length old.lasts.items → ((row : ℕ) → row < length names → get_or names row [] ≢ name) → IsTable (names ++ name ∷ []) new
-table_more names name old new bucket distinct chained more same bucket_is less absent = record {
+table_more names name old new hash distinct chained more same hash_is less absent = record {
   distinct = distinct_more names name distinct absent;
-  chained =
-      subst (λ n. AreChains new (buckets_of n (names ++ name ∷ []))) (sym same)
-      (subst (λ rows. AreChains new rows) (ap (λ b. buckets_of (length old.lasts.items) names ++ b ∷ []) bucket_is ∙ sym (buckets_of-append (length old.lasts.items) names name)) (more (buckets_of (length old.lasts.items) names) chained));
+  chained = subst (λ hashes. AreHashChains new hashes) (ap (λ h. hashes_of names ++ h ∷ []) hash_is ∙ sym (hashes_of-append names name)) (more (hashes_of names) chained);
   room = omega (arith, same, length-append names (name ∷ []));
 }
 
 -- one turn of a look-up along a chain
-pub turn_absent : (n : ℕ) (texts : List (List ℕ)) (name : List ℕ) (bucket link row before : ℕ) → bucket ≡ hash_of name % n → link ≡ suc row → link ≤ length texts
-    → slice_index (buckets_of n texts) row ≡ bucket → IsLastBelow (buckets_of n texts) row (slice_index (buckets_of n texts) row) before → bytes_eq (get_or texts row []) name ≡ false
-    → ((k : ℕ) → link ≤ k → k < length texts → get_or texts k [] ≢ name) → (k : ℕ) → before ≤ k → k < length texts → get_or texts k [] ≢ name
-turn_absent n texts name bucket link row before bucket_is is_row within here chained other absent k low high same =
+pub turn_absent : (buckets : ℕ) (texts : List (List ℕ)) (name : List ℕ) (hash link row : ℕ) (before : Link) → hash ≡ hash_of name → link ≡ suc row → link ≤ length texts
+    → bucket_of buckets (slice_index (hashes_of texts) row) ≡ bucket_of buckets hash → LeadsTo buckets (hashes_of texts) row (slice_index (hashes_of texts) row) before → get_or texts row [] ≢ name
+    → ((k : ℕ) → link ≤ k → k < length texts → get_or texts k [] ≢ name) → (k : ℕ) → before.next ≤ k → k < length texts → get_or texts k [] ≢ name
+turn_absent buckets texts name hash link row before hash_is is_row within here chained other absent k low high same =
     elim (lt_or_le k row) as (λ _. ⊥) [
-      | inl less ↦ not_there n texts name bucket bucket_is k high (λ e. chained.later k low less (e ∙ sym here)) same
+      | inl less ↦ not_there buckets texts name hash hash_is k high (λ e. chained.later k low less (e ∙ sym here)) same
       | inr ge ↦
           elim (lt_or_le row k) as (λ _. ⊥) [
             | inl more ↦ absent k (omega arith) high same
-            | inr le ↦
-                let at : k ≡ row = omega arith in
-                let yes : bytes_eq (get_or texts row []) name ≡ true = (bytes_eq-Decides (get_or texts row []) name).1 (ap (λ j. get_or texts j []) (sym at) ∙ same) in
-                let clash : true ≡ false = sym yes ∙ other in
-                cc
+            | inr le ↦ let at : k ≡ row = omega arith in other (ap (λ j. get_or texts j []) (sym at) ∙ same)
           ]
     ]
 

@@ -3,10 +3,10 @@
 
 mod chains;
 mod hash;
+mod hash_chains;
 mod names;
 mod texts;
 
 pub use chains::Chains;
-pub use hash::hash_of;
 pub use names::Names;
 pub use texts::Texts;

@@ -1,18 +1,21 @@
 //! Names and their numbers.
 
-ghost use Rattle.std.specs.Prelude.{◌≡◌, ◌≢◌, ◌==◌, ℕ, ◌+◌, ◌-◌, ◌*◌, ◌%◌, ◌<◌, ◌≤◌, ◌^◌, ◌++◌, [], ◌∷◌, List, length, slice_index_or, vec_len, IfOk, IfSome, IfNone, OnErr, OnOk};
+ghost use Rattle.std.specs.Prelude.{◌≡◌, ◌≢◌, ◌==◌, ℕ, suc, ◌+◌, ◌-◌, ◌*◌, ◌<◌, ◌≤◌, ◌^◌, ◌++◌, [], ◌∷◌, List, length, slice_index_or, vec_len, IfOk, IfSome, IfNone, OnErr, OnOk, IsTrue, ◌↔◌};
 ghost use Rattle.std.specs.Vec.{vec_capacity};
 ghost use Rattle.vg_names.specs.Distinct.{number_of, with_name, number_in};
-ghost use Rattle.vg_names.specs.Chains.{AreChains};
-ghost use Rattle.vg_names.specs.Hashes.{hash_of, buckets_of};
-ghost use Rattle.vg_names.specs.NameTables.{IsTable};
+ghost use Rattle.vg_names.specs.HashChains.{AreHashChains};
+ghost use Rattle.vg_names.specs.Hashes.{hash_of};
+ghost use Rattle.vg_names.specs.NameTables.{hashes_of, IsTable};
 
-use crate::chains::Chains;
 use crate::hash::hash_of;
+use crate::hash_chains::{HashChains, Link};
 use crate::texts::Texts;
 use std::alloc::Global;
 use std::marker::Model;
 use vg_num::Memory;
+
+/// How many buckets the first name brings. Each time that there are as many names as buckets, there are twice as many.
+const FIRST_BUCKETS: usize = 32;
 
 /// Distinct names, numbered from 0 in the order in which they came first. Contracts see the list of names. They stand in one
 /// buffer; a look-up hashes the name, and takes no memory.
@@ -20,7 +23,7 @@ use vg_num::Memory;
 pub struct Names {
     alloc: Global,
     texts: Texts,
-    chains: Chains,
+    chains: HashChains,
 }
 
 impl Model for Names {
@@ -34,42 +37,50 @@ impl Model for Names {
     ghost invariant = { λ names. IsTable names.texts names.chains };
 }
 
-/// The number of a name whose bucket is this one. `None`: it is not there.
-fn row_of(texts: &Texts, chains: &Chains, name: &[u8], bucket: usize) -> Option<u32>
-    requires chained { AreChains chains.now (buckets_of (length chains.now.lasts.items) texts.now) }
-    requires bucket { bucket ≡ hash_of name.now % length chains.now.lasts.items }
-    requires within { bucket < length chains.now.lasts.items }
+/// Whether a link's row has this name, of this hash.
+fn is_named(texts: &Texts, link: Link, name: &[u8], hash: u32) -> bool
+    requires row { (0 < link.next) × (link.next ≤ length texts.now) }
+    requires holds { link.hash ≡ hash_of (slice_index_or texts.now (link.next - 1) []) }
+    requires hash { hash ≡ hash_of name.now }
+    ensures { IsTrue result ↔ (slice_index_or texts.now (link.next - 1) [] ≡ name.now) }
+{
+    link.hash == hash && texts.get(link.next as usize - 1) == name
+}
+
+/// The number of a name of this hash. `None`: it is not there.
+fn row_of(texts: &Texts, chains: &HashChains, name: &[u8], hash: u32) -> Option<u32>
+    requires chained { AreHashChains chains.now (hashes_of texts.now) }
+    requires some { 0 < length chains.now.lasts.items }
+    requires hash { hash ≡ hash_of name.now }
     ensures found { IfSome result (λ row. (row < length texts.now) × (slice_index_or texts.now row [] ≡ name.now)) }
     ensures absent { IfNone result ((row : ℕ) → row < length texts.now → slice_index_or texts.now row [] ≢ name.now) }
 {
-    let mut link = chains.last(bucket);
-    'row: while link != 0 {
-        let row = link as usize - 1;
-        if texts.get(row) == name {
-            return Some(link - 1);
+    let mut link = chains.last(hash);
+    'row: while link.next != 0 {
+        if is_named(texts, link, name, hash) {
+            return Some(link.next - 1);
         }
-        link = chains.before(row);
+        link = chains.before(link.next as usize - 1);
     }
     None
 }
 
 /// Texts in chains over so many buckets. Answers `Memory` where there is no room.
-fn chain(alloc: Global, texts: &Texts, buckets: usize) -> Result<Chains, Memory>
+fn chain(alloc: Global, texts: &Texts, buckets: usize) -> Result<HashChains, Memory>
     requires some { 0 < buckets }
     requires few { length texts.now < 2 ^ 32 - 1 }
-    ensures chained { IfOk result (λ chains. AreChains chains (buckets_of buckets texts.now)) }
+    ensures chained { IfOk result (λ chains. AreHashChains chains (hashes_of texts.now)) }
     ensures buckets { IfOk result (λ chains. length chains.lasts.items ≡ buckets) }
 {
-    let mut chains = Chains::new(alloc, buckets)?;
+    let mut chains = HashChains::new(alloc, buckets)?;
     'text: for at in 0..texts.len() {
-        let bucket = hash_of(texts.get(at)) as usize % buckets;
-        chains.push(bucket)?;
+        chains.push(hash_of(texts.get(at)))?;
     }
     Ok(chains)
 }
 
 /// Makes room for one name more. Answers `Memory` where there is none.
-fn make_room(alloc: Global, texts: &Texts, chains: &mut Chains) -> Result<(), Memory>
+fn make_room(alloc: Global, texts: &Texts, chains: &mut HashChains) -> Result<(), Memory>
     requires table { IsTable texts.now chains.old }
     requires few { length texts.now < 2 ^ 32 - 1 }
     ensures table { IsTable texts.now chains.new }
@@ -78,7 +89,8 @@ fn make_room(alloc: Global, texts: &Texts, chains: &mut Chains) -> Result<(), Me
 {
     let count = texts.len();
     if count == chains.buckets() {
-        *chains = chain(alloc, texts, 2 * count + 61)?;
+        let buckets = if count == 0 { FIRST_BUCKETS } else { 2 * count };
+        *chains = chain(alloc, texts, buckets)?;
     }
     chains.reserve()?;
     Ok(())
@@ -92,7 +104,7 @@ impl Names {
         Names {
             alloc,
             texts: Texts::new(alloc),
-            chains: Chains::empty(alloc),
+            chains: HashChains::empty(alloc),
         }
     }
 
@@ -110,20 +122,22 @@ impl Names {
         self.texts.is_empty()
     }
 
+    /// The number of a name of this hash. `None`: it is not there.
+    fn find_by_hash(&self, name: &[u8], hash: u32) -> Option<u32>
+        requires { hash ≡ hash_of name.now }
+        ensures { result ≡ number_of self.now name.now }
+    {
+        if self.chains.buckets() == 0 {
+            return None;
+        }
+        row_of(&self.texts, &self.chains, name, hash)
+    }
+
     /// The number of a name. `None`: it is not there.
     pub fn find(&self, name: &[u8]) -> Option<u32>
         ensures { result ≡ number_of self.now name.now }
     {
-        let buckets = self.chains.buckets();
-        if buckets == 0 {
-            return None;
-        }
-        row_of(
-            &self.texts,
-            &self.chains,
-            name,
-            hash_of(name) as usize % buckets,
-        )
+        self.find_by_hash(name, hash_of(name))
     }
 
     /// The number of a name, which is put last where it is new. Answers `Memory` where there is no room, as where all names
@@ -134,16 +148,16 @@ impl Names {
         ensures names { IfOk result (λ _. self.new ≡ with_name self.old name.now) }
         ensures unchanged { OnErr result (self.new ≡ self.old) }
     {
-        if let Some(id) = self.find(name) {
+        let hash = hash_of(name);
+        if let Some(id) = self.find_by_hash(name, hash) {
             return Ok(id);
         }
         let id = self.texts.len() as u32;
         make_room(self.alloc, &self.texts, &mut self.chains)?;
-        let bucket = hash_of(name) as usize % self.chains.buckets();
         let Ok(()) = self.texts.push(name) else {
             return Err(Memory);
         };
-        self.chains.push(bucket)?;
+        self.chains.push(hash)?;
         Ok(id)
     }
 

@@ -1,7 +1,6 @@
 use Rattle.std.proofs.Common.{◌≡◌, take}
-use Rattle.std.specs.List.{fold}
-use Rattle.vg_names.specs.Hashes.{hash_with}
+use Rattle.vg_names.specs.Hashes.{words_hash}
 use Rattle.vg_names.proofs.hash.mixed_hash.Given as goal
 
-abbrev pub invariant-byte : goal.invariant-byte
-invariant-byte l = l.hash ≡ fold hash_with 2166136261 (take l.byte-index l.text)
+abbrev pub invariant-word : goal.invariant-word
+invariant-word l = l.hash ≡ words_hash (take l.word-index l.words)

@@ -1,8 +1,7 @@
-use Rattle.std.proofs.Common.{◌≡◌, ◌≢◌, ◌<◌, ◌%◌, ℕ, [], ◌∷◌, ◌++◌, List, length, get_or, ap, ◌∙◌, sym, subst, None, arith}
+use Rattle.std.proofs.Common.{◌≡◌, ◌≢◌, ◌<◌, ℕ, [], ◌∷◌, ◌++◌, List, length, get_or, ap, ◌∙◌, sym, subst, None, arith}
 use Rattle.vg_names.specs.Distinct.{number_of}
-use Rattle.vg_names.specs.Hashes.{hash_of}
 use Rattle.vg_names.specs.NameTables.{IsTable}
-use Rattle.vg_names.proofs.NameTableLemmas.{known_of, absent_of, number_known, with_known, with_new, no_place, table_more, length-buckets_of}
+use Rattle.vg_names.proofs.NameTableLemmas.{known_of, absent_of, number_known, with_known, with_new, no_place, table_more, length-hashes_of}
 use Rattle.vg_names.proofs.names.Names.intern.Goals as goal
 
 pub returns-in-Some-clause-number : goal.returns-in-Some-clause-number
@@ -16,16 +15,15 @@ returns-in-Some-clause-names c =
 pub push-requires-2-clause-few : goal.push-requires-2-clause-few
 push-requires-2-clause-few c =
     let names : c.self.inside.texts ≡ c.args.self.now = c.self.view_is in
-    omega (arith, c.make_room.ensures.table.chained.count, length-buckets_of (length c.make_room.new.chains.lasts.items) c.self.inside.texts, ap length names, c.requires)
+    omega (arith, c.make_room.ensures.table.chained.count, length-hashes_of c.self.inside.texts, ap length names, c.requires)
 
 absent : (texts names : List (List ℕ)) (name : List ℕ) → texts ≡ names → None ≡ number_of names name → (row : ℕ) → row < length texts → get_or texts row [] ≢ name
 absent texts names name e none = absent_of texts name (none ∙ ap (λ (ns : List (List ℕ)). number_of ns name) (sym e))
 
 pub invariant_of-self-2 : goal.invariant_of-self-2
 invariant_of-self-2 c =
-    let bucket_is = ap (λ h. h % c.buckets.result) c.hash_of.ensures ∙ ap (λ n. hash_of c.args.name.now % n) c.buckets.ensures in
     subst (λ (ts : List (List ℕ)). IsTable ts c.push-2.new.self) (sym c.in-Ok.ensures.last)
-    (table_more c.self.inside.texts c.args.name.now c.make_room.new.chains c.push-2.new.self _ c.make_room.ensures.table.distinct c.make_room.ensures.table.chained c.in_ok-push.ensures.last c.push-2.ensures.buckets bucket_is c.in_ok-make_room.ensures.more
+    (table_more c.self.inside.texts c.args.name.now c.make_room.new.chains c.push-2.new.self c.hash_of-hash.result c.make_room.ensures.table.distinct c.make_room.ensures.table.chained c.in_ok-push.ensures.last c.push-2.ensures.buckets c.hash_of-hash.ensures c.in_ok-make_room.ensures.more
     (absent c.self.inside.texts c.args.self.now c.args.name.now c.self.view_is c.in_default.ensures))
 
 pub returns-clause-number : goal.returns-clause-number

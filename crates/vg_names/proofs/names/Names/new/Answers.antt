@@ -1,18 +1,14 @@
-use Rattle.std.proofs.Common.{◌≡◌, arith, sym, subst, length, [], List, ℕ, refl}
-use Rattle.vg_names.specs.Hashes.{buckets_of}
-use Rattle.vg_names.specs.Chains.{AreChains}
-use Rattle.vg_names.specs.NameTables.{IsTable}
-use Rattle.vg_names.specs.declared.chains.Chains.{Chains}
+use Rattle.std.proofs.Common.{◌≡◌, arith, sym, ap, ◌∙◌, subst, length, [], List, ℕ, refl}
+use Rattle.vg_names.specs.HashChains.{AreHashChains}
+use Rattle.vg_names.specs.NameTables.{IsTable, hashes_of}
+use Rattle.vg_names.specs.declared.hash_chains.HashChains.{HashChains}
+use Rattle.vg_names.proofs.NameTableLemmas.{no_hashes}
 use Rattle.vg_names.proofs.names.Names.new.Goals as goal
 
-no_buckets : (n : ℕ) → buckets_of n [] ≡ []
-unfolding buckets_of
-no_buckets n = refl
-
-no_table : (texts : List (List ℕ)) (chains : Chains) → texts ≡ [] → AreChains chains [] → IsTable texts chains
+no_table : (texts : List (List ℕ)) (chains : HashChains) → texts ≡ [] → AreHashChains chains [] → IsTable texts chains
 no_table texts chains e h = record {
   distinct = λ i j less within. absurd (let n : length texts ≡ 0 = subst (λ (ts : List (List ℕ)). length ts ≡ 0) (sym e) refl in omega arith);
-  chained = subst (λ (rows : List ℕ). AreChains chains rows) (sym (subst (λ (ts : List (List ℕ)). buckets_of (length chains.lasts.items) ts ≡ []) (sym e) (no_buckets (length chains.lasts.items)))) h;
+  chained = subst (λ (hashes : List ℕ). AreHashChains chains hashes) (sym (ap hashes_of e ∙ no_hashes)) h;
   room = (let n : length texts ≡ 0 = subst (λ (ts : List (List ℕ)). length ts ≡ 0) (sym e) refl in omega arith);
 }
 

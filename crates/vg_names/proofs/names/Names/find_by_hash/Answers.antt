@@ -3,7 +3,7 @@ use Rattle.std.specs.Prelude.{IfSome, IfNone}
 use Rattle.vg_names.specs.Distinct.{number_of}
 use Rattle.vg_names.specs.NameTables.{AreDistinct}
 use Rattle.vg_names.proofs.NameTableLemmas.{is_number, no_number}
-use Rattle.vg_names.proofs.names.Names.find.Goals as goal
+use Rattle.vg_names.proofs.names.Names.find_by_hash.Goals as goal
 
 found_number : (names : List (List ℕ)) (name : List ℕ) (row : Option ℕ) → AreDistinct names
     → IfSome row (λ r. (r < length names) × (get_or names r [] ≡ name)) → IfNone row ((r : ℕ) → r < length names → get_or names r [] ≢ name) → row ≡ number_of names name
