@@ -1,11 +1,11 @@
 -- Rows in chains, by their hashes.
-use Rattle.std.specs.Prelude.{◌≡◌, ◌≢◌, ℕ, suc, ◌-◌, ◌<◌, ◌≤◌, List, bit_and, length, slice_index, slice_index_or}
+use Rattle.std.specs.Prelude.{◌≡◌, ◌≢◌, ℕ, suc, ◌-◌, ◌/◌, ◌^◌, ◌<◌, ◌≤◌, List, bit_and, bit_xor, length, slice_index, slice_index_or}
 use Rattle.vg_names.specs.declared.hash_chains.HashChains.{HashChains}
 use Rattle.vg_names.specs.declared.hash_chains.Link.{Link}
 
--- which of so many buckets a hash is in, by its low bits
+-- which of so many buckets a hash is in, by the low bits of its two halves
 abbrev pub bucket_of : ℕ → ℕ → ℕ
-bucket_of buckets hash = bit_and hash (buckets - 1)
+bucket_of buckets hash = bit_and (bit_xor hash (hash / 2 ^ 16)) (buckets - 1)
 
 -- the link leads to the last of the first n rows that is in the bucket of this hash: none from there on is, and it is itself,
 -- if it is one; the link holds that row's hash
