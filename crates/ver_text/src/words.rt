@@ -48,6 +48,7 @@ fn begins_keyword(byte: u8) -> bool
     )
 }
 
+#[inline(always)]
 pub(crate) fn word_kind(word: &[u8]) -> Kind
     ensures { result ≡ word_kind word.now }
 {
@@ -58,31 +59,21 @@ pub(crate) fn word_kind(word: &[u8]) -> Kind
     }
 }
 
+/// The kind of a word that may be a keyword. Few identifiers are as long as a keyword, so its length comes first.
+#[inline(never)]
 fn keyword_kind(word: &[u8]) -> Kind
     ensures { result ≡ word_kind word.now }
 {
-    if is_direction(word) {
-        return Kind::Direction;
+    match word.len() {
+        3 | 7 if is_net_type(word) => Kind::NetType,
+        4 if is_word(word, b"wire") => Kind::Wire,
+        5 | 6 if is_direction(word) => Kind::Direction,
+        6 if is_word(word, b"assign") => Kind::Assign,
+        6 if is_word(word, b"module") => Kind::Module,
+        8 | 9 if is_parameter(word) => Kind::Parameter,
+        9 if is_word(word, b"endmodule") => Kind::EndModule,
+        _ => Kind::Identifier,
     }
-    if is_word(word, b"wire") {
-        return Kind::Wire;
-    }
-    if is_net_type(word) {
-        return Kind::NetType;
-    }
-    if is_word(word, b"assign") {
-        return Kind::Assign;
-    }
-    if is_word(word, b"module") {
-        return Kind::Module;
-    }
-    if is_word(word, b"endmodule") {
-        return Kind::EndModule;
-    }
-    if is_parameter(word) {
-        return Kind::Parameter;
-    }
-    Kind::Identifier
 }
 
 fn number_kind(value: u32) -> Kind
@@ -111,12 +102,14 @@ pub fn number_of(digits: &[u8]) -> u32
     value
 }
 
+#[inline(never)]
 fn digits_kind(digits: &[u8]) -> Kind
     ensures { result ≡ digits_kind digits.now }
 {
     number_kind(number_of(digits))
 }
 
+#[inline(always)]
 fn mark_kind(byte: u8) -> Kind
     ensures { result ≡ mark_kind byte }
 {
@@ -150,6 +143,7 @@ fn bytes_of(text: &[u8], token: Token) -> &[u8]
 }
 
 /// What a token of a text is to the grammar.
+#[inline(always)]
 pub fn kind_in(text: &[u8], token: Token) -> Kind
     ensures { result ≡ kind_in text.now token }
 {
