@@ -1,16 +1,22 @@
 -- One token after another, as the code reads them: for the functions between.
-use Rattle.std.specs.Prelude.{◌≡◌, ℕ, ◌+◌, List, ◌∷◌, ◌++◌, length}
-use Rattle.std.specs.Borrow.{Bor}
+use Rattle.std.specs.Prelude.{◌≡◌, ℕ, ◌+◌, ◌≤◌, ◌==◌, ◌&&◌, List, ◌∷◌, length, drop, if◌then◌else◌}
 use Rattle.ver_text.specs.declared.piece.Piece.{Piece}
+use Rattle.ver_text.specs.declared.piece.Stretch.{Stretch}
 use Rattle.ver_text.specs.declared.token.Token.{Token}
-use Rattle.ver_text.specs.Tokens.{token_at, tokens_from}
+use Rattle.ver_text.specs.declared.token.TokenKind.TheVariants.{Stray}
+use Rattle.ver_text.specs.Tokens.{begins, token, passed, slash_before, unsized_before, tokens_from}
 
--- what a text begins with, and the text after it
-pub record BeginsWith (text : List ℕ) (found : Piece × Bor (List ℕ)) : Type 0 where
-  pub first : (at : ℕ) → tokens_from 0 at text ≡ token_at at found.0 ++ tokens_from 0 (at + 1 + found.0.more) found.1.now
-  pub place : 1 + found.0.more + length found.1.now ≡ length text
+-- a piece whose first byte stands before this place
+abbrev pub after : ℕ → Piece → Stretch
+after from p = record { kind = p.kind; to = from + p.more }
 
--- the first token of a text that begins at a place, and the text after it
-pub record IsFirst (start : ℕ) (text : List ℕ) (found : Token × Bor (List ℕ)) : Type 0 where
-  pub first : tokens_from 0 start text ≡ found.0 ∷ tokens_from 0 found.0.to found.1.now
-  pub place : found.0.to + length found.1.now ≡ start + length text
+-- what a byte begins before others that few texts have
+abbrev pub rare_before : ℕ → List ℕ → Piece
+rare_before b bs =
+    if b == 47 then slash_before bs
+    else (if b == 39 then unsized_before bs else (if (b == 13) && begins 10 bs then passed 0 else token Stray 0))
+
+-- the first token of a text from a place on
+pub record IsFirst (start : ℕ) (text : List ℕ) (found : Token) : Type 0 where
+  pub first : tokens_from 0 start (drop start text) ≡ found ∷ tokens_from 0 found.to (drop found.to text)
+  pub within : found.to ≤ length text

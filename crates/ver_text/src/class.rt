@@ -1,11 +1,33 @@
 //! Classes of bytes, and runs of bytes of one class.
 
-ghost use Rattle.std.specs.Prelude.{◌≡◌, ◌≤◌, length};
+ghost use Rattle.std.specs.Prelude.{◌≡◌, ◌+◌, ◌≤◌, length, drop};
 ghost use Rattle.std.specs.List.{prefix_len};
 ghost use Rattle.vg_num.specs.Number.{is_digit};
 ghost use Rattle.vg_scan.specs.Lines.{is_blank};
-ghost use Rattle.ver_text.specs.Bytes.{is_letter, is_word_byte, is_printable, is_in_line, is_known_digit, is_unknown_digit, is_digit_of, base_of};
+ghost use Rattle.ver_text.specs.Bytes.{is_letter, is_word_byte, is_mark, is_printable, is_in_line, is_known_digit, is_unknown_digit, is_digit_of, base_of};
 ghost use Rattle.ver_text.specs.Classes.{is_of};
+
+// Each byte of a simple identifier stands at its own place, and a dot at every other place.
+static WORD_BYTES: [u8; 256] = *b"\
+    ................................\
+    ....$...........0123456789......\
+    .ABCDEFGHIJKLMNOPQRSTUVWXYZ...._\
+    .abcdefghijklmnopqrstuvwxyz.....\
+    ................................\
+    ................................\
+    ................................\
+    ................................";
+
+// Each byte that is a token stands at its own place, and an underscore at every other place.
+static MARK_BYTES: [u8; 256] = *b"\
+    ________________________________\
+    ___#____()__,_.___________:;_=__\
+    ___________________________[_]__\
+    ___________________________{_}__\
+    ________________________________\
+    ________________________________\
+    ________________________________\
+    ________________________________";
 
 /// The base of a number.
 #[derive(Clone, Copy)]
@@ -54,7 +76,13 @@ pub(crate) fn is_digit(byte: u8) -> bool
 pub(crate) fn is_word_byte(byte: u8) -> bool
     ensures { result ≡ is_word_byte byte }
 {
-    is_letter(byte) || is_digit(byte) || byte == b'$'
+    WORD_BYTES[byte as usize] != b'.'
+}
+
+pub(crate) fn is_mark(byte: u8) -> bool
+    ensures { result ≡ is_mark byte }
+{
+    MARK_BYTES[byte as usize] != b'_'
 }
 
 fn is_printable(byte: u8) -> bool
@@ -116,16 +144,26 @@ impl Class {
         }
     }
 
+    /// Where the bytes of this class end that stand at a place of a text.
+    #[inline(always)]
+    pub(crate) fn end(self, text: &[u8], from: usize) -> usize
+        requires { from ≤ length text.now }
+        ensures run { result ≡ from + prefix_len (is_of self) (drop from text.now) }
+        ensures within { result ≤ length text.now }
+    {
+        let mut end = from;
+        'run: while end < text.len() && self.has(text[end]) {
+            end += 1;
+        }
+        end
+    }
+
     /// How many bytes of this class stand at the beginning of a text.
     #[inline(always)]
     pub(crate) fn run(self, text: &[u8]) -> usize
         ensures run { result ≡ prefix_len (is_of self) text.now }
         ensures within { result ≤ length text.now }
     {
-        let mut end = 0;
-        'run: while end < text.len() && self.has(text[end]) {
-            end += 1;
-        }
-        end
+        self.end(text, 0)
     }
 }

@@ -1,12 +1,13 @@
 //! What a byte of a text begins.
 
-ghost use Rattle.std.specs.Prelude.{◌≡◌, ◌+◌, ◌^◌, ◌≤◌, ◌<◌, length, true};
-ghost use Rattle.ver_text.specs.Bytes.{is_mark};
-ghost use Rattle.ver_text.specs.Tokens.{begins, with_more, digits_of, base_length, signed_length, based_length, number, number_before, unsized_before, escaped_before, closes, before_close, enclosed, slash_before, bracket_before, directive_length, mark_before, piece};
+ghost use Rattle.std.specs.Prelude.{◌≡◌, ◌+◌, ◌^◌, ◌≤◌, ◌<◌, length, drop, true};
+ghost use Rattle.ver_text.specs.Found.{after, rare_before};
+ghost use Rattle.ver_text.specs.Tokens.{begins, with_more, digits_of, base_length, signed_length, based_length, number_before, unsized_before, escaped_before, closes, before_close, enclosed, slash_before, bracket_before, directive_length, mark_before, piece};
 
-use crate::class::{Base, Class, is_blank, is_digit, is_letter};
-use crate::piece::Piece;
+use crate::class::{Base, Class, is_blank, is_digit, is_letter, is_mark};
+use crate::piece::{Piece, Stretch};
 use crate::token::TokenKind;
+use vg_scan::text_from;
 
 fn begins(byte: u8, text: &[u8]) -> bool
     ensures test { result ≡ begins byte text.now }
@@ -48,6 +49,7 @@ fn base_length(text: &[u8]) -> usize
 }
 
 /// The same, where an `s` may stand before the base.
+#[inline(never)]
 fn signed_length(text: &[u8]) -> usize
     ensures length { result ≡ signed_length text.now }
     ensures within { result ≤ length text.now }
@@ -60,6 +62,7 @@ fn signed_length(text: &[u8]) -> usize
 }
 
 /// The same, with a `'` before it.
+#[inline(always)]
 fn based_length(text: &[u8]) -> usize
     ensures length { result ≡ based_length text.now }
     ensures within { result ≤ length text.now }
@@ -71,28 +74,24 @@ fn based_length(text: &[u8]) -> usize
     }
 }
 
-/// A number that is so many digits more, and a base with digits or none.
-fn number(digits: usize, based: usize) -> Piece
-    requires { digits + based < 2 ^ 64 }
-    ensures { result ≡ number digits based }
+/// The number that begins with a digit before a place of a text.
+#[inline(always)]
+fn number_before(text: &[u8], from: usize) -> Stretch
+    requires { from ≤ length text.now }
+    ensures piece { result ≡ after from (number_before (drop from text.now)) }
+    ensures within { result.to ≤ length text.now }
 {
+    let end = Class::Digit.end(text, from);
+    let based = based_length(text_from(text, end));
     if based == 0 {
-        Piece::token(TokenKind::Digits, digits)
+        Stretch::token(TokenKind::Digits, end)
     } else {
-        Piece::token(TokenKind::Based, digits + based)
+        Stretch::token(TokenKind::Based, end + based)
     }
 }
 
-/// The number that begins with a digit before a text.
-fn number_before(rest: &[u8]) -> Piece
-    ensures piece { result ≡ number_before rest.now }
-    ensures within { result.more ≤ length rest.now }
-{
-    let digits = Class::Digit.run(rest);
-    number(digits, based_length(&rest[digits..]))
-}
-
 /// The number that begins with a `'` before a text.
+#[inline(never)]
 fn unsized_before(rest: &[u8]) -> Piece
     ensures piece { result ≡ unsized_before rest.now }
     ensures within { result.more ≤ length rest.now }
@@ -105,16 +104,18 @@ fn unsized_before(rest: &[u8]) -> Piece
     }
 }
 
-/// The identifier that begins with a backslash before a text.
-fn escaped_before(rest: &[u8]) -> Piece
-    ensures piece { result ≡ escaped_before rest.now }
-    ensures within { result.more ≤ length rest.now }
+/// The identifier that begins with a backslash before a place of a text.
+#[inline(always)]
+fn escaped_before(text: &[u8], from: usize) -> Stretch
+    requires { from ≤ length text.now }
+    ensures piece { result ≡ after from (escaped_before (drop from text.now)) }
+    ensures within { result.to ≤ length text.now }
 {
-    let more = Class::Printable.run(rest);
-    if more == 0 {
-        Piece::token(TokenKind::Stray, 0)
+    let end = Class::Printable.end(text, from);
+    if end == from {
+        Stretch::token(TokenKind::Stray, from)
     } else {
-        Piece::token(TokenKind::Escaped, more)
+        Stretch::token(TokenKind::Escaped, end)
     }
 }
 
@@ -146,6 +147,7 @@ fn before_close(close: u8, text: &[u8]) -> usize
 }
 
 /// A comment or an attribute, after its first two bytes, up to a `*` and this byte.
+#[inline(never)]
 fn enclosed(close: u8, text: &[u8]) -> Piece
     ensures piece { result ≡ enclosed close text.now }
     ensures within { result.more ≤ length text.now + 1 }
@@ -159,6 +161,7 @@ fn enclosed(close: u8, text: &[u8]) -> Piece
 }
 
 /// What a `/` begins before a text.
+#[inline(never)]
 fn slash_before(rest: &[u8]) -> Piece
     ensures piece { result ≡ slash_before rest.now }
     ensures within { result.more ≤ length rest.now }
@@ -172,19 +175,23 @@ fn slash_before(rest: &[u8]) -> Piece
     Piece::token(TokenKind::Stray, 0)
 }
 
-/// What a `(` begins before a text.
-fn bracket_before(rest: &[u8]) -> Piece
-    ensures piece { result ≡ bracket_before rest.now }
-    ensures within { result.more ≤ length rest.now }
+/// What a `(` begins before a place of a text.
+#[inline(always)]
+fn bracket_before(text: &[u8], from: usize) -> Stretch
+    requires { from ≤ length text.now }
+    ensures piece { result ≡ after from (bracket_before (drop from text.now)) }
+    ensures within { result.to ≤ length text.now }
 {
+    let rest = text_from(text, from);
     if begins(b'*', rest) {
-        enclosed(b')', &rest[1..])
+        enclosed(b')', &rest[1..]).after(from)
     } else {
-        Piece::token(TokenKind::Mark(b'('), 0)
+        Stretch::token(TokenKind::Mark(b'('), from)
     }
 }
 
 /// How many bytes a compiler directive takes at the beginning of a line; 0 where none stands there.
+#[inline(always)]
 pub(crate) fn directive_length(line: &[u8]) -> usize
     ensures length { result ≡ directive_length line.now }
     ensures within { result ≤ length line.now }
@@ -197,29 +204,12 @@ pub(crate) fn directive_length(line: &[u8]) -> usize
     }
 }
 
-fn is_mark(byte: u8) -> bool
-    ensures { result ≡ is_mark byte }
-{
-    matches!(
-        byte,
-        b'(' | b')' | b'[' | b']' | b'{' | b'}' | b',' | b';' | b'.' | b':' | b'=' | b'#'
-    )
-}
-
-/// What a byte begins that is no blank, letter or digit and ends no line.
-fn mark_before(byte: u8, rest: &[u8]) -> Piece
-    ensures piece { result ≡ mark_before byte rest.now }
+/// What a byte begins before a text that few texts have: a comment, a number with no size, a carriage return, or nothing.
+#[inline(never)]
+fn rare_before(byte: u8, rest: &[u8]) -> Piece
+    ensures piece { result ≡ rare_before byte rest.now }
     ensures within { result.more ≤ length rest.now }
 {
-    if byte == b'(' {
-        return bracket_before(rest);
-    }
-    if is_mark(byte) {
-        return Piece::token(TokenKind::Mark(byte), 0);
-    }
-    if byte == b'\\' {
-        return escaped_before(rest);
-    }
     if byte == b'/' {
         return slash_before(rest);
     }
@@ -232,22 +222,53 @@ fn mark_before(byte: u8, rest: &[u8]) -> Piece
     Piece::token(TokenKind::Stray, 0)
 }
 
-/// What a byte begins before a text.
-pub(crate) fn piece(byte: u8, rest: &[u8]) -> Piece
-    ensures piece { result ≡ piece byte rest.now }
-    ensures within { result.more ≤ length rest.now }
+/// The same, before a place of a text.
+#[inline(always)]
+fn rare_from(byte: u8, text: &[u8], from: usize) -> Stretch
+    requires { from ≤ length text.now }
+    ensures piece { result ≡ after from (rare_before byte (drop from text.now)) }
+    ensures within { result.to ≤ length text.now }
+{
+    rare_before(byte, text_from(text, from)).after(from)
+}
+
+/// What a byte begins before a place of a text that is no blank, letter or digit and ends no line.
+#[inline(always)]
+fn mark_before(byte: u8, text: &[u8], from: usize) -> Stretch
+    requires { from ≤ length text.now }
+    ensures piece { result ≡ after from (mark_before byte (drop from text.now)) }
+    ensures within { result.to ≤ length text.now }
+{
+    if byte == b'(' {
+        return bracket_before(text, from);
+    }
+    if is_mark(byte) {
+        return Stretch::token(TokenKind::Mark(byte), from);
+    }
+    if byte == b'\\' {
+        return escaped_before(text, from);
+    }
+    rare_from(byte, text, from)
+}
+
+/// What a byte begins before a place of a text.
+#[inline(always)]
+pub(crate) fn piece(byte: u8, text: &[u8], from: usize) -> Stretch
+    requires { from ≤ length text.now }
+    ensures piece { result ≡ after from (piece byte (drop from text.now)) }
+    ensures within { result.to ≤ length text.now }
 {
     if is_blank(byte) {
-        return Piece::passed(0);
+        return Stretch::passed(from);
     }
     if is_letter(byte) {
-        return Piece::token(TokenKind::Word, Class::Word.run(rest));
+        return Stretch::token(TokenKind::Word, Class::Word.end(text, from));
     }
     if is_digit(byte) {
-        return number_before(rest);
+        return number_before(text, from);
     }
     if byte == b'\n' {
-        return Piece::passed(directive_length(rest));
+        return Stretch::passed(from + directive_length(text_from(text, from)));
     }
-    mark_before(byte, rest)
+    mark_before(byte, text, from)
 }

@@ -1,41 +1,30 @@
 //! The tokens of a text, one after another.
 
-ghost use Rattle.std.specs.Prelude.{◌≡◌, ◌+◌, ◌^◌, ◌<◌, [], length, MatchOption};
+ghost use Rattle.std.specs.Prelude.{◌≡◌, ◌≤◌, [], length, drop, MatchOption};
 ghost use Rattle.ver_text.specs.Tokens.{tokens_from};
-ghost use Rattle.ver_text.specs.Found.{BeginsWith, IsFirst};
+ghost use Rattle.ver_text.specs.Found.{IsFirst};
 
 use crate::lexer::{directive_length, piece};
-use crate::piece::Piece;
 use crate::token::Token;
 use std::marker::Model;
 
-/// What the first byte of a text begins, and what follows it. `None`: the text is empty.
-fn first_piece(text: &[u8]) -> Option<(Piece, &[u8])>
-    ensures { MatchOption result (text.now ≡ []) (BeginsWith text.now) }
+/// The first token of a text from a place on. `None`: there is none.
+#[inline(always)]
+fn next_token(text: &[u8], start: usize) -> Option<Token>
+    requires { start ≤ length text.now }
+    ensures { MatchOption result (tokens_from 0 start (drop start text.now) ≡ []) (IsFirst start text.now) }
 {
-    match text {
-        [] => None,
-        [first, rest @ ..] => {
-            let piece = piece(*first, rest);
-            Some((piece, &rest[piece.more..]))
-        }
-    }
-}
-
-/// The first token of a text that begins at a place of a longer one, and what follows it. `None`: the text has none.
-fn next_token(text: &[u8], start: usize) -> Option<(Token, &[u8])>
-    requires { start + length text.now < 2 ^ 64 }
-    ensures { MatchOption result (tokens_from 0 start text.now ≡ []) (IsFirst start text.now) }
-{
-    let mut rest = text;
     let mut at = start;
-    'piece: while let Some((piece, others)) = first_piece(rest) {
-        let to = at + 1 + piece.more;
+    'piece: while at < text.len() {
+        let piece = piece(text[at], text, at + 1);
         if let Some(kind) = piece.kind {
-            return Some((Token { kind, from: at, to }, others));
+            return Some(Token {
+                kind,
+                from: at,
+                to: piece.to,
+            });
         }
-        rest = others;
-        at = to;
+        at = piece.to;
     }
     None
 }
@@ -47,20 +36,20 @@ fn next_token(text: &[u8], start: usize) -> Option<(Token, &[u8])>
 /// over. Digits are in lower case, as in `8'hff`.
 #[derive(Debug, Drop)]
 pub struct Tokens<'a> {
-    rest: &'a [u8],
+    text: &'a [u8],
     at: usize,
 }
 
 impl<'a> Model for Tokens<'a> {
-    ghost use Rattle.std.specs.Prelude.{◌+◌, ◌^◌, ◌<◌, List, length};
+    ghost use Rattle.std.specs.Prelude.{◌≤◌, List, length, drop};
     ghost use Rattle.ver_text.specs.declared.token.Token.{Token as TokenSpec};
     ghost use Rattle.ver_text.specs.Tokens.{tokens_from};
 
     ghost Value = { List TokenSpec };
 
-    ghost view = { λ left. tokens_from 0 left.at left.rest.now };
+    ghost view = { λ left. tokens_from 0 left.at (drop left.at left.text.now) };
 
-    ghost invariant = { λ left. left.at + length left.rest.now < 2 ^ 64 };
+    ghost invariant = { λ left. left.at ≤ length left.text.now };
 }
 
 impl<'a> Tokens<'a> {
@@ -70,10 +59,9 @@ impl<'a> Tokens<'a> {
     pub fn new(text: &'a [u8]) -> Tokens<'a>
         ensures { result ≡ tokens_of text.now }
     {
-        let at = directive_length(text);
         Tokens {
-            rest: &text[at..],
-            at,
+            text,
+            at: directive_length(text),
         }
     }
 }
@@ -87,9 +75,9 @@ impl<'a> Iterator for Tokens<'a> {
 
     ghost remaining = { item_count (λ left. left) };
 
+    #[inline(always)]
     fn next(&mut self) -> Option<Token> {
-        let (token, rest) = next_token(self.rest, self.at)?;
-        self.rest = rest;
+        let token = next_token(self.text, self.at)?;
         self.at = token.to;
         Some(token)
     }
