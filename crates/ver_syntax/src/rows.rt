@@ -19,19 +19,41 @@ fn item_after(kind: Kind) -> Place
     }
 }
 
+/// What the token after a `(` stands in.
+fn opened(place: Place) -> Place
+    ensures { result ≡ place_after place Kind.Open }
+{
+    match place {
+        Place::Head => Place::Ports,
+        Place::Start => Place::Instances,
+        Place::Instances => Place::Pins,
+        Place::Pins => Place::Connection,
+        _ => place,
+    }
+}
+
+/// What the token after a `)` stands in.
+fn closed(place: Place) -> Place
+    ensures { result ≡ place_after place Kind.Close }
+{
+    match place {
+        Place::Ports => Place::Head,
+        Place::Connection => Place::Pins,
+        Place::Start | Place::Pins => Place::Instances,
+        _ => place,
+    }
+}
+
 /// What the token after one of this kind stands in.
+#[inline(always)]
 fn place_after(place: Place, kind: Kind) -> Place
     ensures { result ≡ place_after place kind }
 {
-    match (place, kind) {
-        (Place::Start, _) => item_after(kind),
-        (_, Kind::Semicolon) => Place::Start,
-        (Place::Head, Kind::Open) => Place::Ports,
-        (Place::Ports, Kind::Close) => Place::Head,
-        (Place::Instances, Kind::Open) => Place::Pins,
-        (Place::Pins, Kind::Open) => Place::Connection,
-        (Place::Connection, Kind::Close) => Place::Pins,
-        (Place::Pins, Kind::Close) => Place::Instances,
+    match (kind, place) {
+        (Kind::Open, _) => opened(place),
+        (Kind::Close, _) => closed(place),
+        (Kind::Semicolon, _) => Place::Start,
+        (_, Place::Start) => item_after(kind),
         _ => place,
     }
 }
@@ -78,6 +100,7 @@ impl<'a> Iterator for Rows<'a> {
 
     ghost remaining = { item_count (λ left. left) };
 
+    #[inline(always)]
     fn next(&mut self) -> Option<Row> {
         let Some(token) = self.tokens.next() else {
             return None;
