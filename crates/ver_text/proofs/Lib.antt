@@ -1,4 +1,5 @@
 pub mod RunLemmas
+pub mod LaneLemmas
 pub mod TokenLemmas
 pub mod KindLemmas
 pub mod OrderLemmas

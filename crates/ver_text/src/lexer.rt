@@ -1,10 +1,13 @@
 //! What a byte of a text begins.
 
 ghost use Rattle.std.specs.Prelude.{◌≡◌, ◌+◌, ◌^◌, ◌≤◌, ◌<◌, length, drop, true};
+ghost use Rattle.std.specs.List.{prefix_len};
+ghost use Rattle.ver_text.specs.Bytes.{is_printable};
 ghost use Rattle.ver_text.specs.Found.{after, rare_before};
 ghost use Rattle.ver_text.specs.Tokens.{begins, with_more, digits_of, base_length, signed_length, based_length, number_before, unsized_before, escaped_before, closes, before_close, enclosed, slash_before, bracket_before, directive_length, mark_before, piece};
 
 use crate::class::{Base, Class, is_blank, is_digit, is_letter, is_mark};
+use crate::lanes::{LANES, printable_lanes};
 use crate::piece::{Piece, Stretch};
 use crate::token::TokenKind;
 use vg_scan::text_from;
@@ -104,6 +107,24 @@ fn unsized_before(rest: &[u8]) -> Piece
     }
 }
 
+/// Where the printable bytes end that stand at a place of a text. Most names are long, so that many are read at a time.
+#[inline(always)]
+fn printable_end(text: &[u8], from: usize) -> usize
+    requires { from ≤ length text.now }
+    ensures run { result ≡ from + prefix_len is_printable (drop from text.now) }
+    ensures within { result ≤ length text.now }
+{
+    let mut end = from;
+    'load: while text.len() - end >= LANES {
+        let run = printable_lanes(text, end);
+        if run < LANES {
+            return end + run;
+        }
+        end += LANES;
+    }
+    Class::Printable.end(text, end)
+}
+
 /// The identifier that begins with a backslash before a place of a text.
 #[inline(always)]
 fn escaped_before(text: &[u8], from: usize) -> Stretch
@@ -111,7 +132,7 @@ fn escaped_before(text: &[u8], from: usize) -> Stretch
     ensures piece { result ≡ after from (escaped_before (drop from text.now)) }
     ensures within { result.to ≤ length text.now }
 {
-    let end = Class::Printable.end(text, from);
+    let end = printable_end(text, from);
     if end == from {
         Stretch::token(TokenKind::Stray, from)
     } else {

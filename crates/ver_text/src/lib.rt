@@ -5,6 +5,7 @@
 
 mod class;
 mod kind;
+mod lanes;
 mod laws;
 mod lexer;
 mod name;
