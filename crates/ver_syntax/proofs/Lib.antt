@@ -1,4 +1,5 @@
 pub mod MoveLemmas
+pub mod TableLemmas
 pub mod FaultLemmas
 pub mod ReadLemmas
 pub mod RowLemmas

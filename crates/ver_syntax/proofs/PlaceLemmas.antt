@@ -4,7 +4,7 @@ use Rattle.vg_grammar.specs.Grammar.{Begins}
 use Rattle.vg_grammar.specs.Machines.{run}
 use Rattle.vg_grammar.proofs.LawLemmas.{goes_on}
 use Rattle.ver_text.specs.declared.kind.Kind.{Kind}
-use Rattle.ver_text.specs.declared.kind.Kind.TheVariants.{Module, Assign}
+use Rattle.ver_text.specs.declared.kind.Kind.TheVariants.{Assign}
 use Rattle.ver_text.specs.declared.token.Token.{Token}
 use Rattle.ver_text.specs.Kinds.{kind_in}
 use Rattle.ver_text.specs.Tokens.{tokens_of}
@@ -13,28 +13,18 @@ use Rattle.ver_syntax.specs.declared.row.Place.TheVariants.{Start as InStart, He
 use Rattle.ver_syntax.specs.declared.row.Row.{Row}
 use Rattle.ver_syntax.specs.Grammar.{rules, module_declaration}
 use Rattle.ver_syntax.specs.Laws.{place_after_all, RowsStandByKinds, ItemsStandAtStart}
-use Rattle.ver_syntax.specs.Moves.{State, ways, gives, head_move, item_move, range_move, instance_move, expr_move, move, next, is_done}
+use Rattle.ver_syntax.specs.Moves.{State, ways, move, next, is_done}
 use Rattle.ver_syntax.specs.Rows.{place_after, row, rows_from}
 use Rattle.ver_syntax.proofs.MoveLemmas.{machine}
-use Rattle.ver_syntax.proofs.FaultLemmas.{agrees, agree, both_true}
+use Rattle.ver_syntax.proofs.FaultLemmas.{agrees, agree}
+use Rattle.ver_syntax.proofs.TableLemmas.{both_true, each_move, each_state}
 use Rattle.ver_syntax.proofs.RowLemmas.{no_row, next_row}
-use Rattle.ver_syntax.specs.declared.state.Head.{Head}
-use Rattle.ver_syntax.specs.declared.state.Head.TheVariants.{Start as HeadStart, Module as HeadModule, Name as HeadName, Ports, Direction as PortDirection, Wire as PortWire, Range as PortRange, Port, Comma as PortComma, End as HeadEnd}
-use Rattle.ver_syntax.specs.declared.state.Item.{Item}
-use Rattle.ver_syntax.specs.declared.state.Item.TheVariants.{Start as ItemStart, Direction as ItemDirection, Net, Next, Name as ItemName, Over}
-use Rattle.ver_syntax.specs.declared.state.Owner.{Owner}
+use Rattle.ver_syntax.specs.declared.state.Head.TheVariants.{Start as HeadStart, Module as HeadModule, Name as HeadName, End as HeadEnd}
+use Rattle.ver_syntax.specs.declared.state.Item.TheVariants.{Start as ItemStart, Over}
 use Rattle.ver_syntax.specs.declared.state.Owner.TheVariants.{Port as OfPort, Item as OfItem}
-use Rattle.ver_syntax.specs.declared.state.Bound.TheVariants.{Zero as FromZero, Small as FromSmall, Limit as FromLimit}
-use Rattle.ver_syntax.specs.declared.state.Range.{Range}
-use Rattle.ver_syntax.specs.declared.state.Range.TheVariants.{Open as RangeOpen, First, Colon as RangeColon, Second}
-use Rattle.ver_syntax.specs.declared.state.Instance.{Instance}
-use Rattle.ver_syntax.specs.declared.state.Instance.TheVariants.{Cell, Comma as InstanceComma, Name as InstanceName, Pins, PinComma, Dot as PinDot, Pin as PinName, Connection, PinEnd, End as InstanceEnd}
-use Rattle.ver_syntax.specs.declared.state.Expr.{Expr}
-use Rattle.ver_syntax.specs.declared.state.Expr.TheVariants.{Start as ExprStart, Name as ExprName, Select, Bit, Colon as SelectColon, Last, End as ExprEnd, Brace as BraceOpen, Digits, Repeated}
-use Rattle.ver_syntax.specs.declared.state.Role.{Role}
-use Rattle.ver_syntax.specs.declared.state.Role.TheVariants.{Left, Right, Pin as OfPin}
+use Rattle.ver_syntax.specs.declared.state.Instance.TheVariants.{Cell, Comma as InstanceComma, Name as InstanceName, Connection, End as InstanceEnd}
+use Rattle.ver_syntax.specs.declared.state.Role.TheVariants.{Pin as OfPin}
 use Rattle.ver_syntax.specs.declared.state.Brace.{Brace}
-use Rattle.ver_syntax.specs.declared.state.Brace.TheVariants.{List as InList, Repeat}
 use Rattle.ver_syntax.specs.declared.state.At.{At}
 use Rattle.ver_syntax.specs.declared.state.At.TheVariants.{Head as AtHead, Range as AtRange, Item as AtItem, Instance as AtInstance, Expr as AtExpr}
 
@@ -90,195 +80,9 @@ follows : Option State → Place → Bool
 follows None p = true
 follows (Some s) p = (number p == number (place_at s.at)) && not (is_first s.at)
 
-head_follows : (at : Head) (k : Kind) → follows (gives (head_move at k) []) (place_after (place_at (AtHead at)) k) ≡ true
-unfolding follows number place_at is_first
-head_follows HeadStart Module = refl
-head_follows HeadStart k = refl
-head_follows HeadModule Module = refl
-head_follows HeadModule k = refl
-head_follows HeadName Module = refl
-head_follows HeadName k = refl
-head_follows Ports Module = refl
-head_follows Ports k = refl
-head_follows PortDirection Module = refl
-head_follows PortDirection k = refl
-head_follows PortWire Module = refl
-head_follows PortWire k = refl
-head_follows PortRange Module = refl
-head_follows PortRange k = refl
-head_follows Port Module = refl
-head_follows Port k = refl
-head_follows PortComma Module = refl
-head_follows PortComma k = refl
-head_follows HeadEnd Module = refl
-head_follows HeadEnd k = refl
-
-item_follows : (at : Item) (k : Kind) → follows (gives (item_move at k) []) (place_after (place_at (AtItem at)) k) ≡ true
-unfolding follows number place_at is_first
-item_follows ItemStart Module = refl
-item_follows ItemStart k = refl
-item_follows ItemDirection Module = refl
-item_follows ItemDirection k = refl
-item_follows Net Module = refl
-item_follows Net k = refl
-item_follows Next Module = refl
-item_follows Next k = refl
-item_follows ItemName Module = refl
-item_follows ItemName k = refl
-item_follows Over Module = refl
-item_follows Over k = refl
-
-range_follows : (owner : Owner) (at : Range) (k : Kind) → follows (gives (range_move owner at k) []) (place_after (place_at (AtRange owner at)) k) ≡ true
-unfolding follows number place_at is_first
-range_follows OfPort RangeOpen Module = refl
-range_follows OfPort RangeOpen k = refl
-range_follows OfPort (First FromZero) Module = refl
-range_follows OfPort (First FromZero) k = refl
-range_follows OfPort (First FromSmall) Module = refl
-range_follows OfPort (First FromSmall) k = refl
-range_follows OfPort (First FromLimit) Module = refl
-range_follows OfPort (First FromLimit) k = refl
-range_follows OfPort (RangeColon FromZero) Module = refl
-range_follows OfPort (RangeColon FromZero) k = refl
-range_follows OfPort (RangeColon FromSmall) Module = refl
-range_follows OfPort (RangeColon FromSmall) k = refl
-range_follows OfPort (RangeColon FromLimit) Module = refl
-range_follows OfPort (RangeColon FromLimit) k = refl
-range_follows OfPort Second Module = refl
-range_follows OfPort Second k = refl
-range_follows OfItem RangeOpen Module = refl
-range_follows OfItem RangeOpen k = refl
-range_follows OfItem (First FromZero) Module = refl
-range_follows OfItem (First FromZero) k = refl
-range_follows OfItem (First FromSmall) Module = refl
-range_follows OfItem (First FromSmall) k = refl
-range_follows OfItem (First FromLimit) Module = refl
-range_follows OfItem (First FromLimit) k = refl
-range_follows OfItem (RangeColon FromZero) Module = refl
-range_follows OfItem (RangeColon FromZero) k = refl
-range_follows OfItem (RangeColon FromSmall) Module = refl
-range_follows OfItem (RangeColon FromSmall) k = refl
-range_follows OfItem (RangeColon FromLimit) Module = refl
-range_follows OfItem (RangeColon FromLimit) k = refl
-range_follows OfItem Second Module = refl
-range_follows OfItem Second k = refl
-
-instance_follows : (at : Instance) (k : Kind) → follows (gives (instance_move at k) []) (place_after (place_at (AtInstance at)) k) ≡ true
-unfolding follows number place_at is_first
-instance_follows Cell Module = refl
-instance_follows Cell k = refl
-instance_follows InstanceComma Module = refl
-instance_follows InstanceComma k = refl
-instance_follows InstanceName Module = refl
-instance_follows InstanceName k = refl
-instance_follows Pins Module = refl
-instance_follows Pins k = refl
-instance_follows PinComma Module = refl
-instance_follows PinComma k = refl
-instance_follows PinDot Module = refl
-instance_follows PinDot k = refl
-instance_follows PinName Module = refl
-instance_follows PinName k = refl
-instance_follows Connection Module = refl
-instance_follows Connection k = refl
-instance_follows PinEnd Module = refl
-instance_follows PinEnd k = refl
-instance_follows InstanceEnd Module = refl
-instance_follows InstanceEnd k = refl
-
-expr_follows : (role : Role) (at : Expr) (k : Kind) (bs : List Brace) → follows (expr_move role at k bs) (place_after (place_at (AtExpr role at)) k) ≡ true
-unfolding follows number place_at is_first
-expr_follows Left ExprStart Module bs = refl
-expr_follows Left ExprStart k bs = refl
-expr_follows Right ExprStart Module bs = refl
-expr_follows Right ExprStart k bs = refl
-expr_follows OfPin ExprStart Module bs = refl
-expr_follows OfPin ExprStart k bs = refl
-expr_follows Left ExprName Module [] = refl
-expr_follows Left ExprName k [] = refl
-expr_follows Left ExprName Module (InList ∷ bs) = refl
-expr_follows Left ExprName k (InList ∷ bs) = refl
-expr_follows Left ExprName Module (Repeat ∷ bs) = refl
-expr_follows Left ExprName k (Repeat ∷ bs) = refl
-expr_follows Right ExprName Module [] = refl
-expr_follows Right ExprName k [] = refl
-expr_follows Right ExprName Module (InList ∷ bs) = refl
-expr_follows Right ExprName k (InList ∷ bs) = refl
-expr_follows Right ExprName Module (Repeat ∷ bs) = refl
-expr_follows Right ExprName k (Repeat ∷ bs) = refl
-expr_follows OfPin ExprName Module [] = refl
-expr_follows OfPin ExprName k [] = refl
-expr_follows OfPin ExprName Module (InList ∷ bs) = refl
-expr_follows OfPin ExprName k (InList ∷ bs) = refl
-expr_follows OfPin ExprName Module (Repeat ∷ bs) = refl
-expr_follows OfPin ExprName k (Repeat ∷ bs) = refl
-expr_follows Left Select Module bs = refl
-expr_follows Left Select k bs = refl
-expr_follows Right Select Module bs = refl
-expr_follows Right Select k bs = refl
-expr_follows OfPin Select Module bs = refl
-expr_follows OfPin Select k bs = refl
-expr_follows Left Bit Module bs = refl
-expr_follows Left Bit k bs = refl
-expr_follows Right Bit Module bs = refl
-expr_follows Right Bit k bs = refl
-expr_follows OfPin Bit Module bs = refl
-expr_follows OfPin Bit k bs = refl
-expr_follows Left SelectColon Module bs = refl
-expr_follows Left SelectColon k bs = refl
-expr_follows Right SelectColon Module bs = refl
-expr_follows Right SelectColon k bs = refl
-expr_follows OfPin SelectColon Module bs = refl
-expr_follows OfPin SelectColon k bs = refl
-expr_follows Left Last Module bs = refl
-expr_follows Left Last k bs = refl
-expr_follows Right Last Module bs = refl
-expr_follows Right Last k bs = refl
-expr_follows OfPin Last Module bs = refl
-expr_follows OfPin Last k bs = refl
-expr_follows Left ExprEnd Module [] = refl
-expr_follows Left ExprEnd k [] = refl
-expr_follows Left ExprEnd Module (InList ∷ bs) = refl
-expr_follows Left ExprEnd k (InList ∷ bs) = refl
-expr_follows Left ExprEnd Module (Repeat ∷ bs) = refl
-expr_follows Left ExprEnd k (Repeat ∷ bs) = refl
-expr_follows Right ExprEnd Module [] = refl
-expr_follows Right ExprEnd k [] = refl
-expr_follows Right ExprEnd Module (InList ∷ bs) = refl
-expr_follows Right ExprEnd k (InList ∷ bs) = refl
-expr_follows Right ExprEnd Module (Repeat ∷ bs) = refl
-expr_follows Right ExprEnd k (Repeat ∷ bs) = refl
-expr_follows OfPin ExprEnd Module [] = refl
-expr_follows OfPin ExprEnd k [] = refl
-expr_follows OfPin ExprEnd Module (InList ∷ bs) = refl
-expr_follows OfPin ExprEnd k (InList ∷ bs) = refl
-expr_follows OfPin ExprEnd Module (Repeat ∷ bs) = refl
-expr_follows OfPin ExprEnd k (Repeat ∷ bs) = refl
-expr_follows Left BraceOpen Module bs = refl
-expr_follows Left BraceOpen k bs = refl
-expr_follows Right BraceOpen Module bs = refl
-expr_follows Right BraceOpen k bs = refl
-expr_follows OfPin BraceOpen Module bs = refl
-expr_follows OfPin BraceOpen k bs = refl
-expr_follows Left Digits Module bs = refl
-expr_follows Left Digits k bs = refl
-expr_follows Right Digits Module bs = refl
-expr_follows Right Digits k bs = refl
-expr_follows OfPin Digits Module bs = refl
-expr_follows OfPin Digits k bs = refl
-expr_follows Left Repeated Module bs = refl
-expr_follows Left Repeated k bs = refl
-expr_follows Right Repeated Module bs = refl
-expr_follows Right Repeated k bs = refl
-expr_follows OfPin Repeated Module bs = refl
-expr_follows OfPin Repeated k bs = refl
-
 move_follows : (at : At) (k : Kind) (bs : List Brace) → follows (move at k bs) (place_after (place_at at) k) ≡ true
-move_follows (AtExpr role at) k bs = expr_follows role at k bs
-move_follows (AtHead at) k bs = head_follows at k
-move_follows (AtItem at) k bs = item_follows at k
-move_follows (AtRange owner at) k bs = range_follows owner at k
-move_follows (AtInstance at) k bs = instance_follows at k
+unfolding follows number place_at is_first
+move_follows = each_move (λ at k bs. follows (move at k bs) (place_after (place_at at) k)) (λ bs. refl)
 
 module _ (s s' : State) (k : Kind) (e : next s k ≡ Some s') where
   after : ((number (place_after (place_at s.at) k) == number (place_at s'.at)) ≡ true) × (not (is_first s'.at) ≡ true)
@@ -343,60 +147,7 @@ begins_item at bs = is_first at || agrees (number (place_at at) == 0) (is_some (
 
 starts : (at : At) (bs : List Brace) → begins_item at bs ≡ true
 unfolding begins_item agrees number place_at is_first
-starts (AtHead HeadStart) bs = refl
-starts (AtHead at) bs = refl
-starts (AtItem ItemStart) bs = refl
-starts (AtItem at) bs = refl
-starts (AtRange OfPort (RangeColon FromZero)) bs = refl
-starts (AtRange OfPort (RangeColon bound)) bs = refl
-starts (AtRange OfPort at) bs = refl
-starts (AtRange OfItem (RangeColon FromZero)) bs = refl
-starts (AtRange OfItem (RangeColon bound)) bs = refl
-starts (AtRange OfItem at) bs = refl
-starts (AtInstance Cell) bs = refl
-starts (AtInstance at) bs = refl
-starts (AtExpr Left ExprStart) bs = refl
-starts (AtExpr Right ExprStart) bs = refl
-starts (AtExpr OfPin ExprStart) bs = refl
-starts (AtExpr Left ExprName) [] = refl
-starts (AtExpr Left ExprName) (InList ∷ bs) = refl
-starts (AtExpr Left ExprName) (Repeat ∷ bs) = refl
-starts (AtExpr Right ExprName) [] = refl
-starts (AtExpr Right ExprName) (InList ∷ bs) = refl
-starts (AtExpr Right ExprName) (Repeat ∷ bs) = refl
-starts (AtExpr OfPin ExprName) [] = refl
-starts (AtExpr OfPin ExprName) (InList ∷ bs) = refl
-starts (AtExpr OfPin ExprName) (Repeat ∷ bs) = refl
-starts (AtExpr Left Select) bs = refl
-starts (AtExpr Right Select) bs = refl
-starts (AtExpr OfPin Select) bs = refl
-starts (AtExpr Left Bit) bs = refl
-starts (AtExpr Right Bit) bs = refl
-starts (AtExpr OfPin Bit) bs = refl
-starts (AtExpr Left SelectColon) bs = refl
-starts (AtExpr Right SelectColon) bs = refl
-starts (AtExpr OfPin SelectColon) bs = refl
-starts (AtExpr Left Last) bs = refl
-starts (AtExpr Right Last) bs = refl
-starts (AtExpr OfPin Last) bs = refl
-starts (AtExpr Left ExprEnd) [] = refl
-starts (AtExpr Left ExprEnd) (InList ∷ bs) = refl
-starts (AtExpr Left ExprEnd) (Repeat ∷ bs) = refl
-starts (AtExpr Right ExprEnd) [] = refl
-starts (AtExpr Right ExprEnd) (InList ∷ bs) = refl
-starts (AtExpr Right ExprEnd) (Repeat ∷ bs) = refl
-starts (AtExpr OfPin ExprEnd) [] = refl
-starts (AtExpr OfPin ExprEnd) (InList ∷ bs) = refl
-starts (AtExpr OfPin ExprEnd) (Repeat ∷ bs) = refl
-starts (AtExpr Left BraceOpen) bs = refl
-starts (AtExpr Right BraceOpen) bs = refl
-starts (AtExpr OfPin BraceOpen) bs = refl
-starts (AtExpr Left Digits) bs = refl
-starts (AtExpr Right Digits) bs = refl
-starts (AtExpr OfPin Digits) bs = refl
-starts (AtExpr Left Repeated) bs = refl
-starts (AtExpr Right Repeated) bs = refl
-starts (AtExpr OfPin Repeated) bs = refl
+starts = each_state begins_item (λ bs. refl)
 
 goes : (ks : List Kind) → (is_some (run next (Some start) ks) ≡ true) ↔ Begins rules module_declaration ks
 unfolding start
