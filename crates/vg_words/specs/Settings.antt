@@ -1,5 +1,5 @@
 -- What words set, read from the front. What is read here is what `Request` says of words that spell their settings.
-use Rattle.std.specs.Prelude.{ℕ, ◌==◌, ◌&&◌, Bool, true, List, [], ◌∷◌, Option, Some, None, drop, is_some, if◌then◌else◌}
+use Rattle.std.specs.Prelude.{◌≡◌, ℕ, ◌==◌, ◌&&◌, Bool, true, false, List, [], ◌∷◌, Option, Some, None, drop, is_some, if◌then◌else◌}
 use Rattle.std.specs.List.{list_any, before_first, after_first}
 use Rattle.std.specs.Str.Parse.{starts_with_minus}
 use Rattle.vg_words.specs.Options.{option_of}
@@ -52,3 +52,13 @@ settings_from words at = settings (drop at words)
 -- whether they are all that those words have
 abbrev pub is_spelled_from : List (List ℕ) → ℕ → Bool
 is_spelled_from words at = is_spelled (drop at words)
+
+-- no setting begins at this place of the words
+pub record HasNone (words : List (List ℕ)) (at : ℕ) : Type 0 where
+  pub set : settings_from words at ≡ []
+  pub spelled : is_spelled_from words at ≡ false
+
+-- this one does, and goes up to the place `next`
+pub record HasSetting (words : List (List ℕ)) (at : ℕ) (setting : Setting) (next : ℕ) : Type 0 where
+  pub set : settings_from words at ≡ setting ∷ settings_from words next
+  pub spelled : is_spelled_from words at ≡ is_spelled_from words next

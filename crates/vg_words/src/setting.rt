@@ -1,8 +1,8 @@
 //! An option and its value, in one word or in two.
-ghost use Rattle.std.specs.Prelude.{◌≡◌, ◌<◌, ◌≤◌, ◌+◌, ◌∷◌, [], false, length, drop, option_map, MatchOption, ⊤};
+ghost use Rattle.std.specs.Prelude.{◌≡◌, ◌<◌, ◌≤◌, ◌+◌, ◌∷◌, length, drop, option_map, MatchOption, ⊤};
 ghost use Rattle.vg_words.specs.Request.{texts};
 ghost use Rattle.std.specs.Str.Parse.{starts_with_minus};
-ghost use Rattle.vg_words.specs.Settings.{apart, is_spelled_from, joined, settings_from};
+ghost use Rattle.vg_words.specs.Settings.{apart, joined, HasNone, HasSetting};
 
 use crate::option::Opt;
 
@@ -53,12 +53,9 @@ fn word_at(words: &[String], at: usize) -> &str
 #[tactic(auto, using(crate::proofs::SettingLemmas::setting_rules))]
 pub fn setting_at(words: &[String], at: usize) -> Option<(Opt, &str, usize)>
     requires { at < length words.now }
-    ensures set { MatchOption result
-        (settings_from (texts words.now) at ≡ [])
-        (λ found. settings_from (texts words.now) at ≡ (found.0, found.1.now) ∷ settings_from (texts words.now) found.2) }
-    ensures spelled { MatchOption result
-        (is_spelled_from (texts words.now) at ≡ false)
-        (λ found. is_spelled_from (texts words.now) at ≡ is_spelled_from (texts words.now) found.2) }
+    ensures setting { MatchOption result
+        (HasNone (texts words.now) at)
+        (λ found. HasSetting (texts words.now) at (found.0, found.1.now) found.2) }
     ensures place { MatchOption result ⊤ (λ found. (at < found.2) × (found.2 ≤ length words.now)) }
 {
     let word = word_at(words, at);
