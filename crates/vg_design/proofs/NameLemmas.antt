@@ -7,7 +7,7 @@ use Rattle.vg_wire.proofs.AnswerLemmas.{nets_are, not_missing, fault_not_missing
 use Rattle.vg_wire.specs.Nets.{IsFaultNamed, IsRefusedBelow as IsWireRefusedBelow}
 use Rattle.vg_wire.specs.Refusals.{number_of}
 use Rattle.vg_wire.specs.declared.refusal.Refusal.{Refusal}
-use Rattle.vg_wire.specs.declared.refusal.Refusal.TheVariants.{UnknownNet, Section, Reduced, Inductive, Bidirectional, NoDriver, ManyDrivers, Mismatch, Tied, NoDrive, NoLoad, Floating, Loop, NoSink, Unconstrained, TooLarge}
+use Rattle.vg_wire.specs.declared.refusal.Refusal.TheVariants.{UnknownNet, Section, TooLarge}
 use Rattle.vg_wire.specs.declared.refusal.Refused.{Refused}
 use Rattle.vg_wire.specs.declared.refusal.Refused.TheVariants.{Net, Memory}
 use Rattle.vg_design.specs.Designs.{Design, Joined, net_number}
@@ -38,38 +38,12 @@ module _ (d : Design) (name : List ℕ) (net : Joined) (joined : IsJoined d name
     | inr none ↦ (let e : None ≡ Some net.id = sym none ∙ joined.number in cc)
   ]
   passes_for n passes (Section fault) low h = not_faulty d.spef name net.par fault joined.named h
-  passes_for n passes Reduced low h = passes Reduced low (here Reduced h)
-  passes_for n passes Inductive low h = passes Inductive low (here Inductive h)
-  passes_for n passes Bidirectional low h = passes Bidirectional low (here Bidirectional h)
-  passes_for n passes NoDriver low h = passes NoDriver low (here NoDriver h)
-  passes_for n passes ManyDrivers low h = passes ManyDrivers low (here ManyDrivers h)
-  passes_for n passes Mismatch low h = passes Mismatch low (here Mismatch h)
-  passes_for n passes Tied low h = passes Tied low (here Tied h)
-  passes_for n passes NoDrive low h = passes NoDrive low (here NoDrive h)
-  passes_for n passes (NoLoad node) low h = passes (NoLoad node) low (here (NoLoad node) h)
-  passes_for n passes (Floating node) low h = passes (Floating node) low (here (Floating node) h)
-  passes_for n passes Loop low h = passes Loop low (here Loop h)
-  passes_for n passes NoSink low h = passes NoSink low (here NoSink h)
-  passes_for n passes (Unconstrained node) low h = passes (Unconstrained node) low (here (Unconstrained node) h)
-  passes_for n passes TooLarge low h = passes TooLarge low (here TooLarge h)
+  passes_for n passes r low h = passes r low (here r h)
 
   refuses_for : (r : Refusal) → Holds d net r → Refuses d name r
   refuses_for UnknownNet h = absurd h
   refuses_for (Section fault) h = absurd h
-  refuses_for Reduced h = there Reduced h
-  refuses_for Inductive h = there Inductive h
-  refuses_for Bidirectional h = there Bidirectional h
-  refuses_for NoDriver h = there NoDriver h
-  refuses_for ManyDrivers h = there ManyDrivers h
-  refuses_for Mismatch h = there Mismatch h
-  refuses_for Tied h = there Tied h
-  refuses_for NoDrive h = there NoDrive h
-  refuses_for (NoLoad node) h = there (NoLoad node) h
-  refuses_for (Floating node) h = there (Floating node) h
-  refuses_for Loop h = there Loop h
-  refuses_for NoSink h = there NoSink h
-  refuses_for (Unconstrained node) h = there (Unconstrained node) h
-  refuses_for TooLarge h = there TooLarge h
+  refuses_for r h = there r h
 
   pub first_for : (r : Refusal) → IsFirstHeld d net r → IsFirstRefusal d name r
   first_for r first = record { holds = refuses_for r first.holds; first = passes_for (number_of r) first.first }
@@ -80,21 +54,7 @@ module _ (d : Design) (name : List ℕ) (net : Joined) (joined : IsJoined d name
 
 some : (r : Refusal) → 0 < number_of r
 some UnknownNet = omega arith
-some (Section fault) = omega arith
-some Reduced = omega arith
-some Inductive = omega arith
-some Bidirectional = omega arith
-some NoDriver = omega arith
-some ManyDrivers = omega arith
-some Mismatch = omega arith
-some Tied = omega arith
-some NoDrive = omega arith
-some (NoLoad node) = omega arith
-some (Floating node) = omega arith
-some Loop = omega arith
-some NoSink = omega arith
-some (Unconstrained node) = omega arith
-some TooLarge = omega arith
+some r = omega arith
 
 -- the net is missing
 pub first_unknown : (d : Design) (name : List ℕ) → Refuses d name UnknownNet → IsFirstRefusal d name UnknownNet
@@ -106,60 +66,19 @@ module _ (d : Design) (name : List ℕ) (id : ℕ) (number : net_number d.netlis
     | inl missing ↦ fault_not_missing d.spef name fault faulty missing
     | inr none ↦ (let e : None ≡ Some id = sym none ∙ number in cc)
   ]
-  passes_2 fault faulty (Section _) low h = absurd (omega (arith, low))
-  passes_2 fault faulty Reduced low h = absurd (omega (arith, low))
-  passes_2 fault faulty Inductive low h = absurd (omega (arith, low))
-  passes_2 fault faulty Bidirectional low h = absurd (omega (arith, low))
-  passes_2 fault faulty NoDriver low h = absurd (omega (arith, low))
-  passes_2 fault faulty ManyDrivers low h = absurd (omega (arith, low))
-  passes_2 fault faulty Mismatch low h = absurd (omega (arith, low))
-  passes_2 fault faulty Tied low h = absurd (omega (arith, low))
-  passes_2 fault faulty NoDrive low h = absurd (omega (arith, low))
-  passes_2 fault faulty (NoLoad node) low h = absurd (omega (arith, low))
-  passes_2 fault faulty (Floating node) low h = absurd (omega (arith, low))
-  passes_2 fault faulty Loop low h = absurd (omega (arith, low))
-  passes_2 fault faulty NoSink low h = absurd (omega (arith, low))
-  passes_2 fault faulty (Unconstrained node) low h = absurd (omega (arith, low))
-  passes_2 fault faulty TooLarge low h = absurd (omega (arith, low))
+  passes_2 fault faulty r low h = absurd (omega (arith, low))
 
   -- why the parasitics have no net of the name
   pub unnamed : (refused : Refused) → IsWireRefusedBelow 3 d.spef name refused → IsRefusedBelow 3 d name refused
   unnamed (Net UnknownNet) h = (first_unknown d name (inl h.0), omega arith)
   unnamed (Net (Section fault)) h = (record { holds = h.0; first = passes_2 fault h.0 }, omega arith)
-  unnamed (Net Reduced) h = absurd (omega (arith, h.1))
-  unnamed (Net Inductive) h = absurd (omega (arith, h.1))
-  unnamed (Net Bidirectional) h = absurd (omega (arith, h.1))
-  unnamed (Net NoDriver) h = absurd (omega (arith, h.1))
-  unnamed (Net ManyDrivers) h = absurd (omega (arith, h.1))
-  unnamed (Net Mismatch) h = absurd (omega (arith, h.1))
-  unnamed (Net Tied) h = absurd (omega (arith, h.1))
-  unnamed (Net NoDrive) h = absurd (omega (arith, h.1))
-  unnamed (Net (NoLoad node)) h = absurd (omega (arith, h.1))
-  unnamed (Net (Floating node)) h = absurd (omega (arith, h.1))
-  unnamed (Net Loop) h = absurd (omega (arith, h.1))
-  unnamed (Net NoSink) h = absurd (omega (arith, h.1))
-  unnamed (Net (Unconstrained node)) h = absurd (omega (arith, h.1))
-  unnamed (Net TooLarge) h = absurd (omega (arith, h.1))
+  unnamed (Net r) h = absurd (omega (arith, h.1))
   unnamed Memory h = tt
 
 -- the refusal of the number 16
 large : (d : Design) (name : List ℕ) (r : Refusal) → number_of r ≡ 16 → Refuses d name r → HasNet d name TooLarge
-large d name UnknownNet is h = absurd (omega (arith, is))
-large d name (Section fault) is h = absurd (omega (arith, is))
-large d name Reduced is h = absurd (omega (arith, is))
-large d name Inductive is h = absurd (omega (arith, is))
-large d name Bidirectional is h = absurd (omega (arith, is))
-large d name NoDriver is h = absurd (omega (arith, is))
-large d name ManyDrivers is h = absurd (omega (arith, is))
-large d name Mismatch is h = absurd (omega (arith, is))
-large d name Tied is h = absurd (omega (arith, is))
-large d name NoDrive is h = absurd (omega (arith, is))
-large d name (NoLoad node) is h = absurd (omega (arith, is))
-large d name (Floating node) is h = absurd (omega (arith, is))
-large d name Loop is h = absurd (omega (arith, is))
-large d name NoSink is h = absurd (omega (arith, is))
-large d name (Unconstrained node) is h = absurd (omega (arith, is))
 large d name TooLarge is h = h
+large d name r is h = absurd (omega (arith, is))
 
 -- what does not count without the constraints
 pub bare_17 : (d : Design) (name : List ℕ) → PassesUpTo 15 d name → (HasNet d name TooLarge → ⊥) → PassesBareUpTo 17 d name
