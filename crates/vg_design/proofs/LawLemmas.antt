@@ -1,44 +1,67 @@
 -- A net has one problem, or one refusal.
-use Rattle.std.proofs.Common.{◌≡◌, ℕ, ◌<◌, List, arith, inl, inr, sym, ◌∙◌, subst}
+use Rattle.std.proofs.Common.{◌≡◌, ℕ, ◌<◌, List, Bool, arith, inl, inr, refl, sym, ap, ◌∙◌, subst, Some}
 use Rattle.std.proofs.lemmas.Bool.{cases_lt}
 use Rattle.elmore.specs.declared.tree.Node.{Node}
+use Rattle.spef_net.specs.declared.net.ParConn.{ParConn}
+use Rattle.spef_net.specs.declared.net.ParNet.{ParNet}
+use Rattle.vg_scan.specs.declared.name.NodeName.{NodeName}
 use Rattle.vg_wire.proofs.AnswerLemmas.{trees_are}
+use Rattle.vg_wire.proofs.OneRefusalLemmas.{faults_are, floating_once}
 use Rattle.vg_wire.specs.Refusals.{number_of, IsNetTree}
 use Rattle.vg_wire.specs.declared.refusal.Refusal.{Refusal}
 use Rattle.vg_wire.specs.declared.refusal.Refusal.TheVariants.{UnknownNet, Section, Reduced, Inductive, Bidirectional, NoDriver, ManyDrivers, Mismatch, Tied, NoDrive, NoLoad, Floating, Loop, NoSink, Unconstrained, TooLarge}
-use Rattle.vg_design.specs.Designs.{Design, Joined}
+use Rattle.vg_design.specs.Designs.{Design, Joined, name_of}
 use Rattle.vg_design.specs.Laws.{AreSame, BareAccepts, OneProblem, OneRefusal, ProblemOrRefused}
 use Rattle.vg_design.specs.Nets.{names_of}
 use Rattle.vg_design.specs.Parts.{IsProblemOf}
+use Rattle.vg_design.specs.Refusals.{HasNet, Holds, IsFirstConn, Refuses, is_unconstrained, is_unloaded}
 use Rattle.vg_design.specs.declared.net_problem.NetProblem.{NetProblem}
 use Rattle.vg_design.proofs.NameLemmas.{joined_once}
 
 pub few_refusals : (r : Refusal) → number_of r < 17
 few_refusals UnknownNet = omega arith
-few_refusals (Section fault) = omega arith
-few_refusals Reduced = omega arith
-few_refusals Inductive = omega arith
-few_refusals Bidirectional = omega arith
-few_refusals NoDriver = omega arith
-few_refusals ManyDrivers = omega arith
-few_refusals Mismatch = omega arith
-few_refusals Tied = omega arith
-few_refusals NoDrive = omega arith
-few_refusals (NoLoad node) = omega arith
-few_refusals (Floating node) = omega arith
-few_refusals Loop = omega arith
-few_refusals NoSink = omega arith
-few_refusals (Unconstrained node) = omega arith
-few_refusals TooLarge = omega arith
+few_refusals r = omega arith
 
--- the first refusals have one number
+some_conn : (a b : ParConn) → Some a ≡ Some b → a ≡ b
+some_conn a b e = cc
+
+conn_once : (net : ParNet) (kind : ParConn → Bool) (a b : NodeName) → IsFirstConn net kind a → IsFirstConn net kind b → a ≡ b
+conn_once net kind a b p q =
+    p.name_is ∙ ap (λ (c : ParConn). name_of net c.node) (some_conn p.conn q.conn (sym p.first ∙ q.first)) ∙ sym q.name_is
+
+-- two refusals that a net has stand for the same net
+both_of : (d : Design) (name : List ℕ) (a b : Refusal) (p : HasNet d name a) (q : HasNet d name b) → Holds d q.net a
+both_of d name a b p q = subst (λ (n : Joined). Holds d n a) (joined_once d name p.net q.net p.joined q.joined) p.holds
+
+-- refusals of one number that hold for a name are one
+same_refused : (d : Design) (name : List ℕ) (a b : Refusal) → number_of a ≡ number_of b → Refuses d name a → Refuses d name b → a ≡ b
+same_refused d name (Section a) (Section b) is p q = ap Section (faults_are d.spef name a b p q)
+same_refused d name (NoLoad a) (NoLoad b) is p q =
+    ap NoLoad (conn_once q.net.par (is_unloaded d q.net) a b (both_of d name (NoLoad a) (NoLoad b) p q) q.holds)
+same_refused d name (Floating a) (Floating b) is p q = ap Floating (floating_once q.net.par a b (both_of d name (Floating a) (Floating b) p q) q.holds)
+same_refused d name (Unconstrained a) (Unconstrained b) is p q =
+    ap Unconstrained (conn_once q.net.par (is_unconstrained d.rows q.net.par) a b (both_of d name (Unconstrained a) (Unconstrained b) p q) q.holds)
+same_refused d name UnknownNet UnknownNet is p q = refl
+same_refused d name Reduced Reduced is p q = refl
+same_refused d name Inductive Inductive is p q = refl
+same_refused d name Bidirectional Bidirectional is p q = refl
+same_refused d name NoDriver NoDriver is p q = refl
+same_refused d name ManyDrivers ManyDrivers is p q = refl
+same_refused d name Mismatch Mismatch is p q = refl
+same_refused d name Tied Tied is p q = refl
+same_refused d name NoDrive NoDrive is p q = refl
+same_refused d name Loop Loop is p q = refl
+same_refused d name NoSink NoSink is p q = refl
+same_refused d name TooLarge TooLarge is p q = refl
+same_refused d name a b is p q = absurd (omega (arith, is))
+
 pub one_refusal : OneRefusal
 one_refusal d name a b p q =
     elim (cases_lt (number_of a) (number_of b)) [
       | inl less ↦ absurd (q.first a less p.holds)
       | inr more ↦ elim (cases_lt (number_of b) (number_of a)) [
         | inl less ↦ absurd (p.first b less q.holds)
-        | inr same ↦ omega (arith, more, same)
+        | inr same ↦ same_refused d name a b (omega (arith, more, same)) p.holds q.holds
       ]
     ]
 

@@ -29,7 +29,7 @@ ProblemOrRefused = (d : Design) (name : List ℕ) (found : NetProblem) (refusal 
 
 -- a net has one first refusal
 abbrev pub OneRefusal : Type 0
-OneRefusal = (d : Design) (name : List ℕ) (a b : Refusal) → IsFirstRefusal d name a → IsFirstRefusal d name b → number_of a ≡ number_of b
+OneRefusal = (d : Design) (name : List ℕ) (a b : Refusal) → IsFirstRefusal d name a → IsFirstRefusal d name b → a ≡ b
 
 -- what is refused for a missing required time alone, is not refused without the constraints, or only for its size
 abbrev pub BareAccepts : Type 0

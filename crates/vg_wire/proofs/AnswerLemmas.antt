@@ -20,10 +20,10 @@ same_head : (a b : NetHead) → Some a ≡ Some b → a ≡ b
 same_head a b e = cc
 
 -- a name has one head
-files : (text name : List ℕ) (file other : File) (head heads : NetHead) → IsHeadOf text name file head → IsHeadOf text name other heads → file ≡ other
+pub files : (text name : List ℕ) (file other : File) (head heads : NetHead) → IsHeadOf text name file head → IsHeadOf text name other heads → file ≡ other
 files text name file other head heads a b = a.said.says ∙ sym b.said.says
 
-heads_are : (text name : List ℕ) (file other : File) (head heads : NetHead) → IsHeadOf text name file head → IsHeadOf text name other heads → head ≡ heads
+pub heads_are : (text name : List ℕ) (file other : File) (head heads : NetHead) → IsHeadOf text name file head → IsHeadOf text name other heads → head ≡ heads
 heads_are text name file other head heads a b =
     same_head head heads (sym a.named ∙ ap (λ f. head_named f name) (files text name file other head heads a b) ∙ b.named)
 

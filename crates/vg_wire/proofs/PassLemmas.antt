@@ -39,7 +39,7 @@ passes_on k n net late passed rest NoSink h r = elim (cases_lt 14 k) [ inl low �
 passes_on k n net late passed rest TooLarge h r = elim (cases_lt 16 k) [ inl low ↦ passed TooLarge low r | inr high ↦ rest.too_large high h r ]
 
 -- one connection drives a net, so its root is one
-root_once : (net : ParNet) (a b : ℕ) → IsDrivenAt net a → IsDrivenAt net b → a ≡ b
+pub root_once : (net : ParNet) (a b : ℕ) → IsDrivenAt net a → IsDrivenAt net b → a ≡ b
 root_once net a b p q = let same : p.driver ∷ [] ≡ q.driver ∷ [] = sym p.alone ∙ q.alone in let e : p.driver ≡ q.driver = cc in sym p.at ∙ ap (λ (conn : ParConn). conn.node) e ∙ q.at
 
 -- no node floats

@@ -16,6 +16,10 @@ OneTree =
     (net : ParNet) (tree other : List Node) (order places : List ℕ) → IsNetTree net tree order → IsNetTree net other places
     → (tree ≡ other) × (order ≡ places)
 
+-- a name has at most one refusal, by the parasitics alone
+abbrev pub OneRefusal : Type 0
+OneRefusal = (text name : List ℕ) (a b : Refusal) → IsRefusalOf text name a → IsRefusalOf text name b → a ≡ b
+
 -- where all refusals below a number are passed, none of them refuses the net
 abbrev pub PassedOrRefused : Type 0
 PassedOrRefused =

@@ -1,4 +1,5 @@
 use Rattle.vg_wire.proofs.AnswerLemmas.{nets_are, trees_are, passed_is}
+use Rattle.vg_wire.proofs.OneRefusalLemmas.{one_refusal}
 use Rattle.vg_wire.proofs.laws.one_answer.Goals as goal
 
 pub returns-clause-net : goal.returns-clause-net
@@ -6,6 +7,9 @@ returns-clause-net c = nets_are
 
 pub returns-clause-tree : goal.returns-clause-tree
 returns-clause-tree c = trees_are
+
+pub returns-clause-refusal : goal.returns-clause-refusal
+returns-clause-refusal c = one_refusal
 
 pub returns-clause-passed : goal.returns-clause-passed
 returns-clause-passed c = passed_is
