@@ -1,5 +1,5 @@
 -- A net that is accepted, or refused by the constraints or the limits.
-use Rattle.std.proofs.Common.{◌≡◌, ℕ, List, refl, sym, ◌∙◌, subst, Option, Some, None, IfNone}
+use Rattle.std.proofs.Common.{◌≡◌, ℕ, List, sym, ◌∙◌, subst, Option, Some, None}
 use Rattle.std.specs.List.{find}
 use Rattle.elmore.specs.declared.tree.Node.{Node}
 use Rattle.ver_net.specs.declared.pin_ref.PinRef.{PinRef}
@@ -13,10 +13,6 @@ use Rattle.vg_design.specs.Parts.{IsProblemOf, IsWithinLimits}
 use Rattle.vg_design.specs.Refusals.{Holds, IsFirstBareRefusal, IsFirstConn, IsFirstRefusal, PassesBareUpTo, is_unconstrained}
 use Rattle.vg_design.specs.Steps.{IsAccepted, IsReady, PassesNet}
 use Rattle.vg_design.specs.declared.net_problem.NetProblem.{NetProblem}
-
-pub none_of : {X : Type 0} {P : Type 0} (o : Option X) → ((x : X) → o ≡ Some x → ⊥) → IfNone o P → P
-none_of None never p = p
-none_of (Some x) never p = absurd (never x refl)
 
 module _ (d : Design) (name : List ℕ) (n : Joined) where
   pub unconstrained : (sink : NodeName) → IsAccepted 15 d name n → IsFirstConn n.par (is_unconstrained d.rows n.par) sink → IsFirstRefusal d name (Unconstrained sink)

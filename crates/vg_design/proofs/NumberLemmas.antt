@@ -1,10 +1,11 @@
 -- Numbers that pass, one after another.
-use Rattle.std.proofs.Common.{◌≡◌, ℕ, zero, suc, ◌+◌, Bool, cond, List, [], ◌∷◌, ◌++◌, filter, get_or, length, map, ◌<◌, sym, ap, ◌∙◌, arith, add-one}
+use Rattle.std.proofs.Common.{◌≡◌, ℕ, zero, suc, ◌+◌, Bool, cond, List, [], ◌∷◌, ◌++◌, filter, get_or, length, ◌<◌, sym, ap, ◌∙◌, arith, add-one}
 use Rattle.std.proofs.lemmas.List.Elements.{filter-append}
 use Rattle.std.proofs.lemmas.List.{get_or-map}
 use Rattle.std.specs.List.{list_any, range_with_len}
 use Rattle.std.specs.Str.{bytes_eq}
 use Rattle.lib_linear.specs.declared.repeater.Repeater.{Repeater}
+use Rattle.vg_design.specs.Parts.{cells_of}
 
 range_more : (a n : ℕ) → range_with_len a (suc n) ≡ range_with_len a n ++ (a + n) ∷ []
 range_more a zero = ap (λ k. k ∷ []) (omega arith)
@@ -30,5 +31,5 @@ pushed_more p n passes before after is test more =
 
 -- whether the cell of a repeater is among some
 pub named_at : (repeaters : List Repeater) (cells : List (List ℕ)) (at : ℕ) → at < length repeaters → (named : Bool) (other : Repeater)
-    → named ≡ list_any (bytes_eq (get_or repeaters at other).cell) cells → named ≡ list_any (bytes_eq (get_or (map (λ r. r.cell) repeaters) at [])) cells
+    → named ≡ list_any (bytes_eq (get_or repeaters at other).cell) cells → named ≡ list_any (bytes_eq (get_or (cells_of repeaters) at [])) cells
 named_at repeaters cells at h named other e = e ∙ ap (λ cell. list_any (bytes_eq cell) cells) (sym (get_or-map (λ (r : Repeater). r.cell) repeaters at other [] h))

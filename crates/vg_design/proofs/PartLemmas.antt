@@ -30,7 +30,7 @@ use Rattle.vg_wire.specs.Refusals.{drives, drivers_of, is_sink, most_capacitors}
 use Rattle.vg_wire.specs.Wires.{is_sink_node}
 use Rattle.vg_design.specs.Designs.{Design, Joined, NO_NODE, name_of}
 use Rattle.vg_design.proofs.EndLemmas.{NO_CONN, conn_node}
-use Rattle.vg_design.specs.Parts.{allowed_by, allowed_in, driver_of, free_of, loaded, loaded_tree, is_boxed, is_free, numbers_of, reps_of, sink_at, sink_given, sinks_of, IsWithinLimits}
+use Rattle.vg_design.specs.Parts.{allowance_at, allowed_by, allowed_in, cells_of, driver_of, free_of, loaded, loaded_tree, is_boxed, is_free, numbers_of, reps_of, sink_at, sink_given, sinks_of, IsWithinLimits}
 use Rattle.vg_design.specs.Steps.{IsReady, MakesProblem}
 
 -- within the tree the default does not count
@@ -205,14 +205,14 @@ allowed_only names (Some cells) numbers e =
 
 module _ (d : Design) (par : ParNet) (order : List ℕ) where
   abbrev names : List (List ℕ)
-  names = map (λ r. r.cell) d.library.repeaters
+  names = cells_of d.library.repeaters
 
   allowed_here : (v : ℕ) (numbers : List ℕ) → allowed_at (allowed_in d par order) v ≡ Only numbers → (AllPairs (λ a b. a < b) numbers) × (All (λ b. b < length names) numbers)
   allowed_here v numbers e = elim (cases_lt v (length order)) [
     | inl low ↦ allowed_only names (allowed_of d.rows (name_of par (slice_index order v))) numbers
-        (sym (get_or-map (λ u. allowed_by names (allowed_of d.rows (name_of par u))) order v 0 AllOfThem low) ∙ e)
+        (sym (get_or-map (allowance_at d par) order v 0 AllOfThem low) ∙ e)
     | inr high ↦
-        let size = length-map order (λ u. allowed_by names (allowed_of d.rows (name_of par u))) in
+        let size = length-map order (allowance_at d par) in
         let past : allowed_at (allowed_in d par order) v ≡ AllOfThem = get_or_past (allowed_in d par order) v AllOfThem (omega (arith, size, high)) in
         absurd (cc)
   ]
@@ -245,7 +245,7 @@ module _ (d : Design) (n : Joined) (pins : List (Option PinRef)) (tree : List No
   pub allowed_each : (allowed : List Allowed) (nodes : List Node) (reps : List Rep) → allowed ≡ allowed_in d n.par order → nodes ≡ loaded_tree d n tree order → reps ≡ reps_of d.library.repeaters
       → AreAllowances (length nodes) (length reps) allowed
   allowed_each allowed nodes reps is loaded from =
-      let each = one_each d n pins tree order ready (λ v. allowed_by (map (λ r. r.cell) d.library.repeaters) (allowed_of d.rows (name_of n.par v))) (allowed_in d n.par order) nodes refl loaded in
+      let each = one_each d n pins tree order ready (allowance_at d n.par) (allowed_in d n.par order) nodes refl loaded in
       subst (AreAllowances (length nodes) (length reps)) (sym is) (allowances d n.par order (length nodes) (length reps) each (ap length from ∙ length-map d.library.repeaters (λ r. r.rep)))
 
 -- a problem that was made is that of the net

@@ -77,6 +77,10 @@ places_in d n tree order = places_of (loaded_tree d n tree order) (sinks_of d.ro
 abbrev pub reps_of : List Repeater → List Rep
 reps_of repeaters = map (λ r. r.rep) repeaters
 
+-- their cells
+abbrev pub cells_of : List Repeater → List (List ℕ)
+cells_of repeaters = map (λ r. r.cell) repeaters
+
 -- the numbers of the repeaters whose cells are among some
 abbrev pub numbers_of : List (List ℕ) → List (List ℕ) → List ℕ
 numbers_of names cells = filter (λ b. list_any (bytes_eq (slice_index_or names b [])) cells) (range_with_len 0 (length names))
@@ -86,9 +90,13 @@ abbrev pub allowed_by : List (List ℕ) → Option (List (List ℕ)) → Allowed
 allowed_by names None = AllOfThem
 allowed_by names (Some cells) = Only (numbers_of names cells)
 
+-- what a node of a net allows
+abbrev pub allowance_at : Design → ParNet → ℕ → Allowed
+allowance_at d net v = allowed_by (cells_of d.library.repeaters) (allowed_of d.rows (name_of net v))
+
 -- what each node of the tree allows
 abbrev pub allowed_in : Design → ParNet → List ℕ → List Allowed
-allowed_in d net order = map (λ v. allowed_by (map (λ r. r.cell) d.library.repeaters) (allowed_of d.rows (name_of net v))) order
+allowed_in d net order = map (allowance_at d net) order
 
 -- ---- the whole
 

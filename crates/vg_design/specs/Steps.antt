@@ -15,6 +15,7 @@ use Rattle.ver_net.specs.Connections.{Connections, connections, pins_on}
 use Rattle.ver_net.specs.Laws.{HasLink}
 use Rattle.ver_net.specs.declared.pin_ref.PinRef.{PinRef}
 use Rattle.ver_module.specs.declared.link.Link.{Link}
+use Rattle.vg_cons.specs.Rows.{Rows}
 use Rattle.vg_scan.specs.Nodes.{has_node, same_node}
 use Rattle.vg_scan.specs.declared.name.NodeName.{NodeName}
 use Rattle.vg_wire.specs.Refusals.{number_of, is_sink, IsNetTree}
@@ -23,7 +24,7 @@ use Rattle.vg_wire.specs.declared.refusal.Refused.{Refused}
 use Rattle.vg_wire.specs.declared.refusal.Refused.TheVariants.{Net, Memory}
 use Rattle.vg_design.specs.Designs.{Design, Joined, agrees, cell_on, ends_of, is_port, name_of, pin_name, pin_on}
 use Rattle.vg_design.specs.Parts.{reps_of, IsProblemOf, IsWithinLimits}
-use Rattle.vg_design.specs.Refusals.{Holds, IsFirstRefusal, IsJoined}
+use Rattle.vg_design.specs.Refusals.{Holds, IsFirstConn, IsFirstRefusal, IsJoined, is_unconstrained}
 
 -- what a design keeps of its parts
 pub record AreParts (text : List ℕ) (index : SpefIndex) (library : Cells) (netlist : Netlist) (found : Connections) : Type 0 where
@@ -118,6 +119,11 @@ pub record AreSame (port : ModuleNet) (net : ParNet) (pins : List (Option PinRef
   pub direction : All (λ conn. agrees port.port conn.kind conn.direction ≡ true) net.conns
   pub ends : AreEnds port net pins
   pub port_end : has_port_end port net ≡ true
+
+-- the name of the first sink without a required time, if there is one
+abbrev pub FindsUnconstrained : Rows → ParNet → Option NodeName → Type 0
+FindsUnconstrained rows net None = find (is_unconstrained rows net) net.conns ≡ None
+FindsUnconstrained rows net (Some name) = IsFirstConn net (is_unconstrained rows net) name
 
 -- the cell of the pin that a connection is
 abbrev pub cell_at : Design → Joined → ℕ → Option (List ℕ)

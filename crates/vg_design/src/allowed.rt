@@ -1,12 +1,9 @@
 //! Which repeaters a node allows.
 
-ghost use Rattle.std.specs.Prelude.{◌≡◌, ◌<◌, ◌≤◌, ◌^◌, length, map, IfOk};
+ghost use Rattle.std.specs.Prelude.{◌≡◌, ◌<◌, ◌^◌, length, IfOk};
 ghost use Rattle.std.specs.List.{All, list_any};
 ghost use Rattle.std.specs.Str.{bytes_eq};
-ghost use Rattle.elmore.specs.Allowances.{AreAllowances};
-ghost use Rattle.vg_design.specs.Designs.{name_of as name_in};
-ghost use Rattle.vg_design.specs.Parts.{allowed_by, allowed_in, numbers_of};
-ghost use Rattle.vg_cons.specs.Rows.{allowed_of};
+ghost use Rattle.vg_design.specs.Parts.{allowance_at, allowed_in, cells_of, numbers_of};
 
 use crate::design::Design;
 use crate::numbers::push_where;
@@ -29,7 +26,7 @@ fn is_among(name: &Name, names: &[Name]) -> bool
 /// The numbers of the repeaters whose cells are among some. Answers `Memory` where there is no room.
 fn numbers_of(alloc: Global, repeaters: &[Repeater], cells: &[Name]) -> Result<Vec<u32>, Memory>
     requires few { length repeaters.now < 2 ^ 32 }
-    ensures { IfOk result (λ numbers. numbers.items ≡ numbers_of (map (λ r. r.cell) repeaters.now) cells.now) }
+    ensures { IfOk result (λ numbers. numbers.items ≡ numbers_of (cells_of repeaters.now) cells.now) }
 {
     let mut numbers = Vec::new(alloc);
     'repeater: for at in 0..repeaters.len() {
@@ -42,7 +39,7 @@ fn numbers_of(alloc: Global, repeaters: &[Repeater], cells: &[Name]) -> Result<V
 /// The repeaters that a node of a net allows. Answers `Memory` where there is no room.
 fn allowed_at(alloc: Global, design: &Design, net: &ParNet, v: u32) -> Result<Allowed, Memory>
     requires { v < length net.now.nodes }
-    ensures { IfOk result (λ allowed. allowed ≡ allowed_by (map (λ r. r.cell) design.now.library.repeaters) (allowed_of design.now.rows (name_in net.now v))) }
+    ensures { IfOk result (λ allowed. allowed ≡ allowance_at design.now net.now v) }
 {
     let name = name_of(alloc, net, v)?;
     match allows(&design.cons, &name) {

@@ -1,12 +1,12 @@
 //! The problem of a net.
 
-ghost use Rattle.std.specs.Prelude.{◌≡◌, ◌<◌, ◌≤◌, find, None, length, IfOk, IfErr, IfSome, IfNone};
+ghost use Rattle.std.specs.Prelude.{◌≡◌, ◌<◌, ◌≤◌, find, length, IfOk, IfErr};
 ghost use Rattle.vg_wire.specs.Refusals.{most_capacitors};
 ghost use Rattle.vg_design.specs.Nets.{IsNetProblem, IsRefused};
 ghost use Rattle.vg_design.specs.Parts.{loaded_tree as loaded_in};
 ghost use Rattle.vg_wire.specs.Wires.{AreMarks};
-ghost use Rattle.vg_design.specs.Refusals.{is_unconstrained, IsFirstConn};
-ghost use Rattle.vg_design.specs.Steps.{IsReady, MakesProblem};
+ghost use Rattle.vg_design.specs.Refusals.{is_unconstrained};
+ghost use Rattle.vg_design.specs.Steps.{FindsUnconstrained, IsReady, MakesProblem};
 
 use crate::allowed::allowed_of;
 use crate::design::Design;
@@ -68,8 +68,7 @@ fn unconstrained_sink(
     design: &Design,
     ready: &ReadyNet,
 ) -> Result<Option<NodeName>, Memory>
-    ensures some { IfOk result (λ sink. IfSome sink (IsFirstConn ready.now.pinned.net.par (is_unconstrained design.now.rows ready.now.pinned.net.par))) }
-    ensures none { IfOk result (λ sink. IfNone sink (find (is_unconstrained design.now.rows ready.now.pinned.net.par) ready.now.pinned.net.par.conns ≡ None)) }
+    ensures { IfOk result (FindsUnconstrained design.now.rows ready.now.pinned.net.par) }
 {
     let par = &ready.pinned.net.par;
     match first_unconstrained(alloc, design.cons(), par)? {
