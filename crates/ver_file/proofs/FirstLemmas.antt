@@ -7,9 +7,9 @@ use Rattle.vg_names.specs.Distinct.{with_name}
 use Rattle.ver_syntax.specs.declared.row.Row.{Row}
 use Rattle.ver_module.specs.Netlists.{Net}
 use Rattle.ver_items.specs.declared.heading.Heading.{Heading}
-use Rattle.ver_items.specs.Declarations.{Declared, declare, declared_by, declared_of}
+use Rattle.ver_items.specs.Declarations.{Declared, declare, declared_by, declared_in, declared_of, direction_in, heading_of, range_in}
 use Rattle.ver_file.specs.Firsts.{declared_among, declared_at, first_of, named_by, port_flaws_among}
-use Rattle.ver_file.specs.Flaws.{Named, assignment_flaws, connection_flaws, direction_flaws, given, named, port_flaws, ports_in, repeated, syntax_flaws, unless}
+use Rattle.ver_file.specs.Flaws.{Named, agrees, assignment_flaws, connection_flaws, direction_flaws, given, is_range, named, port_flaws, ports_in, range_flaws, repeated, syntax_flaws, unless}
 use Rattle.ver_syntax.specs.declared.row.Place.TheVariants.{Ports}
 use Rattle.ver_items.specs.Sections.{Section, instances_in, is_name_in, is_net_name, name_at}
 use Rattle.ver_items.specs.SectionSteps.{section_in}
@@ -53,6 +53,35 @@ declared_adds text heading g xs ys =
     ap (λ rows. flat_map g (map (declare text heading) rows)) (filter-append is_net_name xs ys)
     ∙ ap (flat_map g) (map-append (declare text heading) (filter is_net_name xs) (filter is_net_name ys))
     ∙ flat_map-append g (declared_at text heading xs) (declared_at text heading ys)
+
+-- one identifier of a declaration
+pub one_range : (text : List ℕ) (heading : Heading) (r : Row) → is_net_name r ≡ true
+    → flat_map (range_flaws (declared_of text)) (declared_at text heading (r ∷ []))
+    ≡ unless (is_range (range_in (declared_of text) (name_at text r)) heading.range) r.from
+one_range text heading r t = rw t (append-nil (unless (is_range (range_in (declared_of text) (name_at text r)) heading.range) r.from))
+
+pub one_direction : (text : List ℕ) (heading : Heading) (r : Row) → is_net_name r ≡ true
+    → flat_map (direction_flaws (declared_of text)) (declared_at text heading (r ∷ []))
+    ≡ unless (agrees (direction_in (declared_of text) (name_at text r)) heading.direction) r.from
+one_direction text heading r t = rw t (append-nil (unless (agrees (direction_in (declared_of text) (name_at text r)) heading.direction) r.from))
+
+-- one token more of a declaration
+pub declared_more : (text : List ℕ) (heading : Heading) (g : Declared → List ℕ) (first found : Option ℕ) (rows its : List Row) (i : ℕ) (d : Row)
+    → i < length rows → rows ≡ its → found ≡ first_of first (flat_map g (declared_at text heading (get_or rows i d ∷ [])))
+    → first_of found (flat_map g (declared_at text heading (drop (i + 1) its))) ≡ first_of first (flat_map g (declared_at text heading (drop i its)))
+declared_more text heading g first found rows its i d l e f =
+    ap (λ x. first_of x (flat_map g (declared_at text heading (drop (i + 1) its)))) f
+    ∙ sym (next_row (λ (rows : List Row). flat_map g (declared_at text heading rows)) (declared_adds text heading g) first rows its i d l e)
+
+-- all tokens of a declaration
+pub declared_all : (text : List ℕ) (declaration : Section) (heading : Heading) (g : Declared → List ℕ) (first found : Option ℕ) (rows : List Row) (i : ℕ)
+    → length rows ≤ i → rows ≡ declaration.body → heading ≡ heading_of text declaration
+    → first_of found (flat_map g (declared_at text heading (drop i declaration.body))) ≡ first_of first (flat_map g (declared_at text heading declaration.body))
+    → found ≡ first_of first (flat_map g (declared_in text declaration))
+declared_all text declaration heading g first found rows i l e h all =
+    sym (no_row (λ (rows : List Row). flat_map g (declared_at text heading rows)) refl found rows declaration.body i l e)
+    ∙ all
+    ∙ ap (λ said. first_of first (flat_map g (declared_at text said declaration.body))) h
 
 pub ports_add : (text : List ℕ) → Adds (port_flaws_among text)
 ports_add text xs ys =

@@ -1,38 +1,15 @@
 -- Names that are given twice.
-use Rattle.std.proofs.Common.{◌≡◌, ℕ, suc, ◌+◌, nat_lt, Bool, true, false, not, ◌||◌, cond, is_none, List, [], ◌∷◌, ◌++◌, length, Option, Some, None, refl, sym, ap, ◌∙◌, arith, map}
-use Rattle.std.specs.List.{list_any, position_or_len}
+use Rattle.std.proofs.Common.{◌≡◌, ℕ, ◌<◌, nat_eq, Bool, true, false, not, List, [], ◌∷◌, ◌++◌, length, Option, refl, sym, ap, ◌∙◌, arith, map}
+use Rattle.std.specs.List.{list_any}
 use Rattle.std.specs.Str.{bytes_eq}
 use Rattle.std.proofs.lemmas.Bool.Decides.{nat_tests}
 use Rattle.std.proofs.lemmas.List.{append-nil}
 use Rattle.std.proofs.lemmas.List.Sums.{fold-append}
-use Rattle.vg_names.specs.Distinct.{number_of, with_name}
+use Rattle.vg_names.specs.Distinct.{number_in, with_name}
+use Rattle.ver_module.proofs.NameLemmas.{past, there, with_new, with_old}
 use Rattle.ver_file.specs.Firsts.{earlier, first_of, named_at}
 use Rattle.ver_file.specs.Flaws.{Named, named, repeated, unless}
 use Rattle.ver_items.specs.Sections.{Section, name_at}
-
-has_place : {X : Type 0} (p : X → Bool) (xs : List X) → nat_lt (position_or_len p xs) (length xs) ≡ list_any p xs
-has_place p [] = refl
-has_place p (x ∷ xs) = by_test (has_place p xs) (p x) refl
-  where
-    later : (n m : ℕ) → nat_lt (1 + n) (suc m) ≡ nat_lt n m
-    later n m = grind (arith, nat_tests)
-
-    here : (m : ℕ) → nat_lt 0 (suc m) ≡ true
-    here m = grind (arith, nat_tests)
-
-    by_test : nat_lt (position_or_len p xs) (length xs) ≡ list_any p xs → (b : Bool) → p x ≡ b
-        → nat_lt (position_or_len p (x ∷ xs)) (length (x ∷ xs)) ≡ (p x || list_any p xs)
-    by_test e true t = rw t (here (length xs))
-    by_test e false t = rw t (later (position_or_len p xs) (length xs) ∙ e)
-
-none_of : {X : Type 0} (b : Bool) (x : X) → is_none (cond b (Some x) None) ≡ not b
-none_of true x = refl
-none_of false x = refl
-
--- a name without a place is none of the names
-pub is_new : (names : List (List ℕ)) (name : List ℕ) → is_none (number_of names name) ≡ not (list_any (bytes_eq name) names)
-is_new names name =
-    none_of (nat_lt (position_or_len (bytes_eq name) names) (length names)) (position_or_len (bytes_eq name) names) ∙ ap not (has_place (bytes_eq name) names)
 
 pub one_repeated : (names : List (List ℕ)) (n : Named) → repeated names (n ∷ []) ≡ unless (not (list_any (bytes_eq n.name) names)) n.place
 unfolding repeated
@@ -63,3 +40,41 @@ module _ (text : List ℕ) (first : Option ℕ) (names : List (List ℕ)) where
 
   pub no_section : (all : List Section) → all ≡ [] → first_of first (repeated names (map (named text) all)) ≡ first
   no_section all e = ap (λ ss. first_of first (repeated names (map (named text) ss))) e ∙ ap (first_of first) (none_repeated names)
+
+-- ---- names by their numbers
+
+-- the number of a name is the next one where it is none of them
+pub is_next : (names : List (List ℕ)) (name : List ℕ) → nat_eq (number_in names name) (length names) ≡ not (list_any (bytes_eq name) names)
+is_next names name = by_test (list_any (bytes_eq name) names) refl
+  where
+    by_test : (b : Bool) → list_any (bytes_eq name) names ≡ b → nat_eq (number_in names name) (length names) ≡ not b
+    by_test true t = let h = there names name t in let low : number_in names name < length names = h.0 in grind (arith, nat_tests, low)
+    by_test false t = let e : number_in names name ≡ length names = past names name t in grind (arith, nat_tests, e)
+
+not_any : (b : Bool) → not b ≡ true → b ≡ false
+not_any true t = absurd (cc)
+not_any false t = refl
+
+any : (b : Bool) → not b ≡ false → b ≡ true
+any true t = refl
+any false t = absurd (cc)
+
+module _ (text : List ℕ) (first : Option ℕ) (names after : List (List ℕ)) (s : Section) (all rest : List Section) (e : all ≡ s ∷ rest) where
+  -- a section whose name is new
+  pub new_name : not (list_any (bytes_eq (name_at text s.head)) names) ≡ true → after ≡ names ++ name_at text s.head ∷ []
+      → first_of first (repeated after (map (named text) rest)) ≡ first_of first (repeated names (map (named text) all))
+  new_name t f =
+      let put : with_name names (name_at text s.head) ≡ after = with_new names (name_at text s.head) (not_any (list_any (bytes_eq (name_at text s.head)) names) t) ∙ sym f in
+      sym (next_section text first names s all rest e
+      ∙ ap (λ xs. first_of (first_of first xs) (repeated (with_name names (name_at text s.head)) (map (named text) rest))) (one_repeated names (named_at text s.head))
+      ∙ ap (λ b. first_of (first_of first (unless b s.head.from)) (repeated (with_name names (name_at text s.head)) (map (named text) rest))) t
+      ∙ ap (λ ns. first_of first (repeated ns (map (named text) rest))) put)
+
+  -- one whose name is known
+  pub old_name : not (list_any (bytes_eq (name_at text s.head)) names) ≡ false
+      → first_of (first_of first (unless false s.head.from)) (repeated names (map (named text) rest)) ≡ first_of first (repeated names (map (named text) all))
+  old_name t =
+      sym (next_section text first names s all rest e
+      ∙ ap (λ xs. first_of (first_of first xs) (repeated (with_name names (name_at text s.head)) (map (named text) rest))) (one_repeated names (named_at text s.head))
+      ∙ ap (λ b. first_of (first_of first (unless b s.head.from)) (repeated (with_name names (name_at text s.head)) (map (named text) rest))) t
+      ∙ ap (λ ns. first_of (first_of first (unless false s.head.from)) (repeated ns (map (named text) rest))) (with_old names (name_at text s.head) (any (list_any (bytes_eq (name_at text s.head)) names) t)))

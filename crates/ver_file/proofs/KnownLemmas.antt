@@ -1,23 +1,16 @@
 -- Each identifier of nets is among those of its text.
-use Rattle.std.proofs.Common.{◌≡◌, ℕ, Bool, true, false, not, cond, ◌||◌, ◌&&◌, List, [], ◌∷◌, ◌++◌, map, filter, get_or, refl, sym, ap, ◌∙◌, subst, append_assoc, is_some, Some, None}
+use Rattle.std.proofs.Common.{◌≡◌, ℕ, Bool, true, false, not, cond, ◌||◌, ◌&&◌, List, [], ◌∷◌, ◌++◌, map, refl, sym, ap, ◌∙◌, subst, append_assoc}
 use Rattle.std.specs.List.{All, list_any, position_or_len}
 use Rattle.std.specs.Str.{bytes_eq}
-use Rattle.std.proofs.lemmas.List.Elements.{All-cons, All-filter, All-head, All-map, All-nil, All-tail, All-take, filter_passes}
+use Rattle.std.proofs.lemmas.List.Elements.{All-cons, All-head, All-nil, All-tail, All-take}
 use Rattle.std.proofs.lemmas.List.Folds.{list_any-append}
-use Rattle.vg_names.specs.Distinct.{number_of}
-use Rattle.vg_names.proofs.NameTableLemmas.{number_known}
-use Rattle.ver_module.proofs.NameLemmas.{is_there}
-use Rattle.ver_file.specs.declared.identifier.Identifiers.{Identifiers}
-use Rattle.ver_file.specs.Tables.{AreIdentifiers}
-use Rattle.ver_file.proofs.SaidLemmas.{unsaid}
 use Rattle.ver_syntax.specs.declared.row.Row.{Row}
 use Rattle.ver_syntax.specs.Rows.{rows_of}
 use Rattle.ver_syntax.specs.declared.row.Place.TheVariants.{Start}
-use Rattle.ver_items.specs.Declarations.{Declared, begins_declaration, declare, declared_by, declared_in, declared_of, declarations_in, heading_of}
 use Rattle.ver_file.specs.Nets.{first_tokens, is_first}
-use Rattle.ver_file.specs.Said.{identifiers_of, said_of}
+use Rattle.ver_file.specs.Said.{identifiers_of}
 use Rattle.ver_items.specs.Sections.{Section, is_net_name, items, name_at, sections, section_before, stands_in}
-use Rattle.ver_file.proofs.ListLemmas.{All-flat_map, bytes_same}
+use Rattle.ver_file.proofs.ListLemmas.{bytes_same}
 use Rattle.ver_file.proofs.TableLemmas.{new_token, old_token}
 
 -- a name of nets is one of these
@@ -88,47 +81,3 @@ each_section P begins (r ∷ rows) a = by_test (begins r) (each_section P begins
 
 pub each_item : (P : Row → Type 0) (text : List ℕ) → All P (rows_of text) → All (Each P) (items text)
 each_item P text a = each_section P (stands_in Start) (rows_of text) a
-
--- each declared name is among the identifiers
-abbrev pub IsNamed : List (List ℕ) → Declared → Type 0
-IsNamed names d = list_any (bytes_eq d.name) names ≡ true
-
-pub declared_named : (text : List ℕ) → All (IsNamed (identifiers_of text)) (declared_of text)
-declared_named text = All-flat_map (IsNamed names) (Each K) (declared_by text) by_item (items text) (each_item K text (known_rows text))
-  where
-    names : List (List ℕ)
-    names = identifiers_of text
-
-    K : Row → Type 0
-    K = IsKnown text names
-
-    known_tokens : (rows : List Row) → All K rows → All (λ r. list_any (bytes_eq (name_at text r)) names ≡ true) (filter is_net_name rows)
-    known_tokens rows a k d l = All-filter is_net_name K rows a k d l (filter_passes is_net_name rows k d l)
-
-    by_declaration : (d : Section) → Each K d → All (IsNamed names) (declared_in text d)
-    by_declaration d e = All-map (IsNamed names) (declare text (heading_of text d)) (filter is_net_name d.body) (known_tokens d.body e.body)
-
-    by_item : (item : Section) → Each K item → All (IsNamed names) (declared_by text item)
-    by_item item e =
-        All-flat_map (IsNamed names) (Each K) (declared_in text) by_declaration (declarations_in item)
-        (each_section K begins_declaration (item.head ∷ item.body) (All-cons K item.head item.body e.head e.body))
-
--- ---- what is said of an identifier
-
-name_found : (names : List (List ℕ)) (name : List ℕ) (id : ℕ) → Some id ≡ number_of names name → list_any (bytes_eq name) names ≡ true
-name_found names name id e = sym (is_there names name) ∙ ap is_some (sym e)
-
-pub name_not_found : (names : List (List ℕ)) (name : List ℕ) → None ≡ number_of names name → list_any (bytes_eq name) names ≡ false
-name_not_found names name e = sym (is_there names name) ∙ ap is_some (sym e)
-
-pub found_said : (text : List ℕ) (found : Identifiers) (name : List ℕ) (id : ℕ) → AreIdentifiers text found → Some id ≡ number_of found.names name
-    → get_or found.said.items id None ≡ said_of (declared_of text) name
-found_said text found name id are e =
-    ap (λ i. get_or found.said.items i None) (number_known found.names name id e) ∙ are.said.says name (name_found found.names name id e)
-
-pub not_found_said : (text : List ℕ) (found : Identifiers) (name : List ℕ) → AreIdentifiers text found → None ≡ number_of found.names name
-    → None ≡ said_of (declared_of text) name
-not_found_said text found name are e =
-    let none : list_any (bytes_eq name) (identifiers_of text) ≡ false =
-    ap (list_any (bytes_eq name)) (sym are.names) ∙ name_not_found found.names name e in
-    sym (unsaid (identifiers_of text) name none (declared_of text) (declared_named text))

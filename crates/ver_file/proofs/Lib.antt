@@ -3,11 +3,14 @@ pub mod FlawLemmas
 pub mod ListLemmas
 pub mod SaidLemmas
 pub mod KnownLemmas
+pub mod ReadLemmas
 pub mod SectionInLemmas
 pub mod FirstLemmas
 pub mod CheckLemmas
 pub mod FaultLemmas
 pub mod NetLemmas
+pub mod NumberLemmas
 pub mod BuildLemmas
+pub mod BodyLemmas
 pub mod LinkLemmas
 pub mod LawLemmas

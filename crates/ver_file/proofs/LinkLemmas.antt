@@ -29,7 +29,7 @@ use Rattle.ver_items.proofs.BitLemmas.{falling, falling_bit, rising, rising_bit}
 use Rattle.ver_file.proofs.KnownLemmas.{Each, IsKnown, each_item, each_section, known_rows}
 use Rattle.ver_file.proofs.ListLemmas.{All-flat_map, All-take_while, bytes_are, bytes_same, flat_map-flat_map, passes_while}
 use Rattle.ver_file.proofs.NetLemmas.{no_left, no_mapped, no_right, passes}
-use Rattle.ver_file.proofs.SaidLemmas.{there}
+use Rattle.ver_module.proofs.NameLemmas.{there}
 
 -- ---- bits
 

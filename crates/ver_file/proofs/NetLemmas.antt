@@ -1,5 +1,5 @@
 -- The nets of a text without a flaw.
-use Rattle.std.proofs.Common.{◌≡◌, ℕ, Bool, true, false, not, List, [], ◌∷◌, ◌++◌, map, flat_map, fold, refl, sym, ap, ◌∙◌, append_assoc}
+use Rattle.std.proofs.Common.{◌≡◌, ℕ, Bool, true, false, not, List, [], ◌∷◌, ◌++◌, map, flat_map, fold, Option, Some, None, refl, sym, ap, ◌∙◌, append_assoc}
 use Rattle.std.specs.List.{list_any}
 use Rattle.std.specs.Str.{bytes_eq}
 use Rattle.std.proofs.lemmas.List.{append-nil, map-append}
@@ -8,6 +8,7 @@ use Rattle.ver_syntax.specs.declared.fault.VerKind.TheVariants.{NameClash}
 use Rattle.ver_syntax.specs.declared.row.Row.{Row}
 use Rattle.ver_module.specs.Netlists.{Net}
 use Rattle.ver_items.specs.Declarations.{declared_of}
+use Rattle.ver_file.specs.Firsts.{earlier, first_of}
 use Rattle.ver_file.specs.Flaws.{Named, clashes, flaws_of, name_flaws, named_nets, range_flaws, repeated, unless}
 use Rattle.ver_file.specs.Nets.{nets_at, nets_of, tokens_of_nets}
 use Rattle.ver_file.specs.Tables.{names_of, with_net}
@@ -72,3 +73,15 @@ all_new nets (n ∷ ns) (g ∷ gs) e none =
 
 pub all_put : (text : List ℕ) → name_flaws text ≡ [] → fold with_net [] (nets_of text) ≡ nets_of text
 all_put text e = all_new [] (nets_of text) (flat_map (named_nets text) (tokens_of_nets text)) (names_given text (tokens_of_nets text)) e
+
+-- without a first place there is none
+pub not_first : (first : Option ℕ) (places : List ℕ) → first_of first places ≡ None → (first ≡ None) × (places ≡ [])
+not_first first [] e = (e, refl)
+not_first first (p ∷ ps) e = absurd (some_earlier first p (not_first (earlier first p) ps e).0)
+  where
+    some_earlier : (o : Option ℕ) (q : ℕ) → earlier o q ≡ None → ⊥
+    some_earlier None q f = cc
+    some_earlier (Some o) q f = cc
+
+pub none_first : (text : List ℕ) → first_of None (name_flaws text) ≡ None → name_flaws text ≡ []
+none_first text e = (not_first None (name_flaws text) e).1

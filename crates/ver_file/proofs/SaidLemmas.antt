@@ -1,87 +1,120 @@
 -- What is said of identifiers.
-use Rattle.std.proofs.Common.{◌≡◌, ℕ, suc, zero, ◌+◌, ◌<◌, ◌≤◌, Bool, true, false, ◌||◌, List, [], ◌∷◌, ◌++◌, length, map, filter, fold, get_or, set, drop, replicate, Option, Some, None, refl, sym, ap, ◌∙◌, subst, arith, append_assoc}
-use Rattle.std.specs.List.{All, list_any}
+use Rattle.std.proofs.Common.{◌≡◌, ℕ, suc, zero, ◌+◌, ◌<◌, ◌≤◌, Bool, true, false, ◌||◌, List, [], ◌∷◌, ◌++◌, length, fold, get_or, set, slice_get, Option, Some, None, refl, sym, ap, ◌∙◌, arith}
+use Rattle.std.specs.List.{list_any}
 use Rattle.std.specs.Str.{bytes_eq}
-use Rattle.std.proofs.lemmas.List.Elements.{All-head, All-tail, filter-append}
-use Rattle.ver_syntax.specs.declared.row.Row.{Row}
 use Rattle.std.proofs.lemmas.List.Sums.{fold-append}
-use Rattle.std.proofs.lemmas.List.{get_or-set_other, get_or-set_same, append-nil, drop_all, map-append}
-use Rattle.std.proofs.Math.Seq.{drop-cons}
-use Rattle.vg_names.specs.Distinct.{number_in, number_of}
-use Rattle.vg_names.proofs.NameTableLemmas.{known_of, number_known}
+use Rattle.std.proofs.lemmas.List.{get_or-set_other, get_or-set_same}
+use Rattle.std.proofs.lemmas.Option.{get_or_from_slice_get}
+use Rattle.vg_names.specs.Distinct.{number_in, number_of, with_name}
+use Rattle.vg_names.proofs.NameTableLemmas.{absent_of, no_place, number_known}
 use Rattle.ver_module.specs.declared.direction.PortDir.{PortDir}
-use Rattle.ver_module.proofs.NameLemmas.{numbered, with_old}
+use Rattle.ver_module.proofs.NameLemmas.{one_before, there, with_new, with_old}
 use Rattle.ver_items.specs.declared.bits.Range.{Range}
 use Rattle.ver_items.specs.declared.heading.Heading.{Heading}
-use Rattle.ver_items.specs.Declarations.{Declared, direction_in, is_supply_in, range_in}
+use Rattle.ver_items.specs.Declarations.{Declared, declared_of, direction_in, is_supply_in, range_in}
+use Rattle.ver_file.specs.declared.identifier.Identifiers.{Identifiers}
 use Rattle.ver_file.specs.Said.{direction_said, is_supply_said, or_else, range_said, said_of, with_declared, with_heading}
-use Rattle.ver_file.specs.Tables.{IsSaid}
+use Rattle.ver_file.specs.Tables.{AreIdentifiers, IsSaid}
 use Rattle.ver_file.proofs.ListLemmas.{bytes_are, bytes_same}
 
-pub said_more : (ds : List Declared) (d : Declared) (name : List ℕ) → said_of (ds ++ d ∷ []) name ≡ with_declared name (said_of ds name) d
+said_more : (ds : List Declared) (d : Declared) (name : List ℕ) → said_of (ds ++ d ∷ []) name ≡ with_declared name (said_of ds name) d
 said_more ds d name = fold-append (with_declared name) None ds (d ∷ [])
 
--- a name that is one of them stands at its number
-pub there : (names : List (List ℕ)) (name : List ℕ) → list_any (bytes_eq name) names ≡ true
-    → (number_in names name < length names) × (get_or names (number_in names name) [] ≡ name)
-there names name t =
-    let n = numbered names name in
-    let e = with_old names name t in
-    (subst (λ (ns : List (List ℕ)). number_in names name < length ns) e n.within, subst (λ (ns : List (List ℕ)). get_or ns (number_in names name) [] ≡ name) e n.is)
+-- nothing is said at first
+pub none_said : IsSaid [] [] []
+none_said = record { says = λ name. refl }
 
--- where a name is none of them nothing changes
-pub say_nothing : (names : List (List ℕ)) (said : List (Option Heading)) (name : List ℕ) (ds : List Declared) (d : Declared) → d.name ≡ name
-    → list_any (bytes_eq name) names ≡ false → IsSaid ds names said → IsSaid (ds ++ d ∷ []) names said
-say_nothing names said name ds d e none h = record { says = λ n t. h.says n t ∙ by_test n t (bytes_eq n d.name) refl ∙ sym (said_more ds d n) }
+-- ---- a name more
+
+last_none : (said : List (Option Heading)) (k : ℕ) → get_or (said ++ None ∷ []) k None ≡ get_or said k None
+last_none [] zero = refl
+last_none [] (suc k) = refl
+last_none (s ∷ ss) zero = refl
+last_none (s ∷ ss) (suc k) = last_none ss k
+
+still_said : (names : List (List ℕ)) (new name : List ℕ) (said : List (Option Heading)) → length said ≡ length names
+    → get_or said (number_in (names ++ new ∷ []) name) None ≡ get_or said (number_in names name) None
+still_said [] new name [] e = refl
+still_said [] new name (s ∷ ss) e = absurd (omega (arith, e))
+still_said (n ∷ ns) new name [] e = absurd (omega (arith, e))
+still_said (n ∷ ns) new name (s ∷ ss) e = by_test (bytes_eq name n) refl (still_said ns new name ss (omega (arith, e)))
   where
-    by_test : (n : List ℕ) → list_any (bytes_eq n) names ≡ true → (b : Bool) → bytes_eq n d.name ≡ b → said_of ds n ≡ with_declared n (said_of ds n) d
-    by_test n t true f =
-        let same : n ≡ name = bytes_are n d.name f ∙ e in
-        let no : list_any (bytes_eq n) names ≡ false = ap (λ m. list_any (bytes_eq m) names) same ∙ none in
-        absurd (cc)
-    by_test n t false f = rw f refl
+    next : (k : ℕ) → get_or (s ∷ ss) (1 + k) None ≡ get_or ss k None
+    next k = ap (λ j. get_or (s ∷ ss) j None) (let more : 1 + k ≡ suc k = omega arith in more)
 
--- where it is one of them, what is said of it is put at its number
-pub say_it : (names : List (List ℕ)) (said : List (Option Heading)) (name : List ℕ) (ds : List Declared) (d : Declared) (id : ℕ) → d.name ≡ name
-    → length said ≡ length names → Some id ≡ number_of names name → IsSaid ds names said
+    by_test : (b : Bool) → bytes_eq name n ≡ b → get_or ss (number_in (ns ++ new ∷ []) name) None ≡ get_or ss (number_in ns name) None
+        → get_or (s ∷ ss) (number_in (n ∷ ns ++ new ∷ []) name) None ≡ get_or (s ∷ ss) (number_in (n ∷ ns) name) None
+    by_test true t same = rw t refl
+    by_test false t same = rw t (next (number_in (ns ++ new ∷ []) name) ∙ same ∙ sym (next (number_in ns name)))
+
+-- nothing is said of a name that is put last
+pub one_more_name : (ds : List Declared) (names : List (List ℕ)) (new : List ℕ) (said : List (Option Heading)) → length said ≡ length names
+    → IsSaid ds names said → IsSaid ds (names ++ new ∷ []) (said ++ None ∷ [])
+one_more_name ds names new said e h = record {
+  says = λ name. last_none said (number_in (names ++ new ∷ []) name) ∙ still_said names new name said e ∙ h.says name;
+}
+
+-- a name keeps its number where it is put last
+pub number_stays : (names : List (List ℕ)) (name : List ℕ) → number_in (with_name names name) name ≡ number_in names name
+number_stays names name = by_test (list_any (bytes_eq name) names) refl
+  where
+    last : (ns : List (List ℕ)) → list_any (bytes_eq name) ns ≡ false → number_in (ns ++ name ∷ []) name ≡ number_in ns name
+    last [] t = rw (bytes_same name) refl
+    last (n ∷ ns) t = by_first (bytes_eq name n) refl (last ns)
+      where
+        by_first : (b : Bool) → bytes_eq name n ≡ b → (list_any (bytes_eq name) ns ≡ false → number_in (ns ++ name ∷ []) name ≡ number_in ns name)
+            → number_in (n ∷ ns ++ name ∷ []) name ≡ number_in (n ∷ ns) name
+        by_first true f rest = let clash : (true || list_any (bytes_eq name) ns) ≡ false = rw f at t in absurd (cc)
+        by_first false f rest = let none : (false || list_any (bytes_eq name) ns) ≡ false = rw f at t in rw f (ap (λ k. 1 + k) (rest none))
+
+    by_test : (b : Bool) → list_any (bytes_eq name) names ≡ b → number_in (with_name names name) name ≡ number_in names name
+    by_test true t = ap (λ ns. number_in ns name) (with_old names name t)
+    by_test false t = ap (λ ns. number_in ns name) (with_new names name t) ∙ last names t
+
+-- ---- a declaration more
+
+pub say_it : (names : List (List ℕ)) (said : List (Option Heading)) (ds : List Declared) (d : Declared) (id : ℕ) → length said ≡ length names
+    → id ≡ number_in names d.name → id < length names → get_or names id [] ≡ d.name → IsSaid ds names said
     → IsSaid (ds ++ d ∷ []) names (set said id (Some (with_heading (get_or said id None) d.heading)))
-say_it names said name ds d id e count found h = record { says = λ n t. by_test n t (bytes_eq n d.name) refl ∙ sym (said_more ds d n) }
+say_it names said ds d id count number low is h = record { says = λ n. by_test n (bytes_eq n d.name) refl ∙ sym (said_more ds d n) }
   where
-    k : (id < length names) × (get_or names id [] ≡ name)
-    k = known_of names name id found
-
     v : Option Heading
     v = Some (with_heading (get_or said id None) d.heading)
 
-    by_test : (n : List ℕ) → list_any (bytes_eq n) names ≡ true → (b : Bool) → bytes_eq n d.name ≡ b → get_or (set said id v) (number_in names n) None ≡ with_declared n (said_of ds n) d
-    by_test n t true f =
-        let same : n ≡ name = bytes_are n d.name f ∙ e in
-        let at : number_in names n ≡ id = ap (number_in names) same ∙ sym (number_known names name id found) in
-        let old : get_or said id None ≡ said_of ds n = ap (λ i. get_or said i None) (sym at) ∙ h.says n t in
-        let within : id < length said = omega (arith, k.0, count) in
+    not_there : (n : List ℕ) → bytes_eq n d.name ≡ false → number_in names n ≡ id → ⊥
+    not_there n f at =
+        let its = there names n (one_before names n (λ e. let x : ⊥ = omega (arith, e, at, low) in x)) in
+        let same : d.name ≡ n = sym is ∙ ap (λ k. get_or names k []) (sym at) ∙ its.1 in
+        let yes : bytes_eq n d.name ≡ true = ap (bytes_eq n) same ∙ bytes_same n in
+        absurd (cc)
+
+    by_test : (n : List ℕ) (b : Bool) → bytes_eq n d.name ≡ b → get_or (set said id v) (number_in names n) None ≡ with_declared n (said_of ds n) d
+    by_test n true f =
+        let at : number_in names n ≡ id = ap (number_in names) (bytes_are n d.name f) ∙ sym number in
+        let old : get_or said id None ≡ said_of ds n = ap (λ i. get_or said i None) (sym at) ∙ h.says n in
+        let within : id < length said = omega (arith, low, count) in
         ap (λ i. get_or (set said id v) i None) at ∙ get_or-set_same said id v None within
         ∙ ap (λ o. Some (with_heading o d.heading)) old
         ∙ rw f refl
-    by_test n t false f =
-        let other : number_in names n ≡ id → ⊥ = λ at.
-        let its : get_or names id [] ≡ n = ap (λ i. get_or names i []) (sym at) ∙ (there names n t).1 in
-        let same : n ≡ d.name = sym its ∙ k.1 ∙ sym e in
-        let yes : bytes_eq n d.name ≡ true = ap (bytes_eq n) (sym same) ∙ bytes_same n in
-        absurd (cc) in
-        get_or-set_other said id (number_in names n) v None (λ at. other at) ∙ h.says n t ∙ rw f refl
+    by_test n false f =
+        get_or-set_other said id (number_in names n) v None (λ at. not_there n f at) ∙ h.says n ∙ rw f refl
 
--- nothing is said of a name that none of the declarations has
-pub unsaid : (names : List (List ℕ)) (name : List ℕ) → list_any (bytes_eq name) names ≡ false → (ds : List Declared)
-    → All (λ d. list_any (bytes_eq d.name) names ≡ true) ds → said_of ds name ≡ None
-unsaid names name none [] a = refl
-unsaid names name none (d ∷ ds) a = by_test (bytes_eq name d.name) refl (unsaid names name none ds (All-tail (λ (d : Declared). list_any (bytes_eq d.name) names ≡ true) d ds a))
-  where
-    by_test : (b : Bool) → bytes_eq name d.name ≡ b → said_of ds name ≡ None → fold (with_declared name) (with_declared name None d) ds ≡ None
-    by_test true f rest =
-        let same : name ≡ d.name = bytes_are name d.name f in
-        let yes : list_any (bytes_eq name) names ≡ true = ap (λ m. list_any (bytes_eq m) names) same ∙ All-head (λ (d : Declared). list_any (bytes_eq d.name) names ≡ true) d ds a in
-        absurd (cc)
-    by_test false f rest = rw f rest
+-- ---- what is said of a name
+
+beyond : (said : List (Option Heading)) (k : ℕ) → length said ≤ k → get_or said k None ≡ None
+beyond [] k l = refl
+beyond (s ∷ ss) zero l = absurd (omega (arith, l))
+beyond (s ∷ ss) (suc k) l = beyond ss k (omega (arith, l))
+
+pub found_said : (text : List ℕ) (found : Identifiers) (name : List ℕ) (id : ℕ) → AreIdentifiers text found → Some id ≡ number_of found.names name
+    → get_or found.said.items id None ≡ said_of (declared_of text) name
+found_said text found name id are e = ap (λ i. get_or found.said.items i None) (number_known found.names name id e) ∙ are.said.says name
+
+pub not_found_said : (text : List ℕ) (found : Identifiers) (name : List ℕ) → AreIdentifiers text found → None ≡ number_of found.names name
+    → None ≡ said_of (declared_of text) name
+not_found_said text found name are e =
+    let past : number_in found.names name ≡ length found.names = no_place found.names name (absent_of found.names name e) in
+    sym (beyond found.said.items (number_in found.names name) (omega (arith, past, are.count))) ∙ are.said.says name
 
 -- ---- the parts of what is said
 
@@ -162,29 +195,13 @@ supplies (d ∷ ds) name said = by_test (supplies ds name) said (bytes_eq name d
 pub supply_is : (ds : List Declared) (name : List ℕ) → is_supply_said (said_of ds name) ≡ is_supply_in ds name
 supply_is ds name = supplies ds name None
 
--- nothing is said at first
-pub none_said : (names : List (List ℕ)) (said : List (Option Heading)) → ((k : ℕ) → get_or said k None ≡ None) → IsSaid [] names said
-none_said names said h = record { says = λ name t. h (number_in names name) }
+-- ---- the range of a name, where it is looked up
 
-drop-next : (rows : List Row) (i : ℕ) (d : Row) → i < length rows → drop i rows ≡ get_or rows i d ∷ drop (i + 1) rows
-drop-next rows i d l = drop-cons rows i d l ∙ ap (λ k. get_or rows i d ∷ drop k rows) (let e : suc i ≡ i + 1 = omega arith in e)
+pub found_range : (text : List ℕ) (found : Identifiers) (name : List ℕ) (id : ℕ) (said : Option Heading) → AreIdentifiers text found
+    → Some id ≡ number_of found.names name → slice_get found.said.items id ≡ Some said → range_said said ≡ range_in (declared_of text) name
+found_range text found name id said are e s =
+    ap range_said (sym (get_or_from_slice_get found.said.items id said None s) ∙ found_said text found name id are e) ∙ range_is (declared_of text) name
 
--- one token more of a declaration
-pub one_more : (f : Row → Declared) (p : Row → Bool) (done : List Declared) (rows its : List Row) (i : ℕ) (d : Row) → i < length rows → rows ≡ its
-    → (done ++ map f (filter p (get_or rows i d ∷ []))) ++ map f (filter p (drop (i + 1) its)) ≡ done ++ map f (filter p (drop i its))
-one_more f p done rows its i d l same =
-    append_assoc done (map f (filter p (get_or rows i d ∷ []))) (map f (filter p (drop (i + 1) its)))
-    ∙ ap (λ xs. done ++ xs)
-    (sym (map-append f (filter p (get_or rows i d ∷ [])) (filter p (drop (i + 1) its)))
-    ∙ ap (map f) (sym (filter-append p (get_or rows i d ∷ []) (drop (i + 1) its)))
-    ∙ ap (λ xs. map f (filter p xs)) (ap (λ xs. get_or rows i d ∷ drop (i + 1) xs) (sym same) ∙ sym (drop-next rows i d l) ∙ ap (drop i) same))
-
-pub all_declared : (f : Row → Declared) (p : Row → Bool) (done : List Declared) (rows its : List Row) (i : ℕ) → length rows ≤ i → rows ≡ its
-    → done ≡ done ++ map f (filter p (drop i its))
-all_declared f p done rows its i l same =
-    sym (append-nil done) ∙ ap (λ xs. done ++ map f (filter p xs)) (sym (drop_all i rows l) ∙ ap (drop i) same)
-
-pub none_at : (n k : ℕ) → get_or {A = Option Heading} (replicate n None) k None ≡ None
-none_at zero k = refl
-none_at (suc n) zero = refl
-none_at (suc n) (suc k) = none_at n k
+pub not_found_range : (text : List ℕ) (found : Identifiers) (name : List ℕ) → AreIdentifiers text found → None ≡ number_of found.names name
+    → None ≡ range_in (declared_of text) name
+not_found_range text found name are e = ap range_said (not_found_said text found name are e) ∙ range_is (declared_of text) name

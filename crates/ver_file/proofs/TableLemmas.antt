@@ -31,6 +31,9 @@ map_last : (text : List ℕ) (rows : List Row) (r : Row) → map (name_at text) 
 map_last text [] r = refl
 map_last text (q ∷ rows) r = ap (λ ns. name_at text q ∷ ns) (map_last text rows r)
 
+pub first_is_new : (text : List ℕ) (names : List (List ℕ)) (r : Row) → is_first text names r ≡ true → list_any (bytes_eq (name_at text r)) names ≡ false
+first_is_new text names r t = second (is_net_name r) (list_any (bytes_eq (name_at text r)) names) t
+
 module _ (text : List ℕ) (names : List (List ℕ)) (r : Row) (t : is_first text names r ≡ true) where
   -- the name of a first token is put last
   pub put_last : with_name names (name_at text r) ≡ names ++ name_at text r ∷ []

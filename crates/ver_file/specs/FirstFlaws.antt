@@ -8,3 +8,9 @@ pub record AreFirsts (text : List ℕ) (firsts : Firsts) : Type 0 where
   pub clash : firsts.clash ≡ first_of None (clashes text)
   pub twice : firsts.twice ≡ first_of None (instance_flaws text)
   pub grammar : firsts.grammar ≡ first_of None (grammar_flaws text)
+
+-- nothing is wrong
+pub record IsFlawless (firsts : Firsts) : Type 0 where
+  pub clash : firsts.clash ≡ None
+  pub twice : firsts.twice ≡ None
+  pub grammar : firsts.grammar ≡ None

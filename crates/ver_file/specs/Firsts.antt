@@ -1,14 +1,14 @@
 -- The first places of flaws, as the code keeps them: for the functions between.
-use Rattle.std.specs.Prelude.{ℕ, min, nat_le, List, map, filter, Option, Some, None, fold, if◌then◌else◌}
+use Rattle.std.specs.Prelude.{ℕ, min, nat_le, List, [], map, filter, Option, Some, None, fold, if◌then◌else◌}
 use Rattle.ver_syntax.specs.Syntax.{line_at}
 use Rattle.ver_file.specs.declared.first.Flaw.{Flaw}
 use Rattle.ver_syntax.specs.declared.row.Row.{Row}
-use Rattle.ver_file.specs.Flaws.{Named, port_flaws}
+use Rattle.ver_file.specs.Flaws.{Named, named, port_flaws, range_flaws}
 use Rattle.std.specs.List.{flat_map}
 use Rattle.ver_syntax.specs.declared.row.Place.TheVariants.{Ports}
 use Rattle.ver_items.specs.declared.heading.Heading.{Heading}
-use Rattle.ver_items.specs.Declarations.{Declared, begins_declaration, declare, declared_in}
-use Rattle.ver_items.specs.Sections.{Section, is_name_in, is_net_name, name_at, sections}
+use Rattle.ver_items.specs.Declarations.{Declared, begins_declaration, declare, declared_by, declared_in, declared_of}
+use Rattle.ver_items.specs.Sections.{Section, instances_in, is_name_in, is_net_name, name_at, sections}
 use Rattle.ver_syntax.specs.declared.fault.VerKind.{VerKind}
 use Rattle.vg_scan.specs.declared.fault.LineFault.{LineFault}
 
@@ -51,6 +51,25 @@ declared_among text rows = flat_map (declared_in text) (sections begins_declarat
 abbrev pub declared_at : List ℕ → Heading → List Row → List Declared
 declared_at text heading rows = map (declare text heading) (filter is_net_name rows)
 
+-- the same, where this is what the declaration says that they stand in, if they stand in one
+abbrev pub declared_under : List ℕ → Option Heading → List Row → List Declared
+declared_under text None rows = []
+declared_under text (Some heading) rows = declared_at text heading rows
+
 -- the flaws of the ports among some tokens
 abbrev pub port_flaws_among : List ℕ → List Row → List ℕ
 port_flaws_among text rows = flat_map (port_flaws text) (filter (is_name_in Ports) rows)
+
+-- ---- of some items
+
+-- the declared identifiers that have another range than that of their first declaration
+abbrev pub range_flaws_in : List ℕ → List Section → List ℕ
+range_flaws_in text items = flat_map (range_flaws (declared_of text)) (flat_map (declared_by text) items)
+
+-- the instances, by their names
+abbrev pub named_instances : List ℕ → List Section → List Named
+named_instances text items = map (named text) (flat_map instances_in items)
+
+-- the names of the instances
+abbrev pub instance_names : List ℕ → List Section → List (List ℕ)
+instance_names text items = map (named_by text) (flat_map instances_in items)

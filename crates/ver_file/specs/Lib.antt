@@ -8,3 +8,5 @@ pub mod Firsts
 pub mod Scopes
 pub mod FirstFlaws
 pub mod Laws
+pub mod Bodies
+pub mod Lookups

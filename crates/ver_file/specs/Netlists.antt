@@ -26,9 +26,12 @@ use Rattle.ver_file.specs.Nets.{nets_of, net_names}
 abbrev pub range_at : List ℕ → Row → Option Range
 range_at text r = range_in (declared_of text) (name_at text r)
 
--- the number of a bit of an identifier among the nets of a text, or of the identifier's one net
+-- the number of a bit of an identifier of this name among the nets of a text, or of the identifier's one net
+abbrev pub number_of_bit : List ℕ → List ℕ → Option ℕ → ℕ
+number_of_bit text name bit = number_in (net_names text) (net_name name bit)
+
 abbrev pub net_number : List ℕ → Row → Option ℕ → ℕ
-net_number text r bit = number_in (net_names text) (net_name (name_at text r) bit)
+net_number text r bit = number_of_bit text (name_at text r) bit
 
 -- the nets that an identifier stands for, by what is selected of it
 abbrev pub nets_named : List ℕ → Section → List ℕ

@@ -1,18 +1,42 @@
 -- The tables of a text's identifiers and nets: for the functions between.
-use Rattle.std.specs.Prelude.{◌≡◌, ℕ, ◌++◌, true, List, [], ◌∷◌, length, map, slice_index_or, Option, None, if◌then◌else◌}
-use Rattle.std.specs.List.{list_any}
+use Rattle.std.specs.Prelude.{◌≡◌, ℕ, ◌+◌, ◌<◌, ◌++◌, List, [], ◌∷◌, length, map, slice_index_or, Option, None, Some, if◌then◌else◌}
+use Rattle.std.specs.List.{All, list_any}
 use Rattle.std.specs.Str.{bytes_eq}
 use Rattle.vg_names.specs.Distinct.{number_in}
 use Rattle.ver_module.specs.Netlists.{Net, net_name}
 use Rattle.ver_items.specs.declared.heading.Heading.{Heading}
+use Rattle.vg_scan.specs.Lines.{part}
+use Rattle.ver_text.specs.Names.{name_of}
 use Rattle.ver_file.specs.declared.identifier.Identifiers.{Identifiers}
+use Rattle.ver_file.specs.declared.identifier.Use.{Use}
+use Rattle.ver_syntax.specs.declared.row.Row.{Row}
+use Rattle.ver_items.specs.Bits.{bits_of}
+use Rattle.ver_items.specs.declared.bits.Range.{Range}
 use Rattle.ver_items.specs.Declarations.{Declared, declared_of}
-use Rattle.ver_file.specs.Nets.{tokens_of_nets}
+use Rattle.ver_items.specs.Sections.{name_at}
+use Rattle.ver_file.specs.Flaws.{Named, given}
+use Rattle.ver_file.specs.Nets.{first_tokens, nets_at, tokens_of_nets}
 use Rattle.ver_file.specs.Said.{identifiers_of, said_of}
 
--- what is kept of each of these names is what these declarations say of it
+-- what is kept of each of these names is what these declarations say of it, and they say nothing of any other name
 pub record IsSaid (ds : List Declared) (names : List (List ℕ)) (said : List (Option Heading)) : Type 0 where
-  pub says : (name : List ℕ) → list_any (bytes_eq name) names ≡ true → slice_index_or said (number_in names name) None ≡ said_of ds name
+  pub says : (name : List ℕ) → slice_index_or said (number_in names name) None ≡ said_of ds name
+
+-- an identifier of this number stands there
+pub record IsUse (text : List ℕ) (names : List (List ℕ)) (found : Use) : Type 0 where
+  pub within : found.id < length names
+  pub is : slice_index_or names found.id [] ≡ name_of (part text found.from found.to)
+
+-- these are the identifiers of a text up to these tokens, which are left, and what these declarations say of them
+pub record AreRead (text : List ℕ) (left : List Row) (ds : List Declared) (found : Identifiers) : Type 0 where
+  pub names : found.names ≡ map (name_at text) found.tokens.items
+  pub tokens : tokens_of_nets text ≡ found.tokens.items ++ first_tokens text found.names left
+  pub said : IsSaid ds found.names found.said.items
+  pub uses : All (IsUse text found.names) found.uses.items
+
+-- reading these tokens, which declare these, leads from some identifiers to others
+abbrev pub Reads : List ℕ → List Row → List Declared → Identifiers → Identifiers → Type 0
+Reads text rows more old new = (left : List Row) (ds : List Declared) → AreRead text (rows ++ left) ds old → AreRead text left (ds ++ more) new
 
 -- these are the identifiers of a text
 pub record AreIdentifiers (text : List ℕ) (found : Identifiers) : Type 0 where
@@ -20,6 +44,7 @@ pub record AreIdentifiers (text : List ℕ) (found : Identifiers) : Type 0 where
   pub tokens : found.tokens.items ≡ tokens_of_nets text
   pub count : length found.said.items ≡ length found.names
   pub said : IsSaid (declared_of text) found.names found.said.items
+  pub uses : All (IsUse text found.names) found.uses.items
 
 -- ---- nets
 
@@ -40,3 +65,12 @@ names_of nets = map (λ net. net.name) nets
 -- the nets, with this one last where its name is new
 abbrev pub with_net : List Net → Net → List Net
 with_net nets net = if list_any (bytes_eq net.name) (names_of nets) then nets else nets ++ net ∷ []
+
+-- the bits of a vector, each given at a place
+abbrev pub given_bits : ℕ → Net → Range → List Named
+given_bits place scalar range = map (given place) (map (bit_of scalar) (bits_of (Some range)))
+
+-- the number of the first net of each of these identifiers, where so many nets stand before them
+unfoldable pub first_numbers : List ℕ → ℕ → List Row → List ℕ
+first_numbers text n [] = []
+first_numbers text n (r ∷ rows) = n ∷ first_numbers text (n + length (nets_at text (declared_of text) r)) rows

@@ -1,18 +1,22 @@
 //! The instances and the assignments of a module without a flaw.
 
 ghost use Rattle.std.specs.Prelude.{◌≡◌, ◌++◌, ◌∷◌, [], fold, map, find, IfOk, OnOk};
+ghost use Rattle.std.specs.Option.{option_or};
 ghost use Rattle.ver_module.specs.Netlists.{with_pin};
 ghost use Rattle.ver_syntax.specs.declared.row.Place.TheVariants.{Head};
 ghost use Rattle.ver_syntax.specs.Grammar.{is};
 ghost use Rattle.ver_syntax.specs.Rows.{rows_of};
 ghost use Rattle.ver_items.specs.Sections.{is_name_in, pins_in};
-ghost use Rattle.ver_file.specs.Netlists.{assigned_by, assigned_of, end_at, head_end, instance_of, instances_by, instances_of, module_name, pin_of};
-ghost use Rattle.ver_file.specs.Scopes.{IsScope};
+ghost use Rattle.ver_file.specs.Netlists.{assigned_by, head_end, instance_of, instances_by, module_name, pin_of};
+ghost use Rattle.ver_file.specs.Bodies.{IsBody, end_in};
+ghost use Rattle.ver_file.specs.Scopes.{HasClash, IsScope};
 
+use crate::check::{Seen, check_item};
+use crate::first::Firsts;
 use crate::scope::Scope;
 use std::alloc::Global;
 use ver_items::{
-    Begin, Items, Section, Sections, connection_of, expression_of, is, is_name_in, name_at, span_of,
+    Begin, Items, Section, Sections, connection_of, expression_in, is, is_name_in, name_at, span_of,
 };
 use ver_module::Instances;
 use ver_syntax::{Place, Row, Rows};
@@ -31,7 +35,7 @@ fn push_pin(
     ensures { OnOk result (to.new ≡ with_pin to.old (pin_of scope.now.text.now pin.now)) }
 {
     let connection = connection_of(pin);
-    let link = scope.link(alloc, expression_of(pin))?;
+    let link = scope.link(alloc, expression_in(connection))?;
     to.push_pin(name_at(scope.text, pin.head), span_of(connection), link)?;
     Ok(())
 }
@@ -103,25 +107,82 @@ fn push_assigned(
     Ok(())
 }
 
-/// The instances of a text, and the nets in its assignments. Answers `Memory` where there is no room.
-pub(crate) fn instances_of(
+/// Where the first `endmodule` among some tokens begins.
+fn end_in(rows: &[Row]) -> Option<usize>
+    ensures { result ≡ end_in rows.now }
+{
+    'row: for row in rows {
+        if is(Kind::EndModule, row.kind) {
+            return Some(row.from);
+        }
+    }
+    None
+}
+
+/// The first of two places, of which the first may be none.
+fn first_place(first: Option<usize>, other: Option<usize>) -> Option<usize>
+    ensures { result ≡ option_or first other }
+{
+    match first {
+        Some(place) => Some(place),
+        None => other,
+    }
+}
+
+/// What the items of a text hold, and what is wrong with it.
+#[derive(Drop)]
+pub(crate) struct Body {
+    pub firsts: Firsts,
+    pub instances: Instances,
+    /// The nets in assignments.
+    pub assigned: Vec<u32>,
+    /// Where `endmodule` begins.
+    pub end: Option<usize>,
+}
+
+/// What the items of a text hold, and what is wrong with it, where this is the first place at which two nets have one name.
+/// Nothing more is built once something is wrong. Answers `Memory` where there is no room.
+pub(crate) fn read_body(
     alloc: Global,
     scope: &Scope<'_>,
-) -> Result<(Instances, Vec<u32>), Memory>
-    requires { IsScope scope.now }
-    ensures instances { IfOk result (λ found. found.0 ≡ instances_of scope.now.text.now) }
-    ensures assigned { IfOk result (λ found. found.1.items ≡ assigned_of scope.now.text.now) }
+    clash: Option<usize>,
+) -> Result<Body, Memory>
+    requires { HasClash scope.now clash }
+    ensures { IfOk result (IsBody scope.now.text.now) }
 {
+    let mut firsts = Firsts {
+        clash,
+        twice: None,
+        grammar: None,
+    };
+    let mut seen = Seen::new(alloc);
     let mut instances = Instances::new(alloc);
     let mut assigned = Vec::new(alloc);
+    let mut end = None;
     let mut items = Items::new(scope.text);
     let mut item = Vec::new(alloc);
     'item: while items.read(&mut item)? {
-        let section = Section::of(&item);
-        push_instances(alloc, scope, &section, &mut instances)?;
-        push_assigned(alloc, scope, &section, &mut assigned)?;
+        firsts = check_item(
+            alloc,
+            scope.text,
+            scope.identifiers,
+            &item,
+            &mut seen,
+            firsts,
+        )?;
+        end = first_place(end, end_in(&item));
+        if firsts.are_none() {
+            let section = Section::of(&item);
+            push_instances(alloc, scope, &section, &mut instances)?;
+            push_assigned(alloc, scope, &section, &mut assigned)?;
+        }
     }
-    Ok((instances, assigned))
+    Ok(Body {
+        firsts,
+        instances,
+        assigned,
+        end,
+    })
 }
 
 /// The first token of a text that is this kind.
@@ -143,16 +204,6 @@ pub(crate) fn head_end(text: &[u8]) -> usize
 {
     match first_of_kind(text, Kind::Semicolon) {
         Some(row) => row.to,
-        None => 0,
-    }
-}
-
-/// Where the `endmodule` of a module begins.
-pub(crate) fn end_at(text: &[u8]) -> usize
-    ensures { result ≡ end_at text.now }
-{
-    match first_of_kind(text, Kind::EndModule) {
-        Some(row) => row.from,
         None => 0,
     }
 }

@@ -1,28 +1,35 @@
 //! What is wrong with a text that has the grammar of a module.
 
-ghost use Rattle.std.specs.Prelude.{◌≡◌, ◌<◌, ◌∷◌, [], None, flat_map, fold, length, map, IfOk};
+ghost use Rattle.std.specs.Prelude.{◌≡◌, ◌<◌, ◌∷◌, [], flat_map, fold, length, map, not, IfOk};
+ghost use Rattle.std.specs.List.{list_any};
+ghost use Rattle.std.specs.Str.{bytes_eq};
 ghost use Rattle.vg_names.specs.Distinct.{with_name};
 ghost use Rattle.ver_items.specs.Begins.{begins};
-ghost use Rattle.ver_items.specs.Declarations.{declared_by, declared_in, declared_of};
-ghost use Rattle.ver_file.specs.FirstFlaws.{AreFirsts};
-ghost use Rattle.ver_file.specs.Firsts.{declared_among, declared_at, first_of, named_at, named_by, port_flaws_among};
-ghost use Rattle.ver_file.specs.Flaws.{agrees, connection_flaws, direction_flaws, is_range, link_flaws, name_flaws, named, pin_flaws};
+ghost use Rattle.ver_items.specs.Bits.{fits, select_before};
+ghost use Rattle.ver_file.specs.Netlists.{range_at};
+ghost use Rattle.ver_items.specs.Declarations.{declared_in, declared_of};
+ghost use Rattle.ver_file.specs.Firsts.{declared_among, declared_at, first_of, instance_names, named_at, named_by, named_instances};
+ghost use Rattle.ver_file.specs.Firsts.{port_flaws_among, range_flaws_in};
+ghost use Rattle.ver_file.specs.Flaws.{agrees, connection_flaws, direction_flaws, is_range, link_flaws, named, pin_flaws};
 ghost use Rattle.ver_file.specs.Flaws.{port_flaws, ports_in, range_flaws, repeated, select_flaws, syntax_flaws};
 ghost use Rattle.ver_items.specs.Sections.{instances_in, name_at, sections};
 ghost use Rattle.ver_items.specs.SectionSteps.{section_in};
 ghost use Rattle.ver_file.specs.Tables.{AreIdentifiers};
 
 use crate::first::{Firsts, unless};
-use crate::identifier::{Identifiers, is_new};
+use crate::identifier::{Identifiers, direction_said, range_said};
 use std::alloc::Global;
 use ver_items::{
-    Begin, Heading, Items, Range, Section, Sections, expression_of, is_name_in, is_net_name,
-    name_at, select_before,
+    Begin, Heading, Range, Section, Sections, Select, connection_of, expression_in, is_name_in,
+    is_net_name, name_at, select_before,
 };
-use ver_module::{PortDir, add_name};
+use ver_module::{PortDir, name_number};
 use ver_syntax::{Place, Row};
 use vg_names::Names;
 use vg_num::Memory;
+
+/// The most tokens of an instance whose pins are compared with one another: some thirty pins.
+const FEW: usize = 160;
 
 fn is_range(range: Option<Range>, other: Option<Range>) -> bool
     ensures { result ≡ is_range range other }
@@ -37,76 +44,51 @@ fn agrees(first: Option<PortDir>, direction: Option<PortDir>) -> bool
     direction.is_none() || direction == first
 }
 
-/// The identifier that a token is, where it was declared with another range, or the place before it.
-fn range_flaw(
+/// The first flaws, where a token of a declaration may be an identifier that was declared with another range or direction, or
+/// those before it.
+fn check_declared(
     text: &[u8],
     identifiers: &Identifiers,
     heading: Heading,
     row: Row,
-    first: Option<usize>,
-) -> Option<usize>
+    firsts: Firsts,
+) -> Firsts
     requires { AreIdentifiers text.now identifiers.now }
-    ensures { result ≡ first_of first (flat_map (range_flaws (declared_of text.now)) (declared_at text.now heading (row ∷ []))) }
+    ensures clash { result.clash ≡ first_of firsts.clash (flat_map (range_flaws (declared_of text.now)) (declared_at text.now heading (row ∷ []))) }
+    ensures twice { result.twice ≡ firsts.twice }
+    ensures grammar { result.grammar ≡ first_of firsts.grammar (flat_map (direction_flaws (declared_of text.now)) (declared_at text.now heading (row ∷ []))) }
 {
     if !is_net_name(row) {
-        return first;
+        return firsts;
     }
-    let range = identifiers.range(name_at(text, row));
-    unless(is_range(range, heading.range), row.from, first)
+    let said = identifiers.said(name_at(text, row));
+    let is_range = is_range(range_said(said), heading.range);
+    let agrees = agrees(direction_said(said), heading.direction);
+    Firsts {
+        clash: unless(is_range, row.from, firsts.clash),
+        twice: firsts.twice,
+        grammar: unless(agrees, row.from, firsts.grammar),
+    }
 }
 
-/// The first identifier of a declaration that was declared with another range, or the one before it.
-fn range_flaws(
+/// The first flaws of a declaration's identifiers, or those before them.
+fn check_declaration(
     text: &[u8],
     identifiers: &Identifiers,
     declaration: &Section<'_>,
-    first: Option<usize>,
-) -> Option<usize>
+    firsts: Firsts,
+) -> Firsts
     requires { AreIdentifiers text.now identifiers.now }
-    ensures { result ≡ first_of first (flat_map (range_flaws (declared_of text.now)) (declared_in text.now declaration.now)) }
+    ensures clash { result.clash ≡ first_of firsts.clash (flat_map (range_flaws (declared_of text.now)) (declared_in text.now declaration.now)) }
+    ensures twice { result.twice ≡ firsts.twice }
+    ensures grammar { result.grammar ≡ first_of firsts.grammar (flat_map (direction_flaws (declared_of text.now)) (declared_in text.now declaration.now)) }
 {
     let heading = Heading::of(text, declaration);
-    let mut first = first;
+    let mut firsts = firsts;
     'row: for row in declaration.body {
-        first = range_flaw(text, identifiers, heading, *row, first);
+        firsts = check_declared(text, identifiers, heading, *row, firsts);
     }
-    first
-}
-
-/// The identifier that a token is, where it was declared with another direction, or the place before it.
-fn direction_flaw(
-    text: &[u8],
-    identifiers: &Identifiers,
-    heading: Heading,
-    row: Row,
-    first: Option<usize>,
-) -> Option<usize>
-    requires { AreIdentifiers text.now identifiers.now }
-    ensures { result ≡ first_of first (flat_map (direction_flaws (declared_of text.now)) (declared_at text.now heading (row ∷ []))) }
-{
-    if !is_net_name(row) {
-        return first;
-    }
-    let direction = identifiers.direction(name_at(text, row));
-    unless(agrees(direction, heading.direction), row.from, first)
-}
-
-/// The first identifier of a declaration that was declared with another direction, or the one before it.
-fn direction_flaws(
-    text: &[u8],
-    identifiers: &Identifiers,
-    declaration: &Section<'_>,
-    first: Option<usize>,
-) -> Option<usize>
-    requires { AreIdentifiers text.now identifiers.now }
-    ensures { result ≡ first_of first (flat_map (direction_flaws (declared_of text.now)) (declared_in text.now declaration.now)) }
-{
-    let heading = Heading::of(text, declaration);
-    let mut first = first;
-    'row: for row in declaration.body {
-        first = direction_flaw(text, identifiers, heading, *row, first);
-    }
-    first
+    firsts
 }
 
 /// The text's end, where a token is a port in a list that has no direction, or the place before it.
@@ -143,6 +125,17 @@ fn port_flaws(
     first
 }
 
+/// Whether what is selected of an identifier lies in its range. Only a bit or a part may not.
+fn fits(text: &[u8], identifiers: &Identifiers, name: &Section<'_>) -> bool
+    requires { AreIdentifiers text.now identifiers.now }
+    ensures { result ≡ fits (select_before text.now name.now.body) (range_at text.now name.now.head) }
+{
+    match select_before(text, name.body) {
+        Select::Whole => true,
+        select => select.fits(identifiers.range(name_at(text, name.head))),
+    }
+}
+
 /// The first identifier among some tokens of which a bit or a part is selected that it has not, or the one before it.
 fn select_flaws(
     text: &[u8],
@@ -156,9 +149,7 @@ fn select_flaws(
 {
     let mut first = first;
     'name: for name in Sections::new(begin, rows) {
-        let range = identifiers.range(name_at(text, name.head));
-        let select = select_before(text, name.body);
-        first = unless(select.fits(range), name.head.from, first);
+        first = unless(fits(text, identifiers, &name), name.head.from, first);
     }
     first
 }
@@ -173,14 +164,48 @@ fn repeated(
     ensures names { IfOk result (λ _. names.new ≡ with_name names.old (name_at text.now token)) }
     ensures first { IfOk result (λ found. found ≡ first_of first (repeated names.old (named_at text.now token ∷ []))) }
 {
-    let name = name_at(text, token);
-    let is_new = is_new(names, name);
-    add_name(names, name)?;
-    Ok(unless(is_new, token.from, first))
+    let count = names.len();
+    let id = name_number(names, name_at(text, token))?;
+    Ok(unless(id as usize == count, token.from, first))
 }
 
-/// The first pin of an instance that is named twice, or the one before it.
-fn pin_flaws(
+/// Whether a token gives none of the names of these.
+fn is_other(text: &[u8], token: Row, others: &[Row]) -> bool
+    ensures { result ≡ not (list_any (bytes_eq (name_at text.now token)) (map (name_at text.now) others.now)) }
+{
+    let name = name_at(text, token);
+    'other: for other in others {
+        if name == name_at(text, *other) {
+            return false;
+        }
+    }
+    true
+}
+
+/// The first pin of an instance that is named twice, or the one before it, by a walk over the pins before each. The list of
+/// tokens is room to work in.
+fn few_pin_flaws(
+    text: &[u8],
+    instance: &Section<'_>,
+    pins: &mut Vec<Row>,
+    first: Option<usize>,
+) -> Result<Option<usize>, Memory>
+    ensures { IfOk result (λ found. found ≡ first_of first (pin_flaws text.now instance.now)) }
+{
+    pins.clear();
+    let mut first = first;
+    'pin: for pin in Sections::new(Begin::Pin, instance.body) {
+        if is_other(text, pin.head, pins) {
+            pins.push(pin.head)?;
+        } else {
+            first = unless(false, pin.head.from, first);
+        }
+    }
+    Ok(first)
+}
+
+/// The same, by a table of their names.
+fn many_pin_flaws(
     alloc: Global,
     text: &[u8],
     instance: &Section<'_>,
@@ -194,6 +219,23 @@ fn pin_flaws(
         first = repeated(text, pin.head, &mut names, first)?;
     }
     Ok(first)
+}
+
+/// The first pin of an instance that is named twice, or the one before it. The list of tokens is room to work in.
+fn pin_flaws(
+    alloc: Global,
+    text: &[u8],
+    instance: &Section<'_>,
+    pins: &mut Vec<Row>,
+    first: Option<usize>,
+) -> Result<Option<usize>, Memory>
+    ensures { IfOk result (λ found. found ≡ first_of first (pin_flaws text.now instance.now)) }
+{
+    if instance.body.len() <= FEW {
+        few_pin_flaws(text, instance, pins, first)
+    } else {
+        many_pin_flaws(alloc, text, instance, first)
+    }
 }
 
 /// The first identifier in the connections of an instance of which a bit or a part is selected that it has not, or the one
@@ -213,7 +255,7 @@ fn link_flaws(
             text,
             identifiers,
             Begin::Identifier,
-            expression_of(&pin),
+            expression_in(connection_of(&pin)),
             first,
         );
     }
@@ -226,12 +268,13 @@ fn connection_flaws(
     text: &[u8],
     identifiers: &Identifiers,
     instance: &Section<'_>,
+    pins: &mut Vec<Row>,
     first: Option<usize>,
 ) -> Result<Option<usize>, Memory>
     requires { AreIdentifiers text.now identifiers.now }
     ensures { IfOk result (λ found. found ≡ first_of first (connection_flaws text.now instance.now)) }
 {
-    let first = pin_flaws(alloc, text, instance, first)?;
+    let first = pin_flaws(alloc, text, instance, pins, first)?;
     Ok(link_flaws(text, identifiers, instance, first))
 }
 
@@ -249,10 +292,28 @@ fn check_declarations(
 {
     let mut firsts = firsts;
     'declaration: for declaration in Sections::new(Begin::Declaration, item) {
-        firsts.clash = range_flaws(text, identifiers, &declaration, firsts.clash);
-        firsts.grammar = direction_flaws(text, identifiers, &declaration, firsts.grammar);
+        firsts = check_declaration(text, identifiers, &declaration, firsts);
     }
     firsts
+}
+
+/// What is kept of the items before one: the names of their instances, and room for the pins of one instance.
+#[derive(Drop)]
+pub(crate) struct Seen {
+    instances: Names,
+    pins: Vec<Row>,
+}
+
+impl Seen {
+    /// Nothing.
+    pub fn new(alloc: Global) -> Seen
+        ensures { result.instances ≡ [] }
+    {
+        Seen {
+            instances: Names::new(alloc),
+            pins: Vec::new(alloc),
+        }
+    }
 }
 
 /// The first flaws of an item's instances, or those before them. The names of the instances are put last.
@@ -261,20 +322,20 @@ fn check_instances(
     text: &[u8],
     identifiers: &Identifiers,
     item: &Section<'_>,
-    names: &mut Names,
+    seen: &mut Seen,
     firsts: Firsts,
 ) -> Result<Firsts, Memory>
     requires { AreIdentifiers text.now identifiers.now }
-    ensures names { IfOk result (λ _. names.new ≡ fold with_name names.old (map (named_by text.now) (instances_in item.now))) }
+    ensures names { IfOk result (λ _. seen.new.instances ≡ fold with_name seen.old.instances (map (named_by text.now) (instances_in item.now))) }
     ensures clash { IfOk result (λ found. found.clash ≡ firsts.clash) }
-    ensures twice { IfOk result (λ found. found.twice ≡ first_of firsts.twice (repeated names.old (map (named text.now) (instances_in item.now)))) }
+    ensures twice { IfOk result (λ found. found.twice ≡ first_of firsts.twice (repeated seen.old.instances (map (named text.now) (instances_in item.now)))) }
     ensures grammar { IfOk result (λ found. found.grammar ≡ first_of firsts.grammar (flat_map (connection_flaws text.now) (instances_in item.now))) }
 {
     let mut twice = firsts.twice;
     let mut grammar = firsts.grammar;
     'instance: for instance in Sections::new(Begin::Instance, item.body) {
-        twice = repeated(text, instance.head, names, twice)?;
-        grammar = connection_flaws(alloc, text, identifiers, &instance, grammar)?;
+        twice = repeated(text, instance.head, &mut seen.instances, twice)?;
+        grammar = connection_flaws(alloc, text, identifiers, &instance, &mut seen.pins, grammar)?;
     }
     Ok(Firsts {
         clash: firsts.clash,
@@ -284,21 +345,19 @@ fn check_instances(
 }
 
 /// The first flaws of an item, or those before them.
-fn check_item(
+pub(crate) fn check_item(
     alloc: Global,
     text: &[u8],
     identifiers: &Identifiers,
     rows: &[Row],
-    names: &mut Names,
+    seen: &mut Seen,
     firsts: Firsts,
 ) -> Result<Firsts, Memory>
     requires some { 0 < length rows.now }
     requires table { AreIdentifiers text.now identifiers.now }
-    ensures names { IfOk result (λ _. names.new ≡ fold with_name names.old (map (named_by text.now) (flat_map instances_in (section_in rows.now)))) }
-    ensures clash { IfOk result (λ found. found.clash ≡ first_of firsts.clash
-        (flat_map (range_flaws (declared_of text.now)) (flat_map (declared_by text.now) (section_in rows.now)))) }
-    ensures twice { IfOk result (λ found. found.twice ≡ first_of firsts.twice
-        (repeated names.old (map (named text.now) (flat_map instances_in (section_in rows.now))))) }
+    ensures names { IfOk result (λ _. seen.new.instances ≡ fold with_name seen.old.instances (instance_names text.now (section_in rows.now))) }
+    ensures clash { IfOk result (λ found. found.clash ≡ first_of firsts.clash (range_flaws_in text.now (section_in rows.now))) }
+    ensures twice { IfOk result (λ found. found.twice ≡ first_of firsts.twice (repeated seen.old.instances (named_instances text.now (section_in rows.now)))) }
     ensures grammar { IfOk result (λ found. found.grammar ≡ first_of firsts.grammar (flat_map (syntax_flaws text.now) (section_in rows.now))) }
 {
     let item = Section::of(rows);
@@ -311,32 +370,6 @@ fn check_item(
         item.body,
         firsts.grammar,
     );
-    let firsts = check_instances(alloc, text, identifiers, &item, names, firsts)?;
-    Ok(firsts)
-}
-
-/// The first flaws of a text, where this is the first place at which two nets have one name. Answers `Memory` where there is
-/// no room.
-pub(crate) fn check_items(
-    alloc: Global,
-    text: &[u8],
-    identifiers: &Identifiers,
-    clash: Option<usize>,
-) -> Result<Firsts, Memory>
-    requires table { AreIdentifiers text.now identifiers.now }
-    requires clash { clash ≡ first_of None (name_flaws text.now) }
-    ensures { IfOk result (AreFirsts text.now) }
-{
-    let mut firsts = Firsts {
-        clash,
-        twice: None,
-        grammar: None,
-    };
-    let mut names = Names::new(alloc);
-    let mut items = Items::new(text);
-    let mut item = Vec::new(alloc);
-    'item: while items.read(&mut item)? {
-        firsts = check_item(alloc, text, identifiers, &item, &mut names, firsts)?;
-    }
+    let firsts = check_instances(alloc, text, identifiers, &item, seen, firsts)?;
     Ok(firsts)
 }

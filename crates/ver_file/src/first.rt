@@ -1,10 +1,10 @@
 //! The first of what is wrong with a module.
 
-ghost use Rattle.std.specs.Prelude.{◌≡◌, [], None, MatchOption};
+ghost use Rattle.std.specs.Prelude.{◌≡◌, [], None, MatchOption, true};
 ghost use Rattle.ver_file.specs.Firsts.{earlier, first_of, sooner, told, with_flaw};
 ghost use Rattle.ver_file.specs.Flaws.{IsFirst, flaws_of, unless};
 ghost use Rattle.ver_syntax.specs.declared.fault.VerKind.TheVariants.{Grammar, InstanceTwice, NameClash};
-ghost use Rattle.ver_file.specs.FirstFlaws.{AreFirsts};
+ghost use Rattle.ver_file.specs.FirstFlaws.{AreFirsts, IsFlawless};
 
 use ver_syntax::{VerFault, VerKind, line_at};
 
@@ -71,6 +71,14 @@ pub(crate) struct Firsts {
 }
 
 impl Firsts {
+    /// Whether nothing is wrong.
+    pub fn are_none(self) -> bool
+        ensures none { result ≡ true → IsFlawless self }
+        ensures only { IsFlawless self → result ≡ true }
+    {
+        self.clash.is_none() && self.twice.is_none() && self.grammar.is_none()
+    }
+
     /// The first flaw, at one place by its kind.
     fn flaw(self) -> Option<Flaw>
         ensures { result ≡ with_flaw (with_flaw (with_flaw None NameClash self.clash) InstanceTwice self.twice) Grammar self.grammar }

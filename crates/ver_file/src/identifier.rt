@@ -1,52 +1,24 @@
 //! The identifiers of nets, and what is declared of them.
 
-ghost use Rattle.std.specs.Prelude.{[], filter, ◌≡◌, ℕ, List, not, ◌++◌, ◌∷◌, ◌≤◌, flat_map, length, map, IfOk};
-ghost use Rattle.std.specs.List.{list_any};
-ghost use Rattle.std.specs.Str.{bytes_eq};
-ghost use Rattle.vg_names.specs.Distinct.{with_name};
-ghost use Rattle.ver_items.specs.Declarations.{Declared, declare, declared_in, declared_of, direction_in, is_supply_in, range_in};
-ghost use Rattle.ver_file.specs.Firsts.{declared_among};
-ghost use Rattle.ver_file.specs.Nets.{is_first, tokens_of_nets};
-ghost use Rattle.ver_file.specs.Said.{identifiers_of, or_else, range_said, said_of, with_heading};
+ghost use Rattle.std.specs.Prelude.{[], ◌≡◌, ℕ, List, ◌∷◌, ◌<◌, length, slice_get, slice_index_or, IfOk, IfSome, IsTrue, OnOk, Some, true, ◌↔◌};
+ghost use Rattle.vg_names.specs.Distinct.{number_in, number_of};
+ghost use Rattle.ver_syntax.specs.declared.row.Row.{Row as RowSpec};
+ghost use Rattle.ver_syntax.specs.Rows.{rows_of};
+ghost use Rattle.ver_items.specs.Declarations.{Declared, declared_of, direction_in, range_in};
 ghost use Rattle.ver_items.specs.Sections.{is_net_name, name_at};
-ghost use Rattle.ver_file.specs.Tables.{AreIdentifiers, IsSaid};
+ghost use Rattle.ver_file.specs.Firsts.{declared_among, declared_under};
+ghost use Rattle.ver_file.specs.Said.{direction_said, is_supply_said, or_else, range_said, said_of, with_heading};
+ghost use Rattle.ver_file.specs.Tables.{AreIdentifiers, AreRead, Reads};
 
 use std::alloc::Global;
-use ver_items::{Begin, Heading, Items, Range, Section, Sections, is_net_name, name_at};
-use ver_module::{PortDir, add_name};
-use ver_syntax::{Row, Rows};
+use ver_items::{Begin, Heading, Items, Range, begins_declaration, is_net_name, name_at};
+use ver_module::{PortDir, name_number};
+use ver_syntax::Row;
 use vg_names::Names;
 use vg_num::Memory;
 
-/// Whether a name is none of these.
-pub(crate) fn is_new(names: &Names, name: &[u8]) -> bool
-    ensures { result ≡ not (list_any (bytes_eq name.now) names.now) }
-{
-    names.find(name).is_none()
-}
-
-/// Whether a token is an identifier of nets that is none of these.
-fn is_first(text: &[u8], names: &Names, row: Row) -> bool
-    ensures { result ≡ is_first text.now names.now row }
-{
-    is_net_name(row) && is_new(names, name_at(text, row))
-}
-
-/// The identifiers of nets in the order in which they come first, each with its first token.
-fn tokens_of(alloc: Global, text: &[u8]) -> Result<(Names, Vec<Row>), Memory>
-    ensures names { IfOk result (λ found. found.0 ≡ identifiers_of text.now) }
-    ensures tokens { IfOk result (λ found. found.1.items ≡ tokens_of_nets text.now) }
-{
-    let mut names = Names::new(alloc);
-    let mut tokens = Vec::new(alloc);
-    'row: for row in Rows::new(text) {
-        if is_first(text, &names, row) {
-            add_name(&mut names, name_at(text, row))?;
-            tokens.push(row)?;
-        }
-    }
-    Ok((names, tokens))
-}
+/// The greatest place that is kept.
+const MOST: usize = 0xFFFF_FFFF;
 
 fn or_else(first: Option<PortDir>, other: Option<PortDir>) -> Option<PortDir>
     ensures { result ≡ or_else first other }
@@ -71,101 +43,210 @@ fn with_heading(said: Option<Heading>, heading: Heading) -> Heading
     }
 }
 
-/// Says this of an identifier, where it is one of the names.
-fn say(name: &[u8], heading: Heading, names: &Names, said: &mut Vec<Option<Heading>>)
-    requires { length said.old.items ≡ length names.now }
-    ensures count { length said.new.items ≡ length names.now }
-    ensures said { (ds : List Declared) (d : Declared) → d.name ≡ name.now → d.heading ≡ heading → IsSaid ds names.now said.old.items
-        → IsSaid (ds ++ d ∷ []) names.now said.new.items }
+/// The range that is said.
+pub(crate) fn range_said(said: Option<Heading>) -> Option<Range>
+    ensures { result ≡ range_said said }
 {
-    let Some(id) = names.find(name) else {
-        return;
-    };
-    let at = id as usize;
-    said[at] = Some(with_heading(said[at], heading));
-}
-
-/// Says this of the identifier that a token is, if it is one of nets.
-fn say_row(text: &[u8], row: Row, heading: Heading, names: &Names, said: &mut Vec<Option<Heading>>)
-    requires { length said.old.items ≡ length names.now }
-    ensures count { length said.new.items ≡ length names.now }
-    ensures said { (ds : List Declared) → IsSaid ds names.now said.old.items
-        → IsSaid (ds ++ map (declare text.now heading) (filter is_net_name (row ∷ []))) names.now said.new.items }
-{
-    if !is_net_name(row) {
-        return;
-    }
-    say(name_at(text, row), heading, names, said);
-}
-
-/// Says of the identifiers of a declaration what it says.
-fn declare(text: &[u8], declaration: &Section<'_>, names: &Names, said: &mut Vec<Option<Heading>>)
-    requires { length said.old.items ≡ length names.now }
-    ensures count { length said.new.items ≡ length names.now }
-    ensures said { (ds : List Declared) → IsSaid ds names.now said.old.items → IsSaid (ds ++ declared_in text.now declaration.now) names.now said.new.items }
-{
-    let heading = Heading::of(text, declaration);
-    'row: for row in declaration.body {
-        say_row(text, *row, heading, names, said);
+    match said {
+        Some(heading) => heading.range,
+        None => None,
     }
 }
 
-/// Says of the identifiers of an item what its declarations say.
-fn declare_item(text: &[u8], item: &[Row], names: &Names, said: &mut Vec<Option<Heading>>)
-    requires { length said.old.items ≡ length names.now }
-    ensures count { length said.new.items ≡ length names.now }
-    ensures said { (ds : List Declared) → IsSaid ds names.now said.old.items
-        → IsSaid (ds ++ declared_among text.now item.now) names.now said.new.items }
+/// The direction that is said.
+pub(crate) fn direction_said(said: Option<Heading>) -> Option<PortDir>
+    ensures { result ≡ direction_said said }
 {
-    'declaration: for declaration in Sections::new(Begin::Declaration, item) {
-        declare(text, &declaration, names, said);
+    match said {
+        Some(heading) => heading.direction,
+        None => None,
     }
 }
 
-/// What is said of each identifier.
-fn said_of(alloc: Global, text: &[u8], names: &Names) -> Result<Vec<Option<Heading>>, Memory>
-    ensures count { IfOk result (λ said. length said.items ≡ length names.now) }
-    ensures said { IfOk result (λ said. IsSaid (declared_of text.now) names.now said.items) }
+/// Whether a supply is said.
+pub(crate) fn is_supply_said(said: Option<Heading>) -> bool
+    ensures { result ≡ is_supply_said said }
 {
-    let mut said = vec![in alloc; None; names.len()]?;
-    let mut items = Items::new(text);
-    let mut item = Vec::new(alloc);
-    'item: while items.read(&mut item)? {
-        declare_item(text, &item, names, &mut said);
+    match said {
+        Some(heading) => heading.supply,
+        None => false,
     }
-    Ok(said)
 }
 
-/// The identifiers of nets in the order in which they come first, each with its first token and what is declared of it.
+/// Where an identifier of nets stands, with its number.
+#[derive(Clone, Copy, Debug, PartialEq, Eq, Drop)]
+pub(crate) struct Use {
+    from: u32,
+    to: u32,
+    id: u32,
+}
+
+impl Use {
+    /// That of a token. Answers `Memory` where it stands 2^32 bytes or more behind the text's beginning.
+    fn of(row: Row, id: u32) -> Result<Use, Memory>
+        ensures { IfOk result (λ found. (found.from ≡ row.from) × (found.to ≡ row.to) × (found.id ≡ id)) }
+    {
+        if row.from > MOST || row.to > MOST {
+            return Err(Memory);
+        }
+        Ok(Use {
+            from: row.from as u32,
+            to: row.to as u32,
+            id,
+        })
+    }
+
+    /// Whether it is that of a token.
+    fn is(self, row: Row) -> bool
+        ensures { IsTrue result ↔ ((self.from ≡ row.from) × (self.to ≡ row.to)) }
+    {
+        self.from as usize == row.from && self.to as usize == row.to
+    }
+}
+
+/// The identifiers of nets in the order in which they come first, each with its first token and what is declared of it; and
+/// where they stand, in the order of the text.
 #[derive(Drop)]
 pub(crate) struct Identifiers {
     names: Names,
     tokens: Vec<Row>,
     said: Vec<Option<Heading>>,
+    uses: Vec<Use>,
 }
 
 impl Identifiers {
+    /// No identifiers.
+    fn new(alloc: Global) -> Identifiers
+        ensures count { length result.said.items ≡ length result.names }
+        ensures read { (text : List ℕ) → AreRead text (rows_of text) [] result }
+    {
+        Identifiers {
+            names: Names::new(alloc),
+            tokens: Vec::new(alloc),
+            said: Vec::new(alloc),
+            uses: Vec::new(alloc),
+        }
+    }
+
+    /// The number of the identifier of nets that a token is, which is put last where it is new. Answers `Memory` where there is
+    /// no room.
+    fn intern(&mut self, text: &[u8], row: Row) -> Result<usize, Memory>
+        requires name { is_net_name row ≡ true }
+        requires count { length self.old.said.items ≡ length self.old.names }
+        ensures number { IfOk result (λ at. at ≡ number_in self.new.names (name_at text.now row)) }
+        ensures within { IfOk result (λ at. at < length self.new.names) }
+        ensures is { IfOk result (λ at. slice_index_or self.new.names at [] ≡ name_at text.now row) }
+        ensures count { OnOk result (length self.new.said.items ≡ length self.new.names) }
+        ensures read { (left : List RowSpec) (ds : List Declared) → AreRead text.now (row ∷ left) ds self.old → OnOk result (AreRead text.now left ds self.new) }
+    {
+        let count = self.names.len();
+        let id = name_number(&mut self.names, name_at(text, row))?;
+        self.uses.push(Use::of(row, id)?)?;
+        let at = id as usize;
+        if at == count {
+            self.tokens.push(row)?;
+            self.said.push(None)?;
+        }
+        Ok(at)
+    }
+
+    /// Reads a token, which stands in a declaration that says this of its identifiers, or in none. Answers `Memory` where there
+    /// is no room.
+    fn read(&mut self, text: &[u8], row: Row, heading: Option<Heading>) -> Result<(), Memory>
+        requires { length self.old.said.items ≡ length self.old.names }
+        ensures count { OnOk result (length self.new.said.items ≡ length self.new.names) }
+        ensures read { OnOk result (Reads text.now (row ∷ []) (declared_under text.now heading (row ∷ [])) self.old self.new) }
+    {
+        if !is_net_name(row) {
+            return Ok(());
+        }
+        let at = self.intern(text, row)?;
+        if let Some(heading) = heading {
+            self.said[at] = Some(with_heading(self.said[at], heading));
+        }
+        Ok(())
+    }
+
+    /// Reads the tokens of an item. Answers `Memory` where there is no room.
+    fn read_item(&mut self, text: &[u8], item: &[Row]) -> Result<(), Memory>
+        requires { length self.old.said.items ≡ length self.old.names }
+        ensures count { OnOk result (length self.new.said.items ≡ length self.new.names) }
+        ensures read { OnOk result (Reads text.now item.now (declared_among text.now item.now) self.old self.new) }
+    {
+        let mut heading = None;
+        let mut left = item;
+        'row: while let Some((row, after)) = left.split_first() {
+            if begins_declaration(*row) {
+                let declaration = Begin::Declaration.section(*row, after);
+                heading = Some(Heading::of(text, &declaration));
+            }
+            self.read(text, *row, heading)?;
+            left = after;
+        }
+        Ok(())
+    }
+
     /// Those of a text. Answers `Memory` where there is no room.
     pub fn of(alloc: Global, text: &[u8]) -> Result<Identifiers, Memory>
         ensures { IfOk result (λ found. AreIdentifiers text.now found) }
     {
-        let (names, tokens) = tokens_of(alloc, text)?;
-        let said = said_of(alloc, text, &names)?;
-        Ok(Identifiers {
-            names,
-            tokens,
-            said,
-        })
+        let mut found = Identifiers::new(alloc);
+        let mut items = Items::new(text);
+        let mut item = Vec::new(alloc);
+        'item: while items.read(&mut item)? {
+            found.read_item(text, &item)?;
+        }
+        Ok(found)
     }
 
-    /// The first token of each identifier, in order.
-    pub fn tokens(&self) -> &[Row]
-        ensures { result.now ≡ self.now.tokens.items }
+    /// How many identifiers there are.
+    pub fn len(&self) -> usize
+        ensures { result ≡ length self.now.tokens.items }
     {
-        &self.tokens
+        self.tokens.len()
     }
 
-    fn said(&self, name: &[u8]) -> Option<Heading>
+    /// The first token of the identifier of this number.
+    pub fn token(&self, at: usize) -> Row
+        requires { at < length self.now.tokens.items }
+        ensures { slice_get self.now.tokens.items at ≡ Some result }
+    {
+        self.tokens[at]
+    }
+
+    /// What is said of the identifier of this number.
+    pub fn said_at(&self, at: usize) -> Option<Heading>
+        requires within { at < length self.now.tokens.items }
+        requires count { length self.now.said.items ≡ length self.now.tokens.items }
+        ensures { slice_get self.now.said.items at ≡ Some result }
+    {
+        self.said[at]
+    }
+
+    /// The number of the identifier that a token is, by a walk over the places of identifiers from one of them on; and the one
+    /// after it. `None`: it is not found so.
+    pub fn find_from(&self, start: usize, row: Row) -> (usize, Option<u32>)
+        ensures { (text : List ℕ) → AreIdentifiers text self.now → IfSome result.1 (λ id. Some id ≡ number_of self.now.names (name_at text row)) }
+    {
+        let mut at = start;
+        'place: while at < self.uses.len() && (self.uses[at].from as usize) < row.from {
+            at += 1;
+        }
+        match self.uses.get(at) {
+            Some(found) if found.is(row) => (at + 1, Some(found.id)),
+            _ => (at, None),
+        }
+    }
+
+    /// The number of an identifier.
+    pub fn find(&self, name: &[u8]) -> Option<u32>
+        ensures { result ≡ number_of self.now.names name.now }
+    {
+        self.names.find(name)
+    }
+
+    /// What is said of an identifier.
+    pub fn said(&self, name: &[u8]) -> Option<Heading>
         requires { length self.now.said.items ≡ length self.now.names }
         ensures { (text : List ℕ) → AreIdentifiers text self.now → result ≡ said_of (declared_of text) name.now }
     {
@@ -180,10 +261,7 @@ impl Identifiers {
         requires { length self.now.said.items ≡ length self.now.names }
         ensures { (text : List ℕ) → AreIdentifiers text self.now → result ≡ range_in (declared_of text) name.now }
     {
-        match self.said(name) {
-            Some(heading) => heading.range,
-            None => None,
-        }
+        range_said(self.said(name))
     }
 
     /// The direction of an identifier.
@@ -191,20 +269,6 @@ impl Identifiers {
         requires { length self.now.said.items ≡ length self.now.names }
         ensures { (text : List ℕ) → AreIdentifiers text self.now → result ≡ direction_in (declared_of text) name.now }
     {
-        match self.said(name) {
-            Some(heading) => heading.direction,
-            None => None,
-        }
-    }
-
-    /// Whether an identifier is declared as a supply.
-    pub fn is_supply(&self, name: &[u8]) -> bool
-        requires { length self.now.said.items ≡ length self.now.names }
-        ensures { (text : List ℕ) → AreIdentifiers text self.now → result ≡ is_supply_in (declared_of text) name.now }
-    {
-        match self.said(name) {
-            Some(heading) => heading.supply,
-            None => false,
-        }
+        direction_said(self.said(name))
     }
 }

@@ -1,18 +1,20 @@
 //! The nets of a text.
 
-ghost use Rattle.std.specs.Prelude.{◌≡◌, ◌∷◌, [], None, Some, fold, map, IfOk, OnOk};
+ghost use Rattle.std.specs.Prelude.{◌≡◌, ◌∷◌, [], None, Some, fold, length, map, IfOk, List, OnOk};
 ghost use Rattle.ver_module.specs.Netlists.{IsNamed};
 ghost use Rattle.ver_items.specs.Bits.{bits_of};
-ghost use Rattle.ver_items.specs.Declarations.{declared_of};
+ghost use Rattle.ver_items.specs.Declarations.{Declared, declared_of};
+ghost use Rattle.ver_items.specs.Sections.{name_at};
 ghost use Rattle.ver_file.specs.Firsts.{first_of};
 ghost use Rattle.ver_file.specs.Flaws.{given, name_flaws, named_nets, repeated};
-ghost use Rattle.ver_file.specs.Nets.{net, nets_at, nets_of};
-ghost use Rattle.ver_file.specs.Tables.{AreIdentifiers, bit_of, names_of, with_net};
+ghost use Rattle.ver_file.specs.Nets.{net, nets_at, nets_of, tokens_of_nets};
+ghost use Rattle.ver_file.specs.Said.{said_of};
+ghost use Rattle.ver_file.specs.Tables.{AreIdentifiers, bit_of, first_numbers, given_bits, names_of, with_net};
 
 use crate::first::unless;
-use crate::identifier::Identifiers;
+use crate::identifier::{Identifiers, direction_said, is_supply_said, range_said};
 use std::alloc::Global;
-use ver_items::{Range, bytes_at, name_at, push_net_name};
+use ver_items::{Heading, Range, bytes_at, name_at, push_net_name};
 use ver_module::{Net, Nets};
 use ver_syntax::Row;
 use ver_text::is_escaped;
@@ -61,10 +63,9 @@ fn push_bit(
     Ok(clash)
 }
 
-/// The net of an identifier that is a scalar, by its first token.
-fn scalar_of<'a>(text: &'a [u8], identifiers: &Identifiers, token: Row) -> Net<'a>
-    requires { AreIdentifiers text.now identifiers.now }
-    ensures { result ≡ net text.now (declared_of text.now) token None }
+/// The net of an identifier that is a scalar, by its first token and what is said of it.
+fn scalar_of<'a>(text: &'a [u8], token: Row, said: Option<Heading>) -> Net<'a>
+    ensures { (ds : List Declared) → said ≡ said_of ds (name_at text.now token) → result ≡ net text.now ds token None }
 {
     let base = name_at(text, token);
     Net {
@@ -72,8 +73,8 @@ fn scalar_of<'a>(text: &'a [u8], identifiers: &Identifiers, token: Row) -> Net<'
         base,
         bit: None,
         escaped: is_escaped(bytes_at(text, token)),
-        port: identifiers.direction(base),
-        supply: identifiers.is_supply(base),
+        port: direction_said(said),
+        supply: is_supply_said(said),
     }
 }
 
@@ -88,8 +89,7 @@ fn push_bits(
     clash: Option<usize>,
 ) -> Result<Option<usize>, Memory>
     ensures nets { OnOk result (nets.new ≡ fold with_net nets.old (map (bit_of scalar.now) (bits_of (Some range)))) }
-    ensures clash { IfOk result (λ found. found ≡ first_of clash
-        (repeated (names_of nets.old) (map (given place) (map (bit_of scalar.now) (bits_of (Some range)))))) }
+    ensures clash { IfOk result (λ found. found ≡ first_of clash (repeated (names_of nets.old) (given_bits place scalar.now range))) }
 {
     let mut clash = clash;
     'turn: for at in 0..range.count() {
@@ -98,22 +98,22 @@ fn push_bits(
     Ok(clash)
 }
 
-/// Puts the nets of an identifier last, by its first token, and tells the first place at which a name is not new. Answers
-/// `Memory` where there is no room.
+/// Puts the nets of an identifier last, by its first token and what is said of it, and tells the first place at which a name is
+/// not new. Answers `Memory` where there is no room.
 fn push_nets(
     alloc: Global,
     text: &[u8],
-    identifiers: &Identifiers,
     token: Row,
+    said: Option<Heading>,
     nets: &mut Nets,
     clash: Option<usize>,
 ) -> Result<Option<usize>, Memory>
-    requires { AreIdentifiers text.now identifiers.now }
+    requires { said ≡ said_of (declared_of text.now) (name_at text.now token) }
     ensures nets { OnOk result (nets.new ≡ fold with_net nets.old (nets_at text.now (declared_of text.now) token)) }
     ensures clash { IfOk result (λ found. found ≡ first_of clash (repeated (names_of nets.old) (named_nets text.now token))) }
 {
-    let scalar = scalar_of(text, identifiers, token);
-    match identifiers.range(scalar.base) {
+    let scalar = scalar_of(text, token, said);
+    match range_said(said) {
         None => {
             let clash = push_net(&scalar, token.from, nets, clash)?;
             Ok(clash)
@@ -138,8 +138,62 @@ pub(crate) fn nets_of(
 {
     let mut nets = Nets::new(alloc);
     let mut clash = None;
-    'token: for token in identifiers.tokens() {
-        clash = push_nets(alloc, text, identifiers, *token, &mut nets, clash)?;
+    'identifier: for at in 0..identifiers.len() {
+        let token = identifiers.token(at);
+        let said = identifiers.said_at(at);
+        clash = push_nets(alloc, text, token, said, &mut nets, clash)?;
     }
     Ok((nets, clash))
+}
+
+/// How many nets an identifier with this range has.
+fn net_count(range: Option<Range>) -> usize
+    ensures { result ≡ length (bits_of range) }
+{
+    match range {
+        None => 1,
+        Some(range) => range.count(),
+    }
+}
+
+/// The number of the first net of each identifier. Answers `Memory` where there is no room.
+fn first_numbers(
+    alloc: Global,
+    text: &[u8],
+    identifiers: &Identifiers,
+    nets: &Nets,
+) -> Result<Vec<u32>, Memory>
+    requires table { AreIdentifiers text.now identifiers.now }
+    requires nets { nets.now ≡ nets_of text.now }
+    ensures { IfOk result (λ numbers. numbers.items ≡ first_numbers text.now 0 (tokens_of_nets text.now)) }
+{
+    let count = nets.len();
+    let mut numbers = Vec::with_capacity(alloc, identifiers.len())?;
+    let mut next = 0;
+    'identifier: for at in 0..identifiers.len() {
+        numbers.push(next as u32)?;
+        next += net_count(range_said(identifiers.said_at(at)));
+    }
+    Ok(numbers)
+}
+
+/// The same, where no two nets have one name: this is the first place at which two have. Answers `Memory` where there is no room.
+pub(crate) fn numbers_of(
+    alloc: Global,
+    text: &[u8],
+    identifiers: &Identifiers,
+    nets: &Nets,
+    clash: Option<usize>,
+) -> Result<Vec<u32>, Memory>
+    requires table { AreIdentifiers text.now identifiers.now }
+    requires nets { clash ≡ None → nets.now ≡ nets_of text.now }
+    ensures { IfOk result (λ numbers. clash ≡ None → numbers.items ≡ first_numbers text.now 0 (tokens_of_nets text.now)) }
+{
+    match clash {
+        Some(_) => Ok(Vec::new(alloc)),
+        None => {
+            let numbers = first_numbers(alloc, text, identifiers, nets)?;
+            Ok(numbers)
+        }
+    }
 }

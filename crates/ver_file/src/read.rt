@@ -5,14 +5,15 @@ ghost use Rattle.ver_syntax.specs.Syntax.{IsOutOfMemory};
 ghost use Rattle.ver_file.specs.Flaws.{IsFirst, flaws_of};
 ghost use Rattle.ver_file.specs.Modules.{Denotes, IsFirstFault};
 ghost use Rattle.ver_file.specs.Netlists.{netlist_of};
-ghost use Rattle.ver_file.specs.Scopes.{HasNets};
+ghost use Rattle.ver_file.specs.Bodies.{IsBody};
+ghost use Rattle.ver_file.specs.Nets.{nets_of};
 
-use crate::build::{end_at, head_end, instances_of, module_name};
-use crate::check::check_items;
+use crate::build::{Body, head_end, module_name, read_body};
 use crate::identifier::Identifiers;
-use crate::nets::nets_of;
+use crate::nets::{nets_of, numbers_of};
 use crate::scope::Scope;
 use std::alloc::Global;
+use std::cell::Cell;
 use ver_module::{Module, Nets};
 use ver_syntax::{VerFault, VerKind, check_module};
 use vg_num::{Memory, Row};
@@ -23,49 +24,47 @@ const OUT_OF_MEMORY: VerFault = VerFault {
     line: 1,
 };
 
-/// The identifiers and the nets of a text that has the grammar of a module, or the first of its flaws. Answers `Memory` where
-/// there is no room.
-fn checked_nets(alloc: Global, text: &[u8]) -> Result<Result<(Identifiers, Nets), VerFault>, Memory>
-    ensures nets { IfOk result (λ checked. IfOk checked (λ found. HasNets text.now found.0 found.1)) }
-    ensures flawless { IfOk result (λ checked. OnOk checked (flaws_of text.now ≡ [])) }
-    ensures fault { IfOk result (λ checked. IfErr checked (IsFirst text.now (flaws_of text.now))) }
+/// The module of a text that has the grammar of one, or the first of its flaws. Answers `Memory` where there is no room.
+fn build(alloc: Global, text: &[u8]) -> Result<Result<Module, VerFault>, Memory>
+    ensures flawless { IfOk result (λ built. OnOk built (flaws_of text.now ≡ [])) }
+    ensures module { IfOk result (λ built. IfOk built (λ found. found ≡ netlist_of text.now)) }
+    ensures fault { IfOk result (λ built. IfErr built (IsFirst text.now (flaws_of text.now))) }
 {
     let identifiers = Identifiers::of(alloc, text)?;
     let (nets, clash) = nets_of(alloc, text, &identifiers)?;
-    let firsts = check_items(alloc, text, &identifiers, clash)?;
-    match firsts.fault(text) {
+    let numbers = numbers_of(alloc, text, &identifiers, &nets, clash)?;
+    let scope = Scope {
+        text,
+        identifiers: &identifiers,
+        nets: &nets,
+        numbers: &numbers,
+        next: Cell::new(0),
+    };
+    let body = read_body(alloc, &scope, clash)?;
+    match body.firsts.fault(text) {
         Some(fault) => Ok(Err(fault)),
-        None => Ok(Ok((identifiers, nets))),
+        None => {
+            let module = assemble(alloc, text, nets, body)?;
+            Ok(Ok(module))
+        }
     }
 }
 
 /// The module of a text without a flaw. Answers `Memory` where there is no room.
-fn build(
-    alloc: Global,
-    text: &[u8],
-    identifiers: &Identifiers,
-    nets: Nets,
-) -> Result<Module, Memory>
-    requires nets { HasNets text.now identifiers.now nets }
+fn assemble(alloc: Global, text: &[u8], nets: Nets, body: Body) -> Result<Module, Memory>
+    requires nets { nets ≡ nets_of text.now }
+    requires body { IsBody text.now body }
     requires flawless { flaws_of text.now ≡ [] }
     ensures { IfOk result (λ built. built ≡ netlist_of text.now) }
 {
-    let (instances, assigned) = instances_of(
-        alloc,
-        &Scope {
-            text,
-            identifiers,
-            nets: &nets,
-        },
-    )?;
     let name = module_name(alloc, text)?;
     Ok(Module::new(
         name,
         nets,
-        instances,
-        Row::from_vec(assigned),
+        body.instances,
+        Row::from_vec(body.assigned),
         head_end(text),
-        end_at(text),
+        body.end.unwrap_or(0),
     ))
 }
 
@@ -81,12 +80,8 @@ pub fn read_module(alloc: Global, bytes: &[u8]) -> Result<Module, VerFault>
     ensures fault { IfErr result (λ fault. IsOutOfMemory fault ⊎ IsFirstFault bytes.now fault) }
 {
     check_module(alloc, bytes)?;
-    let Ok(checked) = checked_nets(alloc, bytes) else {
-        return Err(OUT_OF_MEMORY);
-    };
-    let (identifiers, nets) = checked?;
-    match build(alloc, bytes, &identifiers, nets) {
-        Ok(module) => Ok(module),
+    match build(alloc, bytes) {
+        Ok(built) => built,
         Err(_) => Err(OUT_OF_MEMORY),
     }
 }

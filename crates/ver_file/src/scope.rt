@@ -1,12 +1,16 @@
 //! The nets that expressions name, and the links of pins.
 
-ghost use Rattle.std.specs.Prelude.{◌≡◌, ◌++◌, ◌∷◌, [], Some, map, IfOk, MatchOption, OnOk};
+ghost use Rattle.std.specs.Prelude.{◌≡◌, ◌++◌, ◌∷◌, [], Some, is_some, map, slice_get, IfOk, IfSome, MatchOption, OnOk};
 ghost use Rattle.ver_items.specs.Bits.{bits_of, selected};
-ghost use Rattle.ver_file.specs.Netlists.{bit_in, is_one, link_of, one_named, net_number, nets_in, nets_named, range_at};
+ghost use Rattle.ver_file.specs.Netlists.{bit_in, is_one, link_of, number_of_bit, one_named, nets_in, nets_named};
+ghost use Rattle.vg_names.specs.Distinct.{number_of};
+ghost use Rattle.ver_file.specs.Lookups.{IsLookedUp};
 ghost use Rattle.ver_file.specs.Scopes.{IsScope};
+ghost use Rattle.ver_items.specs.Sections.{name_at};
 
-use crate::identifier::Identifiers;
+use crate::identifier::{Identifiers, range_said};
 use std::alloc::Global;
+use std::cell::Cell;
 use ver_items::{
     Begin, Range, Section, Sections, Select, is_identifier, name_at, push_net_name, select_before,
 };
@@ -20,6 +24,10 @@ pub(crate) struct Scope<'a> {
     pub text: &'a [u8],
     pub identifiers: &'a Identifiers,
     pub nets: &'a Nets,
+    /// The number of the first net of each identifier.
+    pub numbers: &'a [u32],
+    /// The place of an identifier up to which links are made: only a guess, by which the next one is found without its name.
+    pub next: Cell<usize>,
 }
 
 fn bit_in(select: Select) -> Option<u32>
@@ -41,26 +49,79 @@ fn several(select: Select, range: Option<Range>) -> Option<Range>
     }
 }
 
+/// How many nets of an identifier with this range stand before one of them.
+fn place_in(range: Option<Range>, bit: Option<u32>) -> Option<u32>
+    ensures { IfSome result (λ at. slice_get (bits_of range) at ≡ Some bit) }
+{
+    match (range, bit) {
+        (None, None) => Some(0),
+        (Some(range), Some(bit)) => range.place(bit),
+        _ => None,
+    }
+}
+
+/// An identifier of nets, looked up.
+#[derive(Drop)]
+struct Found<'a> {
+    name: &'a [u8],
+    /// Its number. `None`: it is no identifier of the text.
+    id: Option<u32>,
+    range: Option<Range>,
+}
+
 impl<'a> Scope<'a> {
-    /// The range of an identifier.
-    fn range_at(&self, row: Row) -> Option<Range>
+    /// The number of the identifier that a token is. `None`: it is no identifier of the text.
+    fn id(&self, row: Row) -> Option<u32>
         requires { IsScope self.now }
-        ensures { result ≡ range_at self.now.text.now row }
+        ensures { result ≡ number_of self.now.identifiers.now.names (name_at self.now.text.now row) }
     {
-        self.identifiers.range(name_at(self.text, row))
+        let (next, id) = self.identifiers.find_from(self.next.get(), row);
+        self.next.set(next);
+        match id {
+            Some(id) => Some(id),
+            None => self.identifiers.find(name_at(self.text, row)),
+        }
+    }
+
+    /// The identifier that a token is.
+    fn look_up(&self, row: Row) -> Found<'a>
+        requires { IsScope self.now }
+        ensures name { result.name.now ≡ name_at self.now.text.now row }
+        ensures found { IsLookedUp self.now result }
+    {
+        let name = name_at(self.text, row);
+        let id = self.id(row);
+        let range = match id {
+            Some(id) => range_said(self.identifiers.said_at(id as usize)),
+            None => None,
+        };
+        Found { name, id, range }
+    }
+
+    /// The number of a bit that an identifier has among the nets, or of its one net.
+    fn own_number(&self, found: &Found<'_>, bit: Option<u32>) -> Option<u32>
+        requires scope { IsScope self.now }
+        requires found { IsLookedUp self.now found.now }
+        ensures { IfSome result (λ number. number ≡ number_of_bit self.now.text.now found.now.name.now bit) }
+    {
+        let id = found.id? as usize;
+        let at = place_in(found.range, bit)?;
+        let number = self.numbers[id].checked_add(at)?;
+        Some(number)
     }
 
     /// The number of a bit of an identifier among the nets, or of its one net. Answers `Memory` where there is no room.
-    fn number(&self, alloc: Global, row: Row, bit: Option<u32>) -> Result<u32, Memory>
-        requires { IsScope self.now }
-        ensures { IfOk result (λ number. number ≡ net_number self.now.text.now row bit) }
+    fn number(&self, alloc: Global, found: &Found<'_>, bit: Option<u32>) -> Result<u32, Memory>
+        requires scope { IsScope self.now }
+        requires found { IsLookedUp self.now found.now }
+        ensures { IfOk result (λ number. number ≡ number_of_bit self.now.text.now found.now.name.now bit) }
     {
-        let base = name_at(self.text, row);
-        if bit.is_none() {
-            return Ok(self.nets.number(base));
+        if let Some(number) = self.own_number(found, bit) {
+            return Ok(number);
         }
-        let mut name = Vec::with_capacity(alloc, base.len())?;
-        push_net_name(base, bit, &mut name)?;
+        // No bit of its range: then another identifier may have this name.
+        let mut name = Vec::with_capacity(alloc, found.name.len())?;
+        push_net_name(found.name, bit, &mut name)?;
         Ok(self.nets.number(&name))
     }
 
@@ -68,15 +129,16 @@ impl<'a> Scope<'a> {
     fn push_bits(
         &self,
         alloc: Global,
-        row: Row,
+        found: &Found<'_>,
         range: Range,
         to: &mut Vec<u32>,
     ) -> Result<(), Memory>
-        requires { IsScope self.now }
-        ensures { OnOk result (to.new.items ≡ to.old.items ++ map (net_number self.now.text.now row) (bits_of (Some range))) }
+        requires scope { IsScope self.now }
+        requires found { IsLookedUp self.now found.now }
+        ensures { OnOk result (to.new.items ≡ to.old.items ++ map (number_of_bit self.now.text.now found.now.name.now) (bits_of (Some range))) }
     {
         'turn: for at in 0..range.count() {
-            let number = self.number(alloc, row, Some(range.bit(at)))?;
+            let number = self.number(alloc, found, Some(range.bit(at)))?;
             to.push(number)?;
         }
         Ok(())
@@ -92,16 +154,16 @@ impl<'a> Scope<'a> {
         requires { IsScope self.now }
         ensures { OnOk result (to.new.items ≡ to.old.items ++ nets_named self.now.text.now section.now) }
     {
-        let head = section.head;
+        let found = self.look_up(section.head);
         let select = select_before(self.text, section.body);
-        match several(select, self.range_at(head)) {
+        match several(select, found.range) {
             None => {
-                let number = self.number(alloc, head, bit_in(select))?;
+                let number = self.number(alloc, &found, bit_in(select))?;
                 to.push(number)?;
                 Ok(())
             }
             Some(range) => {
-                self.push_bits(alloc, head, range, to)?;
+                self.push_bits(alloc, &found, range, to)?;
                 Ok(())
             }
         }
@@ -119,23 +181,23 @@ impl<'a> Scope<'a> {
         Ok(nets)
     }
 
-    /// Whether this is an identifier, and with what follows it one net.
-    fn is_one(&self, named: &Section<'_>) -> bool
+    /// The net that this is, where it is an identifier and with what follows it one net. `None`: it is not. Answers `Memory` where
+    /// there is no room.
+    fn one(&self, alloc: Global, named: &Section<'_>) -> Result<Option<u32>, Memory>
         requires { IsScope self.now }
-        ensures { result ≡ is_one self.now.text.now named.now }
+        ensures one { IfOk result (λ found. is_some found ≡ is_one self.now.text.now named.now) }
+        ensures number { IfOk result (λ found. IfSome found (λ number. number ≡ one_named self.now.text.now named.now)) }
     {
+        if !is_identifier(named.head) {
+            return Ok(None);
+        }
+        let found = self.look_up(named.head);
         let select = select_before(self.text, named.body);
-        is_identifier(named.head) && select.is_single(self.range_at(named.head))
-    }
-
-    /// That net. Answers `Memory` where there is no room.
-    fn one_named(&self, alloc: Global, named: &Section<'_>) -> Result<u32, Memory>
-        requires { IsScope self.now }
-        ensures { IfOk result (λ number. number ≡ one_named self.now.text.now named.now) }
-    {
-        let select = select_before(self.text, named.body);
-        let number = self.number(alloc, named.head, bit_in(select))?;
-        Ok(number)
+        if !select.is_single(found.range) {
+            return Ok(None);
+        }
+        let number = self.number(alloc, &found, bit_in(select))?;
+        Ok(Some(number))
     }
 
     /// What a pin with this expression is linked to. Answers `Memory` where there is no room.
@@ -147,8 +209,7 @@ impl<'a> Scope<'a> {
             return Ok(Link::Open);
         };
         let named = Begin::Identifier.section(*first, rest);
-        if self.is_one(&named) {
-            let number = self.one_named(alloc, &named)?;
+        if let Some(number) = self.one(alloc, &named)? {
             return Ok(Link::One(number));
         }
         let nets = self.nets_in(alloc, expression)?;

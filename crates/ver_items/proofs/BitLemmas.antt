@@ -1,11 +1,11 @@
 -- The bits of vectors.
-use Rattle.std.proofs.Common.{◌≡◌, ℕ, ◌+◌, ◌-◌, ◌≤◌, ◌<◌, nat_le, Bool, true, false, List, length, reverse, refl, ap, ◌∙◌, arith, get_or, if◌then◌else◌}
+use Rattle.std.proofs.Common.{◌≡◌, ℕ, ◌+◌, ◌-◌, ◌≤◌, ◌<◌, nat_le, min, max, Bool, true, false, ◌&&◌, List, length, reverse, refl, ap, ◌∙◌, arith, get_or, if◌then◌else◌}
 use Rattle.std.specs.List.{range_with_len}
 use Rattle.std.proofs.lemmas.Bool.Decides.{nat_tests}
 use Rattle.std.proofs.lemmas.List.{length-reverse, get_or-reverse}
 use Rattle.std.proofs.lemmas.List.FromFn.{length-range_with_len, get_or-range_with_len}
 use Rattle.ver_items.specs.declared.bits.Range.{Range}
-use Rattle.ver_items.specs.Bits.{bits_from}
+use Rattle.ver_items.specs.Bits.{bits_from, is_within}
 
 -- the bits between two bounds, by whether they rise
 abbrev bits : Bool → ℕ → ℕ → List ℕ
@@ -47,3 +47,41 @@ falling_bit range i h l =
         ∙ ap (λ m. get_or (range_with_len r (l - r + 1)) (m - 1 - i) 0) n
         ∙ get_or-range_with_len r (l - r + 1) (l - r + 1 - 1 - i) 0 (omega arith)
         ∙ omega (arith, h, g)
+
+-- how many bits stand before a bit of a range
+both : (a b : Bool) → (a && b) ≡ true → (a ≡ true) × (b ≡ true)
+both true true e = (refl, refl)
+both true false e = absurd (cc)
+both false b e = absurd (cc)
+
+bounds : (range : Range) (bit : ℕ) → is_within range bit ≡ true → (min range.left range.right ≤ bit) × (bit ≤ max range.left range.right)
+bounds range bit t =
+    let b = both (nat_le (min range.left range.right) bit) (nat_le bit (max range.left range.right)) t in
+    let low : nat_le (min range.left range.right) bit ≡ true = b.0 in
+    let high : nat_le bit (max range.left range.right) ≡ true = b.1 in
+    (grind (arith, nat_tests, low), grind (arith, nat_tests, high))
+
+pub bit_place : (range : Range) (bit place : ℕ) → is_within range bit ≡ true → place ≡ (range.left - bit) + (bit - range.left)
+    → (place < length (bits_from range)) × (get_or (bits_from range) place 0 ≡ bit)
+bit_place range bit place t e = by_test (nat_le range.left range.right) refl
+  where
+    b : (min range.left range.right ≤ bit) × (bit ≤ max range.left range.right)
+    b = bounds range bit t
+
+    low : min range.left range.right ≤ bit
+    low = b.0
+
+    high : bit ≤ max range.left range.right
+    high = b.1
+
+    by_test : (x : Bool) → nat_le range.left range.right ≡ x → (place < length (bits_from range)) × (get_or (bits_from range) place 0 ≡ bit)
+    by_test true f =
+        let h : range.left ≤ range.right = grind (arith, nat_tests, f) in
+        let n = rising range h in
+        let within : place < range.right - range.left + 1 = omega (arith, e, low, high, h) in
+        (omega (arith, n, within), rising_bit range place h within ∙ omega (arith, e, low, high, h))
+    by_test false f =
+        let h : range.right < range.left = grind (arith, nat_tests, f) in
+        let n = falling range h in
+        let within : place < range.left - range.right + 1 = omega (arith, e, low, high, h) in
+        (omega (arith, n, within), falling_bit range place h within ∙ omega (arith, e, low, high, h))

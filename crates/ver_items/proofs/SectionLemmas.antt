@@ -1,5 +1,6 @@
 -- Sections, one after another.
-use Rattle.std.proofs.Common.{◌≡◌, Bool, true, false, List, [], ◌∷◌, length, refl, ◌∙◌, ap, arith}
+use Rattle.std.proofs.Common.{◌≡◌, suc, ◌+◌, Bool, true, false, cond, List, [], ◌∷◌, length, take, drop, refl, sym, ◌∙◌, ap, arith}
+use Rattle.std.specs.List.{before_first, position_or_len}
 use Rattle.ver_syntax.specs.declared.row.Row.{Row}
 use Rattle.ver_items.specs.Sections.{section_before, sections}
 
@@ -17,3 +18,24 @@ pub sections_no : (begins : Row → Bool) (rows : List Row) (r : Row) (after : L
     → sections begins rows ≡ sections begins after
 unfolding sections
 sections_no begins rows r after e t = ap (sections begins) e ∙ rw t refl
+
+-- the tokens before the first that begins something
+pub before_others : (begins : Row → Bool) (r : Row) (rows : List Row) (b : Bool) → begins r ≡ b
+    → before_first begins (r ∷ rows) ≡ cond b [] (r ∷ before_first begins rows)
+before_others begins r rows true t = rw t refl
+before_others begins r rows false t =
+    let more : 1 + position_or_len begins rows ≡ suc (position_or_len begins rows) = omega arith in
+    rw t (ap (λ n. take n (r ∷ rows)) more)
+
+-- no section begins before the first token that begins one
+pub sections_past : (begins : Row → Bool) (rows : List Row) → sections begins (drop (length (before_first begins rows)) rows) ≡ sections begins rows
+sections_past begins [] = refl
+sections_past begins (r ∷ rows) = by_test (begins r) refl (sections_past begins rows)
+  where
+    by_test : (b : Bool) → begins r ≡ b → sections begins (drop (length (before_first begins rows)) rows) ≡ sections begins rows
+        → sections begins (drop (length (before_first begins (r ∷ rows))) (r ∷ rows)) ≡ sections begins (r ∷ rows)
+    by_test true t rest = ap (λ front. sections begins (drop (length front) (r ∷ rows))) (before_others begins r rows true t)
+    by_test false t rest =
+        ap (λ front. sections begins (drop (length front) (r ∷ rows))) (before_others begins r rows false t)
+        ∙ rest
+        ∙ sym (sections_no begins (r ∷ rows) r rows refl t)

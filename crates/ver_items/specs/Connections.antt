@@ -11,8 +11,12 @@ abbrev pub connection_of : Section → List Row
 connection_of p = take_while (stands_in Connection) (drop 1 p.body)
 
 -- the same without the bracket
+abbrev pub expression_in : List Row → List Row
+expression_in connection = take (length connection - 1) connection
+
+-- the tokens of a pin's expression
 abbrev pub expression_of : Section → List Row
-expression_of p = take (length (connection_of p) - 1) (connection_of p)
+expression_of p = expression_in (connection_of p)
 
 -- where an expression ends, of these tokens and the bracket after them; an empty one ends where the bracket begins
 abbrev pub end_of : ℕ → List Row → ℕ

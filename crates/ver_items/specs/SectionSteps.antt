@@ -7,7 +7,7 @@ use Rattle.ver_syntax.specs.Grammar.{is}
 use Rattle.ver_syntax.specs.Rows.{place_after}
 use Rattle.ver_items.specs.Sections.{Section, sections}
 
--- the first section among some tokens, and the tokens after its first
+-- the first section among some tokens, and tokens that have all others
 abbrev pub IsFirstSection : (Row → Bool) → List Row → Section × List Row → Type 0
 IsFirstSection begins rows found = sections begins rows ≡ found.0 ∷ sections begins found.1
 

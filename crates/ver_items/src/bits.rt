@@ -1,6 +1,6 @@
 //! The bits of vectors, and what expressions select of them.
 
-ghost use Rattle.std.specs.Prelude.{◌≡◌, ◌<◌, ◌++◌, OnOk, length, slice_index};
+ghost use Rattle.std.specs.Prelude.{◌≡◌, ◌<◌, ◌++◌, false, IfNone, IfSome, OnOk, length, slice_index};
 ghost use Rattle.ver_items.specs.Bits.{bits_from, first_number, fits, is_single, is_within, select_before, select_in};
 ghost use Rattle.ver_module.specs.Netlists.{net_name};
 
@@ -45,6 +45,18 @@ impl Range {
         } else {
             self.left - at as u32
         }
+    }
+
+    /// How many bits stand before this one, counted from the left bound. `None`: it does not lie in the range.
+    pub fn place(self, bit: u32) -> Option<u32>
+        ensures within { IfSome result (λ at. at < length (bits_from self)) }
+        ensures bit { IfSome result (λ at. slice_index (bits_from self) at ≡ bit) }
+        ensures none { IfNone result (is_within self bit ≡ false) }
+    {
+        if !self.has(bit) {
+            return None;
+        }
+        Some(self.left.abs_diff(bit))
     }
 
     /// Whether a bit lies in the range.

@@ -3,7 +3,7 @@
 ghost use Rattle.std.specs.Prelude.{◌≡◌, not};
 ghost use Rattle.std.specs.List.{position};
 ghost use Rattle.ver_syntax.specs.declared.row.Place.TheVariants.{Connection};
-ghost use Rattle.ver_items.specs.Connections.{connection_of, expression_of, span_of, start_of};
+ghost use Rattle.ver_items.specs.Connections.{connection_of, expression_in, span_of, start_of};
 ghost use Rattle.ver_items.specs.Sections.{stands_in};
 
 use crate::section::Section;
@@ -29,11 +29,10 @@ pub fn connection_of<'a>(pin: &Section<'a>) -> &'a [Row]
     }
 }
 
-/// The tokens of a pin's expression.
-pub fn expression_of<'a>(pin: &Section<'a>) -> &'a [Row]
-    ensures { result.now ≡ expression_of pin.now }
+/// The tokens of the expression in a connection.
+pub fn expression_in(connection: &[Row]) -> &[Row]
+    ensures { result.now ≡ expression_in connection.now }
 {
-    let connection = connection_of(pin);
     &connection[..connection.len().saturating_sub(1)]
 }
 

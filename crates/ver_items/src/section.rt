@@ -1,6 +1,6 @@
 //! Sections of tokens, one after another.
 
-ghost use Rattle.std.specs.Prelude.{◌≡◌, ◌∷◌, [], length, ◌<◌, MatchOption};
+ghost use Rattle.std.specs.Prelude.{◌≡◌, ◌∷◌, [], length, drop, ◌<◌, ◌≤◌, MatchOption};
 ghost use Rattle.std.specs.Iterator.{YieldsFirst, item_count};
 ghost use Rattle.std.specs.List.{before_first, position};
 ghost use Rattle.ver_items.specs.Begins.{begins};
@@ -56,13 +56,15 @@ pub enum Begin {
     Pin,
 }
 
-fn begins_declaration(row: Row) -> bool
+/// Whether a token begins a declaration: a direction, or a type of nets at the start of an item.
+pub fn begins_declaration(row: Row) -> bool
     ensures { result ≡ begins_declaration row }
 {
     is(Kind::Direction, row.kind) || stands_in(Place::Start, row) && is_net(row.kind)
 }
 
 impl Begin {
+    #[inline(always)]
     fn begins(self, row: Row) -> bool
         ensures { result ≡ begins self row }
     {
@@ -76,6 +78,7 @@ impl Begin {
     }
 
     /// The number of the first of some tokens that begins a section.
+    #[inline(always)]
     fn position(self, rows: &[Row]) -> Option<usize>
         ensures { result ≡ position (begins self) rows.now }
     {
@@ -83,6 +86,7 @@ impl Begin {
     }
 
     /// The tokens before the first that begins a section.
+    #[inline(always)]
     fn before_first(self, rows: &[Row]) -> &[Row]
         ensures { result.now ≡ before_first (begins self) rows.now }
     {
@@ -93,6 +97,7 @@ impl Begin {
     }
 
     /// The section that a token begins before others.
+    #[inline(always)]
     pub fn section(self, head: Row, after: &[Row]) -> Section<'_>
         ensures { result ≡ section_before (begins self) head after.now }
     {
@@ -129,15 +134,27 @@ impl<'a> Sections<'a> {
     }
 }
 
-/// The first section of some tokens, and the tokens after its first.
+/// The tokens from a place on.
+#[inline(always)]
+fn rows_from(rows: &[Row], at: usize) -> &[Row]
+    requires { at ≤ length rows.now }
+    ensures { result.now ≡ drop at rows.now }
+{
+    &rows[at..]
+}
+
+/// The first section of some tokens, and the tokens from the next one on.
 #[tactic(auto, using(crate::proofs::SectionLemmas::sections_nil, crate::proofs::SectionLemmas::sections_yes, crate::proofs::SectionLemmas::sections_no))]
+#[inline(always)]
 fn first_section(begin: Begin, rows: &[Row]) -> Option<(Section<'_>, &[Row])>
     ensures { MatchOption result (sections (begins begin) rows.now ≡ []) (λ found. IsFirstSection (begins begin) rows.now (found.0, found.1.now)) }
 {
     let mut left = rows;
     'row: while let Some((head, after)) = left.split_first() {
         if begin.begins(*head) {
-            return Some((begin.section(*head, after), after));
+            let section = begin.section(*head, after);
+            let rest = rows_from(after, section.body.len());
+            return Some((section, rest));
         }
         left = after;
     }
@@ -151,6 +168,7 @@ impl<'a> Iterator for Sections<'a> {
 
     ghost remaining = { item_count (λ left. left) };
 
+    #[inline(always)]
     fn next(&mut self) -> Option<Section<'a>> {
         let (section, rest) = first_section(self.begin, self.rest)?;
         self.rest = rest;

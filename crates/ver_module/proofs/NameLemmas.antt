@@ -1,5 +1,5 @@
 -- Names that are put last where they are new.
-use Rattle.std.proofs.Common.{◌≡◌, ℕ, suc, ◌+◌, ◌<◌, ◌≤◌, Bool, true, false, ◌||◌, is_some, List, [], ◌∷◌, ◌++◌, length, get_or, refl, sym, ap, ◌∙◌, subst, arith, length-append}
+use Rattle.std.proofs.Common.{◌≡◌, ℕ, suc, ◌+◌, ◌<◌, ◌≤◌, ◌≢◌, Bool, true, false, ◌||◌, is_some, List, [], ◌∷◌, ◌++◌, length, get_or, refl, sym, ap, ◌∙◌, subst, arith, length-append}
 use Rattle.std.specs.List.{list_any}
 use Rattle.std.specs.Str.{bytes_eq}
 use Rattle.std.proofs.lemmas.Slice.Eq.{bytes_eq-Decides}
@@ -9,7 +9,7 @@ use Rattle.vg_names.specs.Distinct.{number_in, number_of, with_name}
 use Rattle.vg_scan.proofs.FirstLemmas.{lt_yes, lt_no}
 
 -- a name that is one of them stands at its number
-there : (names : List (List ℕ)) (name : List ℕ) → list_any (bytes_eq name) names ≡ true
+pub there : (names : List (List ℕ)) (name : List ℕ) → list_any (bytes_eq name) names ≡ true
     → (number_in names name < length names) × (get_or names (number_in names name) [] ≡ name)
 there [] name t = absurd (cc)
 there (n ∷ ns) name t = by_test (there ns name) (bytes_eq name n) refl
@@ -27,7 +27,7 @@ there (n ∷ ns) name t = by_test (there ns name) (bytes_eq name n) refl
         rw f (less, got)
 
 -- one that is none of them has the number that comes next
-past : (names : List (List ℕ)) (name : List ℕ) → list_any (bytes_eq name) names ≡ false → number_in names name ≡ length names
+pub past : (names : List (List ℕ)) (name : List ℕ) → list_any (bytes_eq name) names ≡ false → number_in names name ≡ length names
 past [] name t = refl
 past (n ∷ ns) name t = by_test (past ns name) (bytes_eq name n) refl
   where
@@ -87,3 +87,19 @@ is_there names name = by_test (list_any (bytes_eq name) names) refl
 pub number_there : (names after : List (List ℕ)) (name : List ℕ) (id : ℕ) → id ≡ number_in names name → after ≡ with_name names name → HasNumber names after name id
 number_there names after name id e f =
     subst (λ (n : ℕ). HasNumber names after name n) (sym e) (subst (λ (ns : List (List ℕ)). HasNumber names ns name (number_in names name)) (sym f) (numbered names name))
+
+-- a name whose number is the next one is none of them
+pub none_before : (names : List (List ℕ)) (name : List ℕ) → number_in names name ≡ length names → list_any (bytes_eq name) names ≡ false
+none_before names name e = by_test (list_any (bytes_eq name) names) refl
+  where
+    by_test : (b : Bool) → list_any (bytes_eq name) names ≡ b → b ≡ false
+    by_test true t = let h = there names name t in let low : number_in names name < length names = h.0 in absurd (omega (arith, low, e))
+    by_test false t = refl
+
+-- and one whose number is another one is one of them
+pub one_before : (names : List (List ℕ)) (name : List ℕ) → number_in names name ≢ length names → list_any (bytes_eq name) names ≡ true
+one_before names name other = by_test (list_any (bytes_eq name) names) refl
+  where
+    by_test : (b : Bool) → list_any (bytes_eq name) names ≡ b → b ≡ true
+    by_test true t = refl
+    by_test false t = absurd (other (past names name t))

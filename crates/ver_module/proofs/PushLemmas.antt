@@ -1,17 +1,17 @@
 -- Nets, instances and pins that are put last.
-use Rattle.std.proofs.Common.{◌≡◌, ℕ, suc, ◌+◌, ◌-◌, ◌<◌, ◌^◌, Bool, false, is_some, List, [], ◌∷◌, ◌++◌, length, map, take, get_or, sym, ap, ◌∙◌, subst, arith, length-append}
+use Rattle.std.proofs.Common.{◌≡◌, ℕ, suc, ◌+◌, ◌-◌, ◌<◌, ◌^◌, Bool, true, false, not, if◌then◌else◌, List, [], ◌∷◌, ◌++◌, length, map, take, get_or, refl, sym, ap, ◌∙◌, subst, arith, length-append}
 use Rattle.std.specs.List.{list_any}
 use Rattle.std.specs.Str.{bytes_eq}
 use Rattle.vg_scan.specs.declared.lines.Span.{Span}
 use Rattle.std.proofs.lemmas.List.Elements.{All-push}
-use Rattle.vg_names.specs.Distinct.{number_of, with_name}
+use Rattle.vg_names.specs.Distinct.{with_name}
 use Rattle.ver_module.specs.declared.instances.InstanceRow.{InstanceRow}
 use Rattle.ver_module.specs.declared.instances.PinRow.{PinRow}
 use Rattle.ver_module.specs.declared.link.Link.{Link}
 use Rattle.ver_module.specs.declared.nets.NetRow.{NetRow}
 use Rattle.ver_module.specs.Netlists.{Net, Instance, IsNamed, with_pin}
 use Rattle.ver_module.specs.Flat.{Tables, AreInstances, instances_with, net_with, nets_with}
-use Rattle.ver_module.proofs.NameLemmas.{Grow, is_there, numbered, same, with_new}
+use Rattle.ver_module.proofs.NameLemmas.{Grow, numbered, same, with_new, with_old}
 use Rattle.ver_module.proofs.NetLemmas.{front, names_of_nets, one_more_net}
 use Rattle.ver_module.proofs.GrowthLemmas.{instances_still, one_more, one_more_stands, pin_more, pin_stands, stand_still, still_named}
 
@@ -96,11 +96,10 @@ pin_pushed cells pin_names names rows pins after all name id span link h low e f
 -- ---- nets
 
 -- whether a net has this name
-pub is_taken : (names : List (List ℕ)) (rows : List NetRow) (all : List Net) (name its : List ℕ) (found : Bool) → length names ≡ length rows
-    → nets_with names rows ≡ all → name ≡ its → found ≡ is_some (number_of names name) → found ≡ list_any (bytes_eq its) (map (λ net. net.name) all)
-is_taken names rows all name its found count e f g =
-    g ∙ is_there names name
-    ∙ (λ i. list_any (bytes_eq (f i)) (sym (names_of_nets names rows count) i))
+pub is_taken : (names : List (List ℕ)) (rows : List NetRow) (all : List Net) (name its : List ℕ) → length names ≡ length rows
+    → nets_with names rows ≡ all → name ≡ its → list_any (bytes_eq name) names ≡ list_any (bytes_eq its) (map (λ net. net.name) all)
+is_taken names rows all name its count e f =
+    (λ i. list_any (bytes_eq (f i)) (sym (names_of_nets names rows count) i))
     ∙ ap (λ nets. list_any (bytes_eq its) (map (λ net. net.name) nets)) e
 
 pub net_is : (net : Net) (name : List ℕ) (row : NetRow) → IsNamed net → name ≡ net.name → row.base ≡ length net.base → row.bit ≡ net.bit
@@ -110,14 +109,29 @@ net_is net name row n e base bit escaped port supply =
     λ i. record { name = e i; base = front i; bit = bit i; escaped = escaped i; port = port i; supply = supply i }
 
 -- names and rows are one more, where the name is new
-pub both_more : (names after : List (List ℕ)) (rows after_rows : List NetRow) (name : List ℕ) (row : NetRow) → length names ≡ length rows
-    → list_any (bytes_eq name) names ≡ false → after ≡ with_name names name → after_rows ≡ rows ++ row ∷ [] → length names < 2 ^ 32 - 1
-    → (length after ≡ length after_rows) × (length after_rows < 2 ^ 32) × (nets_with after after_rows ≡ nets_with names rows ++ net_with name row ∷ [])
-both_more names after rows after_rows name row count new e f few =
-    let e' : after ≡ names ++ name ∷ [] = e ∙ with_new names name new in
+abbrev IsPushed : (new : Bool) (names after : List (List ℕ)) (rows after_rows : List NetRow) (name : List ℕ) (row : NetRow) → Type 0
+IsPushed new names after rows after_rows name row =
+    (length after ≡ length after_rows) × (length after_rows < 2 ^ 32)
+    × (nets_with after after_rows ≡ (if new then nets_with names rows ++ net_with name row ∷ [] else nets_with names rows))
+
+pub pushed_net : (new : Bool) (names after : List (List ℕ)) (rows after_rows : List NetRow) (name : List ℕ) (row : NetRow)
+    → length names ≡ length rows → length rows < 2 ^ 32 → new ≡ not (list_any (bytes_eq name) names) → after ≡ with_name names name
+    → after_rows ≡ (if new then rows ++ row ∷ [] else rows) → length names < 2 ^ 32 - 1 → IsPushed new names after rows after_rows name row
+pushed_net true names after rows after_rows name row count within new e f few =
+    let none : list_any (bytes_eq name) names ≡ false = not_any (list_any (bytes_eq name) names) (sym new) in
+    let e' : after ≡ names ++ name ∷ [] = e ∙ with_new names name none in
     let n : length after ≡ length names + 1 = ap length e' ∙ length-append names (name ∷ []) in
     let m : length after_rows ≡ length rows + 1 = ap length f ∙ length-append rows (row ∷ []) in
     (omega (arith, n, m, count), omega (arith, m, count, few), (λ i. nets_with (e' i) (f i)) ∙ one_more_net names rows name row count)
-
-pub new_name : (names : List (List ℕ)) (name : List ℕ) (found : Bool) → found ≡ is_some (number_of names name) → found ≡ false → list_any (bytes_eq name) names ≡ false
-new_name names name found e t = sym (is_there names name) ∙ sym e ∙ t
+  where
+    not_any : (b : Bool) → not b ≡ true → b ≡ false
+    not_any true t = absurd (cc)
+    not_any false t = refl
+pushed_net false names after rows after_rows name row count within new e f few =
+    let some : list_any (bytes_eq name) names ≡ true = any (list_any (bytes_eq name) names) (sym new) in
+    let e' : after ≡ names = e ∙ with_old names name some in
+    (ap length e' ∙ count ∙ sym (ap length f), (let m : length after_rows ≡ length rows = ap length f in omega (arith, m, within)), (λ i. nets_with (e' i) (f i)))
+  where
+    any : (b : Bool) → not b ≡ false → b ≡ true
+    any true t = refl
+    any false t = absurd (cc)

@@ -12,5 +12,5 @@ pub use direction::PortDir;
 pub use instances::{Instance, Instances, Pin};
 pub use link::Link;
 pub use module::Module;
-pub use name::{add_name, name_number};
+pub use name::name_number;
 pub use nets::{Net, Nets};

@@ -9,25 +9,12 @@ use vg_num::Memory;
 /// The most names that a table takes.
 pub(crate) const MOST: usize = 0xFFFF_FFFF;
 
-/// Puts a name last where it is new. Answers `Memory` where there is no room, as where the table has 2^32 - 1 names; nothing
-/// changes then.
-pub fn add_name(names: &mut Names, name: &[u8]) -> Result<(), Memory>
-    ensures names { OnOk result (names.new ≡ with_name names.old name.now) }
-    ensures few { OnOk result (length names.old < 2 ^ 32 - 1) }
-    ensures unchanged { OnErr result (names.new ≡ names.old) }
-{
-    if MOST <= names.len() {
-        return Err(Memory);
-    }
-    names.intern(name)?;
-    Ok(())
-}
-
 /// The number of a name, which is put last where it is new. Answers `Memory` where there is no room, as where the table has
 /// 2^32 - 1 names; nothing changes then.
 pub fn name_number(names: &mut Names, name: &[u8]) -> Result<u32, Memory>
     ensures number { IfOk result (λ id. id ≡ number_in names.old name.now) }
     ensures names { OnOk result (names.new ≡ with_name names.old name.now) }
+    ensures few { OnOk result (length names.old < 2 ^ 32 - 1) }
     ensures unchanged { OnErr result (names.new ≡ names.old) }
 {
     if MOST <= names.len() {

@@ -7,7 +7,7 @@ ghost use Rattle.vg_names.specs.Distinct.{number_in, number_of, with_name};
 ghost use Rattle.ver_module.specs.Netlists.{IsNamed};
 
 use crate::direction::PortDir;
-use crate::name::add_name;
+use crate::name::name_number;
 use std::alloc::Global;
 use std::marker::Model;
 use vg_names::Names;
@@ -85,24 +85,30 @@ fn row_of(net: &Net<'_>) -> NetRow
     }
 }
 
-/// Puts a net last, whose name is put last where it is new. Answers `Memory` where there is no room; nothing changes then.
+/// Puts a net last, where its name is new. Whether it is. Answers `Memory` where there is no room; nothing changes then.
 fn push_row(
     names: &mut Names,
     rows: &mut Vec<NetRow>,
     name: &[u8],
     row: NetRow,
-) -> Result<(), Memory>
+) -> Result<bool, Memory>
+    ensures new { IfOk result (λ new. new ≡ not (list_any (bytes_eq name.now) names.old)) }
     ensures name { OnOk result (names.new ≡ with_name names.old name.now) }
     ensures few { OnOk result (length names.old < 2 ^ 32 - 1) }
-    ensures row { OnOk result (rows.new.items ≡ rows.old.items ++ row ∷ []) }
+    ensures row { IfOk result (λ new. rows.new.items ≡ (if new then rows.old.items ++ row ∷ [] else rows.old.items)) }
     ensures same_names { OnErr result (names.new ≡ names.old) }
     ensures same_rows { OnErr result (rows.new.items ≡ rows.old.items) }
 {
+    let count = names.len();
     let Ok(()) = rows.push(row) else {
         return Err(Memory);
     };
-    match add_name(names, name) {
-        Ok(()) => Ok(()),
+    match name_number(names, name) {
+        Ok(id) if id as usize == count => Ok(true),
+        Ok(_) => {
+            rows.pop();
+            Ok(false)
+        }
         Err(_) => {
             rows.pop();
             Err(Memory)
@@ -178,12 +184,7 @@ impl Nets {
         ensures last { IfOk result (λ new. self.new ≡ (if new then self.old ++ net.now ∷ [] else self.old)) }
         ensures unchanged { OnErr result (self.new ≡ self.old) }
     {
-        if self.names.find(net.name).is_some() {
-            return Ok(false);
-        }
-        let Ok(()) = push_row(&mut self.names, &mut self.rows, net.name, row_of(net)) else {
-            return Err(Memory);
-        };
-        Ok(true)
+        let is_new = push_row(&mut self.names, &mut self.rows, net.name, row_of(net))?;
+        Ok(is_new)
     }
 }

@@ -15,11 +15,11 @@ instance-preserved c =
     record {
       names =
           ap (λ names. fold with_name names (map (named_by text) c.next.new.self)) c.in_ok-twice.ensures.names
-          ∙ sym (ap (λ ss. fold with_name c.instance.names (map (named_by text) ss)) e)
+          ∙ sym (ap (λ ss. fold with_name c.instance.seen.instances (map (named_by text) ss)) e)
           ∙ c.instance.invariant.names;
       twice =
           (λ i. first_of (c.in_ok-twice.ensures.first i) (repeated (c.in_ok-twice.ensures.names i) (map (named text) c.next.new.self)))
-          ∙ sym (next_section text c.instance.twice c.instance.names s c.instance.instance-iterator c.next.new.self e)
+          ∙ sym (next_section text c.instance.twice c.instance.seen.instances s c.instance.instance-iterator c.next.new.self e)
           ∙ c.instance.invariant.twice;
       grammar =
           ap (λ first. first_of first (flat_map (connection_flaws text) c.next.new.self)) c.in_ok-grammar.ensures
@@ -29,7 +29,7 @@ instance-preserved c =
 
 pub returns-clause-twice : goal.returns-clause-twice
 returns-clause-twice c =
-    sym (no_section c.args.text.now c.instance.twice c.instance.names c.instance.instance-iterator c.in-None.ensures.steps.0)
+    sym (no_section c.args.text.now c.instance.twice c.instance.seen.instances c.instance.instance-iterator c.in-None.ensures.steps.0)
     ∙ c.instance.invariant.twice
-    ∙ ap (λ ss. first_of c.args.firsts.twice (repeated c.args.names.now (map (named c.args.text.now) ss)))
+    ∙ ap (λ ss. first_of c.args.firsts.twice (repeated c.args.seen.now.instances (map (named c.args.text.now) ss)))
     (c.into_iter-instance-iterator.ensures.into_iter_gives ∙ c.new-instance-items.ensures ∙ ap (λ (s : Section). instances_in s) c.item.view_is)

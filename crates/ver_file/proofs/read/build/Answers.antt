@@ -1,16 +1,21 @@
-use Rattle.std.proofs.Common.{◌<◌, ℕ, List, length, sym, ◌∙◌, subst}
-use Rattle.std.specs.List.{All}
-use Rattle.ver_module.specs.Netlists.{AreWithin, Instance, Net}
-use Rattle.ver_file.specs.Netlists.{assigned_of, instances_of}
-use Rattle.ver_file.proofs.LinkLemmas.{assigned_within, links_within}
+use Rattle.std.proofs.Common.{sym, ◌∙◌}
+use Rattle.ver_file.proofs.NetLemmas.{all_put, no_name_flaw, none_first}
 use Rattle.ver_file.proofs.read.build.Goals as goal
 
-pub new-requires-clause-links : goal.new-requires-clause-links
-new-requires-clause-links c =
-    subst (λ (is : List Instance). AreWithin (length c.args.nets) is) (sym c.in_ok-instances.ensures.instances)
-    (subst (λ (nets : List Net). AreWithin (length nets) (instances_of c.args.text.now)) (sym c.requires.nets.are) (links_within c.args.text.now c.requires.flawless))
+pub numbers_of-requires-clause-nets : goal.numbers_of-requires-clause-nets
+numbers_of-requires-clause-nets c = λ none. c.in_ok-nets.ensures.nets ∙ all_put c.args.text.now (none_first c.args.text.now (sym c.in_ok-nets.ensures.clash ∙ none))
 
-pub new-requires-clause-assigned : goal.new-requires-clause-assigned
-new-requires-clause-assigned c =
-    subst (λ (ns : List ℕ). All (λ n. n < length c.args.nets) ns) (sym (c.from_vec.ensures ∙ c.in_ok-instances.ensures.assigned))
-    (subst (λ (nets : List Net). All (λ n. n < length nets) (assigned_of c.args.text.now)) (sym c.requires.nets.are) (assigned_within c.args.text.now c.requires.flawless))
+pub read_body-requires : goal.read_body-requires
+read_body-requires c = record {
+  table = c.in_ok-identifiers.ensures;
+  first = c.in_ok-nets.ensures.clash;
+  without = λ none. record {
+    table = c.in_ok-identifiers.ensures;
+    nets = c.in_ok-nets.ensures.nets ∙ all_put c.args.text.now (none_first c.args.text.now (sym c.in_ok-nets.ensures.clash ∙ none));
+    distinct = none_first c.args.text.now (sym c.in_ok-nets.ensures.clash ∙ none);
+    numbers = c.deref.ensures.value ∙ c.in_ok-numbers.ensures none;
+  };
+}
+
+pub assemble-requires-clause-nets : goal.assemble-requires-clause-nets
+assemble-requires-clause-nets c = c.in_ok-nets.ensures.nets ∙ all_put c.args.text.now (no_name_flaw c.args.text.now c.in-None.ensures)

@@ -1,12 +1,18 @@
-use Rattle.std.proofs.Common.{◌≡◌, ◌∷◌, sym, ap, ◌∙◌, rules}
+use Rattle.std.proofs.Common.{◌≡◌, ◌∷◌, length, drop, sym, ap, ◌∙◌, rules}
+use Rattle.std.specs.List.{before_first}
 use Rattle.ver_items.specs.Begins.{begins}
-use Rattle.ver_items.specs.Sections.{sections}
-use Rattle.ver_items.proofs.SectionLemmas.{sections_yes}
+use Rattle.ver_items.specs.Sections.{Section, sections}
+use Rattle.ver_items.proofs.SectionLemmas.{sections_past, sections_yes}
 use Rattle.ver_items.proofs.section.first_section.Goals as goal
 
 pub returns-then-begins : goal.returns-then-begins
 returns-then-begins c =
-    let e : c.row.left.now ≡ c.in-Some.head.now ∷ c.in-Some.after.now = search rules in
+    let p = begins c.args.begin in
+    let after = c.in-Some.after.now in
+    let e : c.row.left.now ≡ c.in-Some.head.now ∷ after = search rules in
     let t = sym c.begins.ensures ∙ c.if-begins.true in
-    c.row.invariant.left ∙ sections_yes (begins c.args.begin) c.row.left.now c.in-Some.head.now c.in-Some.after.now e t
-    ∙ ap (λ s. s ∷ sections (begins c.args.begin) c.in-Some.after.now) (sym c.section.ensures)
+    let front : c.section.inside.body.now ≡ before_first p after = ap (λ (s : Section). s.body) (c.section.view_is ∙ c.section-section.ensures) in
+    let rest : sections p c.rows_from-rest.result.now ≡ sections p after =
+    ap (sections p) (c.rows_from-rest.ensures ∙ ap (λ rows. drop (length rows) after) front) ∙ sections_past p after in
+    c.row.invariant.left ∙ sections_yes p c.row.left.now c.in-Some.head.now after e t
+    ∙ (λ i. sym c.section-section.ensures i ∷ sym rest i)

@@ -1,7 +1,7 @@
 use Rattle.std.proofs.Common.{◌<◌, None, length, ◌∙◌, arith}
 use Rattle.std.proofs.lemmas.List.{get_or_default}
 use Rattle.vg_names.proofs.NameTableLemmas.{known_of}
-use Rattle.ver_file.proofs.KnownLemmas.{found_said, not_found_said}
+use Rattle.ver_file.proofs.SaidLemmas.{found_said, not_found_said}
 use Rattle.ver_file.proofs.identifier.Identifiers.said.Goals as goal
 
 pub returns-in-Some : goal.returns-in-Some

@@ -1,12 +1,12 @@
 use Rattle.std.proofs.Common.{◌<◌, ◌+◌, ◌++◌, ◌∷◌, [], Some, drop, map, length, sym, ap, ◌∙◌, arith, append_assoc}
 use Rattle.ver_items.specs.Bits.{bits_from}
-use Rattle.ver_file.specs.Netlists.{net_number}
+use Rattle.ver_file.specs.Netlists.{number_of_bit}
 use Rattle.ver_file.proofs.FirstLemmas.{next_bit}
 use Rattle.ver_file.proofs.scope.Scope.push_bits.Goals as goal
 
 pub turn-preserved : goal.turn-preserved
 turn-preserved c =
-    let f = net_number c.args.self.now.text.now c.args.row in
+    let f = number_of_bit c.args.self.now.text.now c.args.found.now.name.now in
     let bits = bits_from c.args.range in
     let low : c.turn.at < length bits = omega (arith, c.turn-test.true, c.count-at-end.ensures) in
     let e = next_bit f bits c.turn.at c.bit.result low c.bit.ensures in

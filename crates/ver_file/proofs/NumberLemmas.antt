@@ -1,0 +1,291 @@
+-- The numbers of identifiers and of nets.
+use Rattle.std.proofs.Common.{◌≡◌, ℕ, zero, suc, ◌+◌, ◌<◌, Bool, true, false, not, ◌||◌, List, [], ◌∷◌, ◌++◌, length, map, flat_map, take, drop, get_or, slice_get, option_map, Option, Some, None, refl, sym, ap, ◌∙◌, subst, arith, append_assoc, length-append}
+use Rattle.std.specs.List.{list_any}
+use Rattle.std.specs.Str.{bytes_eq}
+use Rattle.std.proofs.lemmas.List.{get_or-map, length-map}
+use Rattle.std.proofs.lemmas.Option.{get_or_from_slice_get, slice_get-get_or, slice_get-map, slice_get_within}
+use Rattle.vg_names.specs.Distinct.{number_in, number_of, with_name}
+use Rattle.vg_names.proofs.NameTableLemmas.{known_of}
+use Rattle.ver_module.proofs.NameLemmas.{with_new}
+use Rattle.ver_text.specs.declared.kind.Kind.TheVariants.{Module}
+use Rattle.ver_syntax.specs.declared.row.Place.TheVariants.{Start}
+use Rattle.ver_syntax.specs.declared.row.Row.{Row}
+use Rattle.ver_syntax.specs.Rows.{rows_of}
+use Rattle.ver_items.specs.Bits.{bits_of}
+use Rattle.ver_items.specs.Declarations.{declared_of, range_in}
+use Rattle.ver_items.specs.declared.bits.Range.{Range}
+use Rattle.ver_items.specs.declared.heading.Heading.{Heading}
+use Rattle.ver_items.specs.Sections.{name_at}
+use Rattle.vg_scan.specs.Lines.{part}
+use Rattle.vg_scan.proofs.FirstLemmas.{lt_yes}
+use Rattle.ver_text.specs.Names.{name_of}
+use Rattle.ver_file.specs.declared.identifier.Identifiers.{Identifiers}
+use Rattle.ver_file.specs.declared.identifier.Use.{Use}
+use Rattle.ver_file.specs.Flaws.{Named, given, name_flaws, named_nets, repeated, unless}
+use Rattle.ver_file.specs.Nets.{first_tokens, is_first, net, net_names, nets_at, tokens_of_nets}
+use Rattle.ver_file.specs.Netlists.{number_of_bit}
+use Rattle.ver_file.specs.Said.{range_said, said_of}
+use Rattle.ver_file.specs.Tables.{AreIdentifiers, IsUse, first_numbers}
+use Rattle.ver_file.proofs.FirstLemmas.{drop-next}
+use Rattle.ver_file.proofs.FlawLemmas.{next_repeated}
+use Rattle.ver_file.proofs.ListLemmas.{bytes_same}
+use Rattle.ver_file.proofs.NetLemmas.{names_given, no_left, no_right, not_any, passes}
+use Rattle.ver_file.proofs.SaidLemmas.{range_is}
+use Rattle.ver_file.proofs.TableLemmas.{first_is_new, new_token, no_token, old_token}
+
+-- a name that none before it is
+past_front : (names more : List (List ℕ)) (name : List ℕ) → list_any (bytes_eq name) names ≡ false → number_in (names ++ name ∷ more) name ≡ length names
+past_front [] more name t = rw (bytes_same name) refl
+past_front (n ∷ ns) more name t = by_first (bytes_eq name n) refl (past_front ns more name)
+  where
+    by_first : (b : Bool) → bytes_eq name n ≡ b → (list_any (bytes_eq name) ns ≡ false → number_in (ns ++ name ∷ more) name ≡ length ns)
+        → number_in (n ∷ ns ++ name ∷ more) name ≡ length (n ∷ ns)
+    by_first true f rest = let clash : (true || list_any (bytes_eq name) ns) ≡ false = rw f at t in absurd (cc)
+    by_first false f rest =
+        let none : (false || list_any (bytes_eq name) ns) ≡ false = rw f at t in
+        let e : number_in (ns ++ name ∷ more) name ≡ length ns = rest none in
+        rw f (omega (arith, e))
+
+one_longer : (names : List (List ℕ)) (name : List ℕ) (k : ℕ) → length (names ++ name ∷ []) + k ≡ length names + suc k
+one_longer names name k = omega (arith, length-append names (name ∷ []))
+
+some_is : {X : Type 0} (x y : X) → Some x ≡ Some y → x ≡ y
+some_is x y e = cc
+
+-- ---- identifiers
+
+-- each identifier has the number of its first token
+first_numbered : (text : List ℕ) (names : List (List ℕ)) (rows : List Row) (at : ℕ) (token : Row) → slice_get (first_tokens text names rows) at ≡ Some token
+    → number_in (names ++ map (name_at text) (first_tokens text names rows)) (name_at text token) ≡ length names + at
+first_numbered text names [] at token e =
+    let none : None ≡ Some token = sym (ap (λ ts. slice_get ts at) (no_token text names)) ∙ e in absurd (cc)
+first_numbered text names (r ∷ rows) at token e =
+    by_test (is_first text names r) refl (first_numbered text (names ++ name_at text r ∷ []) rows) (first_numbered text names rows)
+  where
+    Numbered : List (List ℕ) → List Row → ℕ → Type 0
+    Numbered ns ts k = number_in (ns ++ map (name_at text) ts) (name_at text token) ≡ k
+
+    by_test : (b : Bool) → is_first text names r ≡ b
+        → ((k : ℕ) (t : Row) → slice_get (first_tokens text (names ++ name_at text r ∷ []) rows) k ≡ Some t
+        → number_in ((names ++ name_at text r ∷ []) ++ map (name_at text) (first_tokens text (names ++ name_at text r ∷ []) rows)) (name_at text t) ≡ length (names ++ name_at text r ∷ []) + k)
+        → ((k : ℕ) (t : Row) → slice_get (first_tokens text names rows) k ≡ Some t
+        → number_in (names ++ map (name_at text) (first_tokens text names rows)) (name_at text t) ≡ length names + k)
+        → number_in (names ++ map (name_at text) (first_tokens text names (r ∷ rows))) (name_at text token) ≡ length names + at
+    by_test true t new old =
+        let rest = first_tokens text (names ++ name_at text r ∷ []) rows in
+        let cut = new_token text names r rows t in
+        let there : slice_get (r ∷ rest) at ≡ Some token = sym (ap (λ ts. slice_get ts at) cut) ∙ e in
+        ap (λ ts. number_in (names ++ map (name_at text) ts) (name_at text token)) cut ∙ by_place at there
+      where
+        by_place : (k : ℕ) → slice_get (r ∷ first_tokens text (names ++ name_at text r ∷ []) rows) k ≡ Some token
+            → number_in (names ++ name_at text r ∷ map (name_at text) (first_tokens text (names ++ name_at text r ∷ []) rows)) (name_at text token) ≡ length names + k
+        by_place zero f =
+            let same : token ≡ r = sym (some_is r token f) in
+            ap (λ q. number_in (names ++ name_at text r ∷ map (name_at text) (first_tokens text (names ++ name_at text r ∷ []) rows)) (name_at text q)) same
+            ∙ past_front names (map (name_at text) (first_tokens text (names ++ name_at text r ∷ []) rows)) (name_at text r) (first_is_new text names r t)
+            ∙ (let n : length names ≡ length names + zero = omega arith in n)
+        by_place (suc k) f =
+            ap (λ ns. number_in ns (name_at text token)) (sym (append_assoc names (name_at text r ∷ []) (map (name_at text) (first_tokens text (names ++ name_at text r ∷ []) rows))))
+            ∙ new k token f ∙ one_longer names (name_at text r) k
+    by_test false t new old =
+        let cut = old_token text names r rows t in
+        ap (λ ts. number_in (names ++ map (name_at text) ts) (name_at text token)) cut
+        ∙ old at token (sym (ap (λ ts. slice_get ts at) cut) ∙ e)
+
+-- what is kept at the number of an identifier is what is said of it
+pub said_there : (text : List ℕ) (found : Identifiers) (at : ℕ) (token : Row) (said : Option Heading) → AreIdentifiers text found
+    → slice_get found.tokens.items at ≡ Some token → slice_get found.said.items at ≡ Some said → said ≡ said_of (declared_of text) (name_at text token)
+said_there text found at token said are t s =
+    let number : number_in found.names (name_at text token) ≡ at =
+    ap (λ names. number_in names (name_at text token)) are.names
+    ∙ first_numbered text [] (rows_of text) at token (ap (λ ts. slice_get ts at) (sym are.tokens) ∙ t)
+    ∙ (let n : 0 + at ≡ at = omega arith in n) in
+    sym (get_or_from_slice_get found.said.items at said None s) ∙ ap (λ k. get_or found.said.items k None) (sym number) ∙ are.said.says (name_at text token)
+
+-- where an identifier stands, a token is that identifier
+pub use_numbered : (text : List ℕ) (found : Identifiers) (at : ℕ) (place : Use) (r : Row) → AreIdentifiers text found → slice_get found.uses.items at ≡ Some place
+    → place.from ≡ r.from → place.to ≡ r.to → Some place.id ≡ number_of found.names (name_at text r)
+use_numbered text found at place r are e from to =
+    let same : get_or found.uses.items at place ≡ place = get_or_from_slice_get found.uses.items at place place e in
+    let here : IsUse text found.names place = subst (IsUse text found.names) same (are.uses at place (slice_get_within found.uses.items at place e)) in
+    let id = place.id in
+    let tokens = tokens_of_nets text in
+    let other : Row = record { place = Start; kind = Module; from = 0; to = 0 } in
+    let low : id < length tokens = omega (arith, here.within, ap length are.names, length-map tokens (name_at text)) in
+    let its : get_or found.names id [] ≡ name_at text (get_or tokens id other) =
+    ap (λ names. get_or names id []) are.names ∙ get_or-map (name_at text) tokens id other [] low in
+    let name : name_at text r ≡ name_at text (get_or tokens id other) = sym (here.is ∙ (λ i. name_of (part text (from i) (to i)))) ∙ its in
+    let number : number_in found.names (name_at text r) ≡ id =
+    ap (number_in found.names) name
+    ∙ ap (λ names. number_in names (name_at text (get_or tokens id other))) are.names
+    ∙ first_numbered text [] (rows_of text) id (get_or tokens id other) (slice_get-get_or tokens id other low)
+    ∙ (let n : 0 + id ≡ id = omega arith in n) in
+    rw number (rw (lt_yes id (length found.names) here.within) refl)
+
+-- as many as there are tokens
+pub as_many : (text : List ℕ) (found : Identifiers) → AreIdentifiers text found → length found.said.items ≡ length found.tokens.items
+as_many text found are = are.count ∙ ap length are.names ∙ length-map (tokens_of_nets text) (name_at text) ∙ ap length (sym are.tokens)
+
+-- one token more
+pub next_at : {X : Type 0} (xs its : List X) (i : ℕ) (x : X) → slice_get xs i ≡ Some x → xs ≡ its → drop i its ≡ x ∷ drop (i + 1) its
+next_at xs its i x e same =
+    let there : slice_get its i ≡ Some x = ap (λ ys. slice_get ys i) (sym same) ∙ e in
+    drop-next its i x (slice_get_within its i x there) ∙ ap (λ y. y ∷ drop (i + 1) its) (get_or_from_slice_get its i x x there)
+
+-- ---- nets
+
+-- where no name is given twice, each has the number of its place
+given_numbered : (names : List (List ℕ)) (named : List Named) (k : ℕ) (n : Named) → repeated names named ≡ [] → slice_get named k ≡ Some n
+    → number_in (names ++ map (λ m. m.name) named) n.name ≡ length names + k
+given_numbered names [] k n none e = absurd (cc)
+given_numbered names (m ∷ ms) k n none e = by_place (λ j f. given_numbered (names ++ m.name ∷ []) ms j n rest f) k e
+  where
+    both : unless (not (list_any (bytes_eq m.name) names)) m.place ++ repeated (with_name names m.name) ms ≡ []
+    both = sym (next_repeated names m ms) ∙ none
+
+    new : list_any (bytes_eq m.name) names ≡ false
+    new = not_any (list_any (bytes_eq m.name) names) (passes (not (list_any (bytes_eq m.name) names)) m.place (no_left (unless (not (list_any (bytes_eq m.name) names)) m.place) (repeated (with_name names m.name) ms) both))
+
+    rest : repeated (names ++ m.name ∷ []) ms ≡ []
+    rest =
+        ap (λ ns. repeated ns ms) (sym (with_new names m.name new))
+        ∙ no_right (unless (not (list_any (bytes_eq m.name) names)) m.place) (repeated (with_name names m.name) ms) both
+
+    by_place : ((j : ℕ) → slice_get ms j ≡ Some n → number_in ((names ++ m.name ∷ []) ++ map (λ m. m.name) ms) n.name ≡ length (names ++ m.name ∷ []) + j)
+        → (j : ℕ) → slice_get (m ∷ ms) j ≡ Some n → number_in (names ++ m.name ∷ map (λ m. m.name) ms) n.name ≡ length names + j
+    by_place others zero f =
+        let same : n ≡ m = sym (some_is m n f) in
+        ap (λ (p : Named). number_in (names ++ m.name ∷ map (λ m. m.name) ms) p.name) same
+        ∙ past_front names (map (λ m. m.name) ms) m.name new
+        ∙ (let n : length names ≡ length names + zero = omega arith in n)
+    by_place others (suc j) f =
+        ap (λ ns. number_in ns n.name) (sym (append_assoc names (m.name ∷ []) (map (λ m. m.name) ms)))
+        ∙ others j f ∙ one_longer names m.name j
+
+in_front : {X : Type 0} (xs ys : List X) (i : ℕ) (x : X) → slice_get xs i ≡ Some x → slice_get (xs ++ ys) i ≡ Some x
+in_front [] ys i x e = absurd (cc)
+in_front (y ∷ xs) ys zero x e = e
+in_front (y ∷ xs) ys (suc i) x e = in_front xs ys i x e
+
+behind : {X : Type 0} (xs ys : List X) (i : ℕ) → slice_get (xs ++ ys) (length xs + i) ≡ slice_get ys i
+behind [] ys i = ap (slice_get ys) (let e : 0 + i ≡ i = omega arith in e)
+behind (x ∷ xs) ys i = ap (slice_get (x ∷ xs ++ ys)) (let e : suc (length xs) + i ≡ suc (length xs + i) = omega arith in e) ∙ behind xs ys i
+
+-- a part of a list that is made part by part
+in_parts : {X : Type 0} (f : Row → List X) (tokens : List Row) (id : ℕ) (token : Row) (at : ℕ) (x : X) → slice_get tokens id ≡ Some token
+    → slice_get (f token) at ≡ Some x → slice_get (flat_map f tokens) (length (flat_map f (take id tokens)) + at) ≡ Some x
+in_parts f [] id token at x t e = absurd (cc)
+in_parts f (u ∷ us) zero token at x t e =
+    let same : token ≡ u = sym (some_is u token t) in
+    ap (slice_get (f u ++ flat_map f us)) (let n : 0 + at ≡ at = omega arith in n)
+    ∙ in_front (f u) (flat_map f us) at x (ap (λ q. slice_get (f q) at) (sym same) ∙ e)
+in_parts f (u ∷ us) (suc id) token at x t e =
+    ap (slice_get (f u ++ flat_map f us))
+    (let n : length (f u ++ flat_map f (take id us)) + at ≡ length (f u) + (length (flat_map f (take id us)) + at) = omega (arith, length-append (f u) (flat_map f (take id us))) in n)
+    ∙ behind (f u) (flat_map f us) (length (flat_map f (take id us)) + at)
+    ∙ in_parts f us id token at x t e
+
+named_count : (text : List ℕ) (r : Row) → length (nets_at text (declared_of text) r) ≡ length (named_nets text r)
+named_count text r = sym (length-map (nets_at text (declared_of text) r) (given r.from))
+
+-- the number of an identifier's first net
+first_number : (text : List ℕ) (n : ℕ) (tokens : List Row) (id : ℕ) (token : Row) → slice_get tokens id ≡ Some token
+    → get_or (first_numbers text n tokens) id 0 ≡ n + length (flat_map (named_nets text) (take id tokens))
+unfolding first_numbers
+first_number text n [] id token t = absurd (cc)
+first_number text n (u ∷ us) zero token t = omega arith
+first_number text n (u ∷ us) (suc id) token t =
+    first_number text (n + length (nets_at text (declared_of text) u)) us id token t
+    ∙ omega (arith, named_count text u, length-append (named_nets text u) (flat_map (named_nets text) (take id us)))
+
+pub length-first_numbers : (text : List ℕ) (n : ℕ) (tokens : List Row) → length (first_numbers text n tokens) ≡ length tokens
+unfolding first_numbers
+length-first_numbers text n [] = refl
+length-first_numbers text n (u ∷ us) = ap suc (length-first_numbers text (n + length (nets_at text (declared_of text) u)) us)
+
+pub next_numbers : (text : List ℕ) (n : ℕ) (tokens : List Row) (u : Row) (us : List Row) → tokens ≡ u ∷ us
+    → first_numbers text n tokens ≡ n ∷ first_numbers text (n + length (nets_at text (declared_of text) u)) us
+unfolding first_numbers
+next_numbers text n tokens u us e = ap (first_numbers text n) e
+
+pub no_numbers : (text : List ℕ) (n : ℕ) (tokens : List Row) → tokens ≡ [] → first_numbers text n tokens ≡ []
+unfolding first_numbers
+no_numbers text n tokens e = ap (first_numbers text n) e
+
+-- the number of a net, by that of its identifier's first one
+pub net_numbered : (text : List ℕ) (id at : ℕ) (token : Row) (bit : Option ℕ) → name_flaws text ≡ [] → slice_get (tokens_of_nets text) id ≡ Some token
+    → slice_get (bits_of (range_in (declared_of text) (name_at text token))) at ≡ Some bit
+    → number_in (net_names text) (net text (declared_of text) token bit).name ≡ get_or (first_numbers text 0 (tokens_of_nets text)) id 0 + at
+net_numbered text id at token bit none t b =
+    let tokens = tokens_of_nets text in
+    let n : Named = given token.from (net text (declared_of text) token bit) in
+    let here : slice_get (named_nets text token) at ≡ Some n =
+    slice_get-map (given token.from) (nets_at text (declared_of text) token) at
+    ∙ ap (option_map (given token.from)) (slice_get-map (net text (declared_of text) token) (bits_of (range_in (declared_of text) (name_at text token))) at)
+    ∙ ap (λ o. option_map (given token.from) (option_map (net text (declared_of text) token) o)) b in
+    let there = in_parts (named_nets text) tokens id token at n t here in
+    ap (λ names. number_in names n.name) (sym (names_given text tokens))
+    ∙ given_numbered [] (flat_map (named_nets text) tokens) (length (flat_map (named_nets text) (take id tokens)) + at) n none there
+    ∙ (let e : 0 + (length (flat_map (named_nets text) (take id tokens)) + at) ≡ get_or (first_numbers text 0 tokens) id 0 + at = omega (arith, first_number text 0 tokens id token t) in e)
+
+-- how many nets the next identifier has
+pub next_count : (text : List ℕ) (found : Identifiers) (at : ℕ) (said : Option Heading) → AreIdentifiers text found → at < length found.tokens.items
+    → slice_get found.said.items at ≡ Some said
+    → (token : Row) × (drop at (tokens_of_nets text) ≡ token ∷ drop (at + 1) (tokens_of_nets text))
+    × (length (bits_of (range_said said)) ≡ length (nets_at text (declared_of text) token))
+next_count text found at said are low s =
+    let token : Row = get_or found.tokens.items at (record { place = Start; kind = Module; from = 0; to = 0 }) in
+    let t : slice_get found.tokens.items at ≡ Some token = slice_get-get_or found.tokens.items at (record { place = Start; kind = Module; from = 0; to = 0 }) low in
+    let name = name_at text token in (
+      token,
+      next_at found.tokens.items (tokens_of_nets text) at token t are.tokens,
+      ap (λ o. length (bits_of (range_said o))) (said_there text found at token said are t s)
+          ∙ ap (λ r. length (bits_of r)) (range_is (declared_of text) name)
+          ∙ sym (length-map (bits_of (range_in (declared_of text) name)) (net text (declared_of text) token)),
+    )
+
+-- the number of its first net
+module _ (text : List ℕ) (numbers after : List ℕ) (next count at total : ℕ) (token : Row) (tokens : List Row)
+    (cut : drop at tokens ≡ token ∷ drop (at + 1) tokens) (same : count ≡ length (nets_at text (declared_of text) token)) where
+  pub numbered_next : first_numbers text 0 tokens ≡ numbers ++ first_numbers text next (drop at tokens) → after ≡ numbers ++ next ∷ []
+      → first_numbers text 0 tokens ≡ after ++ first_numbers text (next + count) (drop (at + 1) tokens)
+  numbered_next all e =
+      all ∙ ap (λ ns. numbers ++ ns) (next_numbers text next (drop at tokens) token (drop (at + 1) tokens) cut)
+      ∙ ap (λ n. numbers ++ next ∷ first_numbers text (next + n) (drop (at + 1) tokens)) (sym same)
+      ∙ sym (append_assoc numbers (next ∷ []) (first_numbers text (next + count) (drop (at + 1) tokens)))
+      ∙ ap (λ ns. ns ++ first_numbers text (next + count) (drop (at + 1) tokens)) (sym e)
+
+  pub counted_next : next + length (flat_map (nets_at text (declared_of text)) (drop at tokens)) ≡ total
+      → next + count + length (flat_map (nets_at text (declared_of text)) (drop (at + 1) tokens)) ≡ total
+  counted_next all =
+      let ds = declared_of text in
+      let e : length (flat_map (nets_at text ds) (drop at tokens)) ≡ count + length (flat_map (nets_at text ds) (drop (at + 1) tokens)) =
+      ap (λ ts. length (flat_map (nets_at text ds) ts)) cut
+      ∙ length-append (nets_at text ds token) (flat_map (nets_at text ds) (drop (at + 1) tokens))
+      ∙ ap (λ n. n + length (flat_map (nets_at text ds) (drop (at + 1) tokens))) (sym same) in
+      omega (arith, e, all)
+
+-- the number of a net, where its identifier is looked up
+pub own_numbered : (text : List ℕ) (found : Identifiers) (numbers base : List ℕ) (bit : Option ℕ) (id at : ℕ) (range : Option Range) → AreIdentifiers text found
+    → numbers ≡ first_numbers text 0 (tokens_of_nets text) → name_flaws text ≡ [] → Some id ≡ number_of found.names base → range ≡ range_in (declared_of text) base
+    → slice_get (bits_of range) at ≡ Some bit → get_or numbers id 0 + at ≡ number_of_bit text base bit
+own_numbered text found numbers base bit id at range are same none e r b =
+    let other : Row = record { place = Start; kind = Module; from = 0; to = 0 } in
+    let token : Row = get_or found.tokens.items id other in
+    let k = known_of found.names base id e in
+    let names : found.names ≡ map (name_at text) found.tokens.items = are.names ∙ ap (map (name_at text)) (sym are.tokens) in
+    let low : id < length found.tokens.items = omega (arith, k.0, as_many text found are, are.count) in
+    let t : slice_get found.tokens.items id ≡ Some token = slice_get-get_or found.tokens.items id other low in
+    let its : name_at text token ≡ base = sym (get_or-map (name_at text) found.tokens.items id other [] low) ∙ ap (λ ns. get_or ns id []) (sym names) ∙ k.1 in
+    let bounds : range_in (declared_of text) (name_at text token) ≡ range = ap (range_in (declared_of text)) its ∙ sym r in
+    ap (λ ns. get_or ns id 0 + at) same
+    ∙ sym (net_numbered text id at token bit none (ap (λ ts. slice_get ts id) (sym are.tokens) ∙ t) (ap (λ o. slice_get (bits_of o) at) bounds ∙ b))
+    ∙ ap (λ name. number_of_bit text name bit) its
+
+pub within_numbers : (text : List ℕ) (found : Identifiers) (numbers base : List ℕ) (id : ℕ) → AreIdentifiers text found
+    → numbers ≡ first_numbers text 0 (tokens_of_nets text) → Some id ≡ number_of found.names base → id < length numbers
+within_numbers text found numbers base id are same e =
+    let k = known_of found.names base id e in
+    let n : length numbers ≡ length (tokens_of_nets text) = ap length same ∙ length-first_numbers text 0 (tokens_of_nets text) in
+    let m : length found.names ≡ length (tokens_of_nets text) = ap length are.names ∙ length-map (tokens_of_nets text) (name_at text) in
+    omega (arith, n, m, k.0)
