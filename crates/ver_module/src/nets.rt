@@ -41,9 +41,9 @@ impl<'a> Model for Net<'a> {
 /// A net without its name.
 #[derive(Clone, Copy, Debug, PartialEq, Eq, Drop)]
 pub(crate) struct NetRow {
-    /// How many bytes its identifier's name has, with which its own begins.
-    pub base: usize,
     pub bit: Option<u32>,
+    /// How many bytes its identifier's name has, with which its own begins.
+    pub base: u32,
     pub escaped: bool,
     pub port: Option<PortDir>,
     pub supply: bool,
@@ -68,21 +68,24 @@ impl Model for Nets {
     ghost invariant = { λ nets. (length nets.names ≡ length nets.rows.items) × (length nets.rows.items < 2 ^ 32) };
 }
 
-/// What is kept of a net beside its name.
-fn row_of(net: &Net<'_>) -> NetRow
-    ensures base { result.base ≡ length net.now.base }
-    ensures bit { result.bit ≡ net.now.bit }
-    ensures escaped { result.escaped ≡ net.now.escaped }
-    ensures port { result.port ≡ net.now.port }
-    ensures supply { result.supply ≡ net.now.supply }
+/// What is kept of a net beside its name. Answers `Memory` where its identifier's name has 2^32 bytes or more.
+fn row_of(net: &Net<'_>) -> Result<NetRow, Memory>
+    ensures base { IfOk result (λ row. row.base ≡ length net.now.base) }
+    ensures bit { IfOk result (λ row. row.bit ≡ net.now.bit) }
+    ensures escaped { IfOk result (λ row. row.escaped ≡ net.now.escaped) }
+    ensures port { IfOk result (λ row. row.port ≡ net.now.port) }
+    ensures supply { IfOk result (λ row. row.supply ≡ net.now.supply) }
 {
-    NetRow {
-        base: net.base.len(),
+    let Ok(base) = u32::try_from(net.base.len()) else {
+        return Err(Memory);
+    };
+    Ok(NetRow {
         bit: net.bit,
+        base,
         escaped: net.escaped,
         port: net.port,
         supply: net.supply,
-    }
+    })
 }
 
 /// Puts a net last, where its name is new. Whether it is. Answers `Memory` where there is no room; nothing changes then.
@@ -151,7 +154,7 @@ impl Nets {
         let row = self.rows[id as usize];
         Net {
             name,
-            base: &name[..row.base.min(name.len())],
+            base: &name[..(row.base as usize).min(name.len())],
             bit: row.bit,
             escaped: row.escaped,
             port: row.port,
@@ -184,7 +187,8 @@ impl Nets {
         ensures last { IfOk result (λ new. self.new ≡ (if new then self.old ++ net.now ∷ [] else self.old)) }
         ensures unchanged { OnErr result (self.new ≡ self.old) }
     {
-        let is_new = push_row(&mut self.names, &mut self.rows, net.name, row_of(net))?;
+        let row = row_of(net)?;
+        let is_new = push_row(&mut self.names, &mut self.rows, net.name, row)?;
         Ok(is_new)
     }
 }
