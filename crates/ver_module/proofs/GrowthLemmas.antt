@@ -21,7 +21,7 @@ pub named_pins : (names after : List (List ℕ)) → Grow names after → (pins 
 named_pins names after g [] h = refl
 named_pins names after g (p ∷ ps) h =
     let here : get_or after p.name [] ≡ get_or names p.name [] = g.stay p.name (All-head (λ (pin : PinRow). pin.name < length names) p ps h) in
-    ap (λ name. record { name = name; span = p.span; link = p.link } ∷ map (pin_with after) ps) here
+    ap (λ name. record { name = name; span = record { from = p.from; to = p.to }; link = p.link } ∷ map (pin_with after) ps) here
     ∙ ap (λ more. pin_with names p ∷ more) (named_pins names after g ps (All-tail (λ (pin : PinRow). pin.name < length names) p ps h))
 
 pub still_named : (names after : List (List ℕ)) → Grow names after → (pins : List PinRow) → AreNamed names pins → AreNamed after pins

@@ -84,9 +84,10 @@ get_pin names (p ∷ ps) (suc at) d l = get_pin names ps at d (omega (arith, l))
 
 -- a pin as it is found
 pub pin_seen : (names : List (List ℕ)) (row its : PinRow) (name : List ℕ) → row ≡ its → name ≡ get_or names row.name []
-    → Some (pin_with names its) ≡ Some (record { name = name; span = row.span; link = row.link })
+    → Some (pin_with names its) ≡ Some (record { name = name; span = record { from = row.from; to = row.to }; link = row.link })
 pin_seen names row its name e f =
-    ap (λ (r : PinRow). Some (pin_with names r)) (sym e) ∙ ap (λ (n : List ℕ). Some (record { name = n; span = row.span; link = row.link })) (sym f)
+    ap (λ (r : PinRow). Some (pin_with names r)) (sym e)
+    ∙ ap (λ (n : List ℕ). Some (record { name = n; span = record { from = row.from; to = row.to }; link = row.link })) (sym f)
 
 pub few_each : (tables : Tables) (names : List (List ℕ)) (rows : List InstanceRow) → StandIn tables rows → length tables.pins < 2 ^ 32
     → All (λ (i : Instance). length i.pins < 2 ^ 32) (instances_with tables names rows)

@@ -2,15 +2,13 @@
 use Rattle.std.proofs.Common.{◌≡◌, ℕ, suc, ◌+◌, ◌-◌, ◌<◌, ◌^◌, Bool, true, false, not, if◌then◌else◌, List, [], ◌∷◌, ◌++◌, length, map, take, get_or, refl, sym, ap, ◌∙◌, subst, arith, length-append}
 use Rattle.std.specs.List.{list_any}
 use Rattle.std.specs.Str.{bytes_eq}
-use Rattle.vg_scan.specs.declared.lines.Span.{Span}
 use Rattle.std.proofs.lemmas.List.Elements.{All-push}
 use Rattle.vg_names.specs.Distinct.{with_name}
 use Rattle.ver_module.specs.declared.instances.InstanceRow.{InstanceRow}
 use Rattle.ver_module.specs.declared.instances.PinRow.{PinRow}
-use Rattle.ver_module.specs.declared.link.Link.{Link}
 use Rattle.ver_module.specs.declared.nets.NetRow.{NetRow}
-use Rattle.ver_module.specs.Netlists.{Net, Instance, IsNamed, with_pin}
-use Rattle.ver_module.specs.Flat.{Tables, AreInstances, instances_with, net_with, nets_with}
+use Rattle.ver_module.specs.Netlists.{Net, Instance, Pin, IsNamed, with_pin}
+use Rattle.ver_module.specs.Flat.{Tables, AreInstances, instances_with, net_with, nets_with, pin_with}
 use Rattle.ver_module.proofs.NameLemmas.{Grow, numbered, same, with_new, with_old}
 use Rattle.ver_module.proofs.NetLemmas.{front, names_of_nets, one_more_net}
 use Rattle.ver_module.proofs.GrowthLemmas.{instances_still, one_more, one_more_stands, pin_more, pin_stands, stand_still, still_named}
@@ -74,23 +72,20 @@ pushed t names rows all name cell id from h low e f few =
     })
 
 -- a pin is put last
-pub pin_pushed : (cells pin_names names : List (List ℕ)) (rows : List InstanceRow) (pins after : List PinRow) (all : List Instance) (name : List ℕ) (id : ℕ) (span : Span) (link : Link)
-    → Shows (tables cells pin_names pins) names rows all → id < length pin_names → get_or pin_names id [] ≡ name → suc (length pins) < 2 ^ 32
-    → after ≡ pins ++ (record { name = id; span = span; link = link }) ∷ []
-    → Shows (tables cells pin_names after) names rows (with_pin all (record { name = name; span = span; link = link }))
-pin_pushed cells pin_names names rows pins after all name id span link h low e few f =
-    let pin : PinRow = record { name = id; span = span; link = link } in
-    subst (λ (ps : List PinRow). Shows (tables cells pin_names ps) names rows (with_pin all (record { name = name; span = span; link = link }))) (sym f)
+pub pin_pushed : (cells pin_names names : List (List ℕ)) (rows : List InstanceRow) (pins after : List PinRow) (all : List Instance) (row : PinRow) (pin : Pin)
+    → Shows (tables cells pin_names pins) names rows all → row.name < length pin_names → pin_with pin_names row ≡ pin → suc (length pins) < 2 ^ 32
+    → after ≡ pins ++ row ∷ [] → Shows (tables cells pin_names after) names rows (with_pin all pin)
+pin_pushed cells pin_names names rows pins after all row pin h low e few f =
+    subst (λ (ps : List PinRow). Shows (tables cells pin_names ps) names rows (with_pin all pin)) (sym f)
     (record {
       are = record {
         count = h.are.count;
-        stand = pin_stands cells pin_names pins pin rows h.are.stand;
-        named = All-push (λ (p : PinRow). p.name < length pin_names) pins pin h.are.named low;
+        stand = pin_stands cells pin_names pins row rows h.are.stand;
+        named = All-push (λ (p : PinRow). p.name < length pin_names) pins row h.are.named low;
         few = h.are.few;
-        few_pins = omega (arith, length-append pins (pin ∷ []), few);
+        few_pins = omega (arith, length-append pins (row ∷ []), few);
       };
-      is = pin_more cells pin_names pins pin names rows h.are.count h.are.stand
-          ∙ (λ i. with_pin (h.is i) (record { name = e i; span = span; link = link }));
+      is = pin_more cells pin_names pins row names rows h.are.count h.are.stand ∙ (λ i. with_pin (h.is i) (e i));
     })
 
 -- ---- nets

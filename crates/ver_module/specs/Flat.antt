@@ -25,7 +25,7 @@ nets_with (name ∷ names) (row ∷ rows) = net_with name row ∷ nets_with name
 
 -- a pin, by the number of its name
 abbrev pub pin_with : List (List ℕ) → PinRow → Pin
-pin_with names row = record { name = slice_index_or names row.name []; span = row.span; link = row.link }
+pin_with names row = record { name = slice_index_or names row.name []; span = record { from = row.from; to = row.to }; link = row.link }
 
 -- the tables of names, and the pins of all instances
 pub record Tables : Type 0 where

@@ -1,6 +1,6 @@
 //! The instances of a module.
 
-ghost use Rattle.std.specs.Prelude.{◌≡◌, ◌<◌, ◌^◌, ◌+◌, ◌≤◌, ◌++◌, ◌∷◌, [], Some, drop, length, slice_get, OnErr, OnOk};
+ghost use Rattle.std.specs.Prelude.{◌≡◌, ◌<◌, ◌^◌, ◌+◌, ◌≤◌, ◌++◌, ◌∷◌, [], Some, drop, length, slice_get, IfOk, OnErr, OnOk};
 ghost use Rattle.std.specs.List.{All, between};
 ghost use Rattle.ver_module.specs.Flat.{pins_end};
 ghost use Rattle.ver_module.specs.Netlists.{with_pin};
@@ -33,9 +33,12 @@ impl<'a> Model for Pin<'a> {
 /// A pin, by the number of its name.
 #[derive(Drop)]
 pub(crate) struct PinRow {
-    pub name: u32,
-    pub span: Span,
     pub link: Link,
+    pub name: u32,
+    /// Where the expression of its connection begins.
+    pub from: u32,
+    /// Where it ends.
+    pub to: u32,
 }
 
 /// An instance of a cell.
@@ -79,7 +82,10 @@ impl<'a> Instance<'a> {
         let row = &pins[at];
         Pin {
             name: self.pin_names.name(row.name),
-            span: row.span,
+            span: Span {
+                from: row.from as usize,
+                to: row.to as usize,
+            },
             link: &row.link,
         }
     }
@@ -135,6 +141,16 @@ fn part(pins: &[PinRow], from: usize, to: usize) -> &[PinRow]
     ensures { result.now ≡ between from to pins.now }
 {
     &pins[from..to]
+}
+
+/// A place in a text, in 32 bits. Answers `Memory` where it does not fit.
+fn place(at: usize) -> Result<u32, Memory>
+    ensures { IfOk result (λ place. place ≡ at) }
+{
+    match u32::try_from(at) {
+        Ok(place) => Ok(place),
+        Err(_) => Err(Memory),
+    }
 }
 
 /// Puts an instance last, with its name. Answers `Memory` where there is no room; nothing changes then.
@@ -225,7 +241,7 @@ impl Instances {
     }
 
     /// Puts a pin last in the last instance, if there is one. Answers `Memory` where there is no room, as where there are 2^32 - 1
-    /// pins; nothing changes then.
+    /// pins, or where the expression stands 2^32 bytes or more behind the text's beginning; nothing changes then.
     pub fn push_pin(&mut self, name: &[u8], span: Span, link: Link) -> Result<(), Memory>
         ensures last { OnOk result (self.new ≡ with_pin self.old (record { name = name.now; span = span; link = link })) }
         ensures unchanged { OnErr result (self.new ≡ self.old) }
@@ -233,8 +249,16 @@ impl Instances {
         if MOST <= self.pins.len() {
             return Err(Memory);
         }
+        let from = place(span.from)?;
+        let to = place(span.to)?;
         let name = name_number(&mut self.pin_names, name)?;
-        let Ok(()) = self.pins.push(PinRow { name, span, link }) else {
+        let row = PinRow {
+            link,
+            name,
+            from,
+            to,
+        };
+        let Ok(()) = self.pins.push(row) else {
             return Err(Memory);
         };
         Ok(())

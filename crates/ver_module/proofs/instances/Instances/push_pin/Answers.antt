@@ -1,5 +1,7 @@
 use Rattle.std.proofs.Common.{◌≡◌, ◌<◌, ◌^◌, suc, List, length, sym, subst, arith, rules}
 use Rattle.ver_module.specs.declared.instances.PinRow.{PinRow}
+use Rattle.ver_module.specs.Netlists.{Pin}
+use Rattle.ver_module.specs.Flat.{pin_with}
 use Rattle.ver_module.proofs.NameLemmas.{number_there}
 use Rattle.ver_module.proofs.PushLemmas.{Shows, pin_pushed, tables, with_pin_name}
 use Rattle.ver_module.proofs.instances.Instances.push_pin.Goals as goal
@@ -25,8 +27,11 @@ invariant_of-self-2 c =
     let n = number_there c.self.inside.pin_names c.name_number.new.names c.args.name.now c.in_ok-name.name c.in_ok-name.ensures.number c.in_ok-name.ensures.names in
     let count : c.len.result ≡ length c.self.inside.pins.items = search rules in
     let few : suc (length c.self.inside.pins.items) < 2 ^ 32 = omega (arith, count, c.if-len-ge-MOST.false) in
+    let row : PinRow = record { link = c.args.link; name = c.in_ok-name.name; from = c.in_ok-from.from; to = c.in_ok-to.to } in
+    let pin : Pin = record { name = c.args.name.now; span = c.args.span; link = c.args.link } in
+    let is : pin_with c.name_number.new.names row ≡ pin = λ i. record { name = n.is i; span = record { from = c.in_ok-from.ensures i; to = c.in_ok-to.ensures i }; link = c.args.link } in
     let g = pin_pushed c.self.inside.cells c.name_number.new.names c.self.inside.names c.self.inside.rows.items c.self.inside.pins.items c.push.new.self.items c.args.self.now
-    c.args.name.now c.in_ok-name.name c.args.span c.args.link h n.within n.is few c.in-Ok.ensures.items in
+    row pin h n.within is few c.in-Ok.ensures.items in
     g.are
 
 pub returns-clause-last : goal.returns-clause-last
@@ -36,6 +41,9 @@ returns-clause-last c =
     let n = number_there c.self.inside.pin_names c.name_number.new.names c.args.name.now c.in_ok-name.name c.in_ok-name.ensures.number c.in_ok-name.ensures.names in
     let count : c.len.result ≡ length c.self.inside.pins.items = search rules in
     let few : suc (length c.self.inside.pins.items) < 2 ^ 32 = omega (arith, count, c.if-len-ge-MOST.false) in
+    let row : PinRow = record { link = c.args.link; name = c.in_ok-name.name; from = c.in_ok-from.from; to = c.in_ok-to.to } in
+    let pin : Pin = record { name = c.args.name.now; span = c.args.span; link = c.args.link } in
+    let is : pin_with c.name_number.new.names row ≡ pin = λ i. record { name = n.is i; span = record { from = c.in_ok-from.ensures i; to = c.in_ok-to.ensures i }; link = c.args.link } in
     let g = pin_pushed c.self.inside.cells c.name_number.new.names c.self.inside.names c.self.inside.rows.items c.self.inside.pins.items c.push.new.self.items c.args.self.now
-    c.args.name.now c.in_ok-name.name c.args.span c.args.link h n.within n.is few c.in-Ok.ensures.items in
+    row pin h n.within is few c.in-Ok.ensures.items in
     g.is
