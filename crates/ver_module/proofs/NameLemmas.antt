@@ -1,9 +1,12 @@
 -- Names that are put last where they are new.
-use Rattle.std.proofs.Common.{◌≡◌, ℕ, suc, ◌+◌, ◌<◌, ◌≤◌, ◌≢◌, Bool, true, false, ◌||◌, is_some, List, [], ◌∷◌, ◌++◌, length, get_or, refl, sym, ap, ◌∙◌, subst, arith, length-append}
+use Rattle.std.proofs.Common.{◌≡◌, ℕ, suc, ◌+◌, ◌<◌, ◌≤◌, ◌≢◌, Bool, true, false, ◌||◌, is_some, List, [], ◌∷◌, ◌++◌, Some, length, get_or, refl, sym, ap, ◌∙◌, subst, arith, length-append}
 use Rattle.std.specs.List.{list_any}
+use Rattle.std.specs.Prelude.{slice_get}
 use Rattle.std.specs.Str.{bytes_eq}
 use Rattle.std.proofs.lemmas.Slice.Eq.{bytes_eq-Decides}
 use Rattle.std.proofs.lemmas.List.{get_or_append_left}
+use Rattle.std.proofs.lemmas.List.Folds.{list_any_at}
+use Rattle.std.proofs.lemmas.Option.{get_or_from_slice_get, slice_get-get_or, slice_get_within}
 use Rattle.std.proofs.Math.Seq.{get_or-append_seam}
 use Rattle.vg_names.specs.Distinct.{number_in, number_of, with_name}
 use Rattle.vg_scan.proofs.FirstLemmas.{lt_yes, lt_no}
@@ -103,3 +106,13 @@ one_before names name other = by_test (list_any (bytes_eq name) names) refl
     by_test : (b : Bool) → list_any (bytes_eq name) names ≡ b → b ≡ true
     by_test true t = refl
     by_test false t = absurd (other (past names name t))
+
+-- where a name is found, none is put last
+pub kept : (names : List (List ℕ)) (name : List ℕ) (id : ℕ) → slice_get names id ≡ Some name → with_name names name ≡ names
+kept names name id e =
+    let is : bytes_eq name (get_or names id []) ≡ true = (bytes_eq-Decides name (get_or names id [])).1 (sym (get_or_from_slice_get names id name [] e)) in
+    with_old names name (list_any_at (bytes_eq name) names id [] (slice_get_within names id name e) is)
+
+-- a name is found by its number
+pub found : (names after : List (List ℕ)) (name : List ℕ) (id : ℕ) → id ≡ number_in names name → after ≡ with_name names name → slice_get after id ≡ Some name
+found names after name id e f = let n = number_there names after name id e f in slice_get-get_or after id [] n.within ∙ ap Some n.is

@@ -1,8 +1,9 @@
 -- Nets, instances and pins that are put last.
-use Rattle.std.proofs.Common.{◌≡◌, ℕ, suc, ◌+◌, ◌-◌, ◌<◌, ◌^◌, Bool, true, false, not, if◌then◌else◌, List, [], ◌∷◌, ◌++◌, length, map, take, get_or, refl, sym, ap, ◌∙◌, subst, arith, length-append}
+use Rattle.std.proofs.Common.{◌≡◌, ℕ, suc, ◌+◌, ◌-◌, ◌<◌, ◌^◌, Bool, true, false, not, if◌then◌else◌, List, [], ◌∷◌, ◌++◌, Some, length, map, take, slice_get, refl, sym, ap, ◌∙◌, subst, arith, length-append}
 use Rattle.std.specs.List.{list_any}
 use Rattle.std.specs.Str.{bytes_eq}
 use Rattle.std.proofs.lemmas.List.Elements.{All-push}
+use Rattle.std.proofs.lemmas.Option.{get_or_from_slice_get, slice_get_within}
 use Rattle.vg_names.specs.Distinct.{with_name}
 use Rattle.ver_module.specs.declared.instances.InstanceRow.{InstanceRow}
 use Rattle.ver_module.specs.declared.instances.PinRow.{PinRow}
@@ -55,9 +56,11 @@ module _ (cells pin_names names : List (List ℕ)) (rows : List InstanceRow) (pi
 
 -- an instance without pins is put last
 pub pushed : (t : Tables) (names : List (List ℕ)) (rows : List InstanceRow) (all : List Instance) (name cell : List ℕ) (id from : ℕ)
-    → Shows t names rows all → id < length t.cells → get_or t.cells id [] ≡ cell → from ≡ length t.pins → suc (length rows) < 2 ^ 32
+    → Shows t names rows all → slice_get t.cells id ≡ Some cell → from ≡ length t.pins → suc (length rows) < 2 ^ 32
     → Shows t (names ++ name ∷ []) (rows ++ (record { cell = id; pins = from }) ∷ []) (all ++ (record { name = name; cell = cell; pins = [] }) ∷ [])
-pushed t names rows all name cell id from h low e f few =
+pushed t names rows all name cell id from h found f few =
+    let low = slice_get_within t.cells id cell found in
+    let e = get_or_from_slice_get t.cells id cell [] found in
     subst (λ (n : ℕ). Shows t (names ++ name ∷ []) (rows ++ (record { cell = id; pins = n }) ∷ []) (all ++ (record { name = name; cell = cell; pins = [] }) ∷ [])) (sym f)
     (record {
       are = record {
@@ -73,10 +76,13 @@ pushed t names rows all name cell id from h low e f few =
 
 -- a pin is put last
 pub pin_pushed : (cells pin_names names : List (List ℕ)) (rows : List InstanceRow) (pins after : List PinRow) (all : List Instance) (row : PinRow) (pin : Pin)
-    → Shows (tables cells pin_names pins) names rows all → row.name < length pin_names → pin_with pin_names row ≡ pin → suc (length pins) < 2 ^ 32
-    → after ≡ pins ++ row ∷ [] → Shows (tables cells pin_names after) names rows (with_pin all pin)
-pin_pushed cells pin_names names rows pins after all row pin h low e few f =
-    subst (λ (ps : List PinRow). Shows (tables cells pin_names ps) names rows (with_pin all pin)) (sym f)
+    → Shows (tables cells pin_names pins) names rows all → slice_get pin_names row.name ≡ Some pin.name → row.from ≡ pin.span.from → row.to ≡ pin.span.to
+    → row.link ≡ pin.link → suc (length pins) < 2 ^ 32 → after ≡ pins ++ row ∷ [] → Shows (tables cells pin_names after) names rows (with_pin all pin)
+pin_pushed cells pin_names names rows pins after all row pin h found from to link few e =
+    let low = slice_get_within pin_names row.name pin.name found in
+    let name = get_or_from_slice_get pin_names row.name pin.name [] found in
+    let is : pin_with pin_names row ≡ pin = λ i. record { name = name i; span = record { from = from i; to = to i }; link = link i } in
+    subst (λ (ps : List PinRow). Shows (tables cells pin_names ps) names rows (with_pin all pin)) (sym e)
     (record {
       are = record {
         count = h.are.count;
@@ -85,7 +91,7 @@ pin_pushed cells pin_names names rows pins after all row pin h low e few f =
         few = h.are.few;
         few_pins = omega (arith, length-append pins (row ∷ []), few);
       };
-      is = pin_more cells pin_names pins row names rows h.are.count h.are.stand ∙ (λ i. with_pin (h.is i) (e i));
+      is = pin_more cells pin_names pins row names rows h.are.count h.are.stand ∙ (λ i. with_pin (h.is i) (is i));
     })
 
 -- ---- nets

@@ -2,11 +2,12 @@
 
 ghost use Rattle.std.specs.Prelude.{◌≡◌, ◌<◌, ◌^◌, ◌+◌, ◌≤◌, ◌++◌, ◌∷◌, [], Some, drop, length, slice_get, IfOk, OnErr, OnOk};
 ghost use Rattle.std.specs.List.{All, between};
+ghost use Rattle.vg_names.specs.Distinct.{with_name};
 ghost use Rattle.ver_module.specs.Flat.{pins_end};
 ghost use Rattle.ver_module.specs.Netlists.{with_pin};
 
 use crate::link::Link;
-use crate::name::{MOST, name_number};
+use crate::name::{MOST, number_by_guess};
 use std::alloc::Global;
 use std::marker::Model;
 use vg_names::{Names, Texts};
@@ -143,6 +144,38 @@ fn part(pins: &[PinRow], from: usize, to: usize) -> &[PinRow]
     &pins[from..to]
 }
 
+/// The number of the name of the pin that comes after these. A new name is put last. Answers `Memory` where there is no room;
+/// nothing changes then.
+fn pin_number(names: &mut Names, before: &[PinRow], name: &[u8]) -> Result<u32, Memory>
+    ensures number { IfOk result (λ id. slice_get names.new id ≡ Some name.now) }
+    ensures names { OnOk result (names.new ≡ with_name names.old name.now) }
+    ensures unchanged { OnErr result (names.new ≡ names.old) }
+{
+    // Pins mostly come in the order in which their names came first, and begin again with the next instance.
+    let next = match before.last() {
+        Some(pin) => pin.name.wrapping_add(1),
+        None => 0,
+    };
+    let id = number_by_guess(names, [next, 0], name)?;
+    Ok(id)
+}
+
+/// The number of the name of the cell of the instance that comes after these. A new name is put last. Answers `Memory` where there
+/// is no room; nothing changes then.
+fn cell_number(names: &mut Names, before: &[InstanceRow], name: &[u8]) -> Result<u32, Memory>
+    ensures number { IfOk result (λ id. slice_get names.new id ≡ Some name.now) }
+    ensures names { OnOk result (names.new ≡ with_name names.old name.now) }
+    ensures unchanged { OnErr result (names.new ≡ names.old) }
+{
+    // Instances of one cell often stand together, or cells come in the order in which their names came first.
+    let last = match before.last() {
+        Some(instance) => instance.cell,
+        None => 0,
+    };
+    let id = number_by_guess(names, [last, last.wrapping_add(1)], name)?;
+    Ok(id)
+}
+
 /// A place in a text, in 32 bits. Answers `Memory` where it does not fit.
 fn place(at: usize) -> Result<u32, Memory>
     ensures { IfOk result (λ place. place ≡ at) }
@@ -231,7 +264,7 @@ impl Instances {
         if MOST <= self.rows.len() {
             return Err(Memory);
         }
-        let cell = name_number(&mut self.cells, cell)?;
+        let cell = cell_number(&mut self.cells, &self.rows, cell)?;
         let pins = self.pins.len();
         let row = InstanceRow { cell, pins };
         let Ok(()) = push_row(&mut self.names, &mut self.rows, name, row) else {
@@ -251,7 +284,7 @@ impl Instances {
         }
         let from = place(span.from)?;
         let to = place(span.to)?;
-        let name = name_number(&mut self.pin_names, name)?;
+        let name = pin_number(&mut self.pin_names, &self.pins, name)?;
         let row = PinRow {
             link,
             name,

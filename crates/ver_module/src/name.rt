@@ -1,6 +1,6 @@
 //! Tables of names of which no number reaches 2^32.
 
-ghost use Rattle.std.specs.Prelude.{◌≡◌, ◌<◌, ◌-◌, ◌^◌, length, IfOk, OnErr, OnOk};
+ghost use Rattle.std.specs.Prelude.{◌≡◌, ◌<◌, ◌-◌, ◌^◌, ◌↔◌, Some, length, slice_get, IfOk, IsTrue, OnErr, OnOk};
 ghost use Rattle.vg_names.specs.Distinct.{number_in, with_name};
 
 use vg_names::Names;
@@ -21,5 +21,33 @@ pub fn name_number(names: &mut Names, name: &[u8]) -> Result<u32, Memory>
         return Err(Memory);
     }
     let id = names.intern(name)?;
+    Ok(id)
+}
+
+/// Whether the name of this number is this one.
+fn is_number(names: &Names, id: u32, name: &[u8]) -> bool
+    ensures { IsTrue result ↔ (slice_get names.now id ≡ Some name.now) }
+{
+    (id as usize) < names.len() && names.name(id) == name
+}
+
+/// The number of a name, which is put last where it is new. The names of two numbers that it may have are compared with it first:
+/// a good guess spares its hash. Answers `Memory` where there is no room, as where the table has 2^32 - 1 names; nothing changes
+/// then.
+pub(crate) fn number_by_guess(
+    names: &mut Names,
+    guesses: [u32; 2],
+    name: &[u8],
+) -> Result<u32, Memory>
+    ensures number { IfOk result (λ id. slice_get names.new id ≡ Some name.now) }
+    ensures names { OnOk result (names.new ≡ with_name names.old name.now) }
+    ensures unchanged { OnErr result (names.new ≡ names.old) }
+{
+    'id: for id in guesses {
+        if is_number(names, id, name) {
+            return Ok(id);
+        }
+    }
+    let id = name_number(names, name)?;
     Ok(id)
 }
