@@ -8,14 +8,14 @@ use Rattle.ver_syntax.specs.declared.fault.VerKind.TheVariants.{Grammar, Instanc
 use Rattle.ver_syntax.specs.declared.row.Row.{Row}
 use Rattle.ver_syntax.specs.Grammar.{is}
 use Rattle.ver_items.specs.Sections.{Section}
-use Rattle.ver_items.specs.SectionSteps.{section_in}
+use Rattle.ver_items.specs.SectionSteps.{rows_in, section_in}
 use Rattle.ver_file.specs.Bodies.{end_in}
 use Rattle.ver_file.specs.declared.first.Firsts.{Firsts}
 use Rattle.ver_file.specs.FirstFlaws.{AreFirsts, IsFlawless}
 use Rattle.ver_file.specs.Firsts.{first_of}
 use Rattle.ver_file.specs.Flaws.{clashes, flaws_at, flaws_of, grammar_flaws, instance_flaws}
 use Rattle.ver_file.proofs.NetLemmas.{no_left, no_mapped, no_right, not_first}
-use Rattle.ver_file.proofs.ReadLemmas.{next_rows, rows_in}
+use Rattle.ver_items.proofs.RowLemmas.{next_rows}
 use Rattle.ver_file.proofs.SectionInLemmas.{item_more}
 
 -- where nothing is wrong with the items up to one, nothing is wrong with those before it

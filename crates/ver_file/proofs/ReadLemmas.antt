@@ -10,13 +10,13 @@ use Rattle.ver_text.specs.declared.kind.Kind.TheVariants.{Direction, Identifier}
 use Rattle.ver_syntax.specs.declared.row.Row.{Row}
 use Rattle.ver_syntax.specs.declared.row.Place.TheVariants.{Start}
 use Rattle.ver_syntax.specs.Grammar.{is, is_net}
-use Rattle.ver_syntax.specs.Rows.{rows_of}
+use Rattle.ver_text.specs.Kinds.{kinds_of}
+use Rattle.ver_syntax.specs.Rows.{kinds_in}
 use Rattle.ver_module.proofs.NameLemmas.{numbered, with_old}
 use Rattle.ver_items.specs.declared.heading.Heading.{Heading}
 use Rattle.ver_items.specs.Declarations.{Declared, begins_declaration, declare, declared_in, declared_of, heading_of}
 use Rattle.ver_items.specs.Sections.{Section, is_net_name, is_net_place, is_place, items, name_at, section_before, sections, stands_in}
-use Rattle.ver_items.specs.SectionSteps.{AtStart, section_in}
-use Rattle.ver_items.proofs.ItemLemmas.{rows_at_start}
+use Rattle.ver_items.specs.SectionSteps.{rows_in}
 use Rattle.ver_items.proofs.SectionLemmas.{before_others, sections_nil, sections_no, sections_yes}
 use Rattle.std.specs.List.{All}
 use Rattle.std.proofs.lemmas.List.Elements.{All-push}
@@ -225,42 +225,6 @@ all_left text rows = refl
 
 -- ---- the items of a text
 
--- the tokens of some items
-abbrev pub rows_in : List Section → List Row
-rows_in items = flat_map (λ s. s.head ∷ s.body) items
-
-sections_hold : (begins : Row → Bool) (rows : List Row) → before_first begins rows ++ rows_in (sections begins rows) ≡ rows
-unfolding sections
-sections_hold begins [] = refl
-sections_hold begins (r ∷ rows) = by_test (begins r) refl (sections_hold begins rows)
-  where
-    by_test : (b : Bool) → begins r ≡ b → before_first begins rows ++ rows_in (sections begins rows) ≡ rows
-        → before_first begins (r ∷ rows) ++ rows_in (sections begins (r ∷ rows)) ≡ r ∷ rows
-    by_test true t rest =
-        (λ i. before_others begins r rows true t i ++ rows_in (sections_yes begins (r ∷ rows) r rows refl t i))
-        ∙ ap (λ rs. r ∷ rs) rest
-    by_test false t rest =
-        (λ i. before_others begins r rows false t i ++ rows_in (sections_no begins (r ∷ rows) r rows refl t i))
-        ∙ ap (λ rs. r ∷ rs) rest
-
--- all tokens of a text are in its items
-pub items_hold : (text : List ℕ) → rows_in (items text) ≡ rows_of text
-items_hold text = from_start (rows_of text) (rows_at_start text)
-  where
-    from_start : (rows : List Row) → AtStart rows → rows_in (sections (stands_in Start) rows) ≡ rows
-    from_start [] h = ap rows_in (sections_nil (stands_in Start) [] refl)
-    from_start (r ∷ rows) h =
-        let t : stands_in Start r ≡ true = ap (is_place Start) h in
-        sym (ap (λ rs. rs ++ rows_in (sections (stands_in Start) (r ∷ rows))) (before_others (stands_in Start) r rows true t))
-        ∙ sections_hold (stands_in Start) (r ∷ rows)
-
-pub next_rows : (rows : List Row) (all after : List Section) → all ≡ section_in rows ++ after → rows_in all ≡ rows ++ rows_in after
-next_rows rows all after e = ap rows_in e ∙ by_rows rows
-  where
-    by_rows : (rs : List Row) → rows_in (section_in rs ++ after) ≡ rs ++ rows_in after
-    by_rows [] = refl
-    by_rows (r ∷ rs) = refl
-
 pub all_read : (text : List ℕ) (ds : List Declared) (found : Identifiers) (items : List Section) → items ≡ [] → ds ≡ declared_of text
     → length found.said.items ≡ length found.names → AreRead text (rows_in items) ds found → AreIdentifiers text found
 all_read text ds found items none e count h =
@@ -272,3 +236,9 @@ all_read text ds found items none e count h =
       said = subst (λ (all : List Declared). IsSaid all found.names found.said.items) e h.said;
       uses = h.uses;
     }
+
+-- all kinds are read where no item is left
+pub kinds_end : (text : List ℕ) (kinds : List Kind) (left : List Section) (rows : List Row) → kinds_of text ≡ kinds ++ kinds_in (rows_in left)
+    → left ≡ [] → rows ≡ [] → kinds ++ kinds_in rows ≡ kinds_of text
+kinds_end text kinds left rows e none no_rows =
+    ap (λ its. kinds ++ kinds_in its) no_rows ∙ sym (e ∙ ap (λ its. kinds ++ kinds_in (rows_in its)) none)

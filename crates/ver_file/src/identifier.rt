@@ -1,9 +1,10 @@
 //! The identifiers of nets, and what is declared of them.
 
-ghost use Rattle.std.specs.Prelude.{[], ◌≡◌, ℕ, List, ◌∷◌, ◌<◌, length, slice_get, slice_index_or, IfOk, IfSome, IsTrue, OnOk, Some, true, ◌↔◌};
+ghost use Rattle.std.specs.Prelude.{[], ◌≡◌, ℕ, List, ◌∷◌, ◌<◌, length, slice_get, slice_index_or, IfNone, IfOk, IfSome, IsTrue, OnOk, Some, true, ◌↔◌};
 ghost use Rattle.vg_names.specs.Distinct.{number_in, number_of};
 ghost use Rattle.ver_syntax.specs.declared.row.Row.{Row as RowSpec};
 ghost use Rattle.ver_syntax.specs.Rows.{rows_of};
+ghost use Rattle.ver_syntax.specs.Syntax.{HasTokens, IsModule};
 ghost use Rattle.ver_items.specs.Declarations.{Declared, declared_of, direction_in, range_in};
 ghost use Rattle.ver_items.specs.Sections.{is_net_name, name_at};
 ghost use Rattle.ver_file.specs.Firsts.{declared_among, declared_under};
@@ -11,9 +12,9 @@ ghost use Rattle.ver_file.specs.Said.{direction_said, is_supply_said, or_else, r
 ghost use Rattle.ver_file.specs.Tables.{AreIdentifiers, AreRead, Reads};
 
 use std::alloc::Global;
-use ver_items::{Begin, Heading, Items, Range, begins_declaration, is_net_name, name_at};
+use ver_items::{Begin, Found, Heading, Items, Range, begins_declaration, is_net_name, name_at};
 use ver_module::{PortDir, name_number};
-use ver_syntax::Row;
+use ver_syntax::{Machine, Row};
 use vg_names::Names;
 use vg_num::Memory;
 
@@ -186,17 +187,22 @@ impl Identifiers {
         Ok(())
     }
 
-    /// Those of a text. Answers `Memory` where there is no room.
-    pub fn of(alloc: Global, text: &[u8]) -> Result<Identifiers, Memory>
-        ensures { IfOk result (λ found. AreIdentifiers text.now found) }
+    /// Those of a text that is a module. `None`: it is none. Answers `Memory` where there is no room.
+    pub fn of(alloc: Global, text: &[u8]) -> Result<Option<Identifiers>, Memory>
+        ensures module { IfOk result (λ found. IfSome found (λ all. HasTokens text.now × IsModule text.now × AreIdentifiers text.now all)) }
+        ensures none { IfOk result (λ found. IfNone found (IsModule text.now → ⊥)) }
     {
         let mut found = Identifiers::new(alloc);
+        let mut machine = Machine::new(alloc);
         let mut items = Items::new(text);
         let mut item = Vec::new(alloc);
-        'item: while items.read(&mut item)? {
-            found.read_item(text, &item)?;
+        'item: loop {
+            match items.read_by(&mut machine, &mut item)? {
+                Found::Item => found.read_item(text, &item)?,
+                Found::End if machine.is_module() => return Ok(Some(found)),
+                Found::End | Found::Refused => return Ok(None),
+            }
         }
-        Ok(found)
     }
 
     /// How many identifiers there are.

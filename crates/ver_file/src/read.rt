@@ -1,12 +1,13 @@
 //! From the text of a netlist to the module that it denotes.
 
 ghost use Rattle.std.specs.Prelude.{◌≡◌, ◌⊎◌, ◌≤◌, ◌^◌, [], length, IfOk, IfErr, OnOk};
-ghost use Rattle.ver_syntax.specs.Syntax.{IsOutOfMemory};
+ghost use Rattle.ver_syntax.specs.Syntax.{IsFirstFault as IsFirstSyntaxFault, IsModule, IsOutOfMemory};
 ghost use Rattle.ver_file.specs.Flaws.{IsFirst, flaws_of};
 ghost use Rattle.ver_file.specs.Modules.{Denotes, IsFirstFault};
 ghost use Rattle.ver_file.specs.Netlists.{netlist_of};
 ghost use Rattle.ver_file.specs.Bodies.{IsBody};
 ghost use Rattle.ver_file.specs.Nets.{nets_of};
+ghost use Rattle.ver_file.specs.Tables.{AreIdentifiers};
 
 use crate::build::{Body, head_end, module_name, read_body};
 use crate::identifier::Identifiers;
@@ -24,18 +25,23 @@ const OUT_OF_MEMORY: VerFault = VerFault {
     line: 1,
 };
 
-/// The module of a text that has the grammar of one, or the first of its flaws. Answers `Memory` where there is no room.
-fn build(alloc: Global, text: &[u8]) -> Result<Result<Module, VerFault>, Memory>
+/// The module of a text that has the grammar of one, with these identifiers, or the first of its flaws. Answers `Memory` where
+/// there is no room.
+fn build(
+    alloc: Global,
+    text: &[u8],
+    identifiers: &Identifiers,
+) -> Result<Result<Module, VerFault>, Memory>
+    requires { AreIdentifiers text.now identifiers.now }
     ensures flawless { IfOk result (λ built. OnOk built (flaws_of text.now ≡ [])) }
     ensures module { IfOk result (λ built. IfOk built (λ found. found ≡ netlist_of text.now)) }
     ensures fault { IfOk result (λ built. IfErr built (IsFirst text.now (flaws_of text.now))) }
 {
-    let identifiers = Identifiers::of(alloc, text)?;
-    let (nets, clash) = nets_of(alloc, text, &identifiers)?;
-    let numbers = numbers_of(alloc, text, &identifiers, &nets, clash)?;
+    let (nets, clash) = nets_of(alloc, text, identifiers)?;
+    let numbers = numbers_of(alloc, text, identifiers, &nets, clash)?;
     let scope = Scope {
         text,
-        identifiers: &identifiers,
+        identifiers,
         nets: &nets,
         numbers: &numbers,
         next: Cell::new(0),
@@ -68,6 +74,17 @@ fn assemble(alloc: Global, text: &[u8], nets: Nets, body: Body) -> Result<Module
     ))
 }
 
+/// The first fault of a text that is no module, or that memory is out.
+fn syntax_fault(alloc: Global, text: &[u8]) -> VerFault
+    requires { IsModule text.now → ⊥ }
+    ensures { IsOutOfMemory result ⊎ IsFirstSyntaxFault text.now result }
+{
+    match check_module(alloc, text) {
+        Err(fault) => fault,
+        Ok(()) => unreachable!(),
+    }
+}
+
 /// The module that a text denotes; or the text's first fault, with the number of its line. Answers `Memory`, at line 1, where
 /// there is no room, as where the module would have 2^32 nets or more.
 ///
@@ -79,8 +96,13 @@ pub fn read_module(alloc: Global, bytes: &[u8]) -> Result<Module, VerFault>
     ensures denoted { IfOk result (Denotes bytes.now) }
     ensures fault { IfErr result (λ fault. IsOutOfMemory fault ⊎ IsFirstFault bytes.now fault) }
 {
-    check_module(alloc, bytes)?;
-    match build(alloc, bytes) {
+    let Ok(found) = Identifiers::of(alloc, bytes) else {
+        return Err(OUT_OF_MEMORY);
+    };
+    let Some(identifiers) = found else {
+        return Err(syntax_fault(alloc, bytes));
+    };
+    match build(alloc, bytes, &identifiers) {
         Ok(built) => built,
         Err(_) => Err(OUT_OF_MEMORY),
     }

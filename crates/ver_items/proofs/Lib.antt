@@ -3,3 +3,4 @@ pub mod BitLemmas
 pub mod ItemLemmas
 pub mod SpanLemmas
 pub mod CutLemmas
+pub mod RowLemmas

@@ -1,5 +1,6 @@
 -- One section after another, as the code finds them: for the functions between.
 use Rattle.std.specs.Prelude.{◌≡◌, List, [], ◌∷◌, Bool, true, false, ◌⊎◌, ⊤}
+use Rattle.std.specs.List.{flat_map}
 use Rattle.ver_text.specs.declared.kind.Kind.TheVariants.{Semicolon}
 use Rattle.ver_syntax.specs.declared.row.Place.TheVariants.{Start}
 use Rattle.ver_syntax.specs.declared.row.Row.{Row}
@@ -15,6 +16,10 @@ IsFirstSection begins rows found = sections begins rows ≡ found.0 ∷ sections
 abbrev pub section_in : List Row → List Section
 section_in [] = []
 section_in (r ∷ rows) = record { head = r; body = rows } ∷ []
+
+-- the tokens of some sections
+abbrev pub rows_in : List Section → List Row
+rows_in sections = flat_map (λ s. s.head ∷ s.body) sections
 
 -- each token stands in what follows the one before it
 unfoldable pub AreLinked : List Row → Type 0

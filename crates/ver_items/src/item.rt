@@ -1,12 +1,17 @@
 //! The items of a module, one after another.
 
-ghost use Rattle.std.specs.Prelude.{◌≡◌, ◌++◌, [], nat_lt, length, false, IfOk, OnOk};
+ghost use Rattle.std.specs.Prelude.{◌≡◌, ◌<◌, ◌++◌, [], List, nat_lt, length, true, false, IfOk, OnOk};
+ghost use Rattle.ver_text.specs.declared.kind.Kind.{Kind as KindSpec};
+ghost use Rattle.ver_syntax.specs.Reading.{HasKinds};
+ghost use Rattle.ver_syntax.specs.Rows.{kinds_in};
+ghost use Rattle.ver_syntax.specs.Syntax.{BeginNoModule, AreModule};
+ghost use Rattle.ver_items.specs.declared.item.Found.TheVariants.{End as AtEnd, Item as AnItem, Refused as IsRefused};
 ghost use Rattle.ver_items.specs.Sections.{items};
-ghost use Rattle.ver_items.specs.SectionSteps.{IsItem, section_in};
+ghost use Rattle.ver_items.specs.SectionSteps.{IsItem, rows_in, section_in};
 
 use crate::token::is;
 use std::marker::Model;
-use ver_syntax::{Row, Rows};
+use ver_syntax::{Machine, Row, Rows};
 use ver_text::Kind;
 use vg_num::Memory;
 
@@ -24,6 +29,41 @@ fn read_item(rows: &mut Rows<'_>, item: &mut Vec<Row>) -> Result<(), Memory>
         }
     }
     Ok(())
+}
+
+/// The same, where a machine reads the tokens too, and no further than a module can begin so. Whether one can.
+fn read_item_by(
+    machine: &mut Machine,
+    rows: &mut Rows<'_>,
+    item: &mut Vec<Row>,
+) -> Result<bool, Memory>
+    ensures cut { OnOk result (rows.old ≡ item.new.items ++ rows.new) }
+    ensures ends { IfOk result (λ can. can ≡ true → IsItem item.new.items rows.new) }
+    ensures kinds { (kinds : List KindSpec) → HasKinds kinds machine.old → OnOk result (HasKinds (kinds ++ kinds_in item.new.items) machine.new) }
+    ensures refused { (kinds : List KindSpec) → HasKinds kinds machine.old → IfOk result (λ can. can ≡ false → BeginNoModule (kinds ++ kinds_in item.new.items)) }
+{
+    item.clear();
+    'row: while let Some(row) = rows.next() {
+        item.push(row)?;
+        if !machine.read(row.kind)? {
+            return Ok(false);
+        }
+        if is(Kind::Semicolon, row.kind) {
+            return Ok(true);
+        }
+    }
+    Ok(true)
+}
+
+/// What is found where an item of a module may stand.
+#[derive(Clone, Copy, Debug, PartialEq, Eq, Drop)]
+pub enum Found {
+    /// The head of a module, an item or a module's end, up to its `;`.
+    Item,
+    /// The end of the text.
+    End,
+    /// A token with which no module can go on.
+    Refused,
 }
 
 /// The head of a module, its items, and its end, one after another. Contracts see the list of those that are left.
@@ -66,6 +106,32 @@ impl<'a> Items<'a> {
     {
         match read_item(&mut self.rows, item) {
             Ok(()) => Ok(!item.is_empty()),
+            Err(memory) => {
+                self.rows = Rows::new(&[]);
+                Err(memory)
+            }
+        }
+    }
+
+    /// The same, where a machine reads the tokens too, and no further than a module can begin so. Answers `Memory` where there is
+    /// no room.
+    pub fn read_by(
+        &mut self,
+        machine: &mut Machine,
+        item: &mut Vec<Row>,
+    ) -> Result<Found, Memory>
+        ensures next { IfOk result (λ found. found ≡ AnItem → (self.old ≡ section_in item.new.items ++ self.new) × (0 < length item.new.items)) }
+        ensures end { IfOk result (λ found. found ≡ AtEnd → (self.old ≡ []) × (item.new.items ≡ [])) }
+        ensures kinds { (kinds : List KindSpec) → HasKinds kinds machine.old → OnOk result (HasKinds (kinds ++ kinds_in item.new.items) machine.new) }
+        ensures refused { (kinds : List KindSpec) → HasKinds kinds machine.old → IfOk result (λ found. found ≡ IsRefused → AreModule (kinds ++ kinds_in (rows_in self.old)) → ⊥) }
+    {
+        match read_item_by(machine, &mut self.rows, item) {
+            Ok(true) if item.is_empty() => Ok(Found::End),
+            Ok(true) => Ok(Found::Item),
+            Ok(false) => {
+                self.rows = Rows::new(&[]);
+                Ok(Found::Refused)
+            }
             Err(memory) => {
                 self.rows = Rows::new(&[]);
                 Err(memory)

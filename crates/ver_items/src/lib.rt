@@ -11,6 +11,6 @@ mod token;
 pub use bits::{Range, Select, push_net_name, select_before};
 pub use connection::{connection_of, expression_in, span_of};
 pub use heading::Heading;
-pub use item::Items;
+pub use item::{Found, Items};
 pub use section::{Begin, Section, Sections, begins_declaration};
 pub use token::{bytes_at, is, is_identifier, is_name_in, is_net_name, name_at};

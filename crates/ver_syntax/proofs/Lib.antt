@@ -5,3 +5,4 @@ pub mod ReadLemmas
 pub mod RowLemmas
 pub mod LawLemmas
 pub mod PlaceLemmas
+pub mod KindLemmas

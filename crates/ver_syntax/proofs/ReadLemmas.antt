@@ -56,7 +56,7 @@ ends_with kind (j ∷ []) k = refl
 ends_with kind (j ∷ i ∷ ks) k = ends_with kind (i ∷ ks) k
 
 -- what is no token is a stray one to the grammar
-stray : (text : List ℕ) (t : Token) → is_bad t ≡ true → kind_in text t ≡ Stray
+pub stray : (text : List ℕ) (t : Token) → is_bad t ≡ true → kind_in text t ≡ Stray
 stray text t e = by_kind t.kind e
   where
     by_kind : (kind : TokenKind) → is_bad_kind kind ≡ true → grammar_kind kind (part text t.from t.to) ≡ Stray

@@ -1,5 +1,5 @@
 -- The tokens of a text with what each stands in: of any text, be it a module or not. Source: IEEE Std 1364-2005, annex A.
-use Rattle.std.specs.Prelude.{ℕ, List, [], ◌∷◌}
+use Rattle.std.specs.Prelude.{ℕ, List, [], ◌∷◌, map}
 use Rattle.ver_text.specs.declared.kind.Kind.{Kind}
 use Rattle.ver_text.specs.declared.kind.Kind.TheVariants.{Module, Direction, Wire, NetType, Assign, Open, Close, Semicolon}
 use Rattle.ver_syntax.specs.declared.row.Place.{Place}
@@ -43,3 +43,7 @@ rows_from text place (t ∷ ts) = row text place t ∷ rows_from text (place_aft
 -- the rows of a text
 abbrev pub rows_of : List ℕ → List Row
 rows_of text = rows_from text Start (tokens_of text)
+
+-- the kinds of tokens
+abbrev pub kinds_in : List Row → List Kind
+kinds_in rows = map (λ r. r.kind) rows

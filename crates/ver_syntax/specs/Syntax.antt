@@ -44,9 +44,17 @@ pub record IsTokenFault (text : List ℕ) (fault : LineFault VerKind) (token : T
 
 -- ---- grammar
 
+-- tokens of these kinds are a module
+abbrev pub AreModule : List Kind → Type 0
+AreModule kinds = Derives rules module_declaration kinds
+
 -- the tokens of a text are a module
 abbrev pub IsModule : List ℕ → Type 0
-IsModule text = Derives rules module_declaration (kinds_of text)
+IsModule text = AreModule (kinds_of text)
+
+-- no module begins with tokens of these kinds
+abbrev pub BeginNoModule : List Kind → Type 0
+BeginNoModule kinds = (rest : List Kind) → AreModule (kinds ++ rest) → ⊥
 
 -- the last of these is of this kind
 abbrev pub ends_in : Kind → List Kind → Bool

@@ -2,7 +2,7 @@ use Rattle.std.proofs.Common.{◌≡◌, ◌++◌, [], None, flat_map, sym, ap, 
 use Rattle.std.specs.Option.{option_or}
 use Rattle.ver_syntax.specs.Rows.{rows_of}
 use Rattle.ver_items.specs.Declarations.{declared_by, declared_of}
-use Rattle.ver_items.specs.SectionSteps.{section_in}
+use Rattle.ver_items.specs.SectionSteps.{rows_in, section_in}
 use Rattle.ver_file.specs.Bodies.{end_in}
 use Rattle.ver_file.specs.FirstFlaws.{AreFirsts, IsFlawless}
 use Rattle.ver_file.specs.Firsts.{first_of, named_instances, range_flaws_in}
@@ -12,7 +12,7 @@ use Rattle.ver_file.proofs.BodyLemmas.{built_more, flawless, flawless_before, la
 use Rattle.ver_file.proofs.CheckLemmas.{flaws_done, items_more, names_done, names_more, nested_done, nested_more}
 use Rattle.ver_file.proofs.FlawLemmas.{first_append}
 use Rattle.ver_file.proofs.NetLemmas.{not_first}
-use Rattle.ver_file.proofs.ReadLemmas.{items_hold, rows_in}
+use Rattle.ver_items.proofs.RowLemmas.{items_hold}
 use Rattle.ver_file.proofs.SectionInLemmas.{items_done}
 use Rattle.ver_file.proofs.build.read_body.Goals as goal
 

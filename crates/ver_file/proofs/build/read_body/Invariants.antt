@@ -6,7 +6,7 @@ use Rattle.ver_file.specs.FirstFlaws.{IsFlawless}
 use Rattle.ver_file.specs.Firsts.{first_of, named_instances, range_flaws_in}
 use Rattle.ver_file.specs.Flaws.{clashes, grammar_flaws, instance_flaws, repeated, syntax_flaws}
 use Rattle.ver_file.specs.Netlists.{assigned_by, assigned_of, instances_by, instances_of}
-use Rattle.ver_file.proofs.ReadLemmas.{rows_in}
+use Rattle.ver_items.specs.SectionSteps.{rows_in}
 use Rattle.ver_file.proofs.build.read_body.Given as goal
 
 abbrev pub invariant-item : goal.invariant-item

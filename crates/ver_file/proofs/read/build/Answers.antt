@@ -7,10 +7,10 @@ numbers_of-requires-clause-nets c = λ none. c.in_ok-nets.ensures.nets ∙ all_p
 
 pub read_body-requires : goal.read_body-requires
 read_body-requires c = record {
-  table = c.in_ok-identifiers.ensures;
+  table = c.requires;
   first = c.in_ok-nets.ensures.clash;
   without = λ none. record {
-    table = c.in_ok-identifiers.ensures;
+    table = c.requires;
     nets = c.in_ok-nets.ensures.nets ∙ all_put c.args.text.now (none_first c.args.text.now (sym c.in_ok-nets.ensures.clash ∙ none));
     distinct = none_first c.args.text.now (sym c.in_ok-nets.ensures.clash ∙ none);
     numbers = c.deref.ensures.value ∙ c.in_ok-numbers.ensures none;

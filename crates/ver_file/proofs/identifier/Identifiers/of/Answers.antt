@@ -1,9 +1,16 @@
-use Rattle.std.proofs.Common.{◌≡◌, ◌++◌, [], List, flat_map, sym, ap, ◌∙◌, subst}
+use Rattle.std.proofs.Common.{◌≡◌, ◌++◌, [], List, flat_map, sym, ap, ◌∙◌, subst, append_assoc}
+use Rattle.ver_text.specs.declared.kind.Kind.{Kind}
+use Rattle.ver_text.specs.Kinds.{kinds_of}
 use Rattle.ver_syntax.specs.declared.row.Row.{Row}
+use Rattle.ver_syntax.specs.Reading.{HasKinds}
+use Rattle.ver_syntax.specs.Rows.{kinds_in}
+use Rattle.ver_syntax.proofs.RowLemmas.{kinds_kept}
 use Rattle.ver_items.specs.Declarations.{declared_by, declared_of}
+use Rattle.ver_items.specs.SectionSteps.{rows_in}
+use Rattle.ver_items.proofs.RowLemmas.{items_hold, kinds_append, next_rows}
 use Rattle.ver_file.specs.Firsts.{declared_among}
 use Rattle.ver_file.specs.Tables.{AreRead}
-use Rattle.ver_file.proofs.ReadLemmas.{all_read, items_hold, next_rows, rows_in}
+use Rattle.ver_file.proofs.ReadLemmas.{all_read, kinds_end}
 use Rattle.ver_file.proofs.SectionInLemmas.{declared_item, item_more, items_done}
 use Rattle.ver_file.proofs.identifier.Identifiers.of.Goals as goal
 
@@ -17,30 +24,49 @@ item-init c =
         subst (λ (rows : List Row). AreRead text rows [] c.new-found.result) (sym (ap rows_in c.new-items.ensures ∙ items_hold text)) (c.new-found.ensures.read text),
         ap (flat_map (declared_by text)) (sym c.new-items.ensures),
       );
+      kinds = ([], c.new-machine.ensures, sym (ap (λ its. kinds_in (rows_in its)) c.new-items.ensures ∙ ap kinds_in (items_hold text) ∙ kinds_kept text));
     }
 
 pub item-preserved : goal.item-preserved
 item-preserved c =
     let text = c.args.text.now in
-    let rows = c.read.new.item.items in
-    let left = c.read.new.self in
+    let rows = c.read_by.new.item.items in
+    let left = c.read_by.new.self in
+    let next = (c.in_ok-read_by.ensures.next c.in-Item.is).0 in
     let (done, are, all) = c.item.invariant.read in
+    let (kinds, has, whole) = c.item.invariant.kinds in
     record {
-      count = c.in_ok-read_item.ensures.count;
+      count = c.in_ok-read_item-in-Item.ensures.count;
       read = (
         done ++ declared_among text rows,
         subst (λ (its : List Row). AreRead text (rows_in left) (done ++ declared_among text its) c.read_item.new.self) c.deref.ensures.value
-            (c.in_ok-read_item.ensures.read (rows_in left) done
+            (c.in_ok-read_item-in-Item.ensures.read (rows_in left) done
             (subst (λ (its : List Row). AreRead text its done c.item.found)
-            (next_rows rows c.item.items left c.in_ok-read.ensures.next ∙ ap (λ its. its ++ rows_in left) (sym c.deref.ensures.value)) are)),
-        item_more (declared_by text) done (declared_of text) c.item.items left rows all c.in_ok-read.ensures.next
+            (next_rows rows c.item.items left next ∙ ap (λ its. its ++ rows_in left) (sym c.deref.ensures.value)) are)),
+        item_more (declared_by text) done (declared_of text) c.item.items left rows all next
             ∙ ap (λ ds. (done ++ ds) ++ flat_map (declared_by text) left) (declared_item text rows),
+      );
+      kinds = (
+        kinds ++ kinds_in rows,
+        c.in_ok-read_by.ensures.kinds kinds has,
+        whole
+            ∙ ap (λ its. kinds ++ kinds_in its) (next_rows rows c.item.items left next)
+            ∙ ap (λ ks. kinds ++ ks) (kinds_append rows (rows_in left))
+            ∙ sym (append_assoc kinds (kinds_in rows) (kinds_in (rows_in left))),
       );
     }
 
-pub returns : goal.returns
-returns c =
+pub returns-in-End-clause-module : goal.returns-in-End-clause-module
+returns-in-End-clause-module c =
     let text = c.args.text.now in
+    let end = c.in_ok-read_by.ensures.end c.in-End.is in
     let (done, are, all) = c.item.invariant.read in
-    let none : c.item.items ≡ [] = c.in_ok-read.ensures.end c.if-branch.false in
-    all_read text done c.item.found c.item.items none (items_done (declared_by text) done (declared_of text) c.item.items all none) c.item.invariant.count are
+    let (kinds, has, whole) = c.item.invariant.kinds in
+    let read = c.in_ok-read_by.ensures.kinds kinds has in
+    let (tokens, grammar) = c.is_module.ensures.module text
+        (subst (λ (ks : List Kind). HasKinds ks c.read_by.new.machine) (kinds_end text kinds c.item.items c.read_by.new.item.items whole end.0 end.1) read) c.if-is_module.true in
+    (
+      tokens,
+      grammar,
+      all_read text done c.item.found c.item.items end.0 (items_done (declared_by text) done (declared_of text) c.item.items all end.0) c.item.invariant.count are,
+    )
