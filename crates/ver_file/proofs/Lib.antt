@@ -14,3 +14,4 @@ pub mod BuildLemmas
 pub mod BodyLemmas
 pub mod LinkLemmas
 pub mod LawLemmas
+pub mod OtherLemmas

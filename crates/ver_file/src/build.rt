@@ -1,13 +1,13 @@
 //! The instances and the assignments of a module without a flaw.
 
-ghost use Rattle.std.specs.Prelude.{◌≡◌, ◌++◌, ◌∷◌, [], fold, map, find, IfOk, OnOk};
+ghost use Rattle.std.specs.Prelude.{◌≡◌, ◌++◌, ◌∷◌, [], flat_map, fold, map, find, IfOk, OnOk};
 ghost use Rattle.std.specs.Option.{option_or};
 ghost use Rattle.ver_module.specs.Netlists.{with_pin};
-ghost use Rattle.ver_syntax.specs.declared.row.Place.TheVariants.{Head};
+ghost use Rattle.ver_syntax.specs.declared.row.Place.TheVariants.{Assignment, Head};
 ghost use Rattle.ver_syntax.specs.Grammar.{is};
 ghost use Rattle.ver_syntax.specs.Rows.{rows_of};
-ghost use Rattle.ver_items.specs.Sections.{is_name_in, pins_in};
-ghost use Rattle.ver_file.specs.Netlists.{assigned_by, head_end, instance_of, instances_by, module_name, pin_of};
+ghost use Rattle.ver_items.specs.Sections.{is_name_in, pins_in, sections};
+ghost use Rattle.ver_file.specs.Netlists.{head_end, instance_of, instances_by, module_name, nets_named, pin_of};
 ghost use Rattle.ver_file.specs.Bodies.{IsBody, end_in};
 ghost use Rattle.ver_file.specs.Scopes.{HasClash, IsScope};
 
@@ -16,7 +16,8 @@ use crate::first::Firsts;
 use crate::scope::Scope;
 use std::alloc::Global;
 use ver_items::{
-    Begin, Items, Section, Sections, connection_of, expression_in, is, is_name_in, name_at, span_of,
+    Begin, Items, Section, Sections, after_first, connection_of, expression_in, is, is_name_in,
+    name_at, others_in, span_of,
 };
 use ver_module::Instances;
 use ver_syntax::{Place, Row, Rows};
@@ -91,17 +92,17 @@ fn push_instances(
     Ok(())
 }
 
-/// Puts the nets in the assignments of an item last. Answers `Memory` where there is no room.
+/// Puts the nets in assignments among some tokens last. Answers `Memory` where there is no room.
 fn push_assigned(
     alloc: Global,
     scope: &Scope<'_>,
-    item: &Section<'_>,
+    rows: &[Row],
     to: &mut Vec<u32>,
 ) -> Result<(), Memory>
     requires { IsScope scope.now }
-    ensures { OnOk result (to.new.items ≡ to.old.items ++ assigned_by scope.now.text.now item.now) }
+    ensures { OnOk result (to.new.items ≡ to.old.items ++ flat_map (nets_named scope.now.text.now) (sections (is_name_in Assignment) rows.now)) }
 {
-    'name: for name in Sections::new(Begin::Assigned, item.body) {
+    'name: for name in Sections::new(Begin::Assigned, rows) {
         scope.push_named(alloc, &name, to)?;
     }
     Ok(())
@@ -162,19 +163,21 @@ pub(crate) fn read_body(
     let mut items = Items::new(scope.text);
     let mut item = Vec::new(alloc);
     'item: while items.read(&mut item)? {
+        let rows: &[Row] = &item;
+        let others = others_in(rows);
         firsts = check_item(
             alloc,
             scope.text,
             scope.identifiers,
-            &item,
+            rows,
+            others,
             &mut seen,
             firsts,
         )?;
-        end = first_place(end, end_in(&item));
+        end = first_place(end, end_in(others));
         if firsts.are_none() {
-            let section = Section::of(&item);
-            push_instances(alloc, scope, &section, &mut instances)?;
-            push_assigned(alloc, scope, &section, &mut assigned)?;
+            push_instances(alloc, scope, &Section::of(rows), &mut instances)?;
+            push_assigned(alloc, scope, after_first(others), &mut assigned)?;
         }
     }
     Ok(Body {

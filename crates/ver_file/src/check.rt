@@ -11,7 +11,8 @@ ghost use Rattle.ver_items.specs.Declarations.{declared_in, declared_of};
 ghost use Rattle.ver_file.specs.Firsts.{declared_among, declared_at, first_of, instance_names, named_at, named_by, named_instances};
 ghost use Rattle.ver_file.specs.Firsts.{port_flaws_among, range_flaws_in};
 ghost use Rattle.ver_file.specs.Flaws.{agrees, connection_flaws, direction_flaws, is_range, link_flaws, named, pin_flaws};
-ghost use Rattle.ver_file.specs.Flaws.{port_flaws, ports_in, range_flaws, repeated, select_flaws, syntax_flaws};
+ghost use Rattle.ver_file.specs.Flaws.{range_flaws, repeated, select_flaws, syntax_flaws};
+ghost use Rattle.ver_items.specs.Others.{HasOthers};
 ghost use Rattle.ver_items.specs.Sections.{instances_in, name_at, sections};
 ghost use Rattle.ver_items.specs.SectionSteps.{section_in};
 ghost use Rattle.ver_file.specs.Tables.{AreIdentifiers};
@@ -20,8 +21,8 @@ use crate::first::{Firsts, unless};
 use crate::identifier::{Identifiers, direction_said, range_said};
 use std::alloc::Global;
 use ver_items::{
-    Begin, Heading, Range, Section, Sections, Select, connection_of, expression_in, is_name_in,
-    is_net_name, name_at, select_before,
+    Begin, Heading, Range, Section, Sections, Select, after_first, connection_of, expression_in,
+    is_name_in, is_net_name, name_at, select_before,
 };
 use ver_module::{PortDir, name_number};
 use ver_syntax::{Place, Row};
@@ -112,14 +113,14 @@ fn port_flaw(
 fn port_flaws(
     text: &[u8],
     identifiers: &Identifiers,
-    item: &Section<'_>,
+    rows: &[Row],
     first: Option<usize>,
 ) -> Option<usize>
     requires { AreIdentifiers text.now identifiers.now }
-    ensures { result ≡ first_of first (flat_map (port_flaws text.now) (ports_in item.now)) }
+    ensures { result ≡ first_of first (port_flaws_among text.now rows.now) }
 {
     let mut first = first;
-    'row: for row in item.body {
+    'row: for row in rows {
         first = port_flaw(text, identifiers, *row, first);
     }
     first
@@ -344,32 +345,29 @@ fn check_instances(
     })
 }
 
-/// The first flaws of an item, or those before them.
+/// The first flaws of an item with these others, or those before them.
 pub(crate) fn check_item(
     alloc: Global,
     text: &[u8],
     identifiers: &Identifiers,
     rows: &[Row],
+    others: &[Row],
     seen: &mut Seen,
     firsts: Firsts,
 ) -> Result<Firsts, Memory>
     requires some { 0 < length rows.now }
+    requires others { HasOthers rows.now others.now }
     requires table { AreIdentifiers text.now identifiers.now }
     ensures names { IfOk result (λ _. seen.new.instances ≡ fold with_name seen.old.instances (instance_names text.now (section_in rows.now))) }
     ensures clash { IfOk result (λ found. found.clash ≡ first_of firsts.clash (range_flaws_in text.now (section_in rows.now))) }
     ensures twice { IfOk result (λ found. found.twice ≡ first_of firsts.twice (repeated seen.old.instances (named_instances text.now (section_in rows.now)))) }
     ensures grammar { IfOk result (λ found. found.grammar ≡ first_of firsts.grammar (flat_map (syntax_flaws text.now) (section_in rows.now))) }
 {
+    let after = after_first(others);
+    let mut firsts = check_declarations(text, identifiers, others, firsts);
+    firsts.grammar = port_flaws(text, identifiers, after, firsts.grammar);
+    firsts.grammar = select_flaws(text, identifiers, Begin::Assigned, after, firsts.grammar);
     let item = Section::of(rows);
-    let mut firsts = check_declarations(text, identifiers, rows, firsts);
-    firsts.grammar = port_flaws(text, identifiers, &item, firsts.grammar);
-    firsts.grammar = select_flaws(
-        text,
-        identifiers,
-        Begin::Assigned,
-        item.body,
-        firsts.grammar,
-    );
     let firsts = check_instances(alloc, text, identifiers, &item, seen, firsts)?;
     Ok(firsts)
 }

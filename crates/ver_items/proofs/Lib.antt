@@ -4,3 +4,4 @@ pub mod ItemLemmas
 pub mod SpanLemmas
 pub mod CutLemmas
 pub mod RowLemmas
+pub mod OtherLemmas

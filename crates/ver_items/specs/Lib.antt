@@ -4,3 +4,4 @@ pub mod Begins
 pub mod Bits
 pub mod Declarations
 pub mod Connections
+pub mod Others

@@ -5,6 +5,7 @@ mod bits;
 mod connection;
 mod heading;
 mod item;
+mod others;
 mod section;
 mod token;
 
@@ -12,5 +13,6 @@ pub use bits::{Range, Select, push_net_name, select_before};
 pub use connection::{connection_of, expression_in, span_of};
 pub use heading::Heading;
 pub use item::{Found, Items};
+pub use others::{after_first, others_in};
 pub use section::{Begin, Section, Sections, begins_declaration};
 pub use token::{bytes_at, is, is_identifier, is_name_in, is_net_name, name_at};

@@ -7,12 +7,13 @@ use Rattle.ver_file.specs.Bodies.{end_in}
 use Rattle.ver_file.specs.FirstFlaws.{AreFirsts, IsFlawless}
 use Rattle.ver_file.specs.Firsts.{first_of, named_instances, range_flaws_in}
 use Rattle.ver_file.specs.Flaws.{name_flaws, range_flaws, repeated, syntax_flaws}
-use Rattle.ver_file.specs.Netlists.{assigned_by, assigned_of, instances_by, instances_of}
+use Rattle.ver_file.specs.Netlists.{assigned_by, assigned_of, instances_by, instances_of, nets_named}
 use Rattle.ver_file.proofs.BodyLemmas.{built_more, flawless, flawless_before, last_end, next_end}
 use Rattle.ver_file.proofs.CheckLemmas.{flaws_done, items_more, names_done, names_more, nested_done, nested_more}
 use Rattle.ver_file.proofs.FlawLemmas.{first_append}
 use Rattle.ver_file.proofs.NetLemmas.{not_first}
 use Rattle.ver_items.proofs.RowLemmas.{items_hold}
+use Rattle.ver_file.proofs.OtherLemmas.{other_assigned, other_end}
 use Rattle.ver_file.proofs.SectionInLemmas.{items_done}
 use Rattle.ver_file.proofs.build.read_body.Goals as goal
 
@@ -35,16 +36,16 @@ pub push_instances-requires : goal.push_instances-requires
 push_instances-requires c =
     let text = c.args.scope.now.text.now in
     let h : IsFlawless c.in_ok-firsts.firsts = c.are_none.ensures.none c.if-are_none.true in
-    let b : IsFlawless c.item.firsts = flawless_before c.item.firsts c.in_ok-firsts.firsts (range_flaws_in text (section_in c.deref.result.now)) (repeated c.item.seen.instances (named_instances text (section_in c.deref.result.now)))
-    (flat_map (syntax_flaws text) (section_in c.deref.result.now)) c.in_ok-firsts.ensures.clash c.in_ok-firsts.ensures.twice c.in_ok-firsts.ensures.grammar h in
+    let b : IsFlawless c.item.firsts = flawless_before c.item.firsts c.in_ok-firsts.firsts (range_flaws_in text (section_in c.deref-rows.result.now)) (repeated c.item.seen.instances (named_instances text (section_in c.deref-rows.result.now)))
+    (flat_map (syntax_flaws text) (section_in c.deref-rows.result.now)) c.in_ok-firsts.ensures.clash c.in_ok-firsts.ensures.twice c.in_ok-firsts.ensures.grammar h in
     c.requires.without (c.item.invariant.first b.clash)
 
 pub push_assigned-requires : goal.push_assigned-requires
 push_assigned-requires c =
     let text = c.args.scope.now.text.now in
     let h : IsFlawless c.in_ok-firsts.firsts = c.are_none.ensures.none c.if-are_none.true in
-    let b : IsFlawless c.item.firsts = flawless_before c.item.firsts c.in_ok-firsts.firsts (range_flaws_in text (section_in c.deref.result.now)) (repeated c.item.seen.instances (named_instances text (section_in c.deref.result.now)))
-    (flat_map (syntax_flaws text) (section_in c.deref.result.now)) c.in_ok-firsts.ensures.clash c.in_ok-firsts.ensures.twice c.in_ok-firsts.ensures.grammar h in
+    let b : IsFlawless c.item.firsts = flawless_before c.item.firsts c.in_ok-firsts.firsts (range_flaws_in text (section_in c.deref-rows.result.now)) (repeated c.item.seen.instances (named_instances text (section_in c.deref-rows.result.now)))
+    (flat_map (syntax_flaws text) (section_in c.deref-rows.result.now)) c.in_ok-firsts.ensures.clash c.in_ok-firsts.ensures.twice c.in_ok-firsts.ensures.grammar h in
     c.requires.without (c.item.invariant.first b.clash)
 
 pub item-preserved-in-Continue-branch-4 : goal.item-preserved-in-Continue-branch-4
@@ -52,31 +53,33 @@ item-preserved-in-Continue-branch-4 c =
     let text = c.args.scope.now.text.now in
     let rows = c.read.new.item.items in
     let left = c.read.new.self in
-    let before = flawless_before c.item.firsts c.in_ok-firsts.firsts (range_flaws_in text (section_in c.deref.result.now)) (repeated c.item.seen.instances (named_instances text (section_in c.deref.result.now)))
-    (flat_map (syntax_flaws text) (section_in c.deref.result.now)) c.in_ok-firsts.ensures.clash c.in_ok-firsts.ensures.twice c.in_ok-firsts.ensures.grammar in
+    let before = flawless_before c.item.firsts c.in_ok-firsts.firsts (range_flaws_in text (section_in c.deref-rows.result.now)) (repeated c.item.seen.instances (named_instances text (section_in c.deref-rows.result.now)))
+    (flat_map (syntax_flaws text) (section_in c.deref-rows.result.now)) c.in_ok-firsts.ensures.clash c.in_ok-firsts.ensures.twice c.in_ok-firsts.ensures.grammar in
     record {
       clash =
           nested_more (range_flaws (declared_of text)) (declared_by text) c.item.firsts.clash c.in_ok-firsts.firsts.clash c.item.items left
-          rows c.deref.result.now c.in_ok-read.ensures.next c.deref.ensures.value c.in_ok-firsts.ensures.clash
+          rows c.deref-rows.result.now c.in_ok-read.ensures.next c.deref-rows.ensures.value c.in_ok-firsts.ensures.clash
           ∙ c.item.invariant.clash;
       twice =
           names_more text c.item.firsts.twice c.in_ok-firsts.firsts.twice c.item.seen.instances c.check_item.new.seen.instances c.item.items left
-          rows c.deref.result.now c.in_ok-read.ensures.next c.deref.ensures.value c.in_ok-firsts.ensures.twice c.in_ok-firsts.ensures.names
+          rows c.deref-rows.result.now c.in_ok-read.ensures.next c.deref-rows.ensures.value c.in_ok-firsts.ensures.twice c.in_ok-firsts.ensures.names
           ∙ c.item.invariant.twice;
       grammar =
           items_more (syntax_flaws text) c.item.firsts.grammar c.in_ok-firsts.firsts.grammar c.item.items left
-          rows c.deref.result.now c.in_ok-read.ensures.next c.deref.ensures.value c.in_ok-firsts.ensures.grammar
+          rows c.deref-rows.result.now c.in_ok-read.ensures.next c.deref-rows.ensures.value c.in_ok-firsts.ensures.grammar
           ∙ c.item.invariant.grammar;
-      first = λ none. c.item.invariant.first (not_first c.item.firsts.clash (range_flaws_in text (section_in c.deref.result.now)) (sym c.in_ok-firsts.ensures.clash ∙ none)).0;
+      first = λ none. c.item.invariant.first (not_first c.item.firsts.clash (range_flaws_in text (section_in c.deref-rows.result.now)) (sym c.in_ok-firsts.ensures.clash ∙ none)).0;
       instances = λ none.
-          built_more (instances_by text) c.item.instances c.push_instances.new.to (instances_of text) c.item.items left rows c.deref-then-are_none.result.now c.of-section.result
-          (c.item.invariant.instances (before none)) c.in_ok-read.ensures.next c.deref-then-are_none.ensures.value c.of-section.ensures c.in_ok-push_instances.ensures;
+          built_more (instances_by text) c.item.instances c.push_instances.new.to (instances_of text) c.item.items left rows c.deref-rows.result.now c.of.result
+          (c.item.invariant.instances (before none)) c.in_ok-read.ensures.next c.deref-rows.ensures.value c.of.ensures c.in_ok-push_instances.ensures;
       assigned = λ none.
-          built_more (assigned_by text) c.item.assigned.items c.push_assigned.new.to.items (assigned_of text) c.item.items left rows c.deref-then-are_none.result.now c.of-section.result
-          (c.item.invariant.assigned (before none)) c.in_ok-read.ensures.next c.deref-then-are_none.ensures.value c.of-section.ensures c.in_ok-push_assigned.ensures;
+          built_more (assigned_by text) c.item.assigned.items c.push_assigned.new.to.items (assigned_of text) c.item.items left rows c.deref-rows.result.now c.of.result
+          (c.item.invariant.assigned (before none)) c.in_ok-read.ensures.next c.deref-rows.ensures.value c.of.ensures
+          (c.in_ok-push_assigned.ensures
+          ∙ ap (λ ss. c.item.assigned.items ++ flat_map (nets_named text) ss) (other_assigned text c.deref-rows.result.now c.others_in-others.result.now c.after_first.result.now c.of.result c.others_in-others.ensures c.after_first.ensures c.of.ensures));
       end =
-          next_end c.item.end c.first_place-end.result (end_in (rows_of text)) c.item.items left rows c.deref-in-item.result.now c.in_ok-read.ensures.next c.deref-in-item.ensures.value
-          (c.first_place-end.ensures ∙ ap (option_or c.item.end) c.end_in.ensures) c.item.invariant.end;
+          next_end c.item.end c.first_place-end.result (end_in (rows_of text)) c.item.items left rows c.deref-rows.result.now c.in_ok-read.ensures.next c.deref-rows.ensures.value
+          (c.first_place-end.ensures ∙ ap (option_or c.item.end) (c.end_in.ensures ∙ other_end c.deref-rows.result.now c.others_in-others.result.now c.others_in-others.ensures)) c.item.invariant.end;
     }
 
 pub item-preserved : goal.item-preserved
@@ -87,22 +90,22 @@ item-preserved c =
     record {
       clash =
           nested_more (range_flaws (declared_of text)) (declared_by text) c.item.firsts.clash c.in_ok-firsts.firsts.clash c.item.items left
-          rows c.deref.result.now c.in_ok-read.ensures.next c.deref.ensures.value c.in_ok-firsts.ensures.clash
+          rows c.deref-rows.result.now c.in_ok-read.ensures.next c.deref-rows.ensures.value c.in_ok-firsts.ensures.clash
           ∙ c.item.invariant.clash;
       twice =
           names_more text c.item.firsts.twice c.in_ok-firsts.firsts.twice c.item.seen.instances c.check_item.new.seen.instances c.item.items left
-          rows c.deref.result.now c.in_ok-read.ensures.next c.deref.ensures.value c.in_ok-firsts.ensures.twice c.in_ok-firsts.ensures.names
+          rows c.deref-rows.result.now c.in_ok-read.ensures.next c.deref-rows.ensures.value c.in_ok-firsts.ensures.twice c.in_ok-firsts.ensures.names
           ∙ c.item.invariant.twice;
       grammar =
           items_more (syntax_flaws text) c.item.firsts.grammar c.in_ok-firsts.firsts.grammar c.item.items left
-          rows c.deref.result.now c.in_ok-read.ensures.next c.deref.ensures.value c.in_ok-firsts.ensures.grammar
+          rows c.deref-rows.result.now c.in_ok-read.ensures.next c.deref-rows.ensures.value c.in_ok-firsts.ensures.grammar
           ∙ c.item.invariant.grammar;
-      first = λ none. c.item.invariant.first (not_first c.item.firsts.clash (range_flaws_in text (section_in c.deref.result.now)) (sym c.in_ok-firsts.ensures.clash ∙ none)).0;
+      first = λ none. c.item.invariant.first (not_first c.item.firsts.clash (range_flaws_in text (section_in c.deref-rows.result.now)) (sym c.in_ok-firsts.ensures.clash ∙ none)).0;
       instances = λ none. absurd (let t = c.are_none.ensures.only none in cc);
       assigned = λ none. absurd (let t = c.are_none.ensures.only none in cc);
       end =
-          next_end c.item.end c.first_place-end.result (end_in (rows_of text)) c.item.items left rows c.deref-in-item.result.now c.in_ok-read.ensures.next c.deref-in-item.ensures.value
-          (c.first_place-end.ensures ∙ ap (option_or c.item.end) c.end_in.ensures) c.item.invariant.end;
+          next_end c.item.end c.first_place-end.result (end_in (rows_of text)) c.item.items left rows c.deref-rows.result.now c.in_ok-read.ensures.next c.deref-rows.ensures.value
+          (c.first_place-end.ensures ∙ ap (option_or c.item.end) (c.end_in.ensures ∙ other_end c.deref-rows.result.now c.others_in-others.result.now c.others_in-others.ensures)) c.item.invariant.end;
     }
 
 pub returns : goal.returns

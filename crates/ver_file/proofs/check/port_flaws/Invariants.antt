@@ -4,5 +4,5 @@ use Rattle.ver_file.proofs.check.port_flaws.Given as goal
 
 abbrev pub invariant-row : goal.invariant-row
 invariant-row l = record {
-  left : first_of l.first (port_flaws_among l.text (drop l.row-index l.item.body)) ≡ first_of l.initial.first (port_flaws_among l.text l.item.body);
+  left : first_of l.first (port_flaws_among l.text (drop l.row-index l.rows)) ≡ first_of l.initial.first (port_flaws_among l.text l.rows);
 }
