@@ -59,22 +59,9 @@ any : (b : Bool) → not b ≡ false → b ≡ true
 any true t = refl
 any false t = absurd (cc)
 
-module _ (text : List ℕ) (first : Option ℕ) (names after : List (List ℕ)) (s : Section) (all rest : List Section) (e : all ≡ s ∷ rest) where
-  -- a section whose name is new
-  pub new_name : not (list_any (bytes_eq (name_at text s.head)) names) ≡ true → after ≡ names ++ name_at text s.head ∷ []
-      → first_of first (repeated after (map (named text) rest)) ≡ first_of first (repeated names (map (named text) all))
-  new_name t f =
-      let put : with_name names (name_at text s.head) ≡ after = with_new names (name_at text s.head) (not_any (list_any (bytes_eq (name_at text s.head)) names) t) ∙ sym f in
-      sym (next_section text first names s all rest e
-      ∙ ap (λ xs. first_of (first_of first xs) (repeated (with_name names (name_at text s.head)) (map (named text) rest))) (one_repeated names (named_at text s.head))
-      ∙ ap (λ b. first_of (first_of first (unless b s.head.from)) (repeated (with_name names (name_at text s.head)) (map (named text) rest))) t
-      ∙ ap (λ ns. first_of first (repeated ns (map (named text) rest))) put)
+-- a name that is new, and one that is known
+pub put_new : (names : List (List ℕ)) (name : List ℕ) → not (list_any (bytes_eq name) names) ≡ true → with_name names name ≡ names ++ name ∷ []
+put_new names name t = with_new names name (not_any (list_any (bytes_eq name) names) t)
 
-  -- one whose name is known
-  pub old_name : not (list_any (bytes_eq (name_at text s.head)) names) ≡ false
-      → first_of (first_of first (unless false s.head.from)) (repeated names (map (named text) rest)) ≡ first_of first (repeated names (map (named text) all))
-  old_name t =
-      sym (next_section text first names s all rest e
-      ∙ ap (λ xs. first_of (first_of first xs) (repeated (with_name names (name_at text s.head)) (map (named text) rest))) (one_repeated names (named_at text s.head))
-      ∙ ap (λ b. first_of (first_of first (unless b s.head.from)) (repeated (with_name names (name_at text s.head)) (map (named text) rest))) t
-      ∙ ap (λ ns. first_of (first_of first (unless false s.head.from)) (repeated ns (map (named text) rest))) (with_old names (name_at text s.head) (any (list_any (bytes_eq (name_at text s.head)) names) t)))
+pub put_old : (names : List (List ℕ)) (name : List ℕ) → not (list_any (bytes_eq name) names) ≡ false → with_name names name ≡ names
+put_old names name t = with_old names name (any (list_any (bytes_eq name) names) t)

@@ -15,3 +15,4 @@ pub mod BodyLemmas
 pub mod LinkLemmas
 pub mod LawLemmas
 pub mod OtherLemmas
+pub mod PinLemmas

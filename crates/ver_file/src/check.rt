@@ -6,11 +6,11 @@ ghost use Rattle.std.specs.Str.{bytes_eq};
 ghost use Rattle.vg_names.specs.Distinct.{with_name};
 ghost use Rattle.ver_items.specs.Begins.{begins};
 ghost use Rattle.ver_items.specs.Bits.{fits, select_before};
-ghost use Rattle.ver_file.specs.Netlists.{range_at};
+ghost use Rattle.ver_file.specs.Netlists.{identifiers_in, range_at};
 ghost use Rattle.ver_items.specs.Declarations.{declared_in, declared_of};
 ghost use Rattle.ver_file.specs.Firsts.{declared_among, declared_at, first_of, instance_names, named_at, named_by, named_instances};
 ghost use Rattle.ver_file.specs.Firsts.{port_flaws_among, range_flaws_in};
-ghost use Rattle.ver_file.specs.Flaws.{agrees, connection_flaws, direction_flaws, is_range, link_flaws, named, pin_flaws};
+ghost use Rattle.ver_file.specs.Flaws.{agrees, connection_flaws, direction_flaws, is_range, named};
 ghost use Rattle.ver_file.specs.Flaws.{range_flaws, repeated, select_flaws, syntax_flaws};
 ghost use Rattle.ver_items.specs.Others.{HasOthers};
 ghost use Rattle.ver_items.specs.Sections.{instances_in, name_at, sections};
@@ -183,24 +183,58 @@ fn is_other(text: &[u8], token: Row, others: &[Row]) -> bool
     true
 }
 
-/// The first pin of an instance that is named twice, or the one before it, by a walk over the pins before each. The list of
+/// The place of a pin, where its name is that of one of these, or the one before it; the pin is put last where its name is new.
+fn repeated_among(
+    text: &[u8],
+    pin: Row,
+    pins: &mut Vec<Row>,
+    first: Option<usize>,
+) -> Result<Option<usize>, Memory>
+    ensures names { IfOk result (λ _. map (name_at text.now) pins.new.items ≡ with_name (map (name_at text.now) pins.old.items) (name_at text.now pin)) }
+    ensures first { IfOk result (λ found. found ≡ first_of first (repeated (map (name_at text.now) pins.old.items) (named_at text.now pin ∷ []))) }
+{
+    if !is_other(text, pin, pins) {
+        return Ok(unless(false, pin.from, first));
+    }
+    pins.push(pin)?;
+    Ok(first)
+}
+
+/// The first identifier in the connection of a pin of which a bit or a part is selected that it has not, or the one before it.
+fn link_flaws(
+    text: &[u8],
+    identifiers: &Identifiers,
+    pin: &Section<'_>,
+    first: Option<usize>,
+) -> Option<usize>
+    requires { AreIdentifiers text.now identifiers.now }
+    ensures { result ≡ first_of first (flat_map (select_flaws text.now) (identifiers_in pin.now)) }
+{
+    let expression = expression_in(connection_of(pin));
+    if expression.len() < 2 {
+        // A name alone selects all of an identifier.
+        return first;
+    }
+    select_flaws(text, identifiers, Begin::Identifier, expression, first)
+}
+
+/// The first flaw in the connections of an instance, or the one before it, by a walk over the pins before each. The list of
 /// tokens is room to work in.
 fn few_pin_flaws(
     text: &[u8],
+    identifiers: &Identifiers,
     instance: &Section<'_>,
     pins: &mut Vec<Row>,
     first: Option<usize>,
 ) -> Result<Option<usize>, Memory>
-    ensures { IfOk result (λ found. found ≡ first_of first (pin_flaws text.now instance.now)) }
+    requires { AreIdentifiers text.now identifiers.now }
+    ensures { IfOk result (λ found. found ≡ first_of first (connection_flaws text.now instance.now)) }
 {
     pins.clear();
     let mut first = first;
     'pin: for pin in Sections::new(Begin::Pin, instance.body) {
-        if is_other(text, pin.head, pins) {
-            pins.push(pin.head)?;
-        } else {
-            first = unless(false, pin.head.from, first);
-        }
+        first = repeated_among(text, pin.head, pins, first)?;
+        first = link_flaws(text, identifiers, &pin, first);
     }
     Ok(first)
 }
@@ -209,61 +243,23 @@ fn few_pin_flaws(
 fn many_pin_flaws(
     alloc: Global,
     text: &[u8],
+    identifiers: &Identifiers,
     instance: &Section<'_>,
     first: Option<usize>,
 ) -> Result<Option<usize>, Memory>
-    ensures { IfOk result (λ found. found ≡ first_of first (pin_flaws text.now instance.now)) }
+    requires { AreIdentifiers text.now identifiers.now }
+    ensures { IfOk result (λ found. found ≡ first_of first (connection_flaws text.now instance.now)) }
 {
     let mut names = Names::new(alloc);
     let mut first = first;
     'pin: for pin in Sections::new(Begin::Pin, instance.body) {
         first = repeated(text, pin.head, &mut names, first)?;
+        first = link_flaws(text, identifiers, &pin, first);
     }
     Ok(first)
 }
 
-/// The first pin of an instance that is named twice, or the one before it. The list of tokens is room to work in.
-fn pin_flaws(
-    alloc: Global,
-    text: &[u8],
-    instance: &Section<'_>,
-    pins: &mut Vec<Row>,
-    first: Option<usize>,
-) -> Result<Option<usize>, Memory>
-    ensures { IfOk result (λ found. found ≡ first_of first (pin_flaws text.now instance.now)) }
-{
-    if instance.body.len() <= FEW {
-        few_pin_flaws(text, instance, pins, first)
-    } else {
-        many_pin_flaws(alloc, text, instance, first)
-    }
-}
-
-/// The first identifier in the connections of an instance of which a bit or a part is selected that it has not, or the one
-/// before it.
-fn link_flaws(
-    text: &[u8],
-    identifiers: &Identifiers,
-    instance: &Section<'_>,
-    first: Option<usize>,
-) -> Option<usize>
-    requires { AreIdentifiers text.now identifiers.now }
-    ensures { result ≡ first_of first (link_flaws text.now instance.now) }
-{
-    let mut first = first;
-    'pin: for pin in Sections::new(Begin::Pin, instance.body) {
-        first = select_flaws(
-            text,
-            identifiers,
-            Begin::Identifier,
-            expression_in(connection_of(&pin)),
-            first,
-        );
-    }
-    first
-}
-
-/// The first flaw in the connections of an instance, or the one before it.
+/// The first flaw in the connections of an instance, or the one before it. The list of tokens is room to work in.
 fn connection_flaws(
     alloc: Global,
     text: &[u8],
@@ -275,8 +271,11 @@ fn connection_flaws(
     requires { AreIdentifiers text.now identifiers.now }
     ensures { IfOk result (λ found. found ≡ first_of first (connection_flaws text.now instance.now)) }
 {
-    let first = pin_flaws(alloc, text, instance, pins, first)?;
-    Ok(link_flaws(text, identifiers, instance, first))
+    if instance.body.len() <= FEW {
+        few_pin_flaws(text, identifiers, instance, pins, first)
+    } else {
+        many_pin_flaws(alloc, text, identifiers, instance, first)
+    }
 }
 
 /// The first flaws of an item's declarations, or those before them.

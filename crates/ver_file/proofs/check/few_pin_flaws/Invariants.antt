@@ -1,12 +1,12 @@
 use Rattle.std.proofs.Common.{◌≡◌, map}
 use Rattle.ver_file.specs.Firsts.{first_of}
-use Rattle.ver_file.specs.Flaws.{named, repeated}
 use Rattle.ver_items.specs.Sections.{name_at}
+use Rattle.ver_file.proofs.PinLemmas.{flaws_among}
 use Rattle.ver_file.proofs.check.few_pin_flaws.Given as goal
 
 abbrev pub invariant-pin : goal.invariant-pin
 invariant-pin l = record {
   left :
-      first_of l.first (repeated (map (name_at l.text) l.pins.items) (map (named l.text) l.pin-iterator))
-      ≡ first_of l.initial.first (repeated (map (name_at l.text) l.initial.pins.items) (map (named l.text) l.initial.pin-iterator));
+      first_of l.first (flaws_among l.text (map (name_at l.text) l.pins.items) l.pin-iterator)
+      ≡ first_of l.initial.first (flaws_among l.text (map (name_at l.text) l.initial.pins.items) l.initial.pin-iterator);
 }

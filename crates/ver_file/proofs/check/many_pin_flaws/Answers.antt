@@ -1,20 +1,23 @@
-use Rattle.std.proofs.Common.{◌∷◌, sym, ap, ◌∙◌}
+use Rattle.std.proofs.Common.{sym, ap, ◌∙◌}
+use Rattle.ver_items.specs.Sections.{Section}
 use Rattle.ver_file.specs.Firsts.{first_of}
-use Rattle.ver_file.specs.Flaws.{pin_flaws}
-use Rattle.ver_file.proofs.FlawLemmas.{next_section, no_section}
+use Rattle.ver_file.specs.Flaws.{connection_flaws}
+use Rattle.ver_file.proofs.PinLemmas.{flaws_among, next_pin, no_pin}
 use Rattle.ver_file.proofs.check.many_pin_flaws.Goals as goal
 
 pub pin-preserved : goal.pin-preserved
 pin-preserved c = record {
   left =
-      rw (c.in_ok-first.ensures.first, c.in_ok-first.ensures.names)
-      (sym (next_section c.args.text.now c.pin.first c.pin.names (record { head = c.pin-in-pin.inside.head; body = c.pin-in-pin.inside.body.now }) c.pin.pin-iterator c.next.new.self
-      (c.in-Some.ensures.steps ∙ ap (λ s. s ∷ c.next.new.self) (sym c.pin-in-pin.view_is))))
+      next_pin c.args.text.now c.pin.first c.in_ok-first.first c.link_flaws-first.result c.pin.names c.repeated.new.names
+      c.pin-in-pin.inside.head c.in-Some.pin c.pin.pin-iterator c.next.new.self (ap (λ (s : Section). s.head) c.pin-in-pin.view_is) c.in-Some.ensures.steps
+      c.in_ok-first.ensures.names c.in_ok-first.ensures.first c.link_flaws-first.ensures
       ∙ c.pin.invariant.left;
 }
 
 pub returns : goal.returns
 returns c =
-    sym (no_section c.args.text.now c.pin.first c.pin.names c.pin.pin-iterator c.in-None.ensures.steps.0) ∙ c.pin.invariant.left
-    ∙ rw (c.into_iter-pin-iterator.ensures.into_iter_gives, c.new-pin-items.ensures, c.new-names.ensures)
-    (ap (λ s. first_of c.args.first (pin_flaws c.args.text.now s)) c.instance.view_is)
+    let text = c.args.text.now in
+    sym (no_pin text c.pin.first c.pin.names c.pin.pin-iterator c.in-None.ensures.steps.0)
+    ∙ c.pin.invariant.left
+    ∙ (λ i. first_of c.args.first (flaws_among text (c.new-names.ensures i) ((c.into_iter-pin-iterator.ensures.into_iter_gives ∙ c.new-pin-items.ensures) i)))
+    ∙ ap (λ s. first_of c.args.first (connection_flaws text s)) c.instance.view_is
