@@ -1,9 +1,10 @@
 -- The first places of flaws, as the code keeps them: for the functions between.
 use Rattle.std.specs.Prelude.{ℕ, min, nat_le, List, [], map, filter, Option, Some, None, fold, if◌then◌else◌}
+use Rattle.vg_names.specs.Distinct.{with_name}
 use Rattle.ver_syntax.specs.Syntax.{line_at}
 use Rattle.ver_file.specs.declared.first.Flaw.{Flaw}
 use Rattle.ver_syntax.specs.declared.row.Row.{Row}
-use Rattle.ver_file.specs.Flaws.{Named, named, port_flaws, range_flaws}
+use Rattle.ver_file.specs.Flaws.{Named, direction_flaws, named, port_flaws, range_flaws, repeated}
 use Rattle.std.specs.List.{flat_map}
 use Rattle.ver_syntax.specs.declared.row.Place.TheVariants.{Ports}
 use Rattle.ver_items.specs.declared.heading.Heading.{Heading}
@@ -56,6 +57,13 @@ abbrev pub declared_under : List ℕ → Option Heading → List Row → List De
 declared_under text None rows = []
 declared_under text (Some heading) rows = declared_at text heading rows
 
+-- the flaws of the ranges and of the directions of some declared identifiers
+abbrev pub other_ranges : List ℕ → List Declared → List ℕ
+other_ranges text declared = flat_map (range_flaws (declared_of text)) declared
+
+abbrev pub other_directions : List ℕ → List Declared → List ℕ
+other_directions text declared = flat_map (direction_flaws (declared_of text)) declared
+
 -- the flaws of the ports among some tokens
 abbrev pub port_flaws_among : List ℕ → List Row → List ℕ
 port_flaws_among text rows = flat_map (port_flaws text) (filter (is_name_in Ports) rows)
@@ -64,7 +72,7 @@ port_flaws_among text rows = flat_map (port_flaws text) (filter (is_name_in Port
 
 -- the declared identifiers that have another range than that of their first declaration
 abbrev pub range_flaws_in : List ℕ → List Section → List ℕ
-range_flaws_in text items = flat_map (range_flaws (declared_of text)) (flat_map (declared_by text) items)
+range_flaws_in text items = other_ranges text (flat_map (declared_by text) items)
 
 -- the instances, by their names
 abbrev pub named_instances : List ℕ → List Section → List Named
@@ -73,3 +81,11 @@ named_instances text items = map (named text) (flat_map instances_in items)
 -- the names of the instances
 abbrev pub instance_names : List ℕ → List Section → List (List ℕ)
 instance_names text items = map (named_by text) (flat_map instances_in items)
+
+-- these names, and those of the instances
+abbrev pub with_instances : List ℕ → List (List ℕ) → List Section → List (List ℕ)
+with_instances text names items = fold with_name names (instance_names text items)
+
+-- the instances whose names are given again after these
+abbrev pub repeated_instances : List ℕ → List (List ℕ) → List Section → List ℕ
+repeated_instances text names items = repeated names (named_instances text items)

@@ -1,7 +1,6 @@
 //! The instances and the assignments of a module without a flaw.
 
 ghost use Rattle.std.specs.Prelude.{◌≡◌, ◌++◌, ◌∷◌, [], flat_map, fold, map, find, IfOk, OnOk};
-ghost use Rattle.std.specs.Option.{option_or};
 ghost use Rattle.ver_module.specs.Netlists.{with_pin};
 ghost use Rattle.ver_syntax.specs.declared.row.Place.TheVariants.{Assignment, Head};
 ghost use Rattle.ver_syntax.specs.Grammar.{is};
@@ -120,16 +119,6 @@ fn end_in(rows: &[Row]) -> Option<usize>
     None
 }
 
-/// The first of two places, of which the first may be none.
-fn first_place(first: Option<usize>, other: Option<usize>) -> Option<usize>
-    ensures { result ≡ option_or first other }
-{
-    match first {
-        Some(place) => Some(place),
-        None => other,
-    }
-}
-
 /// What the items of a text hold, and what is wrong with it.
 #[derive(Drop)]
 pub(crate) struct Body {
@@ -174,7 +163,7 @@ pub(crate) fn read_body(
             &mut seen,
             firsts,
         )?;
-        end = first_place(end, end_in(others));
+        end = end.or(end_in(others));
         if firsts.are_none() {
             push_instances(alloc, scope, &Section::of(rows), &mut instances)?;
             push_assigned(alloc, scope, after_first(others), &mut assigned)?;

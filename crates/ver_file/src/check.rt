@@ -7,11 +7,10 @@ ghost use Rattle.vg_names.specs.Distinct.{with_name};
 ghost use Rattle.ver_items.specs.Begins.{begins};
 ghost use Rattle.ver_items.specs.Bits.{fits, select_before};
 ghost use Rattle.ver_file.specs.Netlists.{identifiers_in, range_at};
-ghost use Rattle.ver_items.specs.Declarations.{declared_in, declared_of};
-ghost use Rattle.ver_file.specs.Firsts.{declared_among, declared_at, first_of, instance_names, named_at, named_by, named_instances};
-ghost use Rattle.ver_file.specs.Firsts.{port_flaws_among, range_flaws_in};
-ghost use Rattle.ver_file.specs.Flaws.{agrees, connection_flaws, direction_flaws, is_range, named};
-ghost use Rattle.ver_file.specs.Flaws.{range_flaws, repeated, select_flaws, syntax_flaws};
+ghost use Rattle.ver_items.specs.Declarations.{declared_in};
+ghost use Rattle.ver_file.specs.Firsts.{declared_among, declared_at, first_of, named_at, named_by, other_directions, other_ranges};
+ghost use Rattle.ver_file.specs.Firsts.{port_flaws_among, range_flaws_in, repeated_instances, with_instances};
+ghost use Rattle.ver_file.specs.Flaws.{agrees, connection_flaws, is_range, named, repeated, select_flaws, syntax_flaws};
 ghost use Rattle.ver_items.specs.Others.{HasOthers};
 ghost use Rattle.ver_items.specs.Sections.{instances_in, name_at, sections};
 ghost use Rattle.ver_items.specs.SectionSteps.{section_in};
@@ -55,9 +54,9 @@ fn check_declared(
     firsts: Firsts,
 ) -> Firsts
     requires { AreIdentifiers text.now identifiers.now }
-    ensures clash { result.clash ≡ first_of firsts.clash (flat_map (range_flaws (declared_of text.now)) (declared_at text.now heading (row ∷ []))) }
+    ensures clash { result.clash ≡ first_of firsts.clash (other_ranges text.now (declared_at text.now heading (row ∷ []))) }
     ensures twice { result.twice ≡ firsts.twice }
-    ensures grammar { result.grammar ≡ first_of firsts.grammar (flat_map (direction_flaws (declared_of text.now)) (declared_at text.now heading (row ∷ []))) }
+    ensures grammar { result.grammar ≡ first_of firsts.grammar (other_directions text.now (declared_at text.now heading (row ∷ []))) }
 {
     if !is_net_name(row) {
         return firsts;
@@ -80,9 +79,9 @@ fn check_declaration(
     firsts: Firsts,
 ) -> Firsts
     requires { AreIdentifiers text.now identifiers.now }
-    ensures clash { result.clash ≡ first_of firsts.clash (flat_map (range_flaws (declared_of text.now)) (declared_in text.now declaration.now)) }
+    ensures clash { result.clash ≡ first_of firsts.clash (other_ranges text.now (declared_in text.now declaration.now)) }
     ensures twice { result.twice ≡ firsts.twice }
-    ensures grammar { result.grammar ≡ first_of firsts.grammar (flat_map (direction_flaws (declared_of text.now)) (declared_in text.now declaration.now)) }
+    ensures grammar { result.grammar ≡ first_of firsts.grammar (other_directions text.now (declared_in text.now declaration.now)) }
 {
     let heading = Heading::of(text, declaration);
     let mut firsts = firsts;
@@ -286,9 +285,9 @@ fn check_declarations(
     firsts: Firsts,
 ) -> Firsts
     requires { AreIdentifiers text.now identifiers.now }
-    ensures clash { result.clash ≡ first_of firsts.clash (flat_map (range_flaws (declared_of text.now)) (declared_among text.now item.now)) }
+    ensures clash { result.clash ≡ first_of firsts.clash (other_ranges text.now (declared_among text.now item.now)) }
     ensures twice { result.twice ≡ firsts.twice }
-    ensures grammar { result.grammar ≡ first_of firsts.grammar (flat_map (direction_flaws (declared_of text.now)) (declared_among text.now item.now)) }
+    ensures grammar { result.grammar ≡ first_of firsts.grammar (other_directions text.now (declared_among text.now item.now)) }
 {
     let mut firsts = firsts;
     'declaration: for declaration in Sections::new(Begin::Declaration, item) {
@@ -357,9 +356,9 @@ pub(crate) fn check_item(
     requires some { 0 < length rows.now }
     requires others { HasOthers rows.now others.now }
     requires table { AreIdentifiers text.now identifiers.now }
-    ensures names { IfOk result (λ _. seen.new.instances ≡ fold with_name seen.old.instances (instance_names text.now (section_in rows.now))) }
+    ensures names { IfOk result (λ _. seen.new.instances ≡ with_instances text.now seen.old.instances (section_in rows.now)) }
     ensures clash { IfOk result (λ found. found.clash ≡ first_of firsts.clash (range_flaws_in text.now (section_in rows.now))) }
-    ensures twice { IfOk result (λ found. found.twice ≡ first_of firsts.twice (repeated seen.old.instances (named_instances text.now (section_in rows.now)))) }
+    ensures twice { IfOk result (λ found. found.twice ≡ first_of firsts.twice (repeated_instances text.now seen.old.instances (section_in rows.now))) }
     ensures grammar { IfOk result (λ found. found.grammar ≡ first_of firsts.grammar (flat_map (syntax_flaws text.now) (section_in rows.now))) }
 {
     let after = after_first(others);

@@ -78,8 +78,8 @@ item-preserved-in-Continue-branch-4 c =
           (c.in_ok-push_assigned.ensures
           ∙ ap (λ ss. c.item.assigned.items ++ flat_map (nets_named text) ss) (other_assigned text c.deref-rows.result.now c.others_in-others.result.now c.after_first.result.now c.of.result c.others_in-others.ensures c.after_first.ensures c.of.ensures));
       end =
-          next_end c.item.end c.first_place-end.result (end_in (rows_of text)) c.item.items left rows c.deref-rows.result.now c.in_ok-read.ensures.next c.deref-rows.ensures.value
-          (c.first_place-end.ensures ∙ ap (option_or c.item.end) (c.end_in.ensures ∙ other_end c.deref-rows.result.now c.others_in-others.result.now c.others_in-others.ensures)) c.item.invariant.end;
+          next_end c.item.end c.or-end.result (end_in (rows_of text)) c.item.items left rows c.deref-rows.result.now c.in_ok-read.ensures.next c.deref-rows.ensures.value
+          (c.or-end.ensures ∙ ap (option_or c.item.end) (c.end_in.ensures ∙ other_end c.deref-rows.result.now c.others_in-others.result.now c.others_in-others.ensures)) c.item.invariant.end;
     }
 
 pub item-preserved : goal.item-preserved
@@ -104,8 +104,8 @@ item-preserved c =
       instances = λ none. absurd (let t = c.are_none.ensures.only none in cc);
       assigned = λ none. absurd (let t = c.are_none.ensures.only none in cc);
       end =
-          next_end c.item.end c.first_place-end.result (end_in (rows_of text)) c.item.items left rows c.deref-rows.result.now c.in_ok-read.ensures.next c.deref-rows.ensures.value
-          (c.first_place-end.ensures ∙ ap (option_or c.item.end) (c.end_in.ensures ∙ other_end c.deref-rows.result.now c.others_in-others.result.now c.others_in-others.ensures)) c.item.invariant.end;
+          next_end c.item.end c.or-end.result (end_in (rows_of text)) c.item.items left rows c.deref-rows.result.now c.in_ok-read.ensures.next c.deref-rows.ensures.value
+          (c.or-end.ensures ∙ ap (option_or c.item.end) (c.end_in.ensures ∙ other_end c.deref-rows.result.now c.others_in-others.result.now c.others_in-others.ensures)) c.item.invariant.end;
     }
 
 pub returns : goal.returns
