@@ -4,7 +4,7 @@ use Rattle.vg_names.specs.Distinct.{with_name}
 use Rattle.ver_syntax.specs.Syntax.{line_at}
 use Rattle.ver_file.specs.declared.first.Flaw.{Flaw}
 use Rattle.ver_syntax.specs.declared.row.Row.{Row}
-use Rattle.ver_file.specs.Flaws.{Named, direction_flaws, named, port_flaws, range_flaws, repeated}
+use Rattle.ver_file.specs.Flaws.{Named, connection_flaws, direction_flaws, named, port_flaws, range_flaws, repeated}
 use Rattle.std.specs.List.{flat_map}
 use Rattle.ver_syntax.specs.declared.row.Place.TheVariants.{Ports}
 use Rattle.ver_items.specs.declared.heading.Heading.{Heading}
@@ -44,6 +44,14 @@ named_at text r = record { place = r.from; name = name_at text r }
 abbrev pub named_by : List ℕ → Section → List ℕ
 named_by text s = name_at text s.head
 
+-- these names, and those with which sections begin
+abbrev pub with_named : List ℕ → List (List ℕ) → List Section → List (List ℕ)
+with_named text names ss = fold with_name names (map (named_by text) ss)
+
+-- the sections that give these names or one another's again
+abbrev pub named_twice : List ℕ → List (List ℕ) → List Section → List ℕ
+named_twice text names ss = repeated names (map (named text) ss)
+
 -- the declared identifiers among some tokens
 abbrev pub declared_among : List ℕ → List Row → List Declared
 declared_among text rows = flat_map (declared_in text) (sections begins_declaration rows)
@@ -68,24 +76,20 @@ other_directions text declared = flat_map (direction_flaws (declared_of text)) d
 abbrev pub port_flaws_among : List ℕ → List Row → List ℕ
 port_flaws_among text rows = flat_map (port_flaws text) (filter (is_name_in Ports) rows)
 
+-- the flaws in the connections of an item's instances
+abbrev pub connection_flaws_in : List ℕ → Section → List ℕ
+connection_flaws_in text item = flat_map (connection_flaws text) (instances_in item)
+
 -- ---- of some items
 
 -- the declared identifiers that have another range than that of their first declaration
 abbrev pub range_flaws_in : List ℕ → List Section → List ℕ
 range_flaws_in text items = other_ranges text (flat_map (declared_by text) items)
 
--- the instances, by their names
-abbrev pub named_instances : List ℕ → List Section → List Named
-named_instances text items = map (named text) (flat_map instances_in items)
-
--- the names of the instances
-abbrev pub instance_names : List ℕ → List Section → List (List ℕ)
-instance_names text items = map (named_by text) (flat_map instances_in items)
-
 -- these names, and those of the instances
 abbrev pub with_instances : List ℕ → List (List ℕ) → List Section → List (List ℕ)
-with_instances text names items = fold with_name names (instance_names text items)
+with_instances text names items = with_named text names (flat_map instances_in items)
 
--- the instances whose names are given again after these
-abbrev pub repeated_instances : List ℕ → List (List ℕ) → List Section → List ℕ
-repeated_instances text names items = repeated names (named_instances text items)
+-- the instances that give these names or one another's again
+abbrev pub twice_in : List ℕ → List (List ℕ) → List Section → List ℕ
+twice_in text names items = named_twice text names (flat_map instances_in items)

@@ -154,17 +154,12 @@ pub(crate) fn read_body(
     'item: while items.read(&mut item)? {
         let rows: &[Row] = &item;
         let others = others_in(rows);
-        firsts = check_item(
-            alloc,
-            scope.text,
-            scope.identifiers,
-            rows,
-            others,
-            &mut seen,
-            firsts,
-        )?;
+        let next = scope.next.get();
+        firsts = check_item(alloc, scope, rows, others, &mut seen, firsts)?;
         end = end.or(end_in(others));
         if firsts.are_none() {
+            // The same identifiers are looked up again.
+            scope.next.set(next);
             push_instances(alloc, scope, &Section::of(rows), &mut instances)?;
             push_assigned(alloc, scope, after_first(others), &mut assigned)?;
         }

@@ -1,6 +1,6 @@
 //! What is wrong with a text that has the grammar of a module.
 
-ghost use Rattle.std.specs.Prelude.{◌≡◌, ◌<◌, ◌∷◌, [], flat_map, fold, length, map, not, IfOk};
+ghost use Rattle.std.specs.Prelude.{◌≡◌, ◌<◌, ◌∷◌, [], flat_map, length, map, not, IfOk};
 ghost use Rattle.std.specs.List.{list_any};
 ghost use Rattle.std.specs.Str.{bytes_eq};
 ghost use Rattle.vg_names.specs.Distinct.{with_name};
@@ -8,16 +8,18 @@ ghost use Rattle.ver_items.specs.Begins.{begins};
 ghost use Rattle.ver_items.specs.Bits.{fits, select_before};
 ghost use Rattle.ver_file.specs.Netlists.{identifiers_in, range_at};
 ghost use Rattle.ver_items.specs.Declarations.{declared_in};
-ghost use Rattle.ver_file.specs.Firsts.{declared_among, declared_at, first_of, named_at, named_by, other_directions, other_ranges};
-ghost use Rattle.ver_file.specs.Firsts.{port_flaws_among, range_flaws_in, repeated_instances, with_instances};
-ghost use Rattle.ver_file.specs.Flaws.{agrees, connection_flaws, is_range, named, repeated, select_flaws, syntax_flaws};
+ghost use Rattle.ver_file.specs.Firsts.{connection_flaws_in, declared_among, declared_at, first_of, named_at, named_twice, other_directions, other_ranges};
+ghost use Rattle.ver_file.specs.Firsts.{port_flaws_among, range_flaws_in, twice_in, with_instances, with_named};
+ghost use Rattle.ver_file.specs.Flaws.{agrees, connection_flaws, is_range, repeated, select_flaws, syntax_flaws};
 ghost use Rattle.ver_items.specs.Others.{HasOthers};
 ghost use Rattle.ver_items.specs.Sections.{instances_in, name_at, sections};
 ghost use Rattle.ver_items.specs.SectionSteps.{section_in};
+ghost use Rattle.ver_file.specs.Scopes.{HasIdentifiers};
 ghost use Rattle.ver_file.specs.Tables.{AreIdentifiers};
 
 use crate::first::{Firsts, unless};
 use crate::identifier::{Identifiers, direction_said, range_said};
+use crate::scope::Scope;
 use std::alloc::Global;
 use ver_items::{
     Begin, Heading, Range, Section, Sections, Select, after_first, connection_of, expression_in,
@@ -126,30 +128,29 @@ fn port_flaws(
 }
 
 /// Whether what is selected of an identifier lies in its range. Only a bit or a part may not.
-fn fits(text: &[u8], identifiers: &Identifiers, name: &Section<'_>) -> bool
-    requires { AreIdentifiers text.now identifiers.now }
-    ensures { result ≡ fits (select_before text.now name.now.body) (range_at text.now name.now.head) }
+fn fits(scope: &Scope<'_>, name: &Section<'_>) -> bool
+    requires { HasIdentifiers scope.now }
+    ensures { result ≡ fits (select_before scope.now.text.now name.now.body) (range_at scope.now.text.now name.now.head) }
 {
-    match select_before(text, name.body) {
+    match select_before(scope.text, name.body) {
         Select::Whole => true,
-        select => select.fits(identifiers.range(name_at(text, name.head))),
+        select => select.fits(scope.look_up(name.head).range),
     }
 }
 
 /// The first identifier among some tokens of which a bit or a part is selected that it has not, or the one before it.
 fn select_flaws(
-    text: &[u8],
-    identifiers: &Identifiers,
+    scope: &Scope<'_>,
     begin: Begin,
     rows: &[Row],
     first: Option<usize>,
 ) -> Option<usize>
-    requires { AreIdentifiers text.now identifiers.now }
-    ensures { result ≡ first_of first (flat_map (select_flaws text.now) (sections (begins begin) rows.now)) }
+    requires { HasIdentifiers scope.now }
+    ensures { result ≡ first_of first (flat_map (select_flaws scope.now.text.now) (sections (begins begin) rows.now)) }
 {
     let mut first = first;
     'name: for name in Sections::new(begin, rows) {
-        first = unless(fits(text, identifiers, &name), name.head.from, first);
+        first = unless(fits(scope, &name), name.head.from, first);
     }
     first
 }
@@ -200,40 +201,34 @@ fn repeated_among(
 }
 
 /// The first identifier in the connection of a pin of which a bit or a part is selected that it has not, or the one before it.
-fn link_flaws(
-    text: &[u8],
-    identifiers: &Identifiers,
-    pin: &Section<'_>,
-    first: Option<usize>,
-) -> Option<usize>
-    requires { AreIdentifiers text.now identifiers.now }
-    ensures { result ≡ first_of first (flat_map (select_flaws text.now) (identifiers_in pin.now)) }
+fn link_flaws(scope: &Scope<'_>, pin: &Section<'_>, first: Option<usize>) -> Option<usize>
+    requires { HasIdentifiers scope.now }
+    ensures { result ≡ first_of first (flat_map (select_flaws scope.now.text.now) (identifiers_in pin.now)) }
 {
     let expression = expression_in(connection_of(pin));
     if expression.len() < 2 {
         // A name alone selects all of an identifier.
         return first;
     }
-    select_flaws(text, identifiers, Begin::Identifier, expression, first)
+    select_flaws(scope, Begin::Identifier, expression, first)
 }
 
 /// The first flaw in the connections of an instance, or the one before it, by a walk over the pins before each. The list of
 /// tokens is room to work in.
 fn few_pin_flaws(
-    text: &[u8],
-    identifiers: &Identifiers,
+    scope: &Scope<'_>,
     instance: &Section<'_>,
     pins: &mut Vec<Row>,
     first: Option<usize>,
 ) -> Result<Option<usize>, Memory>
-    requires { AreIdentifiers text.now identifiers.now }
-    ensures { IfOk result (λ found. found ≡ first_of first (connection_flaws text.now instance.now)) }
+    requires { HasIdentifiers scope.now }
+    ensures { IfOk result (λ found. found ≡ first_of first (connection_flaws scope.now.text.now instance.now)) }
 {
     pins.clear();
     let mut first = first;
     'pin: for pin in Sections::new(Begin::Pin, instance.body) {
-        first = repeated_among(text, pin.head, pins, first)?;
-        first = link_flaws(text, identifiers, &pin, first);
+        first = repeated_among(scope.text, pin.head, pins, first)?;
+        first = link_flaws(scope, &pin, first);
     }
     Ok(first)
 }
@@ -241,19 +236,18 @@ fn few_pin_flaws(
 /// The same, by a table of their names.
 fn many_pin_flaws(
     alloc: Global,
-    text: &[u8],
-    identifiers: &Identifiers,
+    scope: &Scope<'_>,
     instance: &Section<'_>,
     first: Option<usize>,
 ) -> Result<Option<usize>, Memory>
-    requires { AreIdentifiers text.now identifiers.now }
-    ensures { IfOk result (λ found. found ≡ first_of first (connection_flaws text.now instance.now)) }
+    requires { HasIdentifiers scope.now }
+    ensures { IfOk result (λ found. found ≡ first_of first (connection_flaws scope.now.text.now instance.now)) }
 {
     let mut names = Names::new(alloc);
     let mut first = first;
     'pin: for pin in Sections::new(Begin::Pin, instance.body) {
-        first = repeated(text, pin.head, &mut names, first)?;
-        first = link_flaws(text, identifiers, &pin, first);
+        first = repeated(scope.text, pin.head, &mut names, first)?;
+        first = link_flaws(scope, &pin, first);
     }
     Ok(first)
 }
@@ -261,19 +255,18 @@ fn many_pin_flaws(
 /// The first flaw in the connections of an instance, or the one before it. The list of tokens is room to work in.
 fn connection_flaws(
     alloc: Global,
-    text: &[u8],
-    identifiers: &Identifiers,
+    scope: &Scope<'_>,
     instance: &Section<'_>,
     pins: &mut Vec<Row>,
     first: Option<usize>,
 ) -> Result<Option<usize>, Memory>
-    requires { AreIdentifiers text.now identifiers.now }
-    ensures { IfOk result (λ found. found ≡ first_of first (connection_flaws text.now instance.now)) }
+    requires { HasIdentifiers scope.now }
+    ensures { IfOk result (λ found. found ≡ first_of first (connection_flaws scope.now.text.now instance.now)) }
 {
     if instance.body.len() <= FEW {
-        few_pin_flaws(text, identifiers, instance, pins, first)
+        few_pin_flaws(scope, instance, pins, first)
     } else {
-        many_pin_flaws(alloc, text, identifiers, instance, first)
+        many_pin_flaws(alloc, scope, instance, first)
     }
 }
 
@@ -318,23 +311,22 @@ impl Seen {
 /// The first flaws of an item's instances, or those before them. The names of the instances are put last.
 fn check_instances(
     alloc: Global,
-    text: &[u8],
-    identifiers: &Identifiers,
+    scope: &Scope<'_>,
     item: &Section<'_>,
     seen: &mut Seen,
     firsts: Firsts,
 ) -> Result<Firsts, Memory>
-    requires { AreIdentifiers text.now identifiers.now }
-    ensures names { IfOk result (λ _. seen.new.instances ≡ fold with_name seen.old.instances (map (named_by text.now) (instances_in item.now))) }
+    requires { HasIdentifiers scope.now }
+    ensures names { IfOk result (λ _. seen.new.instances ≡ with_named scope.now.text.now seen.old.instances (instances_in item.now)) }
     ensures clash { IfOk result (λ found. found.clash ≡ firsts.clash) }
-    ensures twice { IfOk result (λ found. found.twice ≡ first_of firsts.twice (repeated seen.old.instances (map (named text.now) (instances_in item.now)))) }
-    ensures grammar { IfOk result (λ found. found.grammar ≡ first_of firsts.grammar (flat_map (connection_flaws text.now) (instances_in item.now))) }
+    ensures twice { IfOk result (λ found. found.twice ≡ first_of firsts.twice (named_twice scope.now.text.now seen.old.instances (instances_in item.now))) }
+    ensures grammar { IfOk result (λ found. found.grammar ≡ first_of firsts.grammar (connection_flaws_in scope.now.text.now item.now)) }
 {
     let mut twice = firsts.twice;
     let mut grammar = firsts.grammar;
     'instance: for instance in Sections::new(Begin::Instance, item.body) {
-        twice = repeated(text, instance.head, &mut seen.instances, twice)?;
-        grammar = connection_flaws(alloc, text, identifiers, &instance, &mut seen.pins, grammar)?;
+        twice = repeated(scope.text, instance.head, &mut seen.instances, twice)?;
+        grammar = connection_flaws(alloc, scope, &instance, &mut seen.pins, grammar)?;
     }
     Ok(Firsts {
         clash: firsts.clash,
@@ -346,8 +338,7 @@ fn check_instances(
 /// The first flaws of an item with these others, or those before them.
 pub(crate) fn check_item(
     alloc: Global,
-    text: &[u8],
-    identifiers: &Identifiers,
+    scope: &Scope<'_>,
     rows: &[Row],
     others: &[Row],
     seen: &mut Seen,
@@ -355,17 +346,17 @@ pub(crate) fn check_item(
 ) -> Result<Firsts, Memory>
     requires some { 0 < length rows.now }
     requires others { HasOthers rows.now others.now }
-    requires table { AreIdentifiers text.now identifiers.now }
-    ensures names { IfOk result (λ _. seen.new.instances ≡ with_instances text.now seen.old.instances (section_in rows.now)) }
-    ensures clash { IfOk result (λ found. found.clash ≡ first_of firsts.clash (range_flaws_in text.now (section_in rows.now))) }
-    ensures twice { IfOk result (λ found. found.twice ≡ first_of firsts.twice (repeated_instances text.now seen.old.instances (section_in rows.now))) }
-    ensures grammar { IfOk result (λ found. found.grammar ≡ first_of firsts.grammar (flat_map (syntax_flaws text.now) (section_in rows.now))) }
+    requires table { HasIdentifiers scope.now }
+    ensures names { IfOk result (λ _. seen.new.instances ≡ with_instances scope.now.text.now seen.old.instances (section_in rows.now)) }
+    ensures clash { IfOk result (λ found. found.clash ≡ first_of firsts.clash (range_flaws_in scope.now.text.now (section_in rows.now))) }
+    ensures twice { IfOk result (λ found. found.twice ≡ first_of firsts.twice (twice_in scope.now.text.now seen.old.instances (section_in rows.now))) }
+    ensures grammar { IfOk result (λ found. found.grammar ≡ first_of firsts.grammar (flat_map (syntax_flaws scope.now.text.now) (section_in rows.now))) }
 {
     let after = after_first(others);
-    let mut firsts = check_declarations(text, identifiers, others, firsts);
-    firsts.grammar = port_flaws(text, identifiers, after, firsts.grammar);
-    firsts.grammar = select_flaws(text, identifiers, Begin::Assigned, after, firsts.grammar);
+    let mut firsts = check_declarations(scope.text, scope.identifiers, others, firsts);
+    firsts.grammar = port_flaws(scope.text, scope.identifiers, after, firsts.grammar);
+    firsts.grammar = select_flaws(scope, Begin::Assigned, after, firsts.grammar);
     let item = Section::of(rows);
-    let firsts = check_instances(alloc, text, identifiers, &item, seen, firsts)?;
+    let firsts = check_instances(alloc, scope, &item, seen, firsts)?;
     Ok(firsts)
 }

@@ -5,7 +5,7 @@ ghost use Rattle.ver_items.specs.Bits.{bits_of, selected};
 ghost use Rattle.ver_file.specs.Netlists.{bit_in, is_one, link_of, number_of_bit, one_named, nets_in, nets_named};
 ghost use Rattle.vg_names.specs.Distinct.{number_of};
 ghost use Rattle.ver_file.specs.Lookups.{IsLookedUp};
-ghost use Rattle.ver_file.specs.Scopes.{IsScope};
+ghost use Rattle.ver_file.specs.Scopes.{HasIdentifiers, IsScope};
 ghost use Rattle.ver_items.specs.Sections.{name_at};
 
 use crate::identifier::{Identifiers, range_said};
@@ -26,7 +26,7 @@ pub(crate) struct Scope<'a> {
     pub nets: &'a Nets,
     /// The number of the first net of each identifier.
     pub numbers: &'a [u32],
-    /// The place of an identifier up to which links are made: only a guess, by which the next one is found without its name.
+    /// The place of an identifier up to which they were looked up: only a guess, by which the next one is found without its name.
     pub next: Cell<usize>,
 }
 
@@ -62,17 +62,17 @@ fn place_in(range: Option<Range>, bit: Option<u32>) -> Option<u32>
 
 /// An identifier of nets, looked up.
 #[derive(Drop)]
-struct Found<'a> {
+pub(crate) struct Found<'a> {
     name: &'a [u8],
     /// Its number. `None`: it is no identifier of the text.
     id: Option<u32>,
-    range: Option<Range>,
+    pub range: Option<Range>,
 }
 
 impl<'a> Scope<'a> {
     /// The number of the identifier that a token is. `None`: it is no identifier of the text.
     fn id(&self, row: Row) -> Option<u32>
-        requires { IsScope self.now }
+        requires { HasIdentifiers self.now }
         ensures { result ≡ number_of self.now.identifiers.now.names (name_at self.now.text.now row) }
     {
         let (next, id) = self.identifiers.find_from(self.next.get(), row);
@@ -84,8 +84,8 @@ impl<'a> Scope<'a> {
     }
 
     /// The identifier that a token is.
-    fn look_up(&self, row: Row) -> Found<'a>
-        requires { IsScope self.now }
+    pub fn look_up(&self, row: Row) -> Found<'a>
+        requires { HasIdentifiers self.now }
         ensures name { result.name.now ≡ name_at self.now.text.now row }
         ensures found { IsLookedUp self.now result }
     {

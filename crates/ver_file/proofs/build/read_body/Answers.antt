@@ -5,8 +5,8 @@ use Rattle.ver_items.specs.Declarations.{declared_by, declared_of}
 use Rattle.ver_items.specs.SectionSteps.{rows_in, section_in}
 use Rattle.ver_file.specs.Bodies.{end_in}
 use Rattle.ver_file.specs.FirstFlaws.{AreFirsts, IsFlawless}
-use Rattle.ver_file.specs.Firsts.{first_of, named_instances, range_flaws_in}
-use Rattle.ver_file.specs.Flaws.{name_flaws, range_flaws, repeated, syntax_flaws}
+use Rattle.ver_file.specs.Firsts.{first_of, range_flaws_in, twice_in}
+use Rattle.ver_file.specs.Flaws.{name_flaws, range_flaws, syntax_flaws}
 use Rattle.ver_file.specs.Netlists.{assigned_by, assigned_of, instances_by, instances_of, nets_named}
 use Rattle.ver_file.proofs.BodyLemmas.{built_more, flawless, flawless_before, last_end, next_end}
 use Rattle.ver_file.proofs.CheckLemmas.{flaws_done, items_more, names_done, names_more, nested_done, nested_more}
@@ -24,7 +24,7 @@ item-init c =
       clash =
           (λ i. first_of (c.requires.first i) (range_flaws_in text (c.new-items.ensures i)))
           ∙ sym (first_append None (name_flaws text) (flat_map (range_flaws (declared_of text)) (declared_of text)));
-      twice = λ i. first_of None (repeated (c.new-seen.ensures i) (named_instances text (c.new-items.ensures i)));
+      twice = λ i. first_of None (twice_in text (c.new-seen.ensures i) (c.new-items.ensures i));
       grammar = ap (λ ss. first_of None (flat_map (syntax_flaws text) ss)) c.new-items.ensures;
       first = λ none. none;
       instances = λ none. sym (λ i. c.new-instances.ensures i ++ flat_map (instances_by text) (c.new-items.ensures i));
@@ -36,7 +36,7 @@ pub push_instances-requires : goal.push_instances-requires
 push_instances-requires c =
     let text = c.args.scope.now.text.now in
     let h : IsFlawless c.in_ok-firsts.firsts = c.are_none.ensures.none c.if-are_none.true in
-    let b : IsFlawless c.item.firsts = flawless_before c.item.firsts c.in_ok-firsts.firsts (range_flaws_in text (section_in c.deref-rows.result.now)) (repeated c.item.seen.instances (named_instances text (section_in c.deref-rows.result.now)))
+    let b : IsFlawless c.item.firsts = flawless_before c.item.firsts c.in_ok-firsts.firsts (range_flaws_in text (section_in c.deref-rows.result.now)) (twice_in text c.item.seen.instances (section_in c.deref-rows.result.now))
     (flat_map (syntax_flaws text) (section_in c.deref-rows.result.now)) c.in_ok-firsts.ensures.clash c.in_ok-firsts.ensures.twice c.in_ok-firsts.ensures.grammar h in
     c.requires.without (c.item.invariant.first b.clash)
 
@@ -44,7 +44,7 @@ pub push_assigned-requires : goal.push_assigned-requires
 push_assigned-requires c =
     let text = c.args.scope.now.text.now in
     let h : IsFlawless c.in_ok-firsts.firsts = c.are_none.ensures.none c.if-are_none.true in
-    let b : IsFlawless c.item.firsts = flawless_before c.item.firsts c.in_ok-firsts.firsts (range_flaws_in text (section_in c.deref-rows.result.now)) (repeated c.item.seen.instances (named_instances text (section_in c.deref-rows.result.now)))
+    let b : IsFlawless c.item.firsts = flawless_before c.item.firsts c.in_ok-firsts.firsts (range_flaws_in text (section_in c.deref-rows.result.now)) (twice_in text c.item.seen.instances (section_in c.deref-rows.result.now))
     (flat_map (syntax_flaws text) (section_in c.deref-rows.result.now)) c.in_ok-firsts.ensures.clash c.in_ok-firsts.ensures.twice c.in_ok-firsts.ensures.grammar h in
     c.requires.without (c.item.invariant.first b.clash)
 
@@ -53,7 +53,7 @@ item-preserved-in-Continue-branch-4 c =
     let text = c.args.scope.now.text.now in
     let rows = c.read.new.item.items in
     let left = c.read.new.self in
-    let before = flawless_before c.item.firsts c.in_ok-firsts.firsts (range_flaws_in text (section_in c.deref-rows.result.now)) (repeated c.item.seen.instances (named_instances text (section_in c.deref-rows.result.now)))
+    let before = flawless_before c.item.firsts c.in_ok-firsts.firsts (range_flaws_in text (section_in c.deref-rows.result.now)) (twice_in text c.item.seen.instances (section_in c.deref-rows.result.now))
     (flat_map (syntax_flaws text) (section_in c.deref-rows.result.now)) c.in_ok-firsts.ensures.clash c.in_ok-firsts.ensures.twice c.in_ok-firsts.ensures.grammar in
     record {
       clash =

@@ -9,7 +9,7 @@ use Rattle.ver_file.proofs.check.check_instances.Goals as goal
 
 pub instance-preserved : goal.instance-preserved
 instance-preserved c =
-    let text = c.args.text.now in
+    let text = c.args.scope.now.text.now in
     let s : Section = record { head = c.instance-in-instance.inside.head; body = c.instance-in-instance.inside.body.now } in
     let e : c.instance.instance-iterator ≡ s ∷ c.next.new.self = c.in-Some.ensures.steps ∙ ap (λ t. t ∷ c.next.new.self) (sym c.instance-in-instance.view_is) in
     record {
@@ -29,7 +29,7 @@ instance-preserved c =
 
 pub returns-clause-twice : goal.returns-clause-twice
 returns-clause-twice c =
-    sym (no_section c.args.text.now c.instance.twice c.instance.seen.instances c.instance.instance-iterator c.in-None.ensures.steps.0)
+    sym (no_section c.args.scope.now.text.now c.instance.twice c.instance.seen.instances c.instance.instance-iterator c.in-None.ensures.steps.0)
     ∙ c.instance.invariant.twice
-    ∙ ap (λ ss. first_of c.args.firsts.twice (repeated c.args.seen.now.instances (map (named c.args.text.now) ss)))
+    ∙ ap (λ ss. first_of c.args.firsts.twice (repeated c.args.seen.now.instances (map (named c.args.scope.now.text.now) ss)))
     (c.into_iter-instance-iterator.ensures.into_iter_gives ∙ c.new-instance-items.ensures ∙ ap (λ (s : Section). instances_in s) c.item.view_is)

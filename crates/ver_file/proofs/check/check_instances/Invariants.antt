@@ -7,12 +7,12 @@ use Rattle.ver_file.proofs.check.check_instances.Given as goal
 abbrev pub invariant-instance : goal.invariant-instance
 invariant-instance l = record {
   names :
-      fold with_name l.seen.instances (map (named_by l.text) l.instance-iterator)
-      ≡ fold with_name l.initial.seen.instances (map (named_by l.text) l.initial.instance-iterator);
+      fold with_name l.seen.instances (map (named_by l.scope.text.now) l.instance-iterator)
+      ≡ fold with_name l.initial.seen.instances (map (named_by l.scope.text.now) l.initial.instance-iterator);
   twice :
-      first_of l.twice (repeated l.seen.instances (map (named l.text) l.instance-iterator))
-      ≡ first_of l.initial.twice (repeated l.initial.seen.instances (map (named l.text) l.initial.instance-iterator));
+      first_of l.twice (repeated l.seen.instances (map (named l.scope.text.now) l.instance-iterator))
+      ≡ first_of l.initial.twice (repeated l.initial.seen.instances (map (named l.scope.text.now) l.initial.instance-iterator));
   grammar :
-      first_of l.grammar (flat_map (connection_flaws l.text) l.instance-iterator)
-      ≡ first_of l.initial.grammar (flat_map (connection_flaws l.text) l.initial.instance-iterator);
+      first_of l.grammar (flat_map (connection_flaws l.scope.text.now) l.instance-iterator)
+      ≡ first_of l.initial.grammar (flat_map (connection_flaws l.scope.text.now) l.initial.instance-iterator);
 }

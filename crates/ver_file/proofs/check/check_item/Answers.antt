@@ -10,7 +10,7 @@ use Rattle.ver_file.proofs.check.check_item.Goals as goal
 
 pub returns-clause-clash : goal.returns-clause-clash
 returns-clause-clash c =
-    let text = c.args.text.now in
+    let text = c.args.scope.now.text.now in
     c.in_ok-firsts.ensures.clash
     ∙ c.check_declarations-firsts.ensures.clash
     ∙ ap (λ ds. first_of c.args.firsts.clash (flat_map (range_flaws (declared_of text)) ds))
@@ -18,7 +18,7 @@ returns-clause-clash c =
 
 pub returns-clause-grammar : goal.returns-clause-grammar
 returns-clause-grammar c =
-    let text = c.args.text.now in
+    let text = c.args.scope.now.text.now in
     let rows = c.args.rows.now in
     let item = c.of-item.result in
     let before = c.args.firsts.grammar in

@@ -7,6 +7,6 @@ use Rattle.ver_file.proofs.check.few_pin_flaws.Given as goal
 abbrev pub invariant-pin : goal.invariant-pin
 invariant-pin l = record {
   left :
-      first_of l.first (flaws_among l.text (map (name_at l.text) l.pins.items) l.pin-iterator)
-      ≡ first_of l.initial.first (flaws_among l.text (map (name_at l.text) l.initial.pins.items) l.initial.pin-iterator);
+      first_of l.first (flaws_among l.scope.text.now (map (name_at l.scope.text.now) l.pins.items) l.pin-iterator)
+      ≡ first_of l.initial.first (flaws_among l.scope.text.now (map (name_at l.scope.text.now) l.initial.pins.items) l.initial.pin-iterator);
 }

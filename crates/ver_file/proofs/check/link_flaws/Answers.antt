@@ -9,5 +9,5 @@ use Rattle.ver_file.proofs.check.link_flaws.Goals as goal
 pub returns-then-expression-lt2 : goal.returns-then-expression-lt2
 returns-then-expression-lt2 c =
     ap (first_of c.args.first)
-    (sym (none_selected c.args.text.now c.expression_in-expression.result.now c.if-expression-lt2.true)
-    ∙ ap (λ rows. flat_map (select_flaws c.args.text.now) (sections is_identifier rows)) (c.expression_in-expression.ensures ∙ ap expression_in c.connection_of.ensures))
+    (sym (none_selected c.args.scope.now.text.now c.expression_in-expression.result.now c.if-expression-lt2.true)
+    ∙ ap (λ rows. flat_map (select_flaws c.args.scope.now.text.now) (sections is_identifier rows)) (c.expression_in-expression.ensures ∙ ap expression_in c.connection_of.ensures))

@@ -8,7 +8,7 @@ use Rattle.ver_file.proofs.check.many_pin_flaws.Goals as goal
 pub pin-preserved : goal.pin-preserved
 pin-preserved c = record {
   left =
-      next_pin c.args.text.now c.pin.first c.in_ok-first.first c.link_flaws-first.result c.pin.names c.repeated.new.names
+      next_pin c.args.scope.now.text.now c.pin.first c.in_ok-first.first c.link_flaws-first.result c.pin.names c.repeated.new.names
       c.pin-in-pin.inside.head c.in-Some.pin c.pin.pin-iterator c.next.new.self (ap (λ (s : Section). s.head) c.pin-in-pin.view_is) c.in-Some.ensures.steps
       c.in_ok-first.ensures.names c.in_ok-first.ensures.first c.link_flaws-first.ensures
       ∙ c.pin.invariant.left;
@@ -16,7 +16,7 @@ pin-preserved c = record {
 
 pub returns : goal.returns
 returns c =
-    let text = c.args.text.now in
+    let text = c.args.scope.now.text.now in
     sym (no_pin text c.pin.first c.pin.names c.pin.pin-iterator c.in-None.ensures.steps.0)
     ∙ c.pin.invariant.left
     ∙ (λ i. first_of c.args.first (flaws_among text (c.new-names.ensures i) ((c.into_iter-pin-iterator.ensures.into_iter_gives ∙ c.new-pin-items.ensures) i)))

@@ -5,5 +5,5 @@ use Rattle.ver_file.proofs.check.select_flaws.Given as goal
 
 abbrev pub invariant-name : goal.invariant-name
 invariant-name l = record {
-  left : first_of l.first (flat_map (select_flaws l.text) l.name-iterator) ≡ first_of l.initial.first (flat_map (select_flaws l.text) l.initial.name-iterator);
+  left : first_of l.first (flat_map (select_flaws l.scope.text.now) l.name-iterator) ≡ first_of l.initial.first (flat_map (select_flaws l.scope.text.now) l.initial.name-iterator);
 }

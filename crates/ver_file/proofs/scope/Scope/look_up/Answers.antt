@@ -22,8 +22,8 @@ returns-clause-found c =
           elim c.match-id.branch as (λ _. c.match-id.range ≡ range_in (declared_of text) c.name_at-name.result.now) [
             | in-Some w ↦
                 w.range-is ∙ w.range_said-range.ensures
-                ∙ found_range text found name w.in-Some.id w.said_at.result c.requires.table w.in-Some.ensures w.said_at.ensures
+                ∙ found_range text found name w.in-Some.id w.said_at.result c.requires w.in-Some.ensures w.said_at.ensures
                 ∙ ap (range_in (declared_of text)) same
-            | in-None w ↦ w.range-is ∙ not_found_range text found name c.requires.table w.in-None.ensures ∙ ap (range_in (declared_of text)) same
+            | in-None w ↦ w.range-is ∙ not_found_range text found name c.requires w.in-None.ensures ∙ ap (range_in (declared_of text)) same
           ];
     }
