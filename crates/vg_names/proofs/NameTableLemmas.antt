@@ -137,3 +137,10 @@ number_known names name row some =
       | inl less ↦ let e : Some row ≡ Some (position_or_len (bytes_eq name) names) = some ∙ rw (lt_yes (position_or_len (bytes_eq name) names) (length names) less) refl in cc
       | inr ge ↦ let there = known_of names name row some in let last = no_less (bytes_eq name) names ge in absurd (let clash : true ≡ false = sym (eq_yes name (get_or names row []) there.1) ∙ last row there.0 in cc)
     ]
+
+pub no_table : (texts : List (List ℕ)) (chains : HashChains) → texts ≡ [] → AreHashChains chains [] → IsTable texts chains
+no_table texts chains e h = record {
+  distinct = λ i j less within. absurd (let n : length texts ≡ 0 = subst (λ (ts : List (List ℕ)). length ts ≡ 0) (sym e) refl in omega arith);
+  chained = subst (λ (hashes : List ℕ). AreHashChains chains hashes) (sym (ap hashes_of e ∙ no_hashes)) h;
+  room = (let n : length texts ≡ 0 = subst (λ (ts : List (List ℕ)). length ts ≡ 0) (sym e) refl in omega arith);
+}

@@ -59,6 +59,16 @@ impl HashChains {
         Ok(HashChains { lasts, befores })
     }
 
+    /// The same rows in the same buckets once more. Answers `Memory` where there is no room.
+    pub(crate) fn copy(&self, alloc: Global) -> Result<HashChains, Memory>
+        ensures rows { (hashes : List ℕ) → AreHashChains self.now hashes → IfOk result (λ chains. AreHashChains chains hashes) }
+        ensures buckets { IfOk result (λ chains. length chains.lasts.items ≡ length self.now.lasts.items) }
+    {
+        let lasts = Vec::from_slice(alloc, &self.lasts)?;
+        let befores = Vec::from_slice(alloc, &self.befores)?;
+        Ok(HashChains { lasts, befores })
+    }
+
     /// How many buckets there are.
     pub(crate) fn buckets(&self) -> usize
         ensures { result ≡ length self.now.lasts.items }

@@ -5,7 +5,7 @@ ghost use Rattle.std.specs.Vec.{vec_capacity};
 ghost use Rattle.vg_names.specs.Distinct.{number_of, with_name, number_in};
 ghost use Rattle.vg_names.specs.HashChains.{AreHashChains};
 ghost use Rattle.vg_names.specs.Hashes.{hash_of};
-ghost use Rattle.vg_names.specs.NameTables.{hashes_of, IsTable};
+ghost use Rattle.vg_names.specs.NameTables.{AreDistinct, hashes_of, IsTable};
 
 use crate::hash::hash_of;
 use crate::hash_chains::{HashChains, Link};
@@ -16,6 +16,9 @@ use vg_num::Memory;
 
 /// How many buckets the first name brings. Each time that there are as many names as buckets, there are twice as many.
 const FIRST_BUCKETS: usize = 32;
+
+/// The most names that room is made for at first.
+const MOST_ROOM: usize = 1 << 24;
 
 /// Distinct names, numbered from 0 in the order in which they came first. Contracts see the list of names. They stand in one
 /// buffer; a look-up hashes the name, and takes no memory.
@@ -106,6 +109,40 @@ impl Names {
             texts: Texts::new(alloc),
             chains: HashChains::empty(alloc),
         }
+    }
+
+    /// No names, with room for about so many, so that they are chained once. Answers `Memory` where there is none.
+    pub fn with_room(alloc: Global, count: usize) -> Result<Names, Memory>
+        ensures { IfOk result (λ names. names ≡ []) }
+    {
+        let buckets = count.min(MOST_ROOM).next_power_of_two();
+        let chains = HashChains::new(alloc, buckets)?;
+        let texts = Texts::new(alloc);
+        Ok(Names {
+            alloc,
+            texts,
+            chains,
+        })
+    }
+
+    /// The same names once more. Answers `Memory` where there is no room.
+    pub fn copy(&self) -> Result<Names, Memory>
+        ensures { IfOk result (λ names. names ≡ self.now) }
+    {
+        let texts = self.texts.copy(self.alloc)?;
+        let chains = self.chains.copy(self.alloc)?;
+        Ok(Names {
+            alloc: self.alloc,
+            texts,
+            chains,
+        })
+    }
+
+    /// A law: no name stands twice.
+    pub fn are_distinct(&self)
+        ensures { AreDistinct self.now }
+    {
+        let _ = &self.chains;
     }
 
     /// How many names there are.

@@ -1,6 +1,6 @@
 //! Texts in one buffer.
 
-ghost use Rattle.std.specs.Prelude.{◌≡◌, ◌==◌, ◌<◌, ◌-◌, ◌++◌, [], ◌∷◌, length, take, slice_index_or, ◌≤◌, OnOk, OnErr};
+ghost use Rattle.std.specs.Prelude.{◌≡◌, ◌==◌, ◌<◌, ◌-◌, ◌++◌, [], ◌∷◌, length, take, slice_index_or, ◌≤◌, IfOk, OnOk, OnErr};
 ghost use Rattle.vg_names.specs.Texts.{start_of, texts_of};
 
 use std::alloc::Global;
@@ -56,6 +56,15 @@ impl Texts {
             bytes: Vec::new(alloc),
             ends: Vec::new(alloc),
         }
+    }
+
+    /// The same texts once more. Answers `Memory` where there is no room.
+    pub fn copy(&self, alloc: Global) -> Result<Texts, Memory>
+        ensures { IfOk result (λ texts. texts ≡ self.now) }
+    {
+        let bytes = Vec::from_slice(alloc, &self.bytes)?;
+        let ends = Vec::from_slice(alloc, &self.ends)?;
+        Ok(Texts { bytes, ends })
     }
 
     /// How many texts there are.
