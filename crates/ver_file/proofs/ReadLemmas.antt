@@ -15,9 +15,9 @@ use Rattle.ver_syntax.specs.Rows.{kinds_in}
 use Rattle.ver_module.proofs.NameLemmas.{numbered, with_old}
 use Rattle.ver_items.specs.declared.heading.Heading.{Heading}
 use Rattle.ver_items.specs.Declarations.{Declared, begins_declaration, declare, declared_in, declared_of, heading_of}
-use Rattle.ver_items.specs.Sections.{Section, is_net_name, is_net_place, is_place, items, name_at, section_before, sections, stands_in}
+use Rattle.ver_items.specs.Sections.{Section, is_net_name, is_net_place, items, name_at, section_before, sections, stands_in}
 use Rattle.ver_items.specs.SectionSteps.{rows_in}
-use Rattle.ver_items.proofs.SectionLemmas.{before_others, sections_nil, sections_no, sections_yes}
+use Rattle.ver_items.proofs.SectionLemmas.{before_others, sections_no, sections_yes}
 use Rattle.std.specs.List.{All}
 use Rattle.std.proofs.lemmas.List.Elements.{All-push}
 use Rattle.vg_scan.specs.Lines.{part}

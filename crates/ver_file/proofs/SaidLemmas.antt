@@ -1,10 +1,9 @@
 -- What is said of identifiers.
-use Rattle.std.proofs.Common.{◌≡◌, ℕ, suc, zero, ◌+◌, ◌<◌, ◌≤◌, Bool, true, false, ◌||◌, List, [], ◌∷◌, ◌++◌, length, fold, get_or, set, slice_get, Option, Some, None, refl, sym, ap, ◌∙◌, arith}
+use Rattle.std.proofs.Common.{◌≡◌, ℕ, suc, zero, ◌+◌, ◌<◌, ◌≤◌, Bool, true, false, ◌||◌, List, [], ◌∷◌, ◌++◌, length, fold, get_or, set, Option, Some, None, refl, sym, ap, ◌∙◌, arith}
 use Rattle.std.specs.List.{list_any}
 use Rattle.std.specs.Str.{bytes_eq}
 use Rattle.std.proofs.lemmas.List.Sums.{fold-append}
 use Rattle.std.proofs.lemmas.List.{get_or-set_other, get_or-set_same}
-use Rattle.std.proofs.lemmas.Option.{get_or_from_slice_get}
 use Rattle.vg_names.specs.Distinct.{number_in, number_of, with_name}
 use Rattle.vg_names.proofs.NameTableLemmas.{absent_of, no_place, number_known}
 use Rattle.ver_module.specs.declared.direction.PortDir.{PortDir}
@@ -194,14 +193,3 @@ supplies (d ∷ ds) name said = by_test (supplies ds name) said (bytes_eq name d
 
 pub supply_is : (ds : List Declared) (name : List ℕ) → is_supply_said (said_of ds name) ≡ is_supply_in ds name
 supply_is ds name = supplies ds name None
-
--- ---- the range of a name, where it is looked up
-
-pub found_range : (text : List ℕ) (found : Identifiers) (name : List ℕ) (id : ℕ) (said : Option Heading) → AreIdentifiers text found
-    → Some id ≡ number_of found.names name → slice_get found.said.items id ≡ Some said → range_said said ≡ range_in (declared_of text) name
-found_range text found name id said are e s =
-    ap range_said (sym (get_or_from_slice_get found.said.items id said None s) ∙ found_said text found name id are e) ∙ range_is (declared_of text) name
-
-pub not_found_range : (text : List ℕ) (found : Identifiers) (name : List ℕ) → AreIdentifiers text found → None ≡ number_of found.names name
-    → None ≡ range_in (declared_of text) name
-not_found_range text found name are e = ap range_said (not_found_said text found name are e) ∙ range_is (declared_of text) name

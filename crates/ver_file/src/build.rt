@@ -145,7 +145,7 @@ pub(crate) fn read_body(
         twice: None,
         grammar: None,
     };
-    let mut seen = Seen::new(alloc);
+    let mut seen = Seen::new(alloc, scope.text.len())?;
     let mut instances = Instances::new(alloc);
     let mut assigned = Vec::new(alloc);
     let mut end = None;
@@ -154,12 +154,9 @@ pub(crate) fn read_body(
     'item: while items.read(&mut item)? {
         let rows: &[Row] = &item;
         let others = others_in(rows);
-        let next = scope.next.get();
         firsts = check_item(alloc, scope, rows, others, &mut seen, firsts)?;
         end = end.or(end_in(others));
         if firsts.are_none() {
-            // The same identifiers are looked up again.
-            scope.next.set(next);
             push_instances(alloc, scope, &Section::of(rows), &mut instances)?;
             push_assigned(alloc, scope, after_first(others), &mut assigned)?;
         }

@@ -15,10 +15,9 @@ ghost use Rattle.ver_items.specs.Others.{HasOthers};
 ghost use Rattle.ver_items.specs.Sections.{instances_in, name_at, sections};
 ghost use Rattle.ver_items.specs.SectionSteps.{section_in};
 ghost use Rattle.ver_file.specs.Scopes.{HasIdentifiers};
-ghost use Rattle.ver_file.specs.Tables.{AreIdentifiers};
 
 use crate::first::{Firsts, unless};
-use crate::identifier::{Identifiers, direction_said, range_said};
+use crate::identifier::{BYTES_A_NAME, direction_said, range_said};
 use crate::scope::Scope;
 use std::alloc::Global;
 use ver_items::{
@@ -48,22 +47,16 @@ fn agrees(first: Option<PortDir>, direction: Option<PortDir>) -> bool
 
 /// The first flaws, where a token of a declaration may be an identifier that was declared with another range or direction, or
 /// those before it.
-fn check_declared(
-    text: &[u8],
-    identifiers: &Identifiers,
-    heading: Heading,
-    row: Row,
-    firsts: Firsts,
-) -> Firsts
-    requires { AreIdentifiers text.now identifiers.now }
-    ensures clash { result.clash ≡ first_of firsts.clash (other_ranges text.now (declared_at text.now heading (row ∷ []))) }
+fn check_declared(scope: &Scope<'_>, heading: Heading, row: Row, firsts: Firsts) -> Firsts
+    requires { HasIdentifiers scope.now }
+    ensures clash { result.clash ≡ first_of firsts.clash (other_ranges scope.now.text.now (declared_at scope.now.text.now heading (row ∷ []))) }
     ensures twice { result.twice ≡ firsts.twice }
-    ensures grammar { result.grammar ≡ first_of firsts.grammar (other_directions text.now (declared_at text.now heading (row ∷ []))) }
+    ensures grammar { result.grammar ≡ first_of firsts.grammar (other_directions scope.now.text.now (declared_at scope.now.text.now heading (row ∷ []))) }
 {
     if !is_net_name(row) {
         return firsts;
     }
-    let said = identifiers.said(name_at(text, row));
+    let said = scope.said(row);
     let is_range = is_range(range_said(said), heading.range);
     let agrees = agrees(direction_said(said), heading.direction);
     Firsts {
@@ -74,55 +67,41 @@ fn check_declared(
 }
 
 /// The first flaws of a declaration's identifiers, or those before them.
-fn check_declaration(
-    text: &[u8],
-    identifiers: &Identifiers,
-    declaration: &Section<'_>,
-    firsts: Firsts,
-) -> Firsts
-    requires { AreIdentifiers text.now identifiers.now }
-    ensures clash { result.clash ≡ first_of firsts.clash (other_ranges text.now (declared_in text.now declaration.now)) }
+fn check_declaration(scope: &Scope<'_>, declaration: &Section<'_>, firsts: Firsts) -> Firsts
+    requires { HasIdentifiers scope.now }
+    ensures clash { result.clash ≡ first_of firsts.clash (other_ranges scope.now.text.now (declared_in scope.now.text.now declaration.now)) }
     ensures twice { result.twice ≡ firsts.twice }
-    ensures grammar { result.grammar ≡ first_of firsts.grammar (other_directions text.now (declared_in text.now declaration.now)) }
+    ensures grammar { result.grammar ≡ first_of firsts.grammar (other_directions scope.now.text.now (declared_in scope.now.text.now declaration.now)) }
 {
-    let heading = Heading::of(text, declaration);
+    let heading = Heading::of(scope.text, declaration);
     let mut firsts = firsts;
     'row: for row in declaration.body {
-        firsts = check_declared(text, identifiers, heading, *row, firsts);
+        firsts = check_declared(scope, heading, *row, firsts);
     }
     firsts
 }
 
 /// The text's end, where a token is a port in a list that has no direction, or the place before it.
-fn port_flaw(
-    text: &[u8],
-    identifiers: &Identifiers,
-    row: Row,
-    first: Option<usize>,
-) -> Option<usize>
-    requires { AreIdentifiers text.now identifiers.now }
-    ensures { result ≡ first_of first (port_flaws_among text.now (row ∷ [])) }
+#[tactic(auto, using(crate::proofs::SaidLemmas::direction_is))]
+fn port_flaw(scope: &Scope<'_>, row: Row, first: Option<usize>) -> Option<usize>
+    requires { HasIdentifiers scope.now }
+    ensures { result ≡ first_of first (port_flaws_among scope.now.text.now (row ∷ [])) }
 {
     if !is_name_in(Place::Ports, row) {
         return first;
     }
-    let direction = identifiers.direction(name_at(text, row));
-    unless(direction.is_some(), text.len(), first)
+    let direction = direction_said(scope.said(row));
+    unless(direction.is_some(), scope.text.len(), first)
 }
 
 /// The text's end, where a port in a list has no direction, or the place before it.
-fn port_flaws(
-    text: &[u8],
-    identifiers: &Identifiers,
-    rows: &[Row],
-    first: Option<usize>,
-) -> Option<usize>
-    requires { AreIdentifiers text.now identifiers.now }
-    ensures { result ≡ first_of first (port_flaws_among text.now rows.now) }
+fn port_flaws(scope: &Scope<'_>, rows: &[Row], first: Option<usize>) -> Option<usize>
+    requires { HasIdentifiers scope.now }
+    ensures { result ≡ first_of first (port_flaws_among scope.now.text.now rows.now) }
 {
     let mut first = first;
     'row: for row in rows {
-        first = port_flaw(text, identifiers, *row, first);
+        first = port_flaw(scope, *row, first);
     }
     first
 }
@@ -271,20 +250,15 @@ fn connection_flaws(
 }
 
 /// The first flaws of an item's declarations, or those before them.
-fn check_declarations(
-    text: &[u8],
-    identifiers: &Identifiers,
-    item: &[Row],
-    firsts: Firsts,
-) -> Firsts
-    requires { AreIdentifiers text.now identifiers.now }
-    ensures clash { result.clash ≡ first_of firsts.clash (other_ranges text.now (declared_among text.now item.now)) }
+fn check_declarations(scope: &Scope<'_>, item: &[Row], firsts: Firsts) -> Firsts
+    requires { HasIdentifiers scope.now }
+    ensures clash { result.clash ≡ first_of firsts.clash (other_ranges scope.now.text.now (declared_among scope.now.text.now item.now)) }
     ensures twice { result.twice ≡ firsts.twice }
-    ensures grammar { result.grammar ≡ first_of firsts.grammar (other_directions text.now (declared_among text.now item.now)) }
+    ensures grammar { result.grammar ≡ first_of firsts.grammar (other_directions scope.now.text.now (declared_among scope.now.text.now item.now)) }
 {
     let mut firsts = firsts;
     'declaration: for declaration in Sections::new(Begin::Declaration, item) {
-        firsts = check_declaration(text, identifiers, &declaration, firsts);
+        firsts = check_declaration(scope, &declaration, firsts);
     }
     firsts
 }
@@ -297,14 +271,15 @@ pub(crate) struct Seen {
 }
 
 impl Seen {
-    /// Nothing.
-    pub fn new(alloc: Global) -> Seen
-        ensures { result.instances ≡ [] }
+    /// Nothing, with room for about as many names as a text of this length has. Answers `Memory` where there is none.
+    pub fn new(alloc: Global, text_len: usize) -> Result<Seen, Memory>
+        ensures { IfOk result (λ seen. seen.instances ≡ []) }
     {
-        Seen {
-            instances: Names::new(alloc),
+        let instances = Names::with_room(alloc, text_len / BYTES_A_NAME)?;
+        Ok(Seen {
+            instances,
             pins: Vec::new(alloc),
-        }
+        })
     }
 }
 
@@ -353,8 +328,8 @@ pub(crate) fn check_item(
     ensures grammar { IfOk result (λ found. found.grammar ≡ first_of firsts.grammar (flat_map (syntax_flaws scope.now.text.now) (section_in rows.now))) }
 {
     let after = after_first(others);
-    let mut firsts = check_declarations(scope.text, scope.identifiers, others, firsts);
-    firsts.grammar = port_flaws(scope.text, scope.identifiers, after, firsts.grammar);
+    let mut firsts = check_declarations(scope, others, firsts);
+    firsts.grammar = port_flaws(scope, after, firsts.grammar);
     firsts.grammar = select_flaws(scope, Begin::Assigned, after, firsts.grammar);
     let item = Section::of(rows);
     let firsts = check_instances(alloc, scope, &item, seen, firsts)?;

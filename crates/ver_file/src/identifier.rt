@@ -9,7 +9,7 @@ ghost use Rattle.ver_items.specs.Declarations.{Declared, declared_of, direction_
 ghost use Rattle.ver_items.specs.Sections.{is_net_name, name_at};
 ghost use Rattle.ver_file.specs.Firsts.{declared_among, declared_under};
 ghost use Rattle.ver_file.specs.Said.{direction_said, is_supply_said, or_else, range_said, said_of, with_heading};
-ghost use Rattle.ver_file.specs.Tables.{AreIdentifiers, AreRead, Reads};
+ghost use Rattle.ver_file.specs.Tables.{AreIdentifiers, AreRead, Reads, ReadsOne};
 
 use std::alloc::Global;
 use ver_items::{Begin, Found, Heading, Items, Range, begins_declaration, is_net_name, name_at};
@@ -17,6 +17,9 @@ use ver_module::{PortDir, name_number};
 use ver_syntax::{Machine, Row};
 use vg_names::Names;
 use vg_num::Memory;
+
+/// How many bytes of a text there are for each net and for each instance, about: room is made for so many names.
+pub(crate) const BYTES_A_NAME: usize = 128;
 
 /// The greatest place that is kept.
 const MOST: usize = 0xFFFF_FFFF;
@@ -116,17 +119,18 @@ pub(crate) struct Identifiers {
 }
 
 impl Identifiers {
-    /// No identifiers.
-    fn new(alloc: Global) -> Identifiers
-        ensures count { length result.said.items ≡ length result.names }
-        ensures read { (text : List ℕ) → AreRead text (rows_of text) [] result }
+    /// No identifiers, with room for about as many names as a text of this length has. Answers `Memory` where there is none.
+    fn new(alloc: Global, text_len: usize) -> Result<Identifiers, Memory>
+        ensures count { IfOk result (λ new. length new.said.items ≡ length new.names) }
+        ensures read { (text : List ℕ) → IfOk result (AreRead text (rows_of text) []) }
     {
-        Identifiers {
-            names: Names::new(alloc),
+        let names = Names::with_room(alloc, text_len / BYTES_A_NAME)?;
+        Ok(Identifiers {
+            names,
             tokens: Vec::new(alloc),
             said: Vec::new(alloc),
             uses: Vec::new(alloc),
-        }
+        })
     }
 
     /// The number of the identifier of nets that a token is, which is put last where it is new. Answers `Memory` where there is
@@ -138,7 +142,7 @@ impl Identifiers {
         ensures within { IfOk result (λ at. at < length self.new.names) }
         ensures is { IfOk result (λ at. slice_index_or self.new.names at [] ≡ name_at text.now row) }
         ensures count { OnOk result (length self.new.said.items ≡ length self.new.names) }
-        ensures read { (left : List RowSpec) (ds : List Declared) → AreRead text.now (row ∷ left) ds self.old → OnOk result (AreRead text.now left ds self.new) }
+        ensures read { OnOk result (ReadsOne text.now row self.old self.new) }
     {
         let count = self.names.len();
         let id = name_number(&mut self.names, name_at(text, row))?;
@@ -192,7 +196,7 @@ impl Identifiers {
         ensures module { IfOk result (λ found. IfSome found (λ all. HasTokens text.now × IsModule text.now × AreIdentifiers text.now all)) }
         ensures none { IfOk result (λ found. IfNone found (IsModule text.now → ⊥)) }
     {
-        let mut found = Identifiers::new(alloc);
+        let mut found = Identifiers::new(alloc, text.len())?;
         let mut machine = Machine::new(alloc);
         let mut items = Items::new(text);
         let mut item = Vec::new(alloc);
@@ -229,12 +233,15 @@ impl Identifiers {
         self.said[at]
     }
 
-    /// The number of the identifier that a token is, by a walk over the places of identifiers from one of them on; and the one
-    /// after it. `None`: it is not found so.
+    /// The number of the identifier that a token is, by a walk over the places of identifiers from one of them back and on; and
+    /// the one after it. `None`: it is not found so.
     pub fn find_from(&self, start: usize, row: Row) -> (usize, Option<u32>)
         ensures { (text : List ℕ) → AreIdentifiers text self.now → IfSome result.1 (λ id. Some id ≡ number_of self.now.names (name_at text row)) }
     {
-        let mut at = start;
+        let mut at = start.min(self.uses.len());
+        'back: while at > 0 && row.from <= self.uses[at - 1].from as usize {
+            at -= 1;
+        }
         'place: while at < self.uses.len() && (self.uses[at].from as usize) < row.from {
             at += 1;
         }
@@ -249,32 +256,5 @@ impl Identifiers {
         ensures { result ≡ number_of self.now.names name.now }
     {
         self.names.find(name)
-    }
-
-    /// What is said of an identifier.
-    pub fn said(&self, name: &[u8]) -> Option<Heading>
-        requires { length self.now.said.items ≡ length self.now.names }
-        ensures { (text : List ℕ) → AreIdentifiers text self.now → result ≡ said_of (declared_of text) name.now }
-    {
-        match self.names.find(name) {
-            Some(id) => self.said[id as usize],
-            None => None,
-        }
-    }
-
-    /// The range of an identifier.
-    pub fn range(&self, name: &[u8]) -> Option<Range>
-        requires { length self.now.said.items ≡ length self.now.names }
-        ensures { (text : List ℕ) → AreIdentifiers text self.now → result ≡ range_in (declared_of text) name.now }
-    {
-        range_said(self.said(name))
-    }
-
-    /// The direction of an identifier.
-    pub fn direction(&self, name: &[u8]) -> Option<PortDir>
-        requires { length self.now.said.items ≡ length self.now.names }
-        ensures { (text : List ℕ) → AreIdentifiers text self.now → result ≡ direction_in (declared_of text) name.now }
-    {
-        direction_said(self.said(name))
     }
 }

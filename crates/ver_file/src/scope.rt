@@ -1,10 +1,12 @@
 //! The nets that expressions name, and the links of pins.
 
-ghost use Rattle.std.specs.Prelude.{◌≡◌, ◌++◌, ◌∷◌, [], Some, is_some, map, slice_get, IfOk, IfSome, MatchOption, OnOk};
+ghost use Rattle.std.specs.Prelude.{◌≡◌, ℕ, List, ◌++◌, ◌∷◌, [], Some, is_some, map, slice_get, IfOk, IfSome, MatchOption, OnOk};
 ghost use Rattle.ver_items.specs.Bits.{bits_of, selected};
 ghost use Rattle.ver_file.specs.Netlists.{bit_in, is_one, link_of, number_of_bit, one_named, nets_in, nets_named};
 ghost use Rattle.vg_names.specs.Distinct.{number_of};
 ghost use Rattle.ver_file.specs.Lookups.{IsLookedUp};
+ghost use Rattle.ver_file.specs.Said.{said_of};
+ghost use Rattle.ver_items.specs.Declarations.{declared_of};
 ghost use Rattle.ver_file.specs.Scopes.{HasIdentifiers, IsScope};
 ghost use Rattle.ver_items.specs.Sections.{name_at};
 
@@ -12,7 +14,8 @@ use crate::identifier::{Identifiers, range_said};
 use std::alloc::Global;
 use std::cell::Cell;
 use ver_items::{
-    Begin, Range, Section, Sections, Select, is_identifier, name_at, push_net_name, select_before,
+    Begin, Heading, Range, Section, Sections, Select, is_identifier, name_at, push_net_name,
+    select_before,
 };
 use ver_module::{Link, Nets};
 use ver_syntax::Row;
@@ -83,6 +86,28 @@ impl<'a> Scope<'a> {
         }
     }
 
+    /// The number of the identifier that a token is, and what is said of it, if it is one of the text.
+    fn known(&self, row: Row) -> (Option<u32>, Option<Heading>)
+        requires { HasIdentifiers self.now }
+        ensures number { result.0 ≡ number_of self.now.identifiers.now.names (name_at self.now.text.now row) }
+        ensures said { result.1 ≡ said_of (declared_of self.now.text.now) (name_at self.now.text.now row) }
+    {
+        let id = self.id(row);
+        let said = match id {
+            Some(id) => self.identifiers.said_at(id as usize),
+            None => None,
+        };
+        (id, said)
+    }
+
+    /// What is said of the identifier that a token is.
+    pub fn said(&self, row: Row) -> Option<Heading>
+        requires { HasIdentifiers self.now }
+        ensures { result ≡ said_of (declared_of self.now.text.now) (name_at self.now.text.now row) }
+    {
+        self.known(row).1
+    }
+
     /// The identifier that a token is.
     pub fn look_up(&self, row: Row) -> Found<'a>
         requires { HasIdentifiers self.now }
@@ -90,12 +115,12 @@ impl<'a> Scope<'a> {
         ensures found { IsLookedUp self.now result }
     {
         let name = name_at(self.text, row);
-        let id = self.id(row);
-        let range = match id {
-            Some(id) => range_said(self.identifiers.said_at(id as usize)),
-            None => None,
-        };
-        Found { name, id, range }
+        let (id, said) = self.known(row);
+        Found {
+            name,
+            id,
+            range: range_said(said),
+        }
     }
 
     /// The number of a bit that an identifier has among the nets, or of its one net.

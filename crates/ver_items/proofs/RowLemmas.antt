@@ -1,5 +1,5 @@
 -- The tokens of sections, and those of the items of a text.
-use Rattle.std.proofs.Common.{◌≡◌, ◌==◌, ◌<◌, ℕ, suc, Bool, true, false, List, [], ◌∷◌, ◌++◌, arith, length, flat_map, map, refl, sym, ap, ◌∙◌, subst, append_assoc}
+use Rattle.std.proofs.Common.{◌≡◌, ◌==◌, ◌<◌, ℕ, suc, Bool, true, false, List, [], ◌∷◌, ◌++◌, arith, length, refl, sym, ap, ◌∙◌, subst, append_assoc}
 use Rattle.std.specs.List.{before_first}
 use Rattle.std.proofs.lemmas.Bool.Decides.{nat_tests}
 use Rattle.std.proofs.lemmas.List.{map-append}
@@ -55,9 +55,9 @@ pub none_on : (kinds : List Kind) (all item left : List Row) → AtStart all →
     → AreModule (kinds ++ kinds_in (rows_in (sections (stands_in Start) all))) → ⊥
 none_on kinds all item left start cut none whole =
     let same : kinds ++ kinds_in (rows_in (sections (stands_in Start) all)) ≡ (kinds ++ kinds_in item) ++ kinds_in left =
-        ap (λ rows. kinds ++ kinds_in rows) (items_have_all all start ∙ cut)
-        ∙ ap (λ ks. kinds ++ ks) (kinds_append item left)
-        ∙ sym (append_assoc kinds (kinds_in item) (kinds_in left)) in
+    ap (λ rows. kinds ++ kinds_in rows) (items_have_all all start ∙ cut)
+    ∙ ap (λ ks. kinds ++ ks) (kinds_append item left)
+    ∙ sym (append_assoc kinds (kinds_in item) (kinds_in left)) in
     none (kinds_in left) (subst AreModule same whole)
 
 -- ---- none, or some

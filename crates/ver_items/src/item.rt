@@ -115,11 +115,7 @@ impl<'a> Items<'a> {
 
     /// The same, where a machine reads the tokens too, and no further than a module can begin so. Answers `Memory` where there is
     /// no room.
-    pub fn read_by(
-        &mut self,
-        machine: &mut Machine,
-        item: &mut Vec<Row>,
-    ) -> Result<Found, Memory>
+    pub fn read_by(&mut self, machine: &mut Machine, item: &mut Vec<Row>) -> Result<Found, Memory>
         ensures next { IfOk result (λ found. found ≡ AnItem → (self.old ≡ section_in item.new.items ++ self.new) × (0 < length item.new.items)) }
         ensures end { IfOk result (λ found. found ≡ AtEnd → (self.old ≡ []) × (item.new.items ≡ [])) }
         ensures kinds { (kinds : List KindSpec) → HasKinds kinds machine.old → OnOk result (HasKinds (kinds ++ kinds_in item.new.items) machine.new) }

@@ -1,6 +1,5 @@
 -- Kinds of tokens that a machine reads one after another.
-use Rattle.std.proofs.Common.{◌≡◌, ℕ, Bool, true, false, ◌||◌, List, [], ◌∷◌, ◌++◌, Option, Some, None, is_some, map, refl, sym, ap, ◌∙◌, subst, append_assoc}
-use Rattle.std.proofs.lemmas.List.{append-nil}
+use Rattle.std.proofs.Common.{◌≡◌, ℕ, Bool, true, false, ◌||◌, List, [], ◌∷◌, ◌++◌, Option, Some, None, is_some, map, refl, sym, ap, ◌∙◌, subst}
 use Rattle.std.specs.List.{list_any}
 use Rattle.std.specs.Prelude.{find}
 use Rattle.vg_grammar.specs.Machines.{ways_of}
@@ -18,7 +17,7 @@ use Rattle.ver_syntax.specs.declared.state.Brace.{Brace}
 use Rattle.ver_syntax.specs.Grammar.{is, rules, module_declaration}
 use Rattle.ver_syntax.specs.Moves.{State, gives, ways, move, next, is_done, is_done_at}
 use Rattle.ver_syntax.specs.Reading.{HasKinds, ways_on}
-use Rattle.ver_syntax.specs.Syntax.{AreModule, BeginNoModule, HasTokens, IsModule, is_bad}
+use Rattle.ver_syntax.specs.Syntax.{BeginNoModule, HasTokens, IsModule, is_bad}
 use Rattle.ver_syntax.proofs.MoveLemmas.{machine}
 use Rattle.ver_syntax.proofs.FaultLemmas.{no_stray}
 use Rattle.ver_syntax.proofs.ReadLemmas.{stray}

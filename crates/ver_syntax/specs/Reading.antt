@@ -1,5 +1,5 @@
 -- A text that is read up to a token, as the code does it: for the functions between.
-use Rattle.std.specs.Prelude.{◌≡◌, ℕ, ◌-◌, Bool, true, false, List, [], length, take, drop, find, Option, None, Some, is_some}
+use Rattle.std.specs.Prelude.{◌≡◌, ℕ, ◌-◌, true, false, List, [], length, take, drop, find, Option, None, Some, is_some}
 use Rattle.std.specs.List.{list_any}
 use Rattle.vg_grammar.specs.Ways.{IsLeft}
 use Rattle.ver_text.specs.declared.kind.Kind.{Kind}

@@ -33,6 +33,7 @@ impl Machine {
     }
 
     /// Reads the kind of the next token. Whether a module can go on so. Answers an error where there is no room.
+    #[inline(always)]
     pub fn read(&mut self, kind: Kind) -> Result<bool, AllocError>
         ensures kinds { (kinds : List KindSpec) → HasKinds kinds self.old → OnOk result (HasKinds (kinds ++ kind ∷ []) self.new) }
         ensures refused { (kinds : List KindSpec) → HasKinds kinds self.old → IfOk result (λ can. can ≡ false → BeginNoModule (kinds ++ kind ∷ [])) }

@@ -24,7 +24,7 @@ item-init c =
       clash =
           (λ i. first_of (c.requires.first i) (range_flaws_in text (c.new-items.ensures i)))
           ∙ sym (first_append None (name_flaws text) (flat_map (range_flaws (declared_of text)) (declared_of text)));
-      twice = λ i. first_of None (twice_in text (c.new-seen.ensures i) (c.new-items.ensures i));
+      twice = λ i. first_of None (twice_in text (c.in_ok-seen.ensures i) (c.new-items.ensures i));
       grammar = ap (λ ss. first_of None (flat_map (syntax_flaws text) ss)) c.new-items.ensures;
       first = λ none. none;
       instances = λ none. sym (λ i. c.new-instances.ensures i ++ flat_map (instances_by text) (c.new-items.ensures i));
@@ -48,8 +48,8 @@ push_assigned-requires c =
     (flat_map (syntax_flaws text) (section_in c.deref-rows.result.now)) c.in_ok-firsts.ensures.clash c.in_ok-firsts.ensures.twice c.in_ok-firsts.ensures.grammar h in
     c.requires.without (c.item.invariant.first b.clash)
 
-pub item-preserved-in-Continue-branch-4 : goal.item-preserved-in-Continue-branch-4
-item-preserved-in-Continue-branch-4 c =
+pub item-preserved-in-Continue-branch-5 : goal.item-preserved-in-Continue-branch-5
+item-preserved-in-Continue-branch-5 c =
     let text = c.args.scope.now.text.now in
     let rows = c.read.new.item.items in
     let left = c.read.new.self in

@@ -10,7 +10,7 @@ use Rattle.ver_file.proofs.check.check_declaration.Goals as goal
 
 pub row-preserved : goal.row-preserved
 row-preserved c =
-    let text = c.args.text.now in
+    let text = c.args.scope.now.text.now in
     let ds = declared_of text in
     let other : Row = record { place = Start; kind = Module; from = 0; to = 0 } in
     let same = ap (λ (s : Section). s.body) c.declaration.view_is in
@@ -28,10 +28,10 @@ row-preserved c =
 
 pub returns-clause-clash : goal.returns-clause-clash
 returns-clause-clash c =
-    declared_all c.args.text.now c.args.declaration.now c.of-heading.result (range_flaws (declared_of c.args.text.now)) c.args.firsts.clash c.row.firsts.clash c.declaration.inside.body.now
+    declared_all c.args.scope.now.text.now c.args.declaration.now c.of-heading.result (range_flaws (declared_of c.args.scope.now.text.now)) c.args.firsts.clash c.row.firsts.clash c.declaration.inside.body.now
     c.row.row-index c.row-test.false (ap (λ (s : Section). s.body) c.declaration.view_is) c.of-heading.ensures c.row.invariant.clash
 
 pub returns-clause-grammar : goal.returns-clause-grammar
 returns-clause-grammar c =
-    declared_all c.args.text.now c.args.declaration.now c.of-heading.result (direction_flaws (declared_of c.args.text.now)) c.args.firsts.grammar c.row.firsts.grammar c.declaration.inside.body.now
+    declared_all c.args.scope.now.text.now c.args.declaration.now c.of-heading.result (direction_flaws (declared_of c.args.scope.now.text.now)) c.args.firsts.grammar c.row.firsts.grammar c.declaration.inside.body.now
     c.row.row-index c.row-test.false (ap (λ (s : Section). s.body) c.declaration.view_is) c.of-heading.ensures c.row.invariant.grammar

@@ -7,10 +7,10 @@ use Rattle.ver_file.proofs.check.check_declaration.Given as goal
 abbrev pub invariant-row : goal.invariant-row
 invariant-row l = record {
   clash :
-      first_of l.firsts.clash (flat_map (range_flaws (declared_of l.text)) (declared_at l.text l.heading (drop l.row-index l.declaration.body)))
-      ≡ first_of l.initial.firsts.clash (flat_map (range_flaws (declared_of l.text)) (declared_at l.text l.heading l.declaration.body));
+      first_of l.firsts.clash (flat_map (range_flaws (declared_of l.scope.text.now)) (declared_at l.scope.text.now l.heading (drop l.row-index l.declaration.body)))
+      ≡ first_of l.initial.firsts.clash (flat_map (range_flaws (declared_of l.scope.text.now)) (declared_at l.scope.text.now l.heading l.declaration.body));
   twice : l.firsts.twice ≡ l.initial.firsts.twice;
   grammar :
-      first_of l.firsts.grammar (flat_map (direction_flaws (declared_of l.text)) (declared_at l.text l.heading (drop l.row-index l.declaration.body)))
-      ≡ first_of l.initial.firsts.grammar (flat_map (direction_flaws (declared_of l.text)) (declared_at l.text l.heading l.declaration.body));
+      first_of l.firsts.grammar (flat_map (direction_flaws (declared_of l.scope.text.now)) (declared_at l.scope.text.now l.heading (drop l.row-index l.declaration.body)))
+      ≡ first_of l.initial.firsts.grammar (flat_map (direction_flaws (declared_of l.scope.text.now)) (declared_at l.scope.text.now l.heading l.declaration.body));
 }

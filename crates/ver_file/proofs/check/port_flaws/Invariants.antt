@@ -4,5 +4,5 @@ use Rattle.ver_file.proofs.check.port_flaws.Given as goal
 
 abbrev pub invariant-row : goal.invariant-row
 invariant-row l = record {
-  left : first_of l.first (port_flaws_among l.text (drop l.row-index l.rows)) ≡ first_of l.initial.first (port_flaws_among l.text l.rows);
+  left : first_of l.first (port_flaws_among l.scope.text.now (drop l.row-index l.rows)) ≡ first_of l.initial.first (port_flaws_among l.scope.text.now l.rows);
 }

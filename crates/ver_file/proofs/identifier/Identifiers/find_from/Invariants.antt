@@ -1,6 +1,12 @@
 use Rattle.std.proofs.Common.{◌≤◌, ◌-◌, length}
 use Rattle.ver_file.proofs.identifier.Identifiers.find_from.Given as goal
 
+abbrev pub invariant-back : goal.invariant-back
+invariant-back l = record { within : l.at ≤ length l.self.uses.items }
+
+abbrev pub decreases-back : goal.decreases-back
+decreases-back l = l.at
+
 abbrev pub invariant-place : goal.invariant-place
 invariant-place l = record { onward : l.initial.at ≤ l.at }
 

@@ -1,6 +1,5 @@
-use Rattle.std.proofs.Common.{◌≡◌, ◌++◌, [], List, flat_map, sym, ap, ◌∙◌, subst, append_assoc}
+use Rattle.std.proofs.Common.{◌++◌, [], List, flat_map, sym, ap, ◌∙◌, subst, append_assoc}
 use Rattle.ver_text.specs.declared.kind.Kind.{Kind}
-use Rattle.ver_text.specs.Kinds.{kinds_of}
 use Rattle.ver_syntax.specs.declared.row.Row.{Row}
 use Rattle.ver_syntax.specs.Reading.{HasKinds}
 use Rattle.ver_syntax.specs.Rows.{kinds_in}
@@ -18,10 +17,10 @@ pub item-init : goal.item-init
 item-init c =
     let text = c.args.text.now in
     record {
-      count = c.new-found.ensures.count;
+      count = c.in_ok-found.ensures.count;
       read = (
         [],
-        subst (λ (rows : List Row). AreRead text rows [] c.new-found.result) (sym (ap rows_in c.new-items.ensures ∙ items_hold text)) (c.new-found.ensures.read text),
+        subst (λ (rows : List Row). AreRead text rows [] c.in_ok-found.found) (sym (ap rows_in c.new-items.ensures ∙ items_hold text)) (c.in_ok-found.ensures.read text),
         ap (flat_map (declared_by text)) (sym c.new-items.ensures),
       );
       kinds = ([], c.new-machine.ensures, sym (ap (λ its. kinds_in (rows_in its)) c.new-items.ensures ∙ ap kinds_in (items_hold text) ∙ kinds_kept text));
@@ -64,8 +63,7 @@ returns-in-End-clause-module c =
     let (kinds, has, whole) = c.item.invariant.kinds in
     let read = c.in_ok-read_by.ensures.kinds kinds has in
     let (tokens, grammar) = c.is_module.ensures.module text
-        (subst (λ (ks : List Kind). HasKinds ks c.read_by.new.machine) (kinds_end text kinds c.item.items c.read_by.new.item.items whole end.0 end.1) read) c.if-is_module.true in
-    (
+    (subst (λ (ks : List Kind). HasKinds ks c.read_by.new.machine) (kinds_end text kinds c.item.items c.read_by.new.item.items whole end.0 end.1) read) c.if-is_module.true in (
       tokens,
       grammar,
       all_read text done c.item.found c.item.items end.0 (items_done (declared_by text) done (declared_of text) c.item.items all end.0) c.item.invariant.count are,
