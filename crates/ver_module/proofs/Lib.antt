@@ -3,3 +3,4 @@ pub mod NetLemmas
 pub mod InstanceLemmas
 pub mod GrowthLemmas
 pub mod PushLemmas
+pub mod NetPushLemmas

@@ -1,17 +1,13 @@
--- Nets, instances and pins that are put last.
-use Rattle.std.proofs.Common.{◌≡◌, ℕ, suc, ◌+◌, ◌-◌, ◌<◌, ◌^◌, Bool, true, false, not, if◌then◌else◌, List, [], ◌∷◌, ◌++◌, Some, length, map, take, slice_get, refl, sym, ap, ◌∙◌, subst, arith, length-append}
-use Rattle.std.specs.List.{list_any}
-use Rattle.std.specs.Str.{bytes_eq}
+-- Instances and pins that are put last.
+use Rattle.std.proofs.Common.{◌≡◌, ℕ, suc, ◌<◌, ◌^◌, List, [], ◌∷◌, ◌++◌, Some, length, slice_get, sym, ◌∙◌, subst, arith, length-append}
 use Rattle.std.proofs.lemmas.List.Elements.{All-push}
 use Rattle.std.proofs.lemmas.Option.{get_or_from_slice_get, slice_get_within}
 use Rattle.vg_names.specs.Distinct.{with_name}
 use Rattle.ver_module.specs.declared.instances.InstanceRow.{InstanceRow}
 use Rattle.ver_module.specs.declared.instances.PinRow.{PinRow}
-use Rattle.ver_module.specs.declared.nets.NetRow.{NetRow}
-use Rattle.ver_module.specs.Netlists.{Net, Instance, Pin, IsNamed, with_pin}
-use Rattle.ver_module.specs.Flat.{Tables, AreInstances, instances_with, net_with, nets_with, pin_with}
-use Rattle.ver_module.proofs.NameLemmas.{Grow, numbered, same, with_new, with_old}
-use Rattle.ver_module.proofs.NetLemmas.{front, names_of_nets, one_more_net}
+use Rattle.ver_module.specs.Netlists.{Instance, Pin, with_pin}
+use Rattle.ver_module.specs.Flat.{Tables, AreInstances, instances_with, pin_with}
+use Rattle.ver_module.proofs.NameLemmas.{Grow, numbered, same}
 use Rattle.ver_module.proofs.GrowthLemmas.{instances_still, one_more, one_more_stands, pin_more, pin_stands, stand_still, still_named}
 
 abbrev pub tables : List (List ℕ) → List (List ℕ) → List PinRow → Tables
@@ -93,46 +89,3 @@ pin_pushed cells pin_names names rows pins after all row pin h found from to lin
       };
       is = pin_more cells pin_names pins row names rows h.are.count h.are.stand ∙ (λ i. with_pin (h.is i) (is i));
     })
-
--- ---- nets
-
--- whether a net has this name
-pub is_taken : (names : List (List ℕ)) (rows : List NetRow) (all : List Net) (name its : List ℕ) → length names ≡ length rows
-    → nets_with names rows ≡ all → name ≡ its → list_any (bytes_eq name) names ≡ list_any (bytes_eq its) (map (λ net. net.name) all)
-is_taken names rows all name its count e f =
-    (λ i. list_any (bytes_eq (f i)) (sym (names_of_nets names rows count) i))
-    ∙ ap (λ nets. list_any (bytes_eq its) (map (λ net. net.name) nets)) e
-
-pub net_is : (net : Net) (name : List ℕ) (row : NetRow) → IsNamed net → name ≡ net.name → row.base ≡ length net.base → row.bit ≡ net.bit
-    → row.escaped ≡ net.escaped → row.port ≡ net.port → row.supply ≡ net.supply → net_with name row ≡ net
-net_is net name row n e base bit escaped port supply =
-    let front : take row.base name ≡ net.base = (λ i. take (base i) ((e ∙ n) i)) ∙ front net.base net.bit in
-    λ i. record { name = e i; base = front i; bit = bit i; escaped = escaped i; port = port i; supply = supply i }
-
--- names and rows are one more, where the name is new
-abbrev IsPushed : (new : Bool) (names after : List (List ℕ)) (rows after_rows : List NetRow) (name : List ℕ) (row : NetRow) → Type 0
-IsPushed new names after rows after_rows name row =
-    (length after ≡ length after_rows) × (length after_rows < 2 ^ 32)
-    × (nets_with after after_rows ≡ (if new then nets_with names rows ++ net_with name row ∷ [] else nets_with names rows))
-
-pub pushed_net : (new : Bool) (names after : List (List ℕ)) (rows after_rows : List NetRow) (name : List ℕ) (row : NetRow)
-    → length names ≡ length rows → length rows < 2 ^ 32 → new ≡ not (list_any (bytes_eq name) names) → after ≡ with_name names name
-    → after_rows ≡ (if new then rows ++ row ∷ [] else rows) → length names < 2 ^ 32 - 1 → IsPushed new names after rows after_rows name row
-pushed_net true names after rows after_rows name row count within new e f few =
-    let none : list_any (bytes_eq name) names ≡ false = not_any (list_any (bytes_eq name) names) (sym new) in
-    let e' : after ≡ names ++ name ∷ [] = e ∙ with_new names name none in
-    let n : length after ≡ length names + 1 = ap length e' ∙ length-append names (name ∷ []) in
-    let m : length after_rows ≡ length rows + 1 = ap length f ∙ length-append rows (row ∷ []) in
-    (omega (arith, n, m, count), omega (arith, m, count, few), (λ i. nets_with (e' i) (f i)) ∙ one_more_net names rows name row count)
-  where
-    not_any : (b : Bool) → not b ≡ true → b ≡ false
-    not_any true t = absurd (cc)
-    not_any false t = refl
-pushed_net false names after rows after_rows name row count within new e f few =
-    let some : list_any (bytes_eq name) names ≡ true = any (list_any (bytes_eq name) names) (sym new) in
-    let e' : after ≡ names = e ∙ with_old names name some in
-    (ap length e' ∙ count ∙ sym (ap length f), (let m : length after_rows ≡ length rows = ap length f in omega (arith, m, within)), (λ i. nets_with (e' i) (f i)))
-  where
-    any : (b : Bool) → not b ≡ false → b ≡ true
-    any true t = refl
-    any false t = absurd (cc)

@@ -1,6 +1,7 @@
 -- Nets and instances, as a module keeps them: for the functions between.
-use Rattle.std.specs.Prelude.{◌≡◌, ℕ, ◌<◌, ◌≤◌, ◌^◌, List, [], ◌∷◌, map, length, take, slice_index_or, ⊤}
+use Rattle.std.specs.Prelude.{◌≡◌, ◌↔◌, ℕ, suc, ◌<◌, ◌≤◌, ◌^◌, List, [], ◌∷◌, Some, map, length, slice_get, slice_index_or, take, ⊤}
 use Rattle.std.specs.List.{All, between}
+use Rattle.vg_names.specs.NameTables.{AreDistinct}
 use Rattle.ver_module.specs.declared.nets.NetRow.{NetRow}
 use Rattle.ver_module.specs.declared.instances.InstanceRow.{InstanceRow}
 use Rattle.ver_module.specs.declared.instances.PinRow.{PinRow}
@@ -17,11 +18,17 @@ net_with name row = record {
   supply = row.supply;
 }
 
--- the nets of these names
-unfoldable pub nets_with : List (List ℕ) → List NetRow → List Net
-nets_with [] rows = []
-nets_with (name ∷ names) [] = []
-nets_with (name ∷ names) (row ∷ rows) = net_with name row ∷ nets_with names rows
+-- nets, by the numbers of their names
+abbrev pub nets_with : List (List ℕ) → List NetRow → List Net
+nets_with names rows = map (λ row. net_with (slice_index_or names row.name []) row) rows
+
+-- these rows are nets, no two of which have one name: for the number of each name there is one more than the number of its net,
+-- or 0 where no net has it
+pub record AreNets (names : List (List ℕ)) (rows : List NetRow) (numbers : List ℕ) : Type 0 where
+  pub distinct : AreDistinct names
+  pub count : length numbers ≡ length names
+  pub leads : (id net : ℕ) → (slice_get numbers id ≡ Some (suc net)) ↔ (slice_get (map (λ row. row.name) rows) net ≡ Some id)
+  pub few : length rows < 2 ^ 32
 
 -- a pin, by the number of its name
 abbrev pub pin_with : List (List ℕ) → PinRow → Pin

@@ -156,7 +156,7 @@ fn pin_number(names: &mut Names, before: &[PinRow], name: &[u8]) -> Result<u32, 
         Some(pin) => pin.name.wrapping_add(1),
         None => 0,
     };
-    let id = number_by_guess(names, [next, 0], name)?;
+    let id = number_by_guess(names, &[next, 0], name)?;
     Ok(id)
 }
 
@@ -172,7 +172,7 @@ fn cell_number(names: &mut Names, before: &[InstanceRow], name: &[u8]) -> Result
         Some(instance) => instance.cell,
         None => 0,
     };
-    let id = number_by_guess(names, [last, last.wrapping_add(1)], name)?;
+    let id = number_by_guess(names, &[last, last.wrapping_add(1)], name)?;
     Ok(id)
 }
 

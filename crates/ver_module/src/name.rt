@@ -31,12 +31,12 @@ fn is_number(names: &Names, id: u32, name: &[u8]) -> bool
     (id as usize) < names.len() && names.name(id) == name
 }
 
-/// The number of a name, which is put last where it is new. The names of two numbers that it may have are compared with it first:
-/// a good guess spares its hash. Answers `Memory` where there is no room, as where the table has 2^32 - 1 names; nothing changes
+/// The number of a name, which is put last where it is new. The names of numbers that it may have are compared with it first: a
+/// good guess spares its hash. Answers `Memory` where there is no room, as where the table has 2^32 - 1 names; nothing changes
 /// then.
 pub(crate) fn number_by_guess(
     names: &mut Names,
-    guesses: [u32; 2],
+    guesses: &[u32],
     name: &[u8],
 ) -> Result<u32, Memory>
     ensures number { IfOk result (λ id. slice_get names.new id ≡ Some name.now) }
@@ -44,8 +44,8 @@ pub(crate) fn number_by_guess(
     ensures unchanged { OnErr result (names.new ≡ names.old) }
 {
     'id: for id in guesses {
-        if is_number(names, id, name) {
-            return Ok(id);
+        if is_number(names, *id, name) {
+            return Ok(*id);
         }
     }
     let id = name_number(names, name)?;

@@ -1,17 +1,21 @@
 //! The nets of a module.
 
-ghost use Rattle.std.specs.Prelude.{◌≡◌, ◌<◌, ◌-◌, ◌^◌, ◌++◌, ◌∷◌, [], Some, if◌then◌else◌, length, map, not, slice_get, IfOk, OnErr, OnOk};
+ghost use Rattle.std.specs.Prelude.{◌≡◌, ◌==◌, ℕ, ◌<◌, ◌^◌, List, ◌++◌, ◌∷◌, [], Some, if◌then◌else◌, length, map, not, slice_get, slice_index, IfOk, OnErr};
 ghost use Rattle.std.specs.List.{list_any};
 ghost use Rattle.std.specs.Str.{bytes_eq};
-ghost use Rattle.vg_names.specs.Distinct.{number_in, number_of, with_name};
+ghost use Rattle.vg_names.specs.Distinct.{number_in, number_of};
+ghost use Rattle.ver_module.specs.Flat.{AreNets, nets_with};
 ghost use Rattle.ver_module.specs.Netlists.{IsNamed};
 
 use crate::direction::PortDir;
-use crate::name::name_number;
+use crate::name::{MOST, number_by_guess};
 use std::alloc::Global;
 use std::marker::Model;
 use vg_names::Names;
 use vg_num::Memory;
+
+/// The number of no name: there are at most so many.
+const NO_NAME: u32 = 0xFFFF_FFFF;
 
 /// A net: a scalar, or one bit of a vector.
 #[derive(Debug, Drop)]
@@ -42,6 +46,8 @@ impl<'a> Model for Net<'a> {
 #[derive(Clone, Copy, Debug, PartialEq, Eq, Drop)]
 pub(crate) struct NetRow {
     pub bit: Option<u32>,
+    /// The number of its name.
+    pub name: u32,
     /// How many bytes its identifier's name has, with which its own begins.
     pub base: u32,
     pub escaped: bool,
@@ -52,24 +58,28 @@ pub(crate) struct NetRow {
 /// The nets of a module, found by their names, each of which is there once. Contracts see the list of nets.
 #[derive(Drop)]
 pub struct Nets {
+    /// The names that nets have or may have.
     names: Names,
     rows: Vec<NetRow>,
+    /// For each name one more than the number of its net, or 0 where no net has it.
+    numbers: Vec<u32>,
 }
 
 impl Model for Nets {
-    ghost use Rattle.std.specs.Prelude.{◌≡◌, ◌<◌, ◌^◌, List, length};
+    ghost use Rattle.std.specs.Prelude.{List};
     ghost use Rattle.ver_module.specs.Netlists.{Net as NetSpec};
-    ghost use Rattle.ver_module.specs.Flat.{nets_with};
+    ghost use Rattle.ver_module.specs.Flat.{AreNets, nets_with};
 
     ghost Value = { List NetSpec };
 
     ghost view = { λ nets. nets_with nets.names nets.rows.items };
 
-    ghost invariant = { λ nets. (length nets.names ≡ length nets.rows.items) × (length nets.rows.items < 2 ^ 32) };
+    ghost invariant = { λ nets. AreNets nets.names nets.rows.items nets.numbers.items };
 }
 
-/// What is kept of a net beside its name. Answers `Memory` where its identifier's name has 2^32 bytes or more.
-fn row_of(net: &Net<'_>) -> Result<NetRow, Memory>
+/// What is kept of a net whose name has this number. Answers `Memory` where its identifier's name has 2^32 bytes or more.
+fn row_of(net: &Net<'_>, name: u32) -> Result<NetRow, Memory>
+    ensures name { IfOk result (λ row. row.name ≡ name) }
     ensures base { IfOk result (λ row. row.base ≡ length net.now.base) }
     ensures bit { IfOk result (λ row. row.bit ≡ net.now.bit) }
     ensures escaped { IfOk result (λ row. row.escaped ≡ net.now.escaped) }
@@ -81,6 +91,7 @@ fn row_of(net: &Net<'_>) -> Result<NetRow, Memory>
     };
     Ok(NetRow {
         bit: net.bit,
+        name,
         base,
         escaped: net.escaped,
         port: net.port,
@@ -88,35 +99,45 @@ fn row_of(net: &Net<'_>) -> Result<NetRow, Memory>
     })
 }
 
-/// Puts a net last, where its name is new. Whether it is. Answers `Memory` where there is no room; nothing changes then.
-fn push_row(
+/// The number of a name, by a guess of it. A new name is put last, and no net has it yet. Answers `Memory` where there is no room.
+/// The nets stay as they are.
+fn name_by_guess(
     names: &mut Names,
-    rows: &mut Vec<NetRow>,
+    numbers: &mut Vec<u32>,
+    guess: u32,
     name: &[u8],
-    row: NetRow,
-) -> Result<bool, Memory>
-    ensures new { IfOk result (λ new. new ≡ not (list_any (bytes_eq name.now) names.old)) }
-    ensures name { OnOk result (names.new ≡ with_name names.old name.now) }
-    ensures few { OnOk result (length names.old < 2 ^ 32 - 1) }
-    ensures row { IfOk result (λ new. rows.new.items ≡ (if new then rows.old.items ++ row ∷ [] else rows.old.items)) }
-    ensures same_names { OnErr result (names.new ≡ names.old) }
-    ensures same_rows { OnErr result (rows.new.items ≡ rows.old.items) }
+) -> Result<u32, Memory>
+    ensures number { IfOk result (λ id. slice_get names.new id ≡ Some name.now) }
+    ensures nets { (rows : List NetRow) → AreNets names.old rows numbers.old.items → AreNets names.new rows numbers.new.items }
+    ensures same { (rows : List NetRow) → AreNets names.old rows numbers.old.items → nets_with names.new rows ≡ nets_with names.old rows }
 {
     let count = names.len();
-    let Ok(()) = rows.push(row) else {
-        return Err(Memory);
-    };
-    match name_number(names, name) {
-        Ok(id) if id as usize == count => Ok(true),
-        Ok(_) => {
-            rows.pop();
-            Ok(false)
-        }
-        Err(_) => {
-            rows.pop();
-            Err(Memory)
-        }
+    numbers.reserve(1)?;
+    let id = number_by_guess(names, &[guess], name)?;
+    names.are_distinct();
+    if id as usize == count {
+        numbers.push(0)?;
     }
+    Ok(id)
+}
+
+/// Puts a net last, where no net has its name. Whether none has it. Answers `Memory` where there is no room; nothing changes then.
+fn push_row(rows: &mut Vec<NetRow>, numbers: &mut Vec<u32>, row: NetRow) -> Result<bool, Memory>
+    requires { row.name < length numbers.old.items }
+    ensures new { IfOk result (λ new. new ≡ (slice_index numbers.old.items row.name == 0)) }
+    ensures last { IfOk result (λ new. rows.new.items ≡ (if new then rows.old.items ++ row ∷ [] else rows.old.items)) }
+    ensures unchanged { OnErr result (rows.new.items ≡ rows.old.items) }
+    ensures nets { (names : List (List ℕ)) → AreNets names rows.old.items numbers.old.items → AreNets names rows.new.items numbers.new.items }
+{
+    if numbers[row.name as usize] != 0 {
+        return Ok(false);
+    }
+    if MOST <= rows.len() {
+        return Err(Memory);
+    }
+    rows.push(row)?;
+    numbers[row.name as usize] = rows.len() as u32;
+    Ok(true)
 }
 
 impl Nets {
@@ -127,7 +148,21 @@ impl Nets {
         Nets {
             names: Names::new(alloc),
             rows: Vec::new(alloc),
+            numbers: Vec::new(alloc),
         }
+    }
+
+    /// No nets, where these are names that nets may have. Answers `Memory` where there is no room.
+    pub fn of_names(alloc: Global, names: Names) -> Result<Nets, Memory>
+        ensures { IfOk result (λ nets. nets ≡ []) }
+    {
+        let numbers = vec![in alloc; 0; names.len()]?;
+        names.are_distinct();
+        Ok(Nets {
+            names,
+            rows: Vec::new(alloc),
+            numbers,
+        })
     }
 
     /// How many nets there are: fewer than 2^32.
@@ -150,8 +185,8 @@ impl Nets {
         requires { id < length self.now }
         ensures { slice_get self.now id ≡ Some result }
     {
-        let name = self.names.name(id);
         let row = self.rows[id as usize];
+        let name = self.names.name(row.name);
         Net {
             name,
             base: &name[..(row.base as usize).min(name.len())],
@@ -166,7 +201,8 @@ impl Nets {
     pub fn find(&self, name: &[u8]) -> Option<u32>
         ensures { result ≡ number_of (map (λ net. net.name) self.now) name.now }
     {
-        self.names.find(name)
+        let id = self.names.find(name)?;
+        self.numbers[id as usize].checked_sub(1)
     }
 
     /// The number of the net of this name, or how many nets there are.
@@ -187,8 +223,19 @@ impl Nets {
         ensures last { IfOk result (λ new. self.new ≡ (if new then self.old ++ net.now ∷ [] else self.old)) }
         ensures unchanged { OnErr result (self.new ≡ self.old) }
     {
-        let row = row_of(net)?;
-        let is_new = push_row(&mut self.names, &mut self.rows, net.name, row)?;
+        self.push_by(net, NO_NAME)
+    }
+
+    /// The same, where the net's name is compared with the name of this number first: a good guess spares its hash.
+    pub fn push_by(&mut self, net: &Net<'_>, guess: u32) -> Result<bool, Memory>
+        requires { IsNamed net.now }
+        ensures new { IfOk result (λ new. new ≡ not (list_any (bytes_eq net.now.name) (map (λ n. n.name) self.old))) }
+        ensures last { IfOk result (λ new. self.new ≡ (if new then self.old ++ net.now ∷ [] else self.old)) }
+        ensures unchanged { OnErr result (self.new ≡ self.old) }
+    {
+        let name = name_by_guess(&mut self.names, &mut self.numbers, guess, net.name)?;
+        let row = row_of(net, name)?;
+        let is_new = push_row(&mut self.rows, &mut self.numbers, row)?;
         Ok(is_new)
     }
 }

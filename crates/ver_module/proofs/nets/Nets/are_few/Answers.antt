@@ -3,4 +3,4 @@ use Rattle.ver_module.proofs.NetLemmas.{count_nets}
 use Rattle.ver_module.proofs.nets.Nets.are_few.Goals as goal
 
 pub returns : goal.returns
-returns c = omega (arith, c.self.invariant.1, count_nets c.self.inside.names c.self.inside.rows.items c.self.invariant.0, ap length c.self.view_is)
+returns c = omega (arith, c.self.invariant.few, count_nets c.self.inside.names c.self.inside.rows.items, ap length c.self.view_is)

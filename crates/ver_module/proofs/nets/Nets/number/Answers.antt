@@ -7,6 +7,6 @@ use Rattle.ver_module.proofs.nets.Nets.number.Goals as goal
 pub returns-in-None : goal.returns-in-None
 returns-in-None c =
     let e : c.len.result ≡ length c.self.inside.rows.items = search rules in
-    e ∙ sym (count_nets c.self.inside.names c.self.inside.rows.items c.self.invariant.0) ∙ ap length c.self.view_is
+    e ∙ sym (count_nets c.self.inside.names c.self.inside.rows.items) ∙ ap length c.self.view_is
     ∙ sym (length-map c.args.self.now (λ net. net.name))
     ∙ sym (no_place (map (λ net. net.name) c.args.self.now) c.args.name.now (absent_of (map (λ net. net.name) c.args.self.now) c.args.name.now (sym c.in-None.is ∙ c.find.ensures)))
