@@ -209,6 +209,14 @@ impl Identifiers {
         }
     }
 
+    /// The names of the identifiers once more. Answers `Memory` where there is no room.
+    pub fn copy_names(&self) -> Result<Names, Memory>
+        ensures { IfOk result (λ names. names ≡ self.now.names) }
+    {
+        let names = self.names.copy()?;
+        Ok(names)
+    }
+
     /// How many identifiers there are.
     pub fn len(&self) -> usize
         ensures { result ≡ length self.now.tokens.items }

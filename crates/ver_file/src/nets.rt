@@ -20,19 +20,20 @@ use ver_syntax::Row;
 use ver_text::is_escaped;
 use vg_num::Memory;
 
-/// Puts a net last, where its name is new, and tells the first place at which a name is not. Answers `Memory` where there is no
-/// room.
-fn push_net(
-    net: &Net<'_>,
+/// Puts a scalar last, where its name is new, by a guess of this name's number, and tells the first place at which a name is not.
+/// Answers `Memory` where there is no room.
+fn push_scalar(
+    scalar: &Net<'_>,
+    guess: u32,
     place: usize,
     nets: &mut Nets,
     clash: Option<usize>,
 ) -> Result<Option<usize>, Memory>
-    requires { IsNamed net.now }
-    ensures nets { OnOk result (nets.new ≡ with_net nets.old net.now) }
-    ensures clash { IfOk result (λ found. found ≡ first_of clash (repeated (names_of nets.old) (map (given place) (net.now ∷ [])))) }
+    requires { IsNamed scalar.now }
+    ensures nets { OnOk result (nets.new ≡ with_net nets.old scalar.now) }
+    ensures clash { IfOk result (λ found. found ≡ first_of clash (repeated (names_of nets.old) (map (given place) (scalar.now ∷ [])))) }
 {
-    let is_new = nets.push(net)?;
+    let is_new = nets.push_by(scalar, guess)?;
     Ok(unless(is_new, place, clash))
 }
 
@@ -59,8 +60,8 @@ fn push_bit(
         port: scalar.port,
         supply: scalar.supply,
     };
-    let clash = push_net(&net, place, nets, clash)?;
-    Ok(clash)
+    let is_new = nets.push(&net)?;
+    Ok(unless(is_new, place, clash))
 }
 
 /// The net of an identifier that is a scalar, by its first token and what is said of it.
@@ -98,11 +99,12 @@ fn push_bits(
     Ok(clash)
 }
 
-/// Puts the nets of an identifier last, by its first token and what is said of it, and tells the first place at which a name is
-/// not new. Answers `Memory` where there is no room.
+/// Puts the nets of an identifier last, by its number, its first token and what is said of it, and tells the first place at which a
+/// name is not new. Answers `Memory` where there is no room.
 fn push_nets(
     alloc: Global,
     text: &[u8],
+    id: u32,
     token: Row,
     said: Option<Heading>,
     nets: &mut Nets,
@@ -115,7 +117,7 @@ fn push_nets(
     let scalar = scalar_of(text, token, said);
     match range_said(said) {
         None => {
-            let clash = push_net(&scalar, token.from, nets, clash)?;
+            let clash = push_scalar(&scalar, id, token.from, nets, clash)?;
             Ok(clash)
         }
         Some(range) => {
@@ -136,12 +138,16 @@ pub(crate) fn nets_of(
     ensures clash { IfOk result (λ found. found.1 ≡ first_of None (name_flaws text.now)) }
     ensures nets { IfOk result (λ found. found.0 ≡ fold with_net [] (nets_of text.now)) }
 {
-    let mut nets = Nets::new(alloc);
+    // Most nets are scalars, which have the names of identifiers.
+    let mut nets = Nets::of_names(alloc, identifiers.copy_names()?)?;
     let mut clash = None;
     'identifier: for at in 0..identifiers.len() {
+        let Ok(id) = u32::try_from(at) else {
+            return Err(Memory);
+        };
         let token = identifiers.token(at);
         let said = identifiers.said_at(at);
-        clash = push_nets(alloc, text, token, said, &mut nets, clash)?;
+        clash = push_nets(alloc, text, id, token, said, &mut nets, clash)?;
     }
     Ok((nets, clash))
 }
