@@ -249,6 +249,7 @@ pub(crate) fn step(at: At, kind: Kind, braces: &mut Braces) -> Result<Option<At>
 }
 
 /// Where the machine stands after a token outside expressions.
+#[inline(always)]
 fn plain_move(at: At, kind: Kind) -> Option<At>
     ensures { result ≡ plain_move at kind }
 {
