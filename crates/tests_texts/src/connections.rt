@@ -3,7 +3,7 @@
 use crate::netlist::module_of;
 use std::alloc::Global;
 use std::test::Fail;
-use ver_module::{Link, Module};
+use ver_module::{LinkRef, Module};
 use ver_net::{Connections, PinRef, connect, net_text};
 
 /// Whether these are the pins on the net of a name, by the numbers of instances and pins, and whether the net is tied.
@@ -142,7 +142,7 @@ fn links_to(module: &Module, name: &str) -> bool {
         return false;
     }
     match instance.pin(0).link {
-        Link::One(net) => module.find_net(name.as_bytes()) == Some(*net),
+        LinkRef::One(net) => module.find_net(name.as_bytes()) == Some(net),
         _ => false,
     }
 }

@@ -3,7 +3,7 @@
 use std::alloc::Global;
 use std::test::Fail;
 use ver_file::read_module;
-use ver_module::{Instance, Link, Module, Net, PortDir};
+use ver_module::{Instance, LinkRef, Module, Net, PortDir};
 use ver_syntax::VerKind;
 
 /// A module, or the kind of its text's first fault and its line.
@@ -282,11 +282,11 @@ static PINS: [(&str, &str, Option<u32>, &[u32]); 6] = [
     ("F", "\\c!", Some(4), &[]),
 ];
 
-fn is_link(link: &Link, connection: &str, one: Option<u32>, nets: &[u32]) -> bool {
+fn is_link(link: LinkRef<'_>, connection: &str, one: Option<u32>, nets: &[u32]) -> bool {
     match link {
-        Link::Open => connection.is_empty(),
-        Link::One(net) => one == Some(*net),
-        Link::Many(many) => one.is_none() && many.as_slice() == nets,
+        LinkRef::Open => connection.is_empty(),
+        LinkRef::One(net) => one == Some(net),
+        LinkRef::Many(many) => one.is_none() && many == nets,
     }
 }
 

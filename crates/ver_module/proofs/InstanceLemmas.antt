@@ -8,7 +8,7 @@ use Rattle.std.proofs.lemmas.List.{length-map}
 use Rattle.ver_module.specs.declared.instances.InstanceRow.{InstanceRow}
 use Rattle.ver_module.specs.declared.instances.PinRow.{PinRow}
 use Rattle.ver_module.specs.Netlists.{Instance}
-use Rattle.ver_module.specs.Flat.{Tables, AreInstances, StandIn, instance_with, instances_with, pin_with, pins_end}
+use Rattle.ver_module.specs.Flat.{Tables, AreInstances, IsPinRow, StandIn, instance_with, instances_with, pin_with, pins_end}
 
 pub no_instances : (tables : Tables) → instances_with tables [] [] ≡ []
 unfolding instances_with
@@ -61,33 +61,20 @@ stands_at tables (r ∷ rs) (suc at) d h l =
     let k : suc (at + 1) ≡ suc at + 1 = omega arith in
     subst (λ n. Stands tables (get_or rs at d) (pins_end (length tables.pins) (drop n (r ∷ rs)))) k (stands_at tables rs at d h.2 (omega (arith, l)))
 
-pub none_are : (cells pin_names names : List (List ℕ)) (rows : List InstanceRow) (pins : List PinRow) → names ≡ [] → rows ≡ [] → pins ≡ []
-    → AreInstances (record { cells = cells; pin_names = pin_names; pins = pins }) names rows
-    × (instances_with (record { cells = cells; pin_names = pin_names; pins = pins }) names rows ≡ [])
-none_are cells pin_names names rows pins e f g =
-    let tables : Tables = record { cells = cells; pin_names = pin_names; pins = pins } in (
+pub none_are : (cells pin_names names many : List (List ℕ)) (rows : List InstanceRow) (pins : List PinRow) → names ≡ [] → rows ≡ [] → pins ≡ []
+    → AreInstances (record { cells = cells; pin_names = pin_names; many = many; pins = pins }) names rows
+    × (instances_with (record { cells = cells; pin_names = pin_names; many = many; pins = pins }) names rows ≡ [])
+none_are cells pin_names names many rows pins e f g =
+    let tables : Tables = record { cells = cells; pin_names = pin_names; many = many; pins = pins } in (
       record {
         count = ap length e ∙ ap length (sym f);
         stand = subst (StandIn tables) (sym f) (none_stand tables);
-        named = subst (All (λ (pin : PinRow). pin.name < length pin_names)) (sym g) (All-nil (λ (pin : PinRow). pin.name < length pin_names));
+        kept = subst (All (IsPinRow pin_names many)) (sym g) (All-nil (IsPinRow pin_names many));
         few = omega (arith, ap length f);
         few_pins = omega (arith, ap length g);
       },
       (λ i. instances_with tables (e i) (f i)) ∙ no_instances tables,
     )
-
-pub get_pin : (names : List (List ℕ)) (pins : List PinRow) (at : ℕ) (d : PinRow) → at < length pins
-    → slice_get (map (pin_with names) pins) at ≡ Some (pin_with names (get_or pins at d))
-get_pin names [] at d l = absurd (omega (arith, l))
-get_pin names (p ∷ ps) zero d l = refl
-get_pin names (p ∷ ps) (suc at) d l = get_pin names ps at d (omega (arith, l))
-
--- a pin as it is found
-pub pin_seen : (names : List (List ℕ)) (row its : PinRow) (name : List ℕ) → row ≡ its → name ≡ get_or names row.name []
-    → Some (pin_with names its) ≡ Some (record { name = name; span = record { from = row.from; to = row.to }; link = row.link })
-pin_seen names row its name e f =
-    ap (λ (r : PinRow). Some (pin_with names r)) (sym e)
-    ∙ ap (λ (n : List ℕ). Some (record { name = n; span = record { from = row.from; to = row.to }; link = row.link })) (sym f)
 
 pub few_each : (tables : Tables) (names : List (List ℕ)) (rows : List InstanceRow) → StandIn tables rows → length tables.pins < 2 ^ 32
     → All (λ (i : Instance). length i.pins < 2 ^ 32) (instances_with tables names rows)
@@ -96,16 +83,16 @@ few_each tables [] rows h f = All-nil (λ (i : Instance). length i.pins < 2 ^ 32
 few_each tables (n ∷ ns) [] h f = All-nil (λ (i : Instance). length i.pins < 2 ^ 32)
 few_each tables (n ∷ ns) (r ∷ rs) h f =
     let end = pins_end (length tables.pins) rs in
-    let e = length-map (between r.pins end tables.pins) (pin_with tables.pin_names) in
+    let e = length-map (between r.pins end tables.pins) (pin_with tables.pin_names tables.many) in
     let within = end_within tables rs h.2 in
     let m : length (between r.pins end tables.pins) ≡ end - r.pins = length-between tables.pins r.pins end within in
     All-cons (λ (i : Instance). length i.pins < 2 ^ 32) (instance_with tables end n r) (instances_with tables ns rs)
     (omega (arith, e, m, within, f)) (few_each tables ns rs h.2 f)
 
 -- an instance as it is found
-pub instance_seen : (tables : Tables) (end : ℕ) (row its : InstanceRow) (name own cell : List ℕ) (pins : List PinRow)
-    → row ≡ its → name ≡ own → cell ≡ get_or tables.cells row.cell [] → pins ≡ between row.pins end tables.pins
-    → Some (instance_with tables end own its) ≡ Some (record { name = name; cell = cell; pins = map (pin_with tables.pin_names) pins })
-instance_seen tables end row its name own cell pins e f g h =
+pub instance_seen : (tables : Tables) (end : ℕ) (row its : InstanceRow) (name own cell : List ℕ) (many : List (List ℕ)) (pins : List PinRow)
+    → row ≡ its → name ≡ own → cell ≡ get_or tables.cells row.cell [] → many ≡ tables.many → pins ≡ between row.pins end tables.pins
+    → Some (instance_with tables end own its) ≡ Some (record { name = name; cell = cell; pins = map (pin_with tables.pin_names many) pins })
+instance_seen tables end row its name own cell many pins e f g m h =
     (λ i. Some (instance_with tables end (sym f i) (sym e i)))
-    ∙ (λ i. Some (record { name = name; cell = sym g i; pins = map (pin_with tables.pin_names) (sym h i) }))
+    ∙ (λ i. Some (record { name = name; cell = sym g i; pins = map (pin_with tables.pin_names (sym m i)) (sym h i) }))

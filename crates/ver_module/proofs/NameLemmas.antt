@@ -55,6 +55,9 @@ pub record Grow (names after : List (List ℕ)) : Type 0 where
 pub same : (names : List (List ℕ)) → Grow names names
 same names = record { more = omega arith; stay = λ k l. refl }
 
+pub put_last : (names more : List (List ℕ)) → Grow names (names ++ more)
+put_last names more = record { more = omega (arith, length-append names more); stay = λ k l. get_or_append_left names more [] k l }
+
 -- where a name stands that is put last where it is new
 pub record HasNumber (names after : List (List ℕ)) (name : List ℕ) (id : ℕ) : Type 0 where
   pub within : id < length after
@@ -76,7 +79,7 @@ numbered names name = by_test (list_any (bytes_eq name) names) refl
         (record {
           within = omega (arith, e, n);
           is = ap (λ k. get_or (names ++ name ∷ []) k []) e ∙ get_or-append_seam names name [] [];
-          grow = record { more = omega (arith, n); stay = λ k l. get_or_append_left names (name ∷ []) [] k l };
+          grow = put_last names (name ∷ []);
         })
 
 -- a name has a number where it is one of them

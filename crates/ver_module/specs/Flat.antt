@@ -5,6 +5,10 @@ use Rattle.vg_names.specs.NameTables.{AreDistinct}
 use Rattle.ver_module.specs.declared.nets.NetRow.{NetRow}
 use Rattle.ver_module.specs.declared.instances.InstanceRow.{InstanceRow}
 use Rattle.ver_module.specs.declared.instances.PinRow.{PinRow}
+use Rattle.ver_module.specs.declared.link.Link.{Link}
+use Rattle.ver_module.specs.declared.link.Link.TheVariants.{Open, One, Many}
+use Rattle.ver_module.specs.declared.link.LinkRow.{LinkRow}
+use Rattle.ver_module.specs.declared.link.LinkRow.TheVariants.{Open as OpenRow, One as OneRow, Many as ManyRow}
 use Rattle.ver_module.specs.Netlists.{Net, Instance, Pin}
 
 -- a net of this name: its identifier is the front of the name
@@ -30,14 +34,37 @@ pub record AreNets (names : List (List ℕ)) (rows : List NetRow) (numbers : Lis
   pub leads : (id net : ℕ) → (slice_get numbers id ≡ Some (suc net)) ↔ (slice_get (map (λ row. row.name) rows) net ≡ Some id)
   pub few : length rows < 2 ^ 32
 
--- a pin, by the number of its name
-abbrev pub pin_with : List (List ℕ) → PinRow → Pin
-pin_with names row = record { name = slice_index_or names row.name []; span = record { from = row.from; to = row.to }; link = row.link }
+-- a link, by the place of its nets among those of links to several
+abbrev pub link_with : List (List ℕ) → LinkRow → Link
+link_with many OpenRow = Open
+link_with many (OneRow net) = One net
+link_with many (ManyRow at) = Many (slice_index_or many at [])
 
--- the tables of names, and the pins of all instances
+-- the nets of a link to several are among these
+abbrev pub IsKept : List (List ℕ) → LinkRow → Type 0
+IsKept many OpenRow = ⊤
+IsKept many (OneRow net) = ⊤
+IsKept many (ManyRow at) = at < length many
+
+-- the nets of a link, where it is one to several
+abbrev pub several : Link → List (List ℕ)
+several Open = []
+several (One net) = []
+several (Many nets) = nets ∷ []
+
+-- a pin, by the number of its name and the place of its nets
+abbrev pub pin_with : List (List ℕ) → List (List ℕ) → PinRow → Pin
+pin_with names many row = record { name = slice_index_or names row.name []; span = record { from = row.from; to = row.to }; link = link_with many row.link }
+
+-- the name of a pin is among these names, and the nets of its link among these nets
+abbrev pub IsPinRow : List (List ℕ) → List (List ℕ) → PinRow → Type 0
+IsPinRow names many row = (row.name < length names) × IsKept many row.link
+
+-- the tables of names, the nets of links to several, and the pins of all instances
 pub record Tables : Type 0 where
   pub cells : List (List ℕ)
   pub pin_names : List (List ℕ)
+  pub many : List (List ℕ)
   pub pins : List PinRow
 
 -- where the pins before some instances end: where those of the first begin, else where all end
@@ -50,7 +77,7 @@ abbrev pub instance_with : Tables → ℕ → List ℕ → InstanceRow → Insta
 instance_with tables end name row = record {
   name = name;
   cell = slice_index_or tables.cells row.cell [];
-  pins = map (pin_with tables.pin_names) (between row.pins end tables.pins);
+  pins = map (pin_with tables.pin_names tables.many) (between row.pins end tables.pins);
 }
 
 -- the instances of these names
@@ -68,6 +95,6 @@ StandIn tables (row ∷ rows) = (row.cell < length tables.cells) × (row.pins �
 pub record AreInstances (tables : Tables) (names : List (List ℕ)) (rows : List InstanceRow) : Type 0 where
   pub count : length names ≡ length rows
   pub stand : StandIn tables rows
-  pub named : All (λ pin. pin.name < length tables.pin_names) tables.pins
+  pub kept : All (IsPinRow tables.pin_names tables.many) tables.pins
   pub few : length rows < 2 ^ 32
   pub few_pins : length tables.pins < 2 ^ 32

@@ -1,2 +1,3 @@
 pub mod Netlists
+pub mod Links
 pub mod Flat

@@ -6,12 +6,13 @@ ghost use Rattle.vg_names.specs.Distinct.{with_name};
 ghost use Rattle.ver_module.specs.Flat.{pins_end};
 ghost use Rattle.ver_module.specs.Netlists.{with_pin};
 
-use crate::link::Link;
+use crate::link::{Link, LinkRef, LinkRow, keep};
 use crate::name::{MOST, number_by_guess};
+use crate::place::place;
 use std::alloc::Global;
 use std::marker::Model;
 use vg_names::{Names, Texts};
-use vg_num::Memory;
+use vg_num::{Memory, Row};
 use vg_scan::Span;
 
 /// A pin of an instance.
@@ -20,26 +21,27 @@ pub struct Pin<'a> {
     pub name: &'a [u8],
     /// Where the expression of its connection stands, without what is around it. Of a pin that is not connected it is empty.
     pub span: Span,
-    pub link: &'a Link,
+    pub link: LinkRef<'a>,
 }
 
 impl<'a> Model for Pin<'a> {
+    ghost use Rattle.ver_module.specs.Links.{lent_link};
     ghost use Rattle.ver_module.specs.Netlists.{Pin as PinSpec};
 
     ghost Value = { PinSpec };
 
-    ghost view = { λ pin. record { name = pin.name.now; span = pin.span; link = pin.link.now } };
+    ghost view = { λ pin. record { name = pin.name.now; span = pin.span; link = lent_link pin.link } };
 }
 
 /// A pin, by the number of its name.
-#[derive(Drop)]
+#[derive(Clone, Copy, Drop)]
 pub(crate) struct PinRow {
-    pub link: Link,
     pub name: u32,
     /// Where the expression of its connection begins.
     pub from: u32,
     /// Where it ends.
     pub to: u32,
+    pub link: LinkRow,
 }
 
 /// An instance of a cell.
@@ -49,6 +51,7 @@ pub struct Instance<'a> {
     /// The name of its module or gate.
     pub cell: &'a [u8],
     pin_names: &'a Names,
+    many: &'a [Row<u32>],
     pins: &'a [PinRow],
 }
 
@@ -56,13 +59,17 @@ impl<'a> Model for Instance<'a> {
     ghost use Rattle.std.specs.Prelude.{◌<◌, ◌^◌, length, map};
     ghost use Rattle.std.specs.List.{All};
     ghost use Rattle.ver_module.specs.Netlists.{Instance as InstanceSpec};
-    ghost use Rattle.ver_module.specs.Flat.{pin_with};
+    ghost use Rattle.ver_module.specs.Flat.{IsPinRow, pin_with};
 
     ghost Value = { InstanceSpec };
 
-    ghost view = { λ instance. record { name = instance.name.now; cell = instance.cell.now; pins = map (pin_with instance.pin_names.now) instance.pins.now } };
+    ghost view = { λ instance. record {
+      name = instance.name.now;
+      cell = instance.cell.now;
+      pins = map (pin_with instance.pin_names.now instance.many.now) instance.pins.now;
+    } };
 
-    ghost invariant = { λ instance. All (λ pin. pin.name < length instance.pin_names.now) instance.pins.now × (length instance.pins.now < 2 ^ 32) };
+    ghost invariant = { λ instance. All (IsPinRow instance.pin_names.now instance.many.now) instance.pins.now × (length instance.pins.now < 2 ^ 32) };
 }
 
 impl<'a> Instance<'a> {
@@ -80,14 +87,14 @@ impl<'a> Instance<'a> {
         ensures { slice_get self.now.pins at ≡ Some result }
     {
         let pins = self.pins;
-        let row = &pins[at];
+        let row = pins[at];
         Pin {
             name: self.pin_names.name(row.name),
             span: Span {
                 from: row.from as usize,
                 to: row.to as usize,
             },
-            link: &row.link,
+            link: row.link.lend(self.many),
         }
     }
 }
@@ -97,17 +104,19 @@ impl<'a> Instance<'a> {
 pub(crate) struct InstanceRow {
     pub cell: u32,
     /// Where its pins begin among those of all instances; they end where those of the next one begin.
-    pub pins: usize,
+    pub pins: u32,
 }
 
 /// The instances of a module. Contracts see the list of them. Names stand in one buffer, each name of a cell and of a pin once,
-/// and the pins of all instances in one list.
+/// and the pins of all instances in one list; the nets of links to several stand aside.
 #[derive(Drop)]
 pub struct Instances {
     names: Texts,
     cells: Names,
     pin_names: Names,
     rows: Vec<InstanceRow>,
+    /// The nets of each link to several.
+    many: Vec<Row<u32>>,
     pins: Vec<PinRow>,
 }
 
@@ -118,9 +127,11 @@ impl Model for Instances {
 
     ghost Value = { List InstanceSpec };
 
-    ghost view = { λ all. instances_with (record { cells = all.cells; pin_names = all.pin_names; pins = all.pins.items }) all.names all.rows.items };
+    ghost view = { λ all. instances_with
+        (record { cells = all.cells; pin_names = all.pin_names; many = all.many.items; pins = all.pins.items }) all.names all.rows.items };
 
-    ghost invariant = { λ all. AreInstances (record { cells = all.cells; pin_names = all.pin_names; pins = all.pins.items }) all.names all.rows.items };
+    ghost invariant = { λ all. AreInstances
+        (record { cells = all.cells; pin_names = all.pin_names; many = all.many.items; pins = all.pins.items }) all.names all.rows.items };
 }
 
 /// Where the pins of the instance of this number end, where those of all end here.
@@ -129,7 +140,7 @@ fn end_of(rows: &[InstanceRow], at: usize, all: usize) -> usize
     ensures { result ≡ pins_end all (drop (at + 1) rows.now) }
 {
     match rows.get(at + 1) {
-        Some(next) => next.pins,
+        Some(next) => next.pins as usize,
         None => all,
     }
 }
@@ -176,16 +187,6 @@ fn cell_number(names: &mut Names, before: &[InstanceRow], name: &[u8]) -> Result
     Ok(id)
 }
 
-/// A place in a text, in 32 bits. Answers `Memory` where it does not fit.
-fn place(at: usize) -> Result<u32, Memory>
-    ensures { IfOk result (λ place. place ≡ at) }
-{
-    match u32::try_from(at) {
-        Ok(place) => Ok(place),
-        Err(_) => Err(Memory),
-    }
-}
-
 /// Puts an instance last, with its name. Answers `Memory` where there is no room; nothing changes then.
 fn push_row(
     names: &mut Texts,
@@ -220,6 +221,7 @@ impl Instances {
             cells: Names::new(alloc),
             pin_names: Names::new(alloc),
             rows: Vec::new(alloc),
+            many: Vec::new(alloc),
             pins: Vec::new(alloc),
         }
     }
@@ -251,7 +253,8 @@ impl Instances {
             name: self.names.get(at),
             cell: self.cells.name(row.cell),
             pin_names: &self.pin_names,
-            pins: part(&self.pins, row.pins, end),
+            many: &self.many,
+            pins: part(&self.pins, row.pins as usize, end),
         }
     }
 
@@ -265,7 +268,7 @@ impl Instances {
             return Err(Memory);
         }
         let cell = cell_number(&mut self.cells, &self.rows, cell)?;
-        let pins = self.pins.len();
+        let pins = self.pins.len() as u32;
         let row = InstanceRow { cell, pins };
         let Ok(()) = push_row(&mut self.names, &mut self.rows, name, row) else {
             return Err(Memory);
@@ -285,11 +288,12 @@ impl Instances {
         let from = place(span.from)?;
         let to = place(span.to)?;
         let name = pin_number(&mut self.pin_names, &self.pins, name)?;
+        let link = keep(&mut self.many, link)?;
         let row = PinRow {
-            link,
             name,
             from,
             to,
+            link,
         };
         let Ok(()) = self.pins.push(row) else {
             return Err(Memory);

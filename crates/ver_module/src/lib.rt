@@ -7,10 +7,11 @@ mod link;
 mod module;
 mod name;
 mod nets;
+mod place;
 
 pub use direction::PortDir;
 pub use instances::{Instance, Instances, Pin};
-pub use link::Link;
+pub use link::{Link, LinkRef};
 pub use module::Module;
 pub use name::name_number;
 pub use nets::{Net, Nets};
