@@ -1,0 +1,10 @@
+pub mod OneLemmas
+pub mod MeaningLemmas
+pub mod OrderLemmas
+pub mod CountLemmas
+pub mod MakeLemmas
+pub mod KeepLemmas
+pub mod TurnLemmas
+pub mod ReleaseLemmas
+pub mod ReachLemmas
+pub mod WalkLemmas

@@ -1,0 +1,9 @@
+pub mod Slots
+pub mod Uses
+pub mod Meanings
+pub mod Invariant
+pub mod Changes
+pub mod Reach
+pub mod Arenas
+pub mod Steps
+pub mod Walk
