@@ -1,14 +1,16 @@
 -- The meaning of a solution by those of what it was made of, and what leaves it as it is.
-use Rattle.std.proofs.Common.{◌≡◌, ℕ, zero, suc, ◌^◌, ◌<◌, ◌≤◌, List, [], ◌∷◌, length, Option, Some, refl, sym, ap, ◌∙◌, arith, inl, inr}
+use Rattle.std.proofs.Common.{◌≡◌, ℕ, zero, suc, ◌^◌, ◌<◌, ◌≤◌, List, [], ◌∷◌, cond, length, Option, Some, None, refl, sym, ap, ◌∙◌, arith, inl, inr, ne_eqb, subst}
 use Rattle.std.proofs.lemmas.Bool.{cases_eq}
 use Rattle.std.proofs.lemmas.List.{get_or_past}
 use Rattle.std.specs.List.{Contains}
 use Rattle.sol_arena.specs.declared.slot.Made.{Made}
 use Rattle.sol_arena.specs.declared.slot.Made.TheVariants.{Free, Owed, Cell, Join}
-use Rattle.sol_arena.specs.Slots.{none, made_at}
+use Rattle.sol_arena.specs.declared.slot.Slot.{Slot}
+use Rattle.sol_arena.specs.Slots.{none, made_in, made_at}
 use Rattle.sol_arena.specs.Uses.{uses_in}
-use Rattle.sol_arena.specs.Meanings.{joined, with_own, cells_by, cells_within, bare}
+use Rattle.sol_arena.specs.Meanings.{either_of, joined, with_own, cells_by, cells_within, cells_of, bare, AreBelow}
 use Rattle.sol_arena.specs.Invariant.{IsOrder}
+use Rattle.sol_arena.specs.Changes.{IsNew}
 use Rattle.sol_arena.proofs.OneLemmas.{one_same, in_cases}
 
 -- what is made so has the same cells, where what it is made of has
@@ -59,3 +61,30 @@ steady ms room (y ∷ rest) ordered s found (suc n) enough =
           ])
       | inr later ↦ steady ms room rest ordered.3 s later (suc n) (omega arith)
     ]
+
+-- the nodes of what is made are below n, where those of what it is made of are
+pub empty_below : (n : ℕ) (f : ℕ → Option ℕ) → ((v : ℕ) → f v ≡ None) → AreBelow n f
+empty_below n f empty v x found = let clash : None ≡ Some x = sym (empty v) ∙ found in absurd (cc)
+
+pub own_below : (n u : ℕ) (own : Option ℕ) (f : ℕ → Option ℕ) → u < n → AreBelow n f → AreBelow n (with_own u own f)
+own_below n u own f within below v x found =
+    elim (cases_eq v u) [
+      | inl e ↦ omega (arith, e, within)
+      | inr other ↦ below v x (ap (λ b. cond b own (f v)) (sym (ne_eqb v u other)) ∙ found)
+    ]
+
+pub joined_below : (n : ℕ) (f g : ℕ → Option ℕ) → AreBelow n f → AreBelow n g → AreBelow n (joined f g)
+joined_below n f g f_below g_below v x found = go (f v) refl where
+  go : (first : Option ℕ) → f v ≡ first → v < n
+  go None e = g_below v x (ap (λ y. either_of y (g v)) (sym e) ∙ found)
+  go (Some y) e = f_below v y e
+
+pub cell_below : (old new : List Slot) (n s node rep below : ℕ) → IsNew old new s (Cell node rep below)
+    → node < n → AreBelow n (cells_of (made_in old) below) → AreBelow n (cells_of (made_in new) s)
+cell_below old new n s node rep below is_new within before =
+    subst (AreBelow n) (sym is_new.means) (own_below n node (Some rep) (cells_of (made_in old) below) within before)
+
+pub join_below : (old new : List Slot) (n s a b : ℕ) → IsNew old new s (Join a b)
+    → AreBelow n (cells_of (made_in old) a) → AreBelow n (cells_of (made_in old) b) → AreBelow n (cells_of (made_in new) s)
+join_below old new n s a b is_new a_below b_below =
+    subst (AreBelow n) (sym is_new.means) (joined_below n (cells_of (made_in old) a) (cells_of (made_in old) b) a_below b_below)

@@ -3,7 +3,7 @@
 ghost use Rattle.std.specs.Prelude.{◌≡◌, ◌≢◌, ℕ, ◌+◌, ◌^◌, ◌<◌, ◌==◌, ◌++◌, ◌∷◌, [], length};
 ghost use Rattle.std.specs.Prelude.{slice_index_or, Some, None, MatchResult, IfOk, OnErr};
 ghost use Rattle.sol_arena.specs.declared.slot.Made.TheVariants.{Cell, Join};
-ghost use Rattle.sol_arena.specs.Slots.{none, made_in, IsLive};
+ghost use Rattle.sol_arena.specs.Slots.{none, IsLive};
 ghost use Rattle.sol_arena.specs.Uses.{one_if, uses_of, held_of, live_count};
 ghost use Rattle.sol_arena.specs.Meanings.{bare, either_of, with_own, cells_of, AreApart, AreBelow};
 ghost use Rattle.sol_arena.specs.Invariant.{IsArena};
