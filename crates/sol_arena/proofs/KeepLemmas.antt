@@ -4,7 +4,7 @@ use Rattle.std.proofs.lemmas.Bool.{cases_eq}
 use Rattle.std.proofs.lemmas.List.{get_or_past}
 use Rattle.std.proofs.Math.Logic.{∥∥₁_map}
 use Rattle.sol_arena.specs.declared.slot.Slot.{Slot}
-use Rattle.sol_arena.specs.Slots.{none, nothing, made_in, made_at, is_solution, IsLive}
+use Rattle.sol_arena.specs.Slots.{none, nothing, made_in, made_at, is_solution, IsSolution, IsLive}
 use Rattle.sol_arena.specs.Uses.{uses_of, held_of, one_if, inner_uses, live_count}
 use Rattle.sol_arena.specs.Invariant.{is_free, followed, owed_count, IsArena}
 use Rattle.sol_arena.specs.Changes.{GainsUse}
@@ -50,7 +50,7 @@ used_arena old new free s arena once s_live room =
           | inr other ↦ omega (arith, once.uses t some, inner_same t, arena.kept.small t some, one_other s t other)
         ];
         used = λ t is.
-            let was : is_solution (made_at (made_in old) t) ≡ true = ap is_solution (sym (same t)) ∙ is in
+            let was : IsSolution (made_in old) t = ap is_solution (sym (same t)) ∙ is in
             elim (cases_eq t none) [
               | inl e ↦
                   let positive : 0 < uses_of old none = subst (λ x. 0 < uses_of old x) e (arena.kept.used t was) in

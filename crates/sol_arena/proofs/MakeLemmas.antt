@@ -11,7 +11,7 @@ use Rattle.std.proofs.lemmas.List.Sums.{sum_by-cons}
 use Rattle.sol_arena.specs.declared.slot.Made.{Made}
 use Rattle.sol_arena.specs.declared.slot.Made.TheVariants.{Free, Owed, Cell, Join}
 use Rattle.sol_arena.specs.declared.slot.Slot.{Slot}
-use Rattle.sol_arena.specs.Slots.{none, nothing, slot_at, made_in, made_at, is_solution, IsLive}
+use Rattle.sol_arena.specs.Slots.{none, nothing, slot_at, made_in, made_at, is_solution, IsSolution, IsLive}
 use Rattle.sol_arena.specs.Uses.{uses_of, one_if, uses_in, inner_uses, live_count}
 use Rattle.sol_arena.specs.Meanings.{cells_by, cells_of, cells_within}
 use Rattle.sol_arena.specs.Invariant.{links, is_free, is_owed, followed, owed_count, IsKept, IsArena, IsOrderOf}
@@ -164,7 +164,7 @@ placed_is_put old new free next s slot kept placed is_solution_new =
     ]
 
 -- the empty solution has no slot
-pub made_some : (ms : List Made) → length ms ≤ none → (t : ℕ) → is_solution (made_at ms t) ≡ true → t ≢ none
+pub made_some : (ms : List Made) → length ms ≤ none → (t : ℕ) → IsSolution ms t → t ≢ none
 made_some ms room t is e =
     let clash : true ≡ false = sym is ∙ ap (λ y. is_solution (made_at ms y)) e ∙ ap is_solution (none_made ms room) in
     absurd (cc)
@@ -208,11 +208,11 @@ cells_to old new room order orders longer little s s_live =
 module _ (old new : List Slot) (free next s : ℕ) (m : Made) (mid : List Slot) (arena : IsArena old free)
     (placed : IsPlaced old free mid next s (record { made = m; uses = 1 }))
     (m_made : is_solution m ≡ true)
-    (live : (x : ℕ) → x ≢ none → 0 < uses_in m x → is_solution (made_at (made_in old) x) ≡ true) where
+    (live : (x : ℕ) → x ≢ none → 0 < uses_in m x → IsSolution (made_in old) x) where
   put : IsPut old mid next s (record { made = m; uses = 1 })
   put = placed_is_put old mid free next s (record { made = m; uses = 1 }) arena.kept placed m_made
 
-  live_apart : (x : ℕ) → is_solution (made_at (made_in old) x) ≡ true → x ≢ s
+  live_apart : (x : ℕ) → IsSolution (made_in old) x → x ≢ s
   live_apart x is e =
       let clash : true ≡ false = sym is ∙ ap (λ y. is_solution (made_at (made_in old) y)) e ∙ put.fresh in
       absurd (cc)
@@ -324,7 +324,7 @@ module _ (old new : List Slot) (free next s : ℕ) (m : Made) (mid : List Slot) 
                 elim (cases_eq s t) [
                   | inl e ↦ omega (arith, new_uses t some, one_same s t e)
                   | inr other ↦
-                      let was : is_solution (made_at (made_in old) t) ≡ true = ap is_solution (sym (made_new.others t (λ e. other (sym e)))) ∙ is in
+                      let was : IsSolution (made_in old) t = ap is_solution (sym (made_new.others t (λ e. other (sym e)))) ∙ is in
                       omega (arith, new_uses t some, arena.kept.used t was)
                 ];
             unused = λ t not. elim (cases_eq t none) [

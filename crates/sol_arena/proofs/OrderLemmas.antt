@@ -6,7 +6,7 @@ use Rattle.std.proofs.lemmas.Map.Keys.{IsDistinct-cons}
 use Rattle.std.proofs.lemmas.Map.Steps.{length-le_from_distinct_below}
 use Rattle.std.proofs.lemmas.Map.Views.{Contains-from_any}
 use Rattle.sol_arena.specs.declared.slot.Made.{Made}
-use Rattle.sol_arena.specs.Slots.{none, made_at, is_solution}
+use Rattle.sol_arena.specs.Slots.{none, made_at, IsSolution}
 use Rattle.sol_arena.specs.Uses.{uses_in}
 use Rattle.sol_arena.specs.Invariant.{IsOrder, IsOrderOf}
 use Rattle.sol_arena.proofs.OneLemmas.{in_rest, in_cases}
@@ -113,7 +113,7 @@ order_short ms order ordered =
 pub order_more : (old new : List Made) → length old ≤ length new → (s : ℕ) → s < length new
     → ((t : ℕ) → t ≢ s → made_at new t ≡ made_at old t)
     → ((t : ℕ) → uses_in (made_at old t) s ≡ 0)
-    → ((x : ℕ) → x ≢ none → 0 < uses_in (made_at new s) x → (is_solution (made_at old x) ≡ true) × (x ≢ s))
+    → ((x : ℕ) → x ≢ none → 0 < uses_in (made_at new s) x → IsSolution old x × (x ≢ s))
     → (order : List ℕ) → IsOrderOf old order → IsOrderOf new (s ∷ without s order)
 order_more old new longer s s_in same unused live order orders =
     record {
@@ -127,7 +127,7 @@ order_more old new longer s s_in same unused live order orders =
         | inl e ↦ (0, omega arith, e)
         | inr other ↦
             let t_s : t ≢ s = λ e. other (sym e) in
-            let t_old : is_solution (made_at old t) ≡ true = rw (sym (same t t_s)) t_made in
+            let t_old : IsSolution old t = rw (sym (same t t_s)) t_made in
             in_rest s (without s order) t (in_without s t order (orders.whole t t_old) t_s)
       ];
     }

@@ -8,7 +8,7 @@ use Rattle.std.specs.List.{sum_by, Contains}
 use Rattle.sol_arena.specs.declared.slot.Made.{Made}
 use Rattle.sol_arena.specs.declared.slot.Made.TheVariants.{Free, Owed, Cell, Join}
 use Rattle.sol_arena.specs.declared.slot.Slot.{Slot}
-use Rattle.sol_arena.specs.Slots.{none, made_in, made_at, is_solution}
+use Rattle.sol_arena.specs.Slots.{none, made_in, made_at, is_solution, IsSolution}
 use Rattle.sol_arena.specs.Uses.{held_of, one_if, uses_in, inner_uses, live_count}
 use Rattle.sol_arena.specs.Meanings.{cells_of}
 use Rattle.sol_arena.specs.Invariant.{is_owed, owed_count, IsArena, IsOrder}
@@ -23,7 +23,7 @@ reached_some ms held s (root _ some positive) = some
 reached_some ms held s (through _ _ before some x_of) = some
 
 -- what held uses reach is live
-pub reached_live : (slots : List Slot) (free : ℕ) → IsArena slots free → (held : ℕ → ℕ) → AreHeld held slots → (s : ℕ) → IsReached (made_in slots) held s → is_solution (made_at (made_in slots) s) ≡ true
+pub reached_live : (slots : List Slot) (free : ℕ) → IsArena slots free → (held : ℕ → ℕ) → AreHeld held slots → (s : ℕ) → IsReached (made_in slots) held s → IsSolution (made_in slots) s
 reached_live slots free arena held are s (root _ some positive) =
     elim (cases_Bool (is_solution (made_at (made_in slots) s))) [
       | inl is ↦ is
@@ -53,7 +53,7 @@ pub new_frame : (old new : List Slot) (free : ℕ) (held : ℕ → ℕ) (s : ℕ
 new_frame old new free held s m arena are is_new =
     record {
       made = λ t reached.
-          let t_live : is_solution (made_at (made_in old) t) ≡ true = reached_live old free arena held are t reached in
+          let t_live : IsSolution (made_in old) t = reached_live old free arena held are t reached in
           is_new.others t (λ e. let clash : true ≡ false = sym t_live ∙ ap (λ x. is_solution (made_at (made_in old) x)) e ∙ is_new.fresh in absurd (cc));
       cells = λ t reached. is_new.cells t (λ _. reached_live old free arena held are t reached);
     }
@@ -66,14 +66,14 @@ used_frame old new held s once =
     }
 
 stays_live : (old new : List Slot) (free : ℕ) (held : ℕ → ℕ) (s : ℕ) → IsArena new free → AreHeld held new → IsReleased old new s
-    → (t : ℕ) → IsReached (made_in old) held t → is_solution (made_at (made_in new) t) ≡ true
+    → (t : ℕ) → IsReached (made_in old) held t → IsSolution (made_in new) t
 stays_live old new free held s arena are released t (root _ some positive) =
     elim (cases_Bool (is_solution (made_at (made_in new) t))) [
       | inl is ↦ is
       | inr not ↦ absurd (omega (arith, are t some, positive, arena.kept.unused t not))
     ]
 stays_live old new free held s arena are released t (through u _ before some x_of) =
-    let u_live : is_solution (made_at (made_in new) u) ≡ true = stays_live old new free held s arena are released u before in
+    let u_live : IsSolution (made_in new) u = stays_live old new free held s arena are released u before in
     closed_live new free arena.kept u t (λ _. u_live) (subst (λ m. 0 < uses_in m t) (sym (released.made u u_live)) x_of) some
 
 pub release_frame : (old new : List Slot) (free : ℕ) (held : ℕ → ℕ) (s : ℕ) → IsArena new free → AreHeld held new → IsReleased old new s → IsFrame held (made_in old) (made_in new)
@@ -108,7 +108,7 @@ settled_uses ms i s settled some not =
       | inr past ↦ ap (λ m. uses_in m s) (past_owed ms i past) ∙ one_other none s (λ e. some (sym e))
     ]
 
-user_of : (slots : List Slot) (free : ℕ) → IsArena slots free → (s : ℕ) → s ≢ none → 0 < inner_uses (made_in slots) s → (u : ℕ) × (is_solution (made_at (made_in slots) u) ≡ true) × (0 < uses_in (made_at (made_in slots) u) s)
+user_of : (slots : List Slot) (free : ℕ) → IsArena slots free → (s : ℕ) → s ≢ none → 0 < inner_uses (made_in slots) s → (u : ℕ) × IsSolution (made_in slots) u × (0 < uses_in (made_at (made_in slots) u) s)
 unfolding inner_uses
 user_of slots free arena s some positive =
     let (u, u_in, part) = some_part (λ m. uses_in m s) (made_in slots) (Owed none none) positive in
@@ -128,12 +128,12 @@ later_child ms (y ∷ rest) ordered u s found some s_of =
 
 -- all solutions are reached, where those are that are not of a part of the order
 all_reached : (slots : List Slot) (free : ℕ) → IsArena slots free → (order : List ℕ) → IsOrder (made_in slots) order
-    → ((t : ℕ) → is_solution (made_at (made_in slots) t) ≡ true → (Contains order t → ⊥) → IsReached (made_in slots) (held_of slots) t)
-    → (t : ℕ) → is_solution (made_at (made_in slots) t) ≡ true → IsReached (made_in slots) (held_of slots) t
+    → ((t : ℕ) → IsSolution (made_in slots) t → (Contains order t → ⊥) → IsReached (made_in slots) (held_of slots) t)
+    → (t : ℕ) → IsSolution (made_in slots) t → IsReached (made_in slots) (held_of slots) t
 all_reached slots free arena [] ordered before t is = before t is (λ (k, k_n, e). absurd (omega arith))
 all_reached slots free arena (y ∷ rest) ordered before t is =
     all_reached slots free arena rest ordered.3 now t is where
-      now : (t : ℕ) → is_solution (made_at (made_in slots) t) ≡ true → (Contains rest t → ⊥) → IsReached (made_in slots) (held_of slots) t
+      now : (t : ℕ) → IsSolution (made_in slots) t → (Contains rest t → ⊥) → IsReached (made_in slots) (held_of slots) t
       now t t_is out =
           elim (cases_eq y t) [
             | inr other ↦ before t t_is (λ found. elim (in_cases y rest t found) [ inl e ↦ other e | inr later ↦ out later ])
@@ -152,7 +152,7 @@ all_reached slots free arena (y ∷ rest) ordered before t is =
           ]
 
 -- the live solutions are those that held uses reach
-pub live_reached : (slots : List Slot) (free : ℕ) → IsArena slots free → (t : ℕ) → is_solution (made_at (made_in slots) t) ≡ true → ∥ IsReached (made_in slots) (held_of slots) t ∥₁
+pub live_reached : (slots : List Slot) (free : ℕ) → IsArena slots free → (t : ℕ) → IsSolution (made_in slots) t → ∥ IsReached (made_in slots) (held_of slots) t ∥₁
 live_reached slots free arena t is =
     ∥∥₁_map arena.acyclic (λ (order, orders). all_reached slots free arena order orders.ordered (λ u u_is out. absurd (out (orders.whole u u_is))) t is)
 
@@ -176,7 +176,7 @@ module _ (old new : List Slot) (free free' : ℕ) (before : IsArena old free) (a
       let u_old : IsReached (made_in old) (held_of old) u = reached_back u first in
       through u t u_old some (subst (λ m. 0 < uses_in m t) (frame.made u u_old) x_of)
 
-  same_made : (t : ℕ) → is_solution (made_at (made_in old) t) ≡ true → made_at (made_in new) t ≡ made_at (made_in old) t
+  same_made : (t : ℕ) → IsSolution (made_in old) t → made_at (made_in new) t ≡ made_at (made_in old) t
   same_made t is = ∥∥₁_elim (live_reached old free before t is) (hlevel props) (λ reached. frame.made t reached)
 
   same_live : (t : ℕ) → is_solution (made_at (made_in new) t) ≡ is_solution (made_at (made_in old) t)
@@ -186,7 +186,7 @@ module _ (old new : List Slot) (free free' : ℕ) (before : IsArena old free) (a
         | inr not ↦ elim (cases_Bool (is_solution (made_at (made_in new) t))) [
           | inr not_new ↦ not_new ∙ sym not
           | inl is_new ↦
-              let was : is_solution (made_at (made_in old) t) ≡ true = ∥∥₁_elim (live_reached new free' after t is_new) (hlevel props) (λ reached.
+              let was : IsSolution (made_in old) t = ∥∥₁_elim (live_reached new free' after t is_new) (hlevel props) (λ reached.
               reached_live old free before (held_of old) (λ s some. omega arith) t (reached_back t reached)) in
               is_new ∙ sym was
         ]
@@ -216,6 +216,6 @@ module _ (old new : List Slot) (free free' : ℕ) (before : IsArena old free) (a
       }
 
 -- a solution with a held use is live
-pub held_live : (slots : List Slot) (free : ℕ) → IsArena slots free → (s : ℕ) → s ≢ none → 0 < held_of slots s → is_solution (made_at (made_in slots) s) ≡ true
+pub held_live : (slots : List Slot) (free : ℕ) → IsArena slots free → (s : ℕ) → s ≢ none → 0 < held_of slots s → IsSolution (made_in slots) s
 held_live slots free arena s some positive =
     reached_live slots free arena (held_of slots) (λ t _. omega arith) s (root s some positive)

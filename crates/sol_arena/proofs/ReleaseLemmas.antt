@@ -3,7 +3,7 @@ use Rattle.std.proofs.Common.{◌≡◌, ◌≢◌, ℕ, ◌<◌, ◌≤◌, tru
 use Rattle.std.proofs.lemmas.Bool.{cases_eq}
 use Rattle.std.proofs.lemmas.List.Sums.{sum_by-cons}
 use Rattle.sol_arena.specs.declared.slot.Slot.{Slot}
-use Rattle.sol_arena.specs.Slots.{none, made_in, made_at, is_solution, IsLive}
+use Rattle.sol_arena.specs.Slots.{none, made_in, made_at, is_solution, IsSolution, IsLive}
 use Rattle.sol_arena.specs.Uses.{held_of, one_if, uses_in, live_count}
 use Rattle.sol_arena.specs.Meanings.{cells_of, cells_within}
 use Rattle.sol_arena.specs.Invariant.{IsArena}
@@ -16,7 +16,7 @@ use Rattle.sol_arena.proofs.MakeLemmas.{closed_live}
 
 -- where no slot is added, solutions that stay mean the same
 pub cells_stay : (old new : List Slot) (free : ℕ) → IsArena new free → length new ≡ length old
-    → ((t : ℕ) → is_solution (made_at (made_in new) t) ≡ true → made_at (made_in new) t ≡ made_at (made_in old) t)
+    → ((t : ℕ) → IsSolution (made_in new) t → made_at (made_in new) t ≡ made_at (made_in old) t)
     → (t : ℕ) → IsLive (made_in new) t → cells_of (made_in new) t ≡ cells_of (made_in old) t
 unfolding cells_of
 cells_stay old new free arena lengths stays t t_live =

@@ -8,7 +8,7 @@ use Rattle.std.specs.List.{Contains}
 use Rattle.sol_arena.specs.declared.slot.Made.{Made}
 use Rattle.sol_arena.specs.declared.slot.Made.TheVariants.{Free, Owed, Cell, Join}
 use Rattle.sol_arena.specs.declared.slot.Slot.{Slot}
-use Rattle.sol_arena.specs.Slots.{none, nothing, made_in, made_at, is_solution}
+use Rattle.sol_arena.specs.Slots.{none, nothing, made_in, made_at, is_solution, IsSolution}
 use Rattle.sol_arena.specs.Uses.{uses_of, one_if, uses_in, inner_uses, live_count}
 use Rattle.sol_arena.specs.Invariant.{links, is_free, is_owed, followed, owed_count, IsKept, IsArena, IsOrderOf}
 use Rattle.sol_arena.specs.Changes.{GainsUse}
@@ -298,7 +298,7 @@ lessened old new free first sol giving once more =
           counted = λ t some. omega (arith, once.uses t some, inner_same t, giving.kept.counted t some, no_next t some);
           small = λ t some. omega (arith, once.uses t some, inner_same t, giving.kept.small t some, no_next t some);
           used = λ t is.
-              let was : is_solution (made_at (made_in old) t) ≡ true = ap is_solution (sym (same t)) ∙ is in
+              let was : IsSolution (made_in old) t = ap is_solution (sym (same t)) ∙ is in
               let some : t ≢ none = made_some (made_in old) room t was in
               elim (cases_eq sol t) [
                 | inl e ↦
