@@ -1,5 +1,5 @@
 -- Orders in which solutions come after what they were made of.
-use Rattle.std.proofs.Common.{◌≡◌, ◌≢◌, ℕ, ◌<◌, ◌≤◌, true, false, cond, ◌==◌, List, [], ◌∷◌, length, refl, sym, ap, ◌∙◌, arith, inl, inr, eqb, eqb-true, eq-eqb, ne_eqb}
+use Rattle.std.proofs.Common.{◌≡◌, ◌≢◌, ℕ, ◌<◌, ◌≤◌, false, cond, ◌==◌, List, [], ◌∷◌, length, refl, sym, ap, ◌∙◌, arith, inl, inr, eqb, eqb-true, eq-eqb, ne_eqb}
 use Rattle.std.proofs.lemmas.Bool.{cases_eq}
 use Rattle.std.specs.List.{Contains, IsDistinct, AllByRecursion}
 use Rattle.std.proofs.lemmas.Map.Keys.{IsDistinct-cons}

@@ -1,5 +1,5 @@
 -- What one turn of a release does.
-use Rattle.std.proofs.Common.{◌≡◌, ◌≢◌, ℕ, ◌+◌, ◌-◌, ◌<◌, ◌≤◌, true, false, ◌==◌, List, [], ◌∷◌, length, set, refl, sym, ap, ◌∙◌, arith, inl, inr, get_or, subst}
+use Rattle.std.proofs.Common.{◌≡◌, ◌≢◌, ℕ, ◌+◌, ◌-◌, ◌*◌, ◌<◌, ◌≤◌, true, false, ◌==◌, List, [], ◌∷◌, length, set, refl, sym, ap, ◌∙◌, arith, inl, inr, get_or, subst}
 use Rattle.std.proofs.lemmas.Bool.{cases_lt, cases_eq}
 use Rattle.std.proofs.lemmas.List.{map-set, get_or-set_same, get_or-set_other, length-set, get_or_past, get_or_default}
 use Rattle.std.proofs.Math.Seq.{map-set_same}
@@ -78,168 +78,181 @@ no_solution_owes (Owed to next) is owed = cc
 no_solution_owes (Cell node rep below) is owed = cc
 no_solution_owes (Join a b) is owed = cc
 
--- a slot that was no free one holds no solution now, and its uses were those that `next` still has to give up
-module _ (old : List Slot) (free free' sol next i : ℕ) (slot : Slot)
-    (kept : IsKept old free sol) (i_in : i < length old)
-    (gone : is_solution slot.made ≡ false) (unused : slot.uses ≡ 0)
-    (was : is_free (made_at (made_in old) i) ≡ false)
-    (last : uses_of old i ≡ one_if (sol == i))
-    (debts : (t : ℕ) → t ≢ none → t ≢ i → one_if (sol == t) ≡ 0)
-    (split : (t : ℕ) → t ≢ none → uses_in (made_at (made_in old) i) t ≡ uses_in slot.made t + one_if (next == t))
-    (others_linked : (t : ℕ) → t ≢ none → t ≢ i → links slot.made t + one_if (free' == t) ≡ one_if (free == t))
-    (here_linked : one_if (free == i) ≡ 0 → links slot.made i + one_if (free' == i) ≡ one_if (is_free slot.made))
-    (linkless : (t : ℕ) → links (made_at (made_in old) i) t ≡ 0) where
+-- The slot i, which was no free one, has no solution any more. Its last use was given up, and of what it was made of one
+-- use is to be given up next, of `next`. Free slots are still chained.
+pub record IsGone (old : List Slot) (free free' sol next i : ℕ) (slot : Slot) : Type 0 where
+  pub within : i < length old
+  pub gone : is_solution slot.made ≡ false
+  pub unused : slot.uses ≡ 0
+  pub taken : is_free (made_at (made_in old) i) ≡ false
+  pub last : uses_of old i ≡ one_if (sol == i)
+  pub debts : (t : ℕ) → t ≢ none → t ≢ i → one_if (sol == t) ≡ 0
+  pub split : (t : ℕ) → t ≢ none → uses_in (made_at (made_in old) i) t ≡ uses_in slot.made t + one_if (next == t)
+  pub others_linked : (t : ℕ) → t ≢ none → t ≢ i → links slot.made t + one_if (free' == t) ≡ one_if (free == t)
+  pub here_linked : one_if (free == i) ≡ 0 → links slot.made i + one_if (free' == i) ≡ one_if (is_free slot.made)
+  pub linkless : (t : ℕ) → links (made_at (made_in old) i) t ≡ 0
+  pub lighter : one_if (is_owed slot.made) < 2 * one_if (is_solution (made_at (made_in old) i)) + one_if (is_owed (made_at (made_in old) i))
+
+module _ (old : List Slot) (free first free' first' sol next i : ℕ) (slot : Slot)
+    (giving : IsGiving old free first sol) (g : IsGone old free free' sol next i slot) where
   i_made : i < length (made_in old)
-  i_made = omega (arith, length-made_in old, i_in)
+  i_made = omega (arith, length-made_in old, g.within)
 
   i_some : i ≢ none
-  i_some e = omega (arith, e, i_in, kept.room)
+  i_some e = omega (arith, e, g.within, giving.kept.room)
 
-  pub after_made_in : made_in (set old i slot) ≡ set (made_in old) i slot.made
+  after_made_in : made_in (set old i slot) ≡ set (made_in old) i slot.made
   after_made_in = map-set (λ x. x.made) old i slot
 
-  pub after_here : made_at (made_in (set old i slot)) i ≡ slot.made
-  after_here = made_of_slot (set old i slot) i ∙ ap (λ x. x.made) (get_or-set_same old i slot nothing i_in)
+  after_here : made_at (made_in (set old i slot)) i ≡ slot.made
+  after_here = made_of_slot (set old i slot) i ∙ ap (λ x. x.made) (get_or-set_same old i slot nothing g.within)
 
   after_other : (t : ℕ) → t ≢ i → made_at (made_in (set old i slot)) t ≡ made_at (made_in old) t
   after_other t other = made_of_slot (set old i slot) t ∙ ap (λ x. x.made) (get_or-set_other old i t slot nothing other) ∙ sym (made_of_slot old t)
 
   uses_here : uses_of (set old i slot) i ≡ 0
-  uses_here = ap (λ x. x.uses) (get_or-set_same old i slot nothing i_in) ∙ unused
+  uses_here = ap (λ x. x.uses) (get_or-set_same old i slot nothing g.within) ∙ g.unused
 
   uses_other : (t : ℕ) → t ≢ i → uses_of (set old i slot) t ≡ uses_of old t
   uses_other t other = ap (λ x. x.uses) (get_or-set_other old i t slot nothing other)
 
   inner_after : (t : ℕ) → t ≢ none → inner_uses (made_in (set old i slot)) t + one_if (next == t) ≡ inner_uses (made_in old) t
-  inner_after t some = omega (arith, ap (λ ms. inner_uses ms t) after_made_in, inner_uses-set (made_in old) i t slot.made i_made, split t some)
+  inner_after t some = omega (arith, ap (λ ms. inner_uses ms t) after_made_in, inner_uses-set (made_in old) i t slot.made i_made, g.split t some)
 
   follow_after : (t : ℕ) → followed (made_in (set old i slot)) t ≡ followed (made_in old) t + links slot.made t
-  follow_after t = omega (arith, ap (λ ms. followed ms t) after_made_in, followed-set (made_in old) i t slot.made i_made, linkless t)
+  follow_after t = omega (arith, ap (λ ms. followed ms t) after_made_in, followed-set (made_in old) i t slot.made i_made, g.linkless t)
 
-  pub gone_kept : IsKept (set old i slot) free' next
+  gone_kept : IsKept (set old i slot) free' next
   gone_kept =
       record {
-        room = omega (arith, kept.room, length-set old i slot);
+        room = omega (arith, giving.kept.room, length-set old i slot);
         counted = λ t some. elim (cases_eq t i) [
           | inl e ↦
               let here : inner_uses (made_in (set old i slot)) i + one_if (next == i) ≡ inner_uses (made_in old) i = inner_after i i_some in
-              rw e (omega (arith, here, kept.counted i i_some, last))
-          | inr other ↦ omega (arith, inner_after t some, uses_other t other, kept.counted t some)
+              rw e (omega (arith, here, giving.kept.counted i i_some, g.last))
+          | inr other ↦ omega (arith, inner_after t some, uses_other t other, giving.kept.counted t some)
         ];
         small = λ t some. elim (cases_eq t i) [
           | inl e ↦ rw e (omega (arith, uses_here))
-          | inr other ↦ omega (arith, inner_after t some, uses_other t other, kept.small t some, debts t some other)
+          | inr other ↦ omega (arith, inner_after t some, uses_other t other, giving.kept.small t some, g.debts t some other)
         ];
         used = λ t is. elim (cases_eq t i) [
           | inl e ↦
-              let clash : true ≡ false = sym is ∙ ap (λ y. is_solution (made_at (made_in (set old i slot)) y)) e ∙ ap is_solution after_here ∙ gone in
+              let clash : true ≡ false = sym is ∙ ap (λ y. is_solution (made_at (made_in (set old i slot)) y)) e ∙ ap is_solution after_here ∙ g.gone in
               absurd (cc)
-          | inr other ↦ omega (arith, uses_other t other, kept.used t (ap is_solution (sym (after_other t other)) ∙ is))
+          | inr other ↦ omega (arith, uses_other t other, giving.kept.used t (ap is_solution (sym (after_other t other)) ∙ is))
         ];
         unused = λ t not. elim (cases_eq t i) [
           | inl e ↦ ap (uses_of (set old i slot)) e ∙ uses_here
-          | inr other ↦ uses_other t other ∙ kept.unused t (ap is_solution (sym (after_other t other)) ∙ not)
+          | inr other ↦ uses_other t other ∙ giving.kept.unused t (ap is_solution (sym (after_other t other)) ∙ not)
         ];
         chained = λ t some. elim (cases_eq t i) [
           | inl e ↦ rw e (
-              let first : one_if (free == i) ≡ 0 = omega (arith, kept.chained i i_some, ap one_if was) in
-              omega (arith, follow_after i, kept.chained i i_some, ap one_if was, here_linked first, ap (λ m. one_if (is_free m)) after_here))
-          | inr other ↦ omega (arith, follow_after t, kept.chained t some, others_linked t some other, ap (λ m. one_if (is_free m)) (after_other t other))
+              let first : one_if (free == i) ≡ 0 = omega (arith, giving.kept.chained i i_some, ap one_if g.taken) in
+              omega (arith, follow_after i, giving.kept.chained i i_some, ap one_if g.taken, g.here_linked first, ap (λ m. one_if (is_free m)) after_here))
+          | inr other ↦ omega (arith, follow_after t, giving.kept.chained t some, g.others_linked t some other, ap (λ m. one_if (is_free m)) (after_other t other))
         ];
       }
 
-  pub gone_turn : IsTurn old (set old i slot) sol next
+  gone_turn : IsTurn old (set old i slot) sol next
   gone_turn =
       record {
         held = λ t some. elim (cases_eq t i) [
-          | inl e ↦ rw e (omega (arith, inner_after i i_some, uses_here, last))
-          | inr other ↦ omega (arith, inner_after t some, uses_other t other, debts t some other)
+          | inl e ↦ rw e (omega (arith, inner_after i i_some, uses_here, g.last))
+          | inr other ↦ omega (arith, inner_after t some, uses_other t other, g.debts t some other)
         ];
         same = λ t is. elim (cases_eq t i) [
           | inl e ↦
-              let clash : true ≡ false = sym is ∙ ap (λ y. is_solution (made_at (made_in (set old i slot)) y)) e ∙ ap is_solution after_here ∙ gone in
+              let clash : true ≡ false = sym is ∙ ap (λ y. is_solution (made_at (made_in (set old i slot)) y)) e ∙ ap is_solution after_here ∙ g.gone in
               absurd (cc)
           | inr other ↦ after_other t other
         ];
         lengths = length-set old i slot;
       }
 
-  pub gone_order : (order : List ℕ) → IsOrderOf (made_in old) order → IsOrderOf (made_in (set old i slot)) order
+  gone_order : (order : List ℕ) → IsOrderOf (made_in old) order → IsOrderOf (made_in (set old i slot)) order
   gone_order order orders =
       record {
         ordered = order_less (made_in old) (made_in (set old i slot)) (omega (arith, length-made_in old, length-made_in (set old i slot), length-set old i slot))
             (λ s x some. elim (cases_eq s i) [
-              | inl e ↦ rw e (omega (arith, ap (λ m. uses_in m x) after_here, split x some))
+              | inl e ↦ rw e (omega (arith, ap (λ m. uses_in m x) after_here, g.split x some))
               | inr other ↦ omega (arith, ap (λ m. uses_in m x) (after_other s other))
             ])
             order orders.ordered;
         whole = λ s is. orders.whole s (ap is_solution (sym (gone_turn.same s is)) ∙ is);
       }
 
-  pub gone_live : live_count (made_in (set old i slot)) + one_if (is_solution (made_at (made_in old) i)) ≡ live_count (made_in old)
-  gone_live = omega (arith, ap live_count after_made_in, live_count-set (made_in old) i slot.made i_made, ap one_if gone)
+  gone_live : live_count (made_in (set old i slot)) + one_if (is_solution (made_at (made_in old) i)) ≡ live_count (made_in old)
+  gone_live = omega (arith, ap live_count after_made_in, live_count-set (made_in old) i slot.made i_made, ap one_if g.gone)
 
-  pub gone_owed : owed_count (made_in (set old i slot)) + one_if (is_owed (made_at (made_in old) i)) ≡ owed_count (made_in old) + one_if (is_owed slot.made)
+  gone_owed : owed_count (made_in (set old i slot)) + one_if (is_owed (made_at (made_in old) i)) ≡ owed_count (made_in old) + one_if (is_owed slot.made)
   gone_owed = omega (arith, ap owed_count after_made_in, owed_count-set (made_in old) i slot.made i_made)
 
--- a solution with its last use gone owes its own use to the one that it was made of
-pub dropped_cell : (old : List Slot) (free first sol node rep below : ℕ) → IsGiving old free first sol → sol ≢ none → uses_of old sol ≡ 1
+  -- the turn that this is, where the slots of a chain owe a use each
+  pub gone_on : (chain : List ℕ) → IsChain (set (made_in old) i slot.made) first' chain
+      → owed_count (made_in old) + one_if (is_owed slot.made) ≡ length chain + one_if (is_owed (made_at (made_in old) i))
+      → IsTurnOn old (set old i slot) free' first' sol next
+  gone_on chain linked whole =
+      record {
+        giving = record {
+          kept = gone_kept;
+          acyclic = ∥∥₁_map giving.acyclic (λ (order, orders). (order, gone_order order orders));
+          chain = chain;
+          linked = subst (λ ms. IsChain ms first' chain) (sym after_made_in) linked;
+          whole = omega (arith, whole, gone_owed);
+        };
+        turn = gone_turn;
+        less = omega (arith, gone_live, gone_owed, g.lighter);
+      }
+
+-- the last use of a cell is given up
+pub dropped_cell : (old : List Slot) (free first sol node rep below : ℕ) → IsGiving old free first sol → uses_of old sol ≡ 1
     → made_at (made_in old) sol ≡ Cell node rep below
     → IsTurnOn old (set old sol (record { made = Free free; uses = 0 })) sol first sol below
-dropped_cell old free first sol node rep below giving some last was =
-    let slot : Slot = record { made = Free free; uses = 0 } in
-    let sol_in : sol < length old = omega (arith, length-made_in old, is_there (made_in old) sol is_solution refl (ap is_solution was)) in
-    let last_is : uses_of old sol ≡ one_if (sol == sol) = omega (arith, last, one_same sol sol refl) in
-    let debts : (t : ℕ) → t ≢ none → t ≢ sol → one_if (sol == t) ≡ 0 = λ t _ other. one_other sol t (λ e. other (sym e)) in
-    let split : (t : ℕ) → t ≢ none → uses_in (made_at (made_in old) sol) t ≡ uses_in (Free free) t + one_if (below == t) = λ t _. omega (arith, ap (λ m. uses_in m t) was) in
-    let others_linked : (t : ℕ) → t ≢ none → t ≢ sol → links (Free free) t + one_if (sol == t) ≡ one_if (free == t) = λ t _ other. omega (arith, one_other sol t (λ e. other (sym e))) in
-    let here_linked : one_if (free == sol) ≡ 0 → links (Free free) sol + one_if (sol == sol) ≡ one_if (is_free (Free free)) = λ none_is. omega (arith, none_is, one_same sol sol refl) in
-    let linkless : (t : ℕ) → links (made_at (made_in old) sol) t ≡ 0 = λ t. ap (λ m. links m t) was in
+dropped_cell old free first sol node rep below giving last was =
     let out : Contains giving.chain sol → ⊥ = λ found. no_solution_owes (made_at (made_in old) sol) (ap is_solution was) (chain_owes (made_in old) first giving.chain giving.linked sol found) in
-    let made_in_are : made_in (set old sol slot) ≡ set (made_in old) sol (Free free) = map-set (λ x. x.made) old sol slot in
-    let fewer = gone_live old free sol sol below sol slot giving.kept sol_in refl refl (ap is_free was) last_is debts split others_linked here_linked linkless in
-    let owing = gone_owed old free sol sol below sol slot giving.kept sol_in refl refl (ap is_free was) last_is debts split others_linked here_linked linkless in
-    record {
-      giving = record {
-        kept = gone_kept old free sol sol below sol slot giving.kept sol_in refl refl (ap is_free was) last_is debts split others_linked here_linked linkless;
-        acyclic = ∥∥₁_map giving.acyclic (λ (order, orders). (order, gone_order old free sol sol below sol slot giving.kept sol_in refl refl (ap is_free was) last_is debts split others_linked here_linked linkless order orders));
-        chain = giving.chain;
-        linked = rw made_in_are (chain_set (made_in old) sol (Free free) first giving.chain out giving.linked);
-        whole = omega (arith, owing, giving.whole, ap (λ m. one_if (is_owed m)) was);
-      };
-      turn = gone_turn old free sol sol below sol slot giving.kept sol_in refl refl (ap is_free was) last_is debts split others_linked here_linked linkless;
-      less = omega (arith, owing, fewer, ap (λ m. one_if (is_owed m)) was, ap (λ m. one_if (is_solution m)) was);
-    }
+    gone_on old free first sol first sol below sol (record { made = Free free; uses = 0 }) giving
+    (record {
+      within = omega (arith, length-made_in old, is_there (made_in old) sol is_solution refl (ap is_solution was));
+      gone = refl;
+      unused = refl;
+      taken = ap is_free was;
+      last = omega (arith, last, one_same sol sol refl);
+      debts = λ t _ other. one_other sol t (λ e. other (sym e));
+      split = λ t _. omega (arith, ap (λ m. uses_in m t) was);
+      others_linked = λ t _ other. omega (arith, one_other sol t (λ e. other (sym e)));
+      here_linked = λ none_is. omega (arith, none_is, one_same sol sol refl);
+      linkless = λ t. ap (λ m. links m t) was;
+      lighter = omega (arith, ap (λ m. one_if (is_solution m)) was);
+    })
+    giving.chain (chain_set (made_in old) sol (Free free) first giving.chain out giving.linked)
+    (omega (arith, giving.whole, ap (λ m. one_if (is_owed m)) was))
 
-pub dropped_join : (old : List Slot) (free first sol a b : ℕ) → IsGiving old free first sol → sol ≢ none → uses_of old sol ≡ 1
+-- the last use of a join is given up
+pub dropped_join : (old : List Slot) (free first sol a b : ℕ) → IsGiving old free first sol → uses_of old sol ≡ 1
     → made_at (made_in old) sol ≡ Join a b
     → IsTurnOn old (set old sol (record { made = Owed b first; uses = 0 })) free sol sol a
-dropped_join old free first sol a b giving some last was =
-    let slot : Slot = record { made = Owed b first; uses = 0 } in
-    let sol_in : sol < length old = omega (arith, length-made_in old, is_there (made_in old) sol is_solution refl (ap is_solution was)) in
-    let last_is : uses_of old sol ≡ one_if (sol == sol) = omega (arith, last, one_same sol sol refl) in
-    let debts : (t : ℕ) → t ≢ none → t ≢ sol → one_if (sol == t) ≡ 0 = λ t _ other. one_other sol t (λ e. other (sym e)) in
-    let split : (t : ℕ) → t ≢ none → uses_in (made_at (made_in old) sol) t ≡ uses_in (Owed b first) t + one_if (a == t) = λ t _. omega (arith, ap (λ m. uses_in m t) was) in
-    let others_linked : (t : ℕ) → t ≢ none → t ≢ sol → links (Owed b first) t + one_if (free == t) ≡ one_if (free == t) = λ t _ other. omega arith in
-    let here_linked : one_if (free == sol) ≡ 0 → links (Owed b first) sol + one_if (free == sol) ≡ one_if (is_free (Owed b first)) = λ none_is. omega (arith, none_is) in
-    let linkless : (t : ℕ) → links (made_at (made_in old) sol) t ≡ 0 = λ t. ap (λ m. links m t) was in
+dropped_join old free first sol a b giving last was =
+    let sol_in : sol < length (made_in old) = is_there (made_in old) sol is_solution refl (ap is_solution was) in
     let out : Contains giving.chain sol → ⊥ = λ found. no_solution_owes (made_at (made_in old) sol) (ap is_solution was) (chain_owes (made_in old) first giving.chain giving.linked sol found) in
-    let made_in_are : made_in (set old sol slot) ≡ set (made_in old) sol (Owed b first) = map-set (λ x. x.made) old sol slot in
-    let fewer = gone_live old free free sol a sol slot giving.kept sol_in refl refl (ap is_free was) last_is debts split others_linked here_linked linkless in
-    let owing = gone_owed old free free sol a sol slot giving.kept sol_in refl refl (ap is_free was) last_is debts split others_linked here_linked linkless in
-    let sol_set : sol < length (set (made_in old) sol (Owed b first)) = omega (arith, length-made_in old, length-set (made_in old) sol (Owed b first)) in
-    let here : made_at (set (made_in old) sol (Owed b first)) sol ≡ Owed b first = get_or-set_same (made_in old) sol (Owed b first) (Owed none none) (omega (arith, length-made_in old)) in
-    record {
-      giving = record {
-        kept = gone_kept old free free sol a sol slot giving.kept sol_in refl refl (ap is_free was) last_is debts split others_linked here_linked linkless;
-        acyclic = ∥∥₁_map giving.acyclic (λ (order, orders). (order, gone_order old free free sol a sol slot giving.kept sol_in refl refl (ap is_free was) last_is debts split others_linked here_linked linkless order orders));
-        chain = sol ∷ giving.chain;
-        linked = subst (λ ms. IsChain ms sol (sol ∷ giving.chain)) (sym made_in_are) (refl, sol_set, out, (b, first, here, chain_set (made_in old) sol (Owed b first) first giving.chain out giving.linked));
-        whole = omega (arith, owing, giving.whole, ap (λ m. one_if (is_owed m)) was);
-      };
-      turn = gone_turn old free free sol a sol slot giving.kept sol_in refl refl (ap is_free was) last_is debts split others_linked here_linked linkless;
-      less = omega (arith, owing, fewer, ap (λ m. one_if (is_owed m)) was, ap (λ m. one_if (is_solution m)) was);
-    }
+    let here : made_at (set (made_in old) sol (Owed b first)) sol ≡ Owed b first = get_or-set_same (made_in old) sol (Owed b first) (Owed none none) sol_in in
+    gone_on old free first free sol sol a sol (record { made = Owed b first; uses = 0 }) giving
+    (record {
+      within = omega (arith, length-made_in old, sol_in);
+      gone = refl;
+      unused = refl;
+      taken = ap is_free was;
+      last = omega (arith, last, one_same sol sol refl);
+      debts = λ t _ other. one_other sol t (λ e. other (sym e));
+      split = λ t _. omega (arith, ap (λ m. uses_in m t) was);
+      others_linked = λ t _ other. omega arith;
+      here_linked = λ none_is. omega (arith, none_is);
+      linkless = λ t. ap (λ m. links m t) was;
+      lighter = omega (arith, ap (λ m. one_if (is_solution m)) was);
+    })
+    (sol ∷ giving.chain)
+    (refl, omega (arith, sol_in, length-set (made_in old) sol (Owed b first)), out, (b, first, here, chain_set (made_in old) sol (Owed b first) first giving.chain out giving.linked))
+    (omega (arith, giving.whole, ap (λ m. one_if (is_owed m)) was))
 
 -- the first of the chain owes a use
 pub first_owes : (old : List Slot) (free first sol : ℕ) → IsGiving old free first sol → first ≢ none → (to : ℕ) × (next : ℕ) × (made_at (made_in old) first ≡ Owed to next) × (first < length old)
@@ -248,39 +261,35 @@ first_owes old free first sol giving some = go giving.chain giving.linked where
   go [] linked = absurd (some linked)
   go (x ∷ rest) linked = (linked.3.0, linked.3.1, ap (made_at (made_in old)) linked.0 ∙ linked.3.2, omega (arith, linked.0, linked.1, length-made_in old))
 
+-- the first of the chain pays
 pub paid_first : (old : List Slot) (free first to next : ℕ) → IsGiving old free first none → first ≢ none
     → made_at (made_in old) first ≡ Owed to next
     → IsTurnOn old (set old first (record { made = Free free; uses = 0 })) first next none to
 paid_first old free first to next giving some was = go giving.chain giving.linked giving.whole where
-  go : (chain : List ℕ) → IsChain (made_in old) first chain → owed_count (made_in old) ≡ length chain → IsTurnOn old (set old first (record { made = Free free; uses = 0 })) first next none to
+  go : (chain : List ℕ) → IsChain (made_in old) first chain → owed_count (made_in old) ≡ length chain
+      → IsTurnOn old (set old first (record { made = Free free; uses = 0 })) first next none to
   go [] linked whole = absurd (some linked)
   go (x ∷ rest) linked whole =
-      let slot : Slot = record { made = Free free; uses = 0 } in
-      let first_in : first < length old = omega (arith, linked.0, linked.1, length-made_in old) in
       let owes : Owed to next ≡ Owed linked.3.0 linked.3.1 = sym was ∙ ap (made_at (made_in old)) linked.0 ∙ linked.3.2 in
       let next_is : linked.3.1 ≡ next = cc in
       let out : Contains rest first → ⊥ = rw linked.0 linked.2 in
       let rest_linked : IsChain (made_in old) next rest = subst (λ n. IsChain (made_in old) n rest) next_is linked.3.3 in
-      let last_is : uses_of old first ≡ one_if (none == first) = giving.kept.unused first (ap is_solution was) ∙ sym (one_other none first (λ e. some (sym e))) in
-      let debts : (t : ℕ) → t ≢ none → t ≢ first → one_if (none == t) ≡ 0 = λ t t_some _. one_other none t (λ e. t_some (sym e)) in
-      let split : (t : ℕ) → t ≢ none → uses_in (made_at (made_in old) first) t ≡ uses_in (Free free) t + one_if (to == t) = λ t _. omega (arith, ap (λ m. uses_in m t) was) in
-      let others_linked : (t : ℕ) → t ≢ none → t ≢ first → links (Free free) t + one_if (first == t) ≡ one_if (free == t) = λ t _ other. omega (arith, one_other first t (λ e. other (sym e))) in
-      let here_linked : one_if (free == first) ≡ 0 → links (Free free) first + one_if (first == first) ≡ one_if (is_free (Free free)) = λ none_is. omega (arith, none_is, one_same first first refl) in
-      let linkless : (t : ℕ) → links (made_at (made_in old) first) t ≡ 0 = λ t. ap (λ m. links m t) was in
-      let made_in_are : made_in (set old first slot) ≡ set (made_in old) first (Free free) = map-set (λ y. y.made) old first slot in
-      let fewer = gone_live old free first none to first slot giving.kept first_in refl refl (ap is_free was) last_is debts split others_linked here_linked linkless in
-      let owing = gone_owed old free first none to first slot giving.kept first_in refl refl (ap is_free was) last_is debts split others_linked here_linked linkless in
-      record {
-        giving = record {
-          kept = gone_kept old free first none to first slot giving.kept first_in refl refl (ap is_free was) last_is debts split others_linked here_linked linkless;
-          acyclic = ∥∥₁_map giving.acyclic (λ (order, orders). (order, gone_order old free first none to first slot giving.kept first_in refl refl (ap is_free was) last_is debts split others_linked here_linked linkless order orders));
-          chain = rest;
-          linked = rw made_in_are (chain_set (made_in old) first (Free free) next rest out rest_linked);
-          whole = omega (arith, owing, whole, ap (λ m. one_if (is_owed m)) was);
-        };
-        turn = gone_turn old free first none to first slot giving.kept first_in refl refl (ap is_free was) last_is debts split others_linked here_linked linkless;
-        less = omega (arith, owing, fewer, ap (λ m. one_if (is_owed m)) was, ap (λ m. one_if (is_solution m)) was);
-      }
+      gone_on old free first first next none to first (record { made = Free free; uses = 0 }) giving
+      (record {
+        within = omega (arith, linked.0, linked.1, length-made_in old);
+        gone = refl;
+        unused = refl;
+        taken = ap is_free was;
+        last = giving.kept.unused first (ap is_solution was) ∙ sym (one_other none first (λ e. some (sym e)));
+        debts = λ t t_some _. one_other none t (λ e. t_some (sym e));
+        split = λ t _. omega (arith, ap (λ m. uses_in m t) was);
+        others_linked = λ t _ other. omega (arith, one_other first t (λ e. other (sym e)));
+        here_linked = λ none_is. omega (arith, none_is, one_same first first refl);
+        linkless = λ t. ap (λ m. links m t) was;
+        lighter = omega (arith, ap (λ m. one_if (is_owed m)) was);
+      })
+      rest (chain_set (made_in old) first (Free free) next rest out rest_linked)
+      (omega (arith, whole, ap (λ m. one_if (is_owed m)) was))
 
 -- a use less, where others are left
 pub lessened : (old new : List Slot) (free first sol : ℕ) → IsGiving old free first sol → GainsUse new old sol → (sol ≢ none → 1 < uses_of old sol)
