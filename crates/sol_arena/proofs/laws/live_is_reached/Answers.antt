@@ -4,7 +4,7 @@ use Rattle.sol_arena.proofs.ReachLemmas.{live_reached, reached_live}
 use Rattle.sol_arena.proofs.laws.live_is_reached.Goals as goal
 
 pub returns-clause-reached : goal.returns-clause-reached
-returns-clause-reached c = λ s is. live_reached c.args.arena.now.slots.items c.args.arena.now.free c.args.arena.now.sound s is
+returns-clause-reached c = λ s is. live_reached c.args.arena.now s is
 
 pub returns-clause-live : goal.returns-clause-live
-returns-clause-live c = λ s reached. reached_live c.args.arena.now.slots.items c.args.arena.now.free c.args.arena.now.sound (held_of c.args.arena.now.slots.items) (λ t _. omega arith) s reached
+returns-clause-live c = λ s reached. reached_live c.args.arena.now (held_of c.args.arena.now.slots.items) (λ t _. omega arith) s reached

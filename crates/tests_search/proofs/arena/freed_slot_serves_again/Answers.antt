@@ -11,7 +11,7 @@ has_cells-requires-clause-below g c =
     let part = c.in_ok-part.ensures.new in
     let p = c.in_ok-part.part.0 in
     let after = c.release.new.self in
-    let p_live = held_live after.slots.items after.free after.sound p part.apart
+    let p_live = held_live after p part.apart
     (omega (arith, part.held p part.apart, c.release.ensures.held p part.apart, first.held p part.apart, one_same p p refl)) in
     cell_below _ _ 3 _ 2 7 p c.in_ok-whole.ensures.new (omega arith)
     (subst (AreBelow 3) (sym (c.release.ensures.cells p (λ _. p_live)))

@@ -12,7 +12,7 @@ pub release-requires-clause-live : goal.release-requires-clause-live
 release-requires-clause-live g c = λ some.
     let p = c.in_ok-part.part.0 in
     let now = c.cell-3.new.self in
-    held_live now.slots.items now.free now.sound p some
+    held_live now p some
     (omega (arith, c.in_ok-part.ensures.new.held p some, c.in_ok-first.ensures.new.held p some, c.in_ok-second.ensures.new.held p some, one_same p p refl))
 
 pub release-requires-2-clause-held : goal.release-requires-2-clause-held
@@ -24,7 +24,7 @@ pub release-requires-2-clause-live : goal.release-requires-2-clause-live
 release-requires-2-clause-live g c = λ some.
     let f = c.in_ok-first.first.0 in
     let now = c.release.new.self in
-    held_live now.slots.items now.free now.sound f some
+    held_live now f some
     (omega (arith, c.in_ok-part.ensures.new.held f some, c.in_ok-first.ensures.new.held f some, c.in_ok-second.ensures.new.held f some, c.release.ensures.held f some, one_same f f refl))
 
 pub release-requires-3-clause-held : goal.release-requires-3-clause-held
@@ -36,5 +36,5 @@ pub release-requires-3-clause-live : goal.release-requires-3-clause-live
 release-requires-3-clause-live g c = λ some.
     let s = c.in_ok-second.second.0 in
     let now = c.release-2.new.self in
-    held_live now.slots.items now.free now.sound s some
+    held_live now s some
     (omega (arith, c.in_ok-part.ensures.new.held s some, c.in_ok-first.ensures.new.held s some, c.in_ok-second.ensures.new.held s some, c.release.ensures.held s some, c.release-2.ensures.held s some, one_same s s refl))
