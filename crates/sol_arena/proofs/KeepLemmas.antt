@@ -5,7 +5,7 @@ use Rattle.std.proofs.lemmas.List.{get_or_past}
 use Rattle.std.proofs.Math.Logic.{∥∥₁_map}
 use Rattle.sol_arena.specs.declared.slot.Slot.{Slot}
 use Rattle.sol_arena.specs.Slots.{none, nothing, made_in, made_at, is_solution, IsSolution, IsLive}
-use Rattle.sol_arena.specs.Uses.{uses_of, held_of, one_if, inner_uses, live_count}
+use Rattle.sol_arena.specs.Uses.{uses_of, held_of, one_if, inner_uses}
 use Rattle.sol_arena.specs.Invariant.{is_free, followed, owed_count, IsArena}
 use Rattle.sol_arena.specs.Changes.{GainsUse}
 use Rattle.sol_arena.proofs.OneLemmas.{one_same, one_other}
@@ -26,10 +26,6 @@ arena_empty slots is =
       settled = refl;
       acyclic = ∣ ([], record { ordered = tt; whole = λ t made. absurd (cc) }) ∣₁;
     })
-
-pub live_count_empty : (slots : List Slot) → slots ≡ [] → live_count (made_in slots) ≡ 0
-unfolding live_count
-live_count_empty slots is = subst (λ xs. live_count (made_in xs) ≡ 0) (sym is) refl
 
 pub used_arena : (old new : List Slot) (free s : ℕ) → IsArena old free → GainsUse old new s → IsLive (made_in old) s → uses_of old s < 2 ^ 63 → IsArena new free
 used_arena old new free s arena once s_live room =

@@ -1,5 +1,5 @@
 -- The meaning of a solution by those of what it was made of, and what leaves it as it is.
-use Rattle.std.proofs.Common.{◌≡◌, ℕ, zero, suc, ◌^◌, ◌<◌, ◌≤◌, List, [], ◌∷◌, cond, length, Option, Some, None, refl, sym, ap, ◌∙◌, arith, inl, inr, ne_eqb, subst}
+use Rattle.std.proofs.Common.{◌≡◌, ℕ, zero, suc, ◌<◌, ◌≤◌, List, [], ◌∷◌, cond, length, Option, Some, None, refl, sym, ap, ◌∙◌, arith, inl, inr, ne_eqb, subst}
 use Rattle.std.proofs.lemmas.Bool.{cases_eq}
 use Rattle.std.proofs.lemmas.List.{get_or_past}
 use Rattle.std.specs.List.{Contains}
@@ -34,9 +34,6 @@ cells_alike old new P same closed (suc n) s s_in =
     ap (λ m. cells_by m (cells_within n new)) (same s s_in)
     ∙ made_alike (made_at old s) (cells_within n new) (cells_within n old)
     (λ x x_of. cells_alike old new P same closed n x (closed s x s_in x_of))
-
-pub none_past : (ms : List Made) → length ms ≤ 2 ^ 61 → length ms ≤ none
-none_past ms room = omega arith
 
 pub none_made : (ms : List Made) → length ms ≤ none → made_at ms none ≡ Owed none none
 none_made ms room = get_or_past ms none (Owed none none) room

@@ -19,12 +19,8 @@ use Rattle.sol_arena.proofs.OneLemmas.{one_other, in_rest, in_cases}
 use Rattle.sol_arena.proofs.CountLemmas.{length-made_in, past_owed, owed_count-set}
 use Rattle.sol_arena.proofs.MakeLemmas.{closed_live, made_some}
 
-pub reached_some : (ms : List Made) (held : ℕ → ℕ) (s : ℕ) → IsReached ms held s → s ≢ none
-reached_some ms held s (root _ some positive) = some
-reached_some ms held s (through _ _ before some x_of) = some
-
 -- what held uses reach is live
-pub reached_live : (arena : Arena) → (held : ℕ → ℕ) → AreHeld held (slots_of arena) → (s : ℕ) → IsReached (made_of arena) held s → IsSolution (made_of arena) s
+pub reached_live : (arena : Arena) (held : ℕ → ℕ) → AreHeld held (slots_of arena) → (s : ℕ) → IsReached (made_of arena) held s → IsSolution (made_of arena) s
 reached_live arena held are s (root _ some positive) =
     elim (cases_Bool (is_solution (made_at (made_of arena) s))) [
       | inl is ↦ is
@@ -111,7 +107,7 @@ settled_uses ms i s settled some not =
       | inr past ↦ ap (λ m. uses_in m s) (past_owed ms i past) ∙ one_other none s (λ e. some (sym e))
     ]
 
-user_of : (arena : Arena) → (s : ℕ) → s ≢ none → 0 < inner_uses (made_of arena) s → (u : ℕ) × IsSolution (made_of arena) u × (0 < uses_in (made_at (made_of arena) u) s)
+user_of : (arena : Arena) (s : ℕ) → s ≢ none → 0 < inner_uses (made_of arena) s → (u : ℕ) × IsSolution (made_of arena) u × (0 < uses_in (made_at (made_of arena) u) s)
 unfolding inner_uses
 user_of arena s some positive =
     let (u, u_in, part) = some_part (λ m. uses_in m s) (made_of arena) (Owed none none) positive in
@@ -130,7 +126,7 @@ later_child ms (y ∷ rest) ordered u s found some s_of =
     ]
 
 -- all solutions are reached, where those are that are not of a part of the order
-all_reached : (arena : Arena) → (order : List ℕ) → IsOrder (made_of arena) order
+all_reached : (arena : Arena) (order : List ℕ) → IsOrder (made_of arena) order
     → ((t : ℕ) → IsSolution (made_of arena) t → (Contains order t → ⊥) → IsReached (made_of arena) (held_of (slots_of arena)) t)
     → (t : ℕ) → IsSolution (made_of arena) t → IsReached (made_of arena) (held_of (slots_of arena)) t
 all_reached arena [] ordered before t is = before t is (λ (k, k_n, e). absurd (omega arith))
@@ -155,7 +151,7 @@ all_reached arena (y ∷ rest) ordered before t is =
           ]
 
 -- the live solutions are those that held uses reach
-pub live_reached : (arena : Arena) → (t : ℕ) → IsSolution (made_of arena) t → ∥ IsReached (made_of arena) (held_of (slots_of arena)) t ∥₁
+pub live_reached : (arena : Arena) (t : ℕ) → IsSolution (made_of arena) t → ∥ IsReached (made_of arena) (held_of (slots_of arena)) t ∥₁
 live_reached arena t is =
     ∥∥₁_map arena.sound.acyclic (λ (order, orders). all_reached arena order orders.ordered (λ u u_is out. absurd (out (orders.whole u u_is))) t is)
 
@@ -219,6 +215,6 @@ module _ (old new : Arena)
       }
 
 -- a solution with a held use is live
-pub held_live : (arena : Arena) → (s : ℕ) → s ≢ none → 0 < held_of (slots_of arena) s → IsSolution (made_of arena) s
+pub held_live : (arena : Arena) (s : ℕ) → s ≢ none → 0 < held_of (slots_of arena) s → IsSolution (made_of arena) s
 held_live arena s some positive =
     reached_live arena (held_of (slots_of arena)) (λ t _. omega arith) s (root s some positive)
