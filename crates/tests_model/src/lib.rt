@@ -4,6 +4,8 @@
 #[cfg(test)]
 mod build;
 #[cfg(test)]
+mod candidates;
+#[cfg(test)]
 mod legal;
 #[cfg(test)]
 mod limits;
