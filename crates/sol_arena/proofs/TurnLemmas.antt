@@ -333,48 +333,9 @@ lessened old new free first sol giving once more =
       },
     )
 
-pub turns : (a b c : List Slot) (sol mid next : ℕ) → IsTurn a b sol mid → IsTurn b c mid next → IsTurn a c sol next
-turns a b c sol mid next one two =
-    record {
-      held = λ t some. omega (arith, one.held t some, two.held t some);
-      same = λ t is. two.same t is ∙ one.same t (ap is_solution (sym (two.same t is)) ∙ is);
-      lengths = two.lengths ∙ one.lengths;
-    }
-
--- the last use is the only one
-pub giving_start : (slots : List Slot) (free sol : ℕ) → IsArena slots free → (sol ≢ none → inner_uses (made_in slots) sol < uses_of slots sol) → IsGiving slots free none sol
-giving_start slots free sol arena held =
-    record {
-      kept = record {
-        room = arena.kept.room;
-        counted = λ t some. elim (cases_eq sol t) [
-          | inl e ↦
-              let t_held : inner_uses (made_in slots) t < uses_of slots t = subst (λ x. inner_uses (made_in slots) x < uses_of slots x) e (held (λ n. some (sym e ∙ n))) in
-              omega (arith, t_held, one_same sol t e)
-          | inr other ↦ omega (arith, arena.kept.counted t some, one_other sol t other)
-        ];
-        small = λ t some. omega (arith, arena.kept.small t some, one_other none t (λ e. some (sym e)));
-        used = arena.kept.used;
-        unused = arena.kept.unused;
-        chained = arena.kept.chained;
-      };
-      acyclic = arena.acyclic;
-      chain = [];
-      linked = refl;
-      whole = arena.settled;
-    }
-
 pub giving_end : (slots : List Slot) (free first : ℕ) → IsGiving slots free first none → first ≡ none → IsArena slots free
 giving_end slots free first giving done =
     record { kept = giving.kept; settled = giving.whole ∙ go giving.chain giving.linked; acyclic = giving.acyclic } where
       go : (chain : List ℕ) → IsChain (made_in slots) first chain → length chain ≡ 0
       go [] linked = refl
       go (x ∷ rest) linked = absurd (omega (arith, linked.0, linked.1, length-made_in slots, giving.kept.room, done))
-
-pub turn_on : (a b c : List Slot) (free first sol next : ℕ) → IsTurn a b sol none → made_in b ≡ made_in a → IsTurnOn b c free first none next → IsTurnOn a c free first sol next
-turn_on a b c free first sol next one same two =
-    record {
-      giving = two.giving;
-      turn = turns a b c sol none next one two.turn;
-      less = omega (arith, two.less, ap live_count same, ap owed_count same);
-    }
