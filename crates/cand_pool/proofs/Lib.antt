@@ -1,0 +1,13 @@
+pub mod LinkLaws
+pub mod MoveLaws
+pub mod TrailLaws
+pub mod PoolLaws
+pub mod PoolMoves
+pub mod PoolSlots
+pub mod PublicLaws
+pub mod SieveLaws
+pub mod WireLaws
+pub mod UnionLaws
+pub mod BranchLaws
+pub mod PlaceLaws
+pub mod KeptLaws

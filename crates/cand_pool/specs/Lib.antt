@@ -1,0 +1,9 @@
+pub mod Links
+pub mod Candidates
+pub mod Pools
+pub mod Moves
+pub mod Sieves
+pub mod Sequences
+pub mod Unions
+pub mod Branches
+pub mod Laws

@@ -1,0 +1,22 @@
+//! Lists of candidates of required time and load, linked inside one block of slots.
+//!
+//! Still to come: a load beside a whole list, the length of a list, and whether three candidates bend.
+#![tactic(auto)]
+
+mod absorb;
+mod ends;
+mod join_pair;
+mod laws;
+mod lists;
+mod moves;
+mod places;
+mod pool;
+mod sieve;
+mod steps;
+mod wire;
+
+pub use ends::{Bag, Cand, List};
+pub use join_pair::Taken;
+pub use laws::kept_covers;
+pub use pool::Pool;
+pub use steps::Steps;

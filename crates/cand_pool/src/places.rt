@@ -1,0 +1,72 @@
+//! Places in lists, and the numbers that stand there.
+
+ghost use Rattle.std.specs.Prelude.{◌≡◌, suc, [], ◌∷◌, MatchOption};
+ghost use Rattle.std.specs.Ordering.{int_cmp};
+ghost use Rattle.cand_pool.specs.Candidates.{Candidate, Candidates, wired};
+ghost use Rattle.cand_pool.specs.Pools.{Holds, IsPlace, IsModestPlace};
+
+use crate::ends::{Cand, List, NONE};
+use crate::pool::Pool;
+use crate::steps::Steps;
+use std::cmp::Ordering;
+use std::sync::ledger::Ledger;
+
+impl Pool {
+    /// The first place of a list. `None`: it is empty.
+    pub fn first(&self, list: &List) -> Option<Cand>
+        ensures { (xs : Candidates) → Holds self.now list.now xs → MatchOption result (xs ≡ []) (λ cand. IsPlace self.now cand xs) }
+    {
+        if list.ends.first == NONE {
+            None
+        } else {
+            Some(Cand {
+                slot: list.ends.first,
+            })
+        }
+    }
+
+    /// The place after this one. `None`: it is the last of its list.
+    pub fn next(&self, cand: Cand) -> Option<Cand>
+        requires { (xs : Candidates) × IsPlace self.now cand xs }
+        ensures { (x : Candidate) (xs : Candidates) → IsPlace self.now cand (x ∷ xs)
+            → MatchOption result (xs ≡ []) (λ cand. IsPlace self.now cand xs) }
+    {
+        let slot = self.links[cand.slot as usize];
+        if slot == NONE {
+            None
+        } else {
+            Some(Cand { slot })
+        }
+    }
+
+    /// The q, the c and the tag of a candidate.
+    pub fn tell<L: Ledger>(&self, cand: Cand, steps: &mut Steps<L>) -> (i128, u64, u64)
+        requires { (xs : Candidates) × IsPlace self.now cand xs }
+        ensures told { (x : Candidate) (xs : Candidates) → IsPlace self.now cand (x ∷ xs)
+            → (result.0 ≡ x.q) × (result.1 ≡ x.c) × (result.2 ≡ x.tag) }
+        ensures step { steps.new ≡ suc steps.old }
+    {
+        steps.tick();
+        let slot = cand.slot as usize;
+        (self.qs[slot], self.cs[slot], self.tags[slot])
+    }
+
+    /// Compares two candidates by their q above a wire of this resistance.
+    pub fn at_resistance<L: Ledger>(
+        &self,
+        a: Cand,
+        b: Cand,
+        r: u64,
+        steps: &mut Steps<L>,
+    ) -> Ordering
+        requires a { IsModestPlace self.now a }
+        requires b { IsModestPlace self.now b }
+        ensures order { (x y : Candidate) (xs ys : Candidates) → IsPlace self.now a (x ∷ xs) → IsPlace self.now b (y ∷ ys)
+            → result ≡ int_cmp (wired r x).q (wired r y).q }
+        ensures step { steps.new ≡ suc steps.old }
+    {
+        steps.tick();
+        let (a, b) = (self.after_wire(a.slot, r), self.after_wire(b.slot, r));
+        a.cmp(&b)
+    }
+}

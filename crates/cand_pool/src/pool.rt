@@ -1,0 +1,72 @@
+//! A pool: one block of slots.
+
+ghost use Rattle.std.specs.Prelude.{◌≡◌, suc, ◌≤◌, [], IfOk};
+ghost use Rattle.cand_pool.specs.Pools.{spare, KeepsOthers};
+
+use crate::ends::NONE;
+use std::alloc::Global;
+use std::marker::Model;
+use vg_num::Memory;
+
+/// Lists and bags in one block of slots. Contracts see the block.
+#[derive(Drop)]
+pub struct Pool {
+    pub(crate) links: Vec<u32>,
+    pub(crate) qs: Vec<i128>,
+    pub(crate) cs: Vec<u64>,
+    pub(crate) tags: Vec<u64>,
+    pub(crate) free: u32,
+}
+
+impl Model for Pool {
+    ghost use Rattle.cand_pool.specs.Pools.{Block, IsPool};
+
+    ghost Value = { Block };
+
+    ghost view = { λ p. record { links = p.links.items; qs = p.qs.items; cs = p.cs.items; tags = p.tags.items; free = p.free } };
+
+    ghost invariant = { λ p. IsPool (record { links = p.links.items; qs = p.qs.items; cs = p.cs.items; tags = p.tags.items; free = p.free }) };
+}
+
+impl Pool {
+    /// A pool without slots.
+    pub fn new(alloc: Global) -> Pool
+        ensures { spare result ≡ 0 }
+    {
+        Pool {
+            links: Vec::new(alloc),
+            qs: Vec::new(alloc),
+            cs: Vec::new(alloc),
+            tags: Vec::new(alloc),
+            free: NONE,
+        }
+    }
+
+    /// Adds a free slot.
+    fn grow(&mut self) -> Result<(), Memory>
+        ensures others { KeepsOthers self.old [] self.new [] }
+        ensures spare { IfOk result (λ _. spare self.new ≡ suc (spare self.old)) }
+    {
+        if self.links.len() >= 4_294_967_295 {
+            return Err(Memory);
+        }
+        let slot = self.links.len() as u32;
+        self.qs.push(0)?;
+        self.cs.push(0)?;
+        self.tags.push(0)?;
+        self.links.push(NONE)?;
+        self.give(slot);
+        Ok(())
+    }
+
+    /// Makes room for `n` more candidates. All lists and bags stay, also where memory wants.
+    pub fn reserve(&mut self, n: usize) -> Result<(), Memory>
+        ensures others { KeepsOthers self.old [] self.new [] }
+        ensures room { IfOk result (λ _. n ≤ spare self.new) }
+    {
+        for i in 0..n {
+            self.grow()?;
+        }
+        Ok(())
+    }
+}

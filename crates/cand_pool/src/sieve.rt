@@ -1,0 +1,45 @@
+//! A sieve of three lists.
+
+ghost use Rattle.std.specs.Prelude.{◌≢◌, ℕ, ◌∷◌, ℤ};
+ghost use Rattle.cand_pool.specs.Candidates.{Candidate, Candidates};
+ghost use Rattle.cand_pool.specs.Pools.{items};
+ghost use Rattle.cand_pool.specs.Sieves.{Sifts, IsTurned};
+
+use crate::ends::{EMPTY, Ends, NONE};
+use crate::pool::Pool;
+
+/// What is left of a list, what was kept and what was dropped, and the greatest q that was kept.
+#[derive(Clone, Copy)]
+pub(crate) struct Sieve {
+    pub(crate) rest: Ends,
+    pub(crate) kept: Ends,
+    pub(crate) dropped: Ends,
+    pub(crate) best: i128,
+}
+
+impl Pool {
+    /// Puts the first of the rest, with this q, after the kept ones if its q is over the best, else after the dropped ones.
+    pub(crate) fn turn(&mut self, at: Sieve, q: i128) -> Sieve
+        requires three { Sifts self.old at (items self.old at.rest.first) (items self.old at.kept.first) (items self.old at.dropped.first) }
+        requires some { at.rest.first ≢ NONE }
+        ensures { (x : Candidate) (xs ks ds : Candidates) → Sifts self.old at (x ∷ xs) ks ds
+            → IsTurned self.old self.new at result xs ks ds (record { q = q; c = x.c; tag = x.tag }) }
+    {
+        if q > at.best {
+            let moved = self.move_first(at.rest, at.kept, q);
+            Sieve {
+                rest: moved.rest,
+                kept: moved.to,
+                best: q,
+                ..at
+            }
+        } else {
+            let moved = self.move_first(at.rest, at.dropped, q);
+            Sieve {
+                rest: moved.rest,
+                dropped: moved.to,
+                ..at
+            }
+        }
+    }
+}
