@@ -134,7 +134,7 @@ pub held_from : (s : Block) (first last : ℕ) (xs : List Candidate) → IsHeld 
 held_from s first last xs h = record { few = h.few; slots = h.slots; chain = h.whole.chain; shows = h.shows }
 
 -- a list that is not empty has a first candidate
-first_from : (s : Block) (first : ℕ) (slots : List ℕ) (xs : List Candidate) → first ≢ none → IsChain (link s.links) (length s.links) first slots → map (candidate s) slots ≡ xs → (ys : List Candidate) × (xs ≡ candidate s first ∷ ys)
+pub first_from : (s : Block) (first : ℕ) (slots : List ℕ) (xs : List Candidate) → first ≢ none → IsChain (link s.links) (length s.links) first slots → map (candidate s) slots ≡ xs → (ys : List Candidate) × (xs ≡ candidate s first ∷ ys)
 first_from s first [] xs some chain shows = absurd (some chain)
 first_from s first (y ∷ ys) xs some chain shows = (map (candidate s) ys, sym shows ∙ ap (λ (k : ℕ). candidate s k ∷ map (candidate s) ys) (sym chain.0))
 

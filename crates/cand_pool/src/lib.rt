@@ -1,6 +1,6 @@
 //! Lists of candidates of required time and load, linked inside one block of slots.
 //!
-//! Still to come: a load beside a whole list, the length of a list, and whether three candidates bend.
+//! Still to come: a load beside a whole list, and whether three candidates bend.
 #![tactic(auto)]
 
 mod absorb;

@@ -1,6 +1,6 @@
 //! Lists and bags: made, filled, put together and given up.
 
-ghost use Rattle.std.specs.Prelude.{◌≡◌, ℕ, suc, ◌<◌, [], ◌∷◌, ◌++◌, IsNone, MatchOption};
+ghost use Rattle.std.specs.Prelude.{◌≡◌, ℕ, suc, ◌<◌, [], ◌∷◌, ◌++◌, length, IsNone, MatchOption};
 ghost use Rattle.cand_pool.specs.Candidates.{Candidate, Candidates};
 ghost use Rattle.cand_pool.specs.Pools.{spare, Holds, HoldsBag, IsLive, IsLiveBag, KeepsOthers, Differ, name, bag_name};
 
@@ -67,6 +67,20 @@ impl Pool {
     {
         let Bag { ends } = other;
         bag.ends = self.put_after(bag.ends, ends);
+    }
+
+    /// How many candidates a list has.
+    pub fn len(&self, list: &List) -> usize
+        requires { IsLive self.now list.now }
+        ensures { (xs : Candidates) → Holds self.now list.now xs → result ≡ length xs }
+    {
+        let mut count = 0;
+        let mut slot = list.ends.first;
+        'links: while slot != NONE {
+            slot = self.links[slot as usize];
+            count += 1;
+        }
+        count
     }
 
     /// Ends an empty bag.
