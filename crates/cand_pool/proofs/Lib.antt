@@ -11,3 +11,4 @@ pub mod UnionLaws
 pub mod BranchLaws
 pub mod PlaceLaws
 pub mod KeptLaws
+pub mod UnionOrder

@@ -1,7 +1,7 @@
--- What is kept is the undominated list, in the words of the subject.
+-- What is kept is the undominated list, and a union has what both lists have, in the words of the subject.
 use Rattle.std.specs.Prelude.{◌≡◌, ℕ, ◌≤◌, ◌⊎◌, true, List, [], ◌∷◌, ℤ, ◌≤ℤ◌, int_lt}
-use Rattle.cand_pool.specs.Candidates.{Candidate}
-use Rattle.cand_pool.specs.Sequences.{kept}
+use Rattle.cand_pool.specs.Candidates.{Candidate, Candidates}
+use Rattle.cand_pool.specs.Sequences.{kept, lowest, undominated, union}
 
 abbrev pub IsCandidateOf : List Candidate → Candidate → Type 0
 IsCandidateOf [] x = ⊥
@@ -34,3 +34,28 @@ KeptRises = (best : ℤ) (xs : List Candidate) → RisesOver best (kept best xs)
 -- what is kept is of the list
 abbrev pub KeptTaken : Type 0
 KeptTaken = (best : ℤ) (xs : List Candidate) (z : Candidate) → IsCandidateOf (kept best xs) z → IsCandidateOf xs z
+
+abbrev pub IsOfEither : List Candidate → List Candidate → Candidate → Type 0
+IsOfEither xs ys x = IsCandidateOf xs x ⊎ IsCandidateOf ys x
+
+-- the union of two lists in order of c is in order of c
+abbrev pub UnionKeepsOrder : Type 0
+UnionKeepsOrder = (least : ℕ) (xs ys : List Candidate) → HeaviesFrom least xs → HeaviesFrom least ys → HeaviesFrom least (union xs ys)
+
+-- it has just the candidates of both
+abbrev pub UnionTaken : Type 0
+UnionTaken = (xs ys : List Candidate) (x : Candidate) → IsCandidateOf (union xs ys) x → IsOfEither xs ys x
+
+abbrev pub UnionHasAll : Type 0
+UnionHasAll = (xs ys : List Candidate) (x : Candidate) → IsOfEither xs ys x → IsCandidateOf (union xs ys) x
+
+-- of the candidates of two lists, these are undominated: they rise in q, do not fall in c, are of the two,
+-- and each candidate of the two whose q is over the lowest is dominated by one of them
+pub record IsUndominatedOf (xs ys zs : Candidates) : Type 0 where
+  pub rises : RisesOver lowest zs
+  pub heavies : HeaviesFrom 0 zs
+  pub taken : (z : Candidate) → IsCandidateOf zs z → IsOfEither xs ys z
+  pub covers : (x : Candidate) → IsOfEither xs ys x → (x.q ≤ℤ lowest) ⊎ ((z : Candidate) × IsCandidateOf zs z × Dominates z x)
+
+abbrev pub UnionIsUndominated : Type 0
+UnionIsUndominated = (xs ys : Candidates) → HeaviesFrom 0 xs → HeaviesFrom 0 ys → IsUndominatedOf xs ys (undominated (union xs ys))

@@ -17,6 +17,6 @@ mod wire;
 
 pub use ends::{Bag, Cand, List};
 pub use join_pair::Taken;
-pub use laws::kept_covers;
+pub use laws::{kept_covers, union_undominated};
 pub use pool::Pool;
 pub use steps::Steps;
