@@ -12,3 +12,4 @@ pub mod BranchLaws
 pub mod PlaceLaws
 pub mod KeptLaws
 pub mod UnionOrder
+pub mod LoadLaws

@@ -74,7 +74,7 @@ give s first last x pool h =
     let one : IsOne s first x h.slots = one_slot s first last x h in
     free_slots s first (slots_of s s.free) refl pool pool.free one.whole one.low h.kept one.some
 
-map_same : (f g : ℕ → Candidate) (slots : List ℕ) → ((x : ℕ) → IsIn x slots → f x ≡ g x) → map f slots ≡ map g slots
+pub map_same : (f g : ℕ → Candidate) (slots : List ℕ) → ((x : ℕ) → IsIn x slots → f x ≡ g x) → map f slots ≡ map g slots
 map_same f g [] same = refl
 map_same f g (x ∷ xs) same =
     let e : f x ≡ g x = same x (inl refl) in

@@ -1,6 +1,6 @@
 -- The moves of lists in a pool, of which the calls are made.
-use Rattle.std.specs.Prelude.{◌≡◌, ◌≢◌, ℕ, suc, List, [], ◌∷◌, ◌++◌, length, set, ℤ}
-use Rattle.cand_pool.specs.Links.{none, link, IsWhole}
+use Rattle.std.specs.Prelude.{◌≡◌, ◌≢◌, ℕ, suc, ◌+◌, ◌≤◌, List, [], ◌∷◌, ◌++◌, length, get_or, set, ℤ}
+use Rattle.cand_pool.specs.Links.{none, link, IsChain, IsIn, IsWhole}
 use Rattle.cand_pool.specs.Candidates.{Candidate}
 use Rattle.cand_pool.specs.Pools.{Block, candidate, slots_of, items, spare, IsPool, IsHeld, KeepsOthers}
 
@@ -78,3 +78,19 @@ pub record IsTagTaken (s : Block) (first last : ℕ) (x : Candidate) (xs : List 
   pub bag : IsHeld s' rest rest_last xs
   pub others : KeepsOthers s (first ∷ []) s' (rest ∷ [])
   pub free : spare s' ≡ suc (spare s)
+
+-- the block with a load more at one slot
+abbrev pub loaded_at : ℕ → Block → ℕ → Block
+loaded_at c s slot = rewritten s s.qs (set s.cs slot (get_or s.cs slot 0 + c)) s.tags
+
+-- how far a load has come along these slots: from `slot` on they are left
+pub record IsLoading (c : ℕ) (s : Block) (slots : List ℕ) (t : Block) (slot : ℕ) : Type 0 where
+  pub cs : List ℕ
+  pub same : t ≡ rewritten s s.qs cs s.tags
+  pub long : length s.links ≤ length cs
+  pub left : List ℕ
+  pub chain : IsChain (link s.links) (length s.links) slot left
+  pub inside : (i : ℕ) → IsIn i left → IsIn i slots
+  pub ahead : (i : ℕ) → IsIn i left → get_or cs i 0 ≡ get_or s.cs i 0
+  pub behind : (i : ℕ) → IsIn i slots → (IsIn i left → ⊥) → get_or cs i 0 ≡ get_or s.cs i 0 + c
+  pub others : (i : ℕ) → (IsIn i slots → ⊥) → get_or cs i 0 ≡ get_or s.cs i 0

@@ -1,6 +1,6 @@
 //! Lists of candidates of required time and load, linked inside one block of slots.
 //!
-//! Still to come: a load beside a whole list, and whether three candidates bend.
+//! Still to come: whether three candidates bend.
 #![tactic(auto)]
 
 mod absorb;
@@ -8,6 +8,7 @@ mod ends;
 mod join_pair;
 mod laws;
 mod lists;
+mod load;
 mod moves;
 mod places;
 mod pool;
