@@ -13,3 +13,4 @@ pub mod PlaceLaws
 pub mod KeptLaws
 pub mod UnionOrder
 pub mod LoadLaws
+pub mod BendLaws

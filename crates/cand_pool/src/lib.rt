@@ -1,6 +1,4 @@
 //! Lists of candidates of required time and load, linked inside one block of slots.
-//!
-//! Still to come: whether three candidates bend.
 #![tactic(auto)]
 
 mod absorb;
