@@ -1,5 +1,5 @@
 -- What is kept is the undominated list, and a union has what both lists have, in the words of the subject.
-use Rattle.std.specs.Prelude.{◌≡◌, ℕ, ◌≤◌, ◌⊎◌, true, List, [], ◌∷◌, ℤ, ◌≤ℤ◌, int_lt}
+use Rattle.std.specs.Prelude.{◌≡◌, ℕ, ◌<◌, ◌≤◌, ◌⊎◌, true, List, [], ◌∷◌, ℤ, ◌≤ℤ◌, int_lt}
 use Rattle.cand_pool.specs.Candidates.{Candidate, Candidates}
 use Rattle.cand_pool.specs.Sequences.{kept, lowest, undominated, union}
 
@@ -59,3 +59,25 @@ pub record IsUndominatedOf (xs ys zs : Candidates) : Type 0 where
 
 abbrev pub UnionIsUndominated : Type 0
 UnionIsUndominated = (xs ys : Candidates) → HeaviesFrom 0 xs → HeaviesFrom 0 ys → IsUndominatedOf xs ys (undominated (union xs ys))
+
+-- after w come greater c, and of equal c lesser q
+abbrev pub InOrderAfter : Candidate → List Candidate → Type 0
+InOrderAfter w [] = Unit {0}
+InOrderAfter w (x ∷ xs) = (w.c ≤ x.c) × (w.c ≡ x.c → x.q ≤ℤ w.q) × InOrderAfter x xs
+
+abbrev pub IsInOrder : List Candidate → Type 0
+IsInOrder [] = Unit {0}
+IsInOrder (x ∷ xs) = InOrderAfter x xs
+
+-- c rises
+abbrev pub HeavierThan : ℕ → List Candidate → Type 0
+HeavierThan c [] = Unit {0}
+HeavierThan c (x ∷ xs) = (c < x.c) × HeavierThan x.c xs
+
+abbrev pub RisesInLoad : List Candidate → Type 0
+RisesInLoad [] = Unit {0}
+RisesInLoad (x ∷ xs) = HeavierThan x.c xs
+
+-- of two lists in order of c, of equal c by falling q, what stays of the union rises in c, so no one of it dominates another
+abbrev pub UnionRises : Type 0
+UnionRises = (xs ys : Candidates) → IsInOrder xs → IsInOrder ys → RisesInLoad (undominated (union xs ys))
