@@ -23,6 +23,13 @@ held_named s first last xs h = subst (λ (l : List Candidate). IsHeld s first la
 pub none_holds : (s : Block) (first last : ℕ) (xs : List Candidate) → first ≡ none → IsHeld s first last xs → xs ≡ []
 none_holds s first last xs e h = sym h.shows ∙ ap (λ (l : List ℕ). map (candidate s) l) (none_empty (link s.links) (length s.links) first h.slots h.few e h.whole.chain)
 
+-- a list without a candidate has no first slot
+pub nothing_held : (s : Block) (first last : ℕ) → IsHeld s first last [] → first ≡ none
+nothing_held s first last h = no_slots h.slots h.whole.chain h.shows where
+  no_slots : (slots : List ℕ) → IsChain (link s.links) (length s.links) first slots → map (candidate s) slots ≡ [] → first ≡ none
+  no_slots [] chain shows = chain
+  no_slots (slot ∷ slots) chain shows = absurd (cc)
+
 -- the empty list
 pub empty_held : (s : Block) (first last : ℕ) → length s.links ≤ none → first ≡ none → IsHeld s first last []
 empty_held s first last few e = record { few = few; slots = []; whole = whole_none (link s.links) (length s.links) first e; ends = λ some. absurd (some e); kept = λ _. e; shows = refl }
