@@ -1,0 +1,4 @@
+pub mod Lengths
+pub mod Frames
+pub mod TurnLaws
+pub mod OperationLaws
