@@ -118,6 +118,7 @@ impl Pool {
         requires list_b { Differ (name list.old) (name b.old) }
         requires modest_a { AreModest (items_of self.old a.old) }
         requires modest_b { AreModest (items_of self.old b.old) }
+        ensures empty { Holds self.old a.old [] ⊎ Holds self.old b.old [] → IsNone result }
         ensures none { IsNone result → (Holds self.old a.old [] ⊎ Holds self.old b.old [])
             × (self.new ≡ self.old) × (list.new ≡ list.old) × (a.new ≡ a.old) × (b.new ≡ b.old) }
         ensures joined { (x y : Candidate) (zs xs ys : Candidates) → Holds self.old list.old zs → Holds self.old a.old (x ∷ xs)

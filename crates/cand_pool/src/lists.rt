@@ -94,6 +94,7 @@ impl Pool {
     /// Takes the first tag out of a bag. `None`: it is empty.
     pub fn take(&mut self, bag: &mut Bag) -> Option<u64>
         requires { IsLiveBag self.old bag.old }
+        ensures empty { HoldsBag self.old bag.old [] → IsNone result }
         ensures none { IsNone result → HoldsBag self.old bag.old [] × (self.new ≡ self.old) × (bag.new ≡ bag.old) }
         ensures some { (tag : ℕ) → result ≡ Some tag → (x : Candidate) (xs : Candidates) → HoldsBag self.old bag.old (x ∷ xs)
             → (tag ≡ x.tag) × HoldsBag self.new bag.new xs }

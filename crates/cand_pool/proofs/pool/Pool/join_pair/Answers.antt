@@ -1,7 +1,7 @@
-use Rattle.std.proofs.Common.{◌∷◌, subst, Some}
+use Rattle.std.proofs.Common.{◌∷◌, subst, Some, inl, inr}
 use Rattle.cand_pool.specs.Candidates.{Candidates}
 use Rattle.cand_pool.specs.Pools.{IsHeld}
-use Rattle.cand_pool.proofs.PublicLaws.{first_held, differ_from}
+use Rattle.cand_pool.proofs.PublicLaws.{nothing_held, first_held, differ_from}
 use Rattle.cand_pool.proofs.BranchLaws.{branches_of, modest_first, held_first, some_held, taken_same}
 use Rattle.cand_pool.proofs.pool.Pool.join_pair.Goals as goal
 use Rattle.cand_pool.proofs.pool.Pool.join_pair.Goals.{then-a-via-then-a, then-a-via-else-a+then-b}
@@ -16,6 +16,12 @@ pub returns-then-a-clause-joined : goal.returns-then-a-clause-joined
 returns-then-a-clause-joined g c = λ x y zs xs ys l h k. elim c.then-a.branch [
   | then-a-via-then-a w ↦ absurd (some_held _ _ _ x xs h w.if-a.true)
   | then-a-via-else-a+then-b w ↦ absurd (some_held _ _ _ y ys k w.if-b.true)
+]
+
+pub returns-clause-empty : goal.returns-clause-empty
+returns-clause-empty g c = λ empty. elim empty [
+  | inl h ↦ absurd (c.if-a.false (nothing_held _ _ _ h))
+  | inr h ↦ absurd (c.if-b.false (nothing_held _ _ _ h))
 ]
 
 pub returns-clause-joined : goal.returns-clause-joined
