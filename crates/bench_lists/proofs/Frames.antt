@@ -1,21 +1,14 @@
 -- What calls leave of the lists that they do not name.
-use Rattle.std.proofs.Common.{◌≡◌, ◌≢◌, ℕ, List, [], ◌∷◌, length, map, refl, sym, ◌∙◌, subst, inl, inr}
-use Rattle.cand_pool.specs.Links.{none, IsIn, IsChain, link}
+use Rattle.std.proofs.Common.{◌≡◌, ◌≢◌, ℕ, List, [], ◌∷◌, refl, sym, ◌∙◌, subst, inl, inr}
+use Rattle.cand_pool.specs.Links.{none, IsIn}
 use Rattle.cand_pool.specs.Candidates.{Candidates}
-use Rattle.cand_pool.specs.Pools.{Block, candidate, IsHeld, KeepsOthers, Differ}
+use Rattle.cand_pool.specs.Pools.{Block, IsHeld, KeepsOthers, Differ}
 use Rattle.cand_pool.proofs.PublicLaws.{stays_any, differ_from}
-
--- the empty list has no first slot
-nothing_from : (s : Block) (first : ℕ) (slots : List ℕ) → IsChain (link s.links) (length s.links) first slots → map (candidate s) slots ≡ [] → first ≡ none
-nothing_from s first [] chain shows = chain
-nothing_from s first (y ∷ ys) chain shows = absurd (cc)
-
-pub nothing_held : (s : Block) (first last : ℕ) → IsHeld s first last [] → first ≡ none
-nothing_held s first last h = nothing_from s first h.slots h.whole.chain h.shows
 
 -- an empty list is no other's
 pub keeps_none : (s : Block) (k : ℕ) → k ≡ none → KeepsOthers s [] s (k ∷ [])
 keeps_none s k e = record {
+  few = λ k. k;
   stays = λ first last xs h some out. h;
   fresh = λ first last xs h some out is_new. elim is_new [ inl m ↦ some (m ∙ e) | inr z ↦ z ];
 }

@@ -7,12 +7,12 @@ use Rattle.cand_pool.specs.Pools.{Block, items, items_of, spare, Holds, HoldsBag
 use Rattle.cand_pool.specs.declared.ends.List.{List as NamedList}
 use Rattle.cand_pool.specs.declared.ends.Bag.{Bag}
 use Rattle.cand_pool.specs.declared.ends.Cand.{Cand}
-use Rattle.cand_pool.proofs.PublicLaws.{held_items, held_named}
+use Rattle.cand_pool.proofs.PublicLaws.{held_items, held_named, nothing_held}
 use Rattle.cand_pool.proofs.PoolMoves.{keeps_then}
 use Rattle.cand_pool.proofs.PlaceLaws.{from_items}
 use Rattle.bench_lists.specs.Turns.{IsSmall, AreSmall, IsMade, IsFull}
 use Rattle.bench_lists.proofs.Lengths.{small_append}
-use Rattle.bench_lists.proofs.Frames.{nothing_held, keeps_none}
+use Rattle.bench_lists.proofs.Frames.{keeps_none}
 
 -- how far a list is made: it has n candidates
 pub record IsFilling (s t : Block) (list : NamedList) (n : ℕ) : Type 0 where
