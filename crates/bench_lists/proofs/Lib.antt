@@ -1,4 +1,3 @@
 pub mod Lengths
-pub mod Frames
 pub mod TurnLaws
 pub mod OperationLaws

@@ -8,8 +8,8 @@ use Rattle.cand_pool.specs.declared.ends.List.{List as NamedList}
 use Rattle.cand_pool.specs.declared.ends.Bag.{Bag}
 use Rattle.cand_pool.proofs.PublicLaws.{held_items, held_named, stays_any}
 use Rattle.bench_lists.specs.Turns.{AreSmall, IsMade, size, IsApplied}
-use Rattle.bench_lists.proofs.Lengths.{parts_long, union_long, map_long}
-use Rattle.bench_lists.proofs.Frames.{apart_one, apart_two, fresh_differs, IsBeside, beside}
+use Rattle.cand_pool.proofs.LengthLaws.{parts_long, union_long, map_long}
+use Rattle.cand_pool.proofs.CallLaws.{apart_one, apart_two, fresh_differs, IsBeside, beside}
 
 -- a list was split into a list and a bag
 pub record IsSplitOff (s t : Block) (list list' : NamedList) (bag : Bag) : Type 0 where

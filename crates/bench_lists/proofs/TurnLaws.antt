@@ -1,18 +1,16 @@
 -- Lists as they are made, emptied and walked.
 use Rattle.std.proofs.Common.{◌≡◌, ℕ, suc, ◌+◌, ◌<◌, [], ◌∷◌, ◌++◌, length, refl, sym, ap, ◌∙◌, subst, arith, inl, length-append, Option, None, Some}
-use Rattle.std.specs.Prelude.{IsNone, IsSome, MatchOption}
+use Rattle.std.specs.Prelude.{IsNone, IsSome}
 use Rattle.cand_pool.specs.Links.{none}
 use Rattle.cand_pool.specs.Candidates.{Candidate, Candidates}
-use Rattle.cand_pool.specs.Pools.{Block, items, items_of, spare, Holds, HoldsBag, KeepsOthers, IsPlace, name}
+use Rattle.cand_pool.specs.Pools.{Block, items, items_of, spare, Holds, HoldsBag, KeepsOthers, name}
 use Rattle.cand_pool.specs.declared.ends.List.{List as NamedList}
 use Rattle.cand_pool.specs.declared.ends.Bag.{Bag}
-use Rattle.cand_pool.specs.declared.ends.Cand.{Cand}
 use Rattle.cand_pool.proofs.PublicLaws.{held_items, held_named, nothing_held}
 use Rattle.cand_pool.proofs.PoolMoves.{keeps_then}
-use Rattle.cand_pool.proofs.PlaceLaws.{from_items}
 use Rattle.bench_lists.specs.Turns.{IsSmall, AreSmall, IsMade, IsFull}
 use Rattle.bench_lists.proofs.Lengths.{small_append}
-use Rattle.bench_lists.proofs.Frames.{keeps_none}
+use Rattle.cand_pool.proofs.CallLaws.{keeps_none}
 
 -- how far a list is made: it has n candidates
 pub record IsFilling (s t : Block) (list : NamedList) (n : ℕ) : Type 0 where
@@ -96,43 +94,3 @@ tag_there s u bag bag' None (x, xs, h) none =
     let no : items s bag.ends.first ≡ [] = held_items s bag.ends.first bag.ends.last [] ((none refl).0) in
     absurd (cc)
 tag_there s u bag bag' (Some tag) full none = refl
-
--- how many candidates there are from a place on
-abbrev pub left_from : Block → Option Cand → ℕ
-left_from s None = 0
-left_from s (Some place) = length (items s place.slot)
-
--- a place, if there is one, is one of a list
-abbrev pub IsPlaced : Block → Option Cand → Type 0
-IsPlaced s None = Unit {0}
-IsPlaced s (Some place) = (xs : Candidates) × IsPlace s place xs
-
-pub placed_first : (s : Block) (answer : Option Cand) (xs : Candidates) → MatchOption answer (xs ≡ []) (λ place. IsPlace s place xs) → IsPlaced s answer
-placed_first s None xs m = tt
-placed_first s (Some place) xs m = (xs, m)
-
--- the place after a place has fewer candidates from it on
-pub record IsNext (s : Block) (place : Cand) (answer : Option Cand) : Type 0 where
-  pub placed : IsPlaced s answer
-  pub fewer : left_from s answer < length (items s place.slot)
-
-next_at : (s : Block) (place : Cand) (answer : Option Cand) (x : Candidate) (xs : Candidates) → IsPlace s place (x ∷ xs) → MatchOption answer (xs ≡ []) (λ after. IsPlace s after xs) → IsNext s place answer
-next_at s place None x xs h m = let e : items s place.slot ≡ x ∷ xs = from_items s place.slot (x ∷ xs) h.from in record { placed = tt; fewer = let k = ap length e in omega (arith, k) }
-next_at s place (Some after) x xs h m =
-    let e : items s place.slot ≡ x ∷ xs = from_items s place.slot (x ∷ xs) h.from in
-    let f : items s after.slot ≡ xs = from_items s after.slot xs m.from in
-    let k = ap length e in let l = ap length f in
-    record { placed = (xs, m); fewer = omega (arith, k, l) }
-
-pub next_from : (s : Block) (place : Cand) (answer : Option Cand) (xs : Candidates) → IsPlace s place xs
-    → ((y : Candidate) (ys : Candidates) → IsPlace s place (y ∷ ys) → MatchOption answer (ys ≡ []) (λ after. IsPlace s after ys)) → IsNext s place answer
-next_from s place answer [] h m = absurd (h.some refl)
-next_from s place answer (x ∷ xs) h m = next_at s place answer x xs h (m x xs h)
-
-pub step_on : (s : Block) (before answer : Option Cand) (place : Cand) → before ≡ Some place → IsPlaced s before
-    → ((y : Candidate) (ys : Candidates) → IsPlace s place (y ∷ ys) → MatchOption answer (ys ≡ []) (λ after. IsPlace s after ys)) → (left_from s answer < left_from s before) × IsPlaced s answer
-step_on s None answer place e placed m = absurd (cc)
-step_on s (Some here) answer place e (xs, h) m =
-    let k : here ≡ place = cc in
-    let n : IsNext s place answer = next_from s place answer xs (subst (λ (p : Cand). IsPlace s p xs) k h) m in
-    (subst (λ (p : Cand). left_from s answer < length (items s p.slot)) (sym k) n.fewer, n.placed)

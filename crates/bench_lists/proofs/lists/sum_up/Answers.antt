@@ -1,4 +1,4 @@
-use Rattle.bench_lists.proofs.TurnLaws.{placed_first, step_on}
+use Rattle.cand_pool.proofs.CallLaws.{placed_first, step_on}
 use Rattle.bench_lists.proofs.lists.sum_up.Goals as goal
 
 pub places-init : goal.places-init

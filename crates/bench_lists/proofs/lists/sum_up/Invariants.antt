@@ -1,4 +1,4 @@
-use Rattle.bench_lists.proofs.TurnLaws.{left_from, IsPlaced}
+use Rattle.cand_pool.proofs.CallLaws.{left_from, IsPlaced}
 use Rattle.bench_lists.proofs.lists.sum_up.Given as goal
 
 abbrev pub invariant-places : goal.invariant-places
