@@ -3,7 +3,8 @@
 ghost use Rattle.std.specs.Prelude.{◌≡◌, ◌+◌, ◌∷◌, [], length};
 ghost use Rattle.sol_arena.specs.Arenas.{slots_of};
 ghost use Rattle.cand_pool.specs.Candidates.{Candidates};
-ghost use Rattle.cand_pool.specs.Pools.{spare, HoldsBag, IsLiveBag, bag_of, bag_name, KeepsOthers};
+ghost use Rattle.cand_pool.specs.Pools.{spare, Holds, HoldsBag, IsLiveBag, bag_of, bag_name, name, Differ, KeepsOthers};
+ghost use Rattle.cand_pool.specs.declared.ends.List.{List as NamedList};
 ghost use Rattle.cand_uses.specs.Uses.{HoldsFor, IsExchange};
 
 use cand_pool::{Bag, Pool};
@@ -16,6 +17,7 @@ pub fn give_up(pool: &mut Pool, arena: &mut Arena, bag: Bag)
     ensures uses { (xs : Candidates) → HoldsBag pool.old bag xs → IsExchange (slots_of arena.old) xs (slots_of arena.new) [] }
     ensures spare { (xs : Candidates) → HoldsBag pool.old bag xs → spare pool.new ≡ spare pool.old + length xs }
     ensures others { KeepsOthers pool.old (bag_name bag ∷ []) pool.new [] }
+    ensures lists { (list : NamedList) (xs : Candidates) → Differ (name list) (bag_name bag) → Holds pool.old list xs → Holds pool.new list xs }
 {
     let mut bag = bag;
     'tags: while let Some(tag) = pool.take(&mut bag) {
