@@ -18,7 +18,7 @@ ghost use Rattle.vg_merge.specs.Branches.{AreAt, AreLive, names, all_of, IsFirst
 ghost use Rattle.vg_merge.specs.Merges.{CanMeet, IsMergeOf};
 
 use cand_pool::{List, Pool, Steps};
-use cand_uses::give_up;
+use cand_uses::end_list;
 use sol_arena::{Arena, Sol};
 use std::sync::ledger::Ledger;
 use vg_num::Memory;
@@ -114,19 +114,6 @@ fn join_firsts<L: Ledger>(
         turn(pool, arena, at, sols, steps)?;
     }
     Ok(())
-}
-
-/// Ends a list: the slots of its candidates are spare again, and the uses of their solutions are given up.
-fn end_list(pool: &mut Pool, arena: &mut Arena, list: List)
-    requires live { IsLive pool.old list }
-    requires held { HoldsFor (slots_of arena.old) (items_of pool.old list) }
-    ensures uses { IsExchange (slots_of arena.old) (items_of pool.old list) (slots_of arena.new) [] }
-    ensures spare { spare pool.new ≡ spare pool.old + length (items_of pool.old list) }
-    ensures others { KeepsOthers pool.old (name list ∷ []) pool.new [] }
-    ensures lists { (other : NamedList) (xs : Candidates) → Differ (name other) (name list) → Holds pool.old other xs → Holds pool.new other xs }
-{
-    let bag = pool.discard(list);
-    give_up(pool, arena, bag);
 }
 
 /// Ends what is left of both branches. The list that was made stays.
