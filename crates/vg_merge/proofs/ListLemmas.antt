@@ -119,6 +119,7 @@ start_all s s' list a b xs ys same empty h k =
 -- a name of no list counts for nothing
 pub keeps_none : (s t : Block) (k : ℕ) (old new : List ℕ) → k ≡ none → KeepsOthers s (k ∷ old) t new → KeepsOthers s old t new
 keeps_none s t k old new none keeps = record {
+  few = keeps.few;
   stays = λ first last xs h some out. keeps.stays first last xs h some (λ m. elim m [ inl e ↦ some (e ∙ none) | inr more ↦ out more ]);
   fresh = λ first last xs h some out. keeps.fresh first last xs h some (λ m. elim m [ inl e ↦ some (e ∙ none) | inr more ↦ out more ]);
 }

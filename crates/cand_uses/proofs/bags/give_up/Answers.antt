@@ -27,7 +27,7 @@ tags-init c = record {
   held = c.requires.held;
   uses = no_exchange _ _;
   spare = refl;
-  others = record { stays = λ first last xs h some out. h; fresh = λ first last xs h some out. out };
+  others = record { few = λ few. few; stays = λ first last xs h some out. h; fresh = λ first last xs h some out. out };
 }
 
 pub take-requires : goal.take-requires

@@ -24,7 +24,7 @@ turns-init g c =
       at = are_of c.args.pool.now c.args.at.now _ _ _ _ _ _ c.requires.made refl refl c.requires.live;
       merging = merging_start _ _ _ c.requires.meet;
       spare = omega arith;
-      others = record { stays = λ first last xs h some out. h; fresh = λ first last xs h some out. out };
+      others = record { few = λ few. few; stays = λ first last xs h some out. h; fresh = λ first last xs h some out. out };
       steps = omega arith;
     }
 
