@@ -2,3 +2,4 @@ pub mod SwapLemmas
 pub mod BranchLemmas
 pub mod WireLemmas
 pub mod MeetLemmas
+pub mod LoadLemmas

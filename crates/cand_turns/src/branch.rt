@@ -1,11 +1,12 @@
 //! The lists of a branch of a net, and what a wire makes of them.
 
-ghost use Rattle.std.specs.Prelude.{◌≡◌, ◌+◌, ◌<◌, true, [], ◌++◌, length, IfOk, MatchResult};
+ghost use Rattle.std.specs.Prelude.{◌≡◌, ◌+◌, ◌<◌, Bool, true, [], map, ◌++◌, length, IfOk, MatchResult};
 ghost use Rattle.elmore.specs.Problems.{is_live};
 ghost use Rattle.elmore.specs.Trees.{parent_of, resistance};
 ghost use Rattle.sol_arena.specs.Arenas.{made_of};
+ghost use Rattle.cand_pool.specs.Candidates.{AreModest, loaded};
 ghost use Rattle.cand_uses.specs.Pairs.{pairs_of};
-ghost use Rattle.cand_turns.specs.Swaps.{AreHeld, IsSwap, IsTurn, search};
+ghost use Rattle.cand_turns.specs.Swaps.{Slots, AreHeld, IsSwap, IsTurn, search, at_slots};
 ghost use Rattle.cand_turns.specs.Branches.{classes_in, lists_of};
 ghost use Rattle.cand_turns.specs.Solved.{IsOpenAt, IsClosedAt, IsAboveWire, IsCarriedAt};
 
@@ -63,6 +64,18 @@ impl Branch {
         let r = resistance_of(p, node);
         wire(pool, arena, &mut self.even, r, steps);
         wire(pool, arena, &mut self.odd, r, steps);
+    }
+
+    /// Adds a load (aF) beside the branch to each candidate of both lists.
+    pub fn load<L: Ledger>(&mut self, pool: &mut Pool, c: u64, steps: &mut Steps<L>)
+        requires held { (slots : Slots) × AreHeld (at_slots pool.old slots) (lists_of self.old) }
+        requires modest { (odd : Bool) → AreModest (map (loaded c) (classes_in pool.old self.old odd)) }
+        ensures classes { (odd : Bool) → classes_in pool.new self.new odd ≡ map (loaded c) (classes_in pool.old self.old odd) }
+        ensures turn { (slots : Slots) → AreHeld (at_slots pool.old slots) (lists_of self.old)
+            → IsTurn (at_slots pool.old slots) (lists_of self.old) (at_slots pool.new slots) (lists_of self.new) }
+    {
+        pool.load(&mut self.even, c, steps);
+        pool.load(&mut self.odd, c, steps);
     }
 
     /// The candidates of this branch and of the one below `node`, a child of this branch's node, together, where those of the
