@@ -16,7 +16,7 @@ use Rattle.elmore.specs.Steps.{IsPlacedTree}
 use Rattle.elmore.specs.Trees.{parent_of, resistance, capacitance}
 use Rattle.elmore.specs.Wire.{downstream_in}
 use Rattle.cand_laws.specs.Candidates.{live_children, IsOpenWith, fork_of}
-use Rattle.cand_laws.specs.Merging.{IsSmallPair, children_from, live_from, fork_from}
+use Rattle.cand_laws.specs.Merging.{IsSmallPair, children_from, live_from, own_from, fork_from}
 use Rattle.elmore.specs.declared.pair.Pair.{Pair}
 use Rattle.elmore.specs.declared.problem.Problem.{Problem}
 use Rattle.elmore.proofs.RootLemmas.{root_over}
@@ -171,6 +171,16 @@ live_from_in p v i u found =
     (in_filter (is_child (parent_of p.tree.nodes) v) (node_numbers (length p.tree.nodes)) u
     (in_nodes (length p.tree.nodes) u (range_in i (length p.tree.nodes) u later)) is)
     live
+
+-- what a node and those branches weigh that came in without a sink
+pub own_small : (p : Problem) (v i : ℕ) → v < length p.tree.nodes → own_from p v i ≤ 10 ^ 11
+own_small p v i v_n =
+    omega (
+      arith,
+      load_small p.tree.nodes p.reps (empty_cells p) (placed_tree p (empty_cells p) (empty_sound p).placement (empty_sound p).placed) v,
+      load_live p (empty_cells p) v (empty_sound p).placed v_n,
+      part_le (downstream_in p.tree.nodes) (λ u. not (is_live p.tree.nodes p.sinks u)) (is_child (parent_of p.tree.nodes) v) i (length p.tree.nodes),
+    )
 
 -- THE LOAD of a part of a node is that of some placement, at most
 pub open_small : (p : Problem) (v : ℕ) (odd : Bool) (i : ℕ) (x : Pair) → v < length p.tree.nodes

@@ -3,3 +3,4 @@ pub mod BranchLemmas
 pub mod WireLemmas
 pub mod MeetLemmas
 pub mod LoadLemmas
+pub mod PartLemmas

@@ -1,3 +1,4 @@
 pub mod Swaps
 pub mod Branches
 pub mod Solved
+pub mod Parts

@@ -2,5 +2,7 @@
 #![tactic(auto)]
 
 mod branch;
+mod part;
 
 pub use branch::Branch;
+pub use part::Part;

@@ -1,0 +1,25 @@
+-- What is known of a node while the nodes below come in, from the last to the first.
+use Rattle.std.specs.Prelude.{ℕ, List, []}
+use Rattle.elmore.specs.declared.problem.Problem.{Problem}
+use Rattle.sol_arena.specs.declared.slot.Made.{Made}
+use Rattle.cand_laws.specs.Parts.{IsDeadPart}
+use Rattle.cand_pool.specs.Pools.{Block}
+use Rattle.cand_turns.specs.declared.part.Part.{Part}
+use Rattle.cand_turns.specs.declared.part.Part.TheVariants.{Dead, Live}
+use Rattle.cand_turns.specs.Swaps.{Lists}
+use Rattle.cand_turns.specs.Branches.{lists_of, classes_in}
+use Rattle.cand_turns.specs.Solved.{IsOpenAt}
+
+-- the lists of a part
+abbrev pub lists_in : Part → Lists
+lists_in (Dead c) = []
+lists_in (Live branch) = lists_of branch
+
+-- the part of node v, with those of its children from number i on that came in
+abbrev pub IsPart : Problem → ℕ → ℕ → List Made → Block → Part → Type 0
+IsPart p i v ms s (Dead c) = IsDeadPart p i v c
+IsPart p i v ms s (Live branch) = IsOpenAt p i v ms (classes_in s branch)
+
+-- what the solutions of an arena were made of
+abbrev pub Solutions : Type 0
+Solutions = List Made
