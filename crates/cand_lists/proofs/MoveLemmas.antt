@@ -1,12 +1,14 @@
 -- The moves, with the uses of what they leave.
 use Rattle.std.proofs.Common.{◌≡◌, ◌≢◌, ℕ, List, [], ◌∷◌, ◌++◌, sym, subst, arith, inl, inr}
+use Rattle.sol_arena.specs.declared.arena.Arena.{Arena}
 use Rattle.sol_arena.specs.declared.slot.Slot.{Slot}
+use Rattle.sol_arena.specs.Arenas.{slots_of, made_of}
 use Rattle.cand_pool.specs.Links.{none, IsIn}
 use Rattle.cand_pool.specs.Pools.{Differ}
 use Rattle.cand_pool.specs.Candidates.{Candidates}
 use Rattle.cand_pool.specs.Sequences.{lowest, undominated, dominated, union}
-use Rattle.cand_uses.specs.Uses.{uses_by, HoldsFor, IsExchange}
-use Rattle.cand_uses.proofs.ExchangeLemmas.{exchange_same, exchange_beside, uses_of_both}
+use Rattle.cand_uses.specs.Uses.{uses_by, HoldsFor, IsExchange, MeanTheSame}
+use Rattle.cand_uses.proofs.ExchangeLemmas.{exchange_same, exchange_beside, uses_of_both, stays_same}
 use Rattle.cand_lists.proofs.KeptLemmas.{kept_uses, union_uses}
 
 -- what is dominated is given up, of candidates that have the uses of others
@@ -16,6 +18,13 @@ given_up old new xs from same one =
     (λ s. omega (arith, same s, kept_uses lowest xs s, uses_of_both (undominated xs) (dominated xs) s))
     (λ s. omega (arith, uses_of_both (undominated xs) [] s))
     (exchange_beside old new (undominated xs) (dominated xs) [] one)
+
+-- and what stays means what it did
+pub stays_meant : (old new : Arena) (xs from : Candidates) → ((s : ℕ) → uses_by xs s ≡ uses_by from s) → HoldsFor (slots_of old) from
+    → IsExchange (slots_of old) (dominated xs) (slots_of new) [] → MeanTheSame (made_of old) (made_of new) (undominated xs)
+stays_meant old new xs from same held one =
+    stays_same old new (undominated xs) (dominated xs) []
+    (λ s some. omega (arith, held s some, same s, kept_uses lowest xs s, uses_of_both (undominated xs) (dominated xs) s)) one
 
 -- callers hold the uses of what is dominated
 pub dominated_held : (slots : List Slot) (xs from : Candidates) → ((s : ℕ) → uses_by xs s ≡ uses_by from s) → HoldsFor slots from → HoldsFor slots (dominated xs)

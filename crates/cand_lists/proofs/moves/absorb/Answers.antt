@@ -1,11 +1,11 @@
-use Rattle.std.proofs.Common.{◌++◌, arith, inr}
+use Rattle.std.proofs.Common.{◌≡◌, ◌++◌, sym, arith, inr}
 use Rattle.cand_pool.specs.Pools.{items_of}
 use Rattle.cand_pool.specs.Sequences.{lowest, union}
 use Rattle.sol_arena.specs.Arenas.{slots_of}
 use Rattle.cand_pool.proofs.PublicLaws.{held_items, held_named, stays}
 use Rattle.cand_pool.proofs.PoolMoves.{keeps_then}
 use Rattle.cand_lists.proofs.KeptLemmas.{kept_length, union_length}
-use Rattle.cand_lists.proofs.MoveLemmas.{given_up, dominated_held, both_uses, held_as, first_in, differ_in}
+use Rattle.cand_lists.proofs.MoveLemmas.{given_up, stays_meant, dominated_held, both_uses, held_as, first_in, differ_in}
 use Rattle.cand_lists.proofs.moves.absorb.Goals as goal
 
 pub give_up-requires-clause-live : goal.give_up-requires-clause-live
@@ -23,6 +23,11 @@ returns-clause-list g c = λ xs ys h k. stays _ _ _ _ _ _ _ c.give_up.ensures.ot
 
 pub returns-clause-uses : goal.returns-clause-uses
 returns-clause-uses g c = λ xs ys h k. given_up _ _ (union xs ys) (xs ++ ys) (both_uses xs ys) (c.give_up.ensures.uses _ (c.absorb-bag.ensures.bag xs ys h k))
+
+pub returns-clause-same : goal.returns-clause-same
+returns-clause-same g c = λ xs ys h k.
+    let same : items_of c.args.pool.now c.args.list.now ++ items_of c.args.pool.now c.args.other ≡ xs ++ ys = λ i. held_items _ _ _ xs h i ++ held_items _ _ _ ys k i in
+    stays_meant c.args.arena.now c.give_up.new.arena (union xs ys) (xs ++ ys) (both_uses xs ys) (held_as _ _ _ (sym same) c.requires.held) (c.give_up.ensures.uses _ (c.absorb-bag.ensures.bag xs ys h k))
 
 pub returns-clause-others : goal.returns-clause-others
 returns-clause-others g c = keeps_then _ _ _ _ _ _ _ _ c.absorb-bag.ensures.others c.give_up.ensures.others (λ k m. inr m) (λ k m. inr (first_in _ _ _ m))
