@@ -1,2 +1,4 @@
 pub mod SwapLemmas
+pub mod BranchLemmas
+pub mod BagLemmas
 pub mod WireLemmas

@@ -1,168 +1,214 @@
 -- Swaps follow each other, and leave what stands beside them.
-use Rattle.std.proofs.Common.{◌≡◌, ◌≢◌, ℕ, [], ◌∷◌, ◌++◌, length, sym, ap, ◌∙◌, subst, arith, inl, inr}
+use Rattle.std.proofs.Common.{◌≡◌, ◌≢◌, ℕ, ◌+◌, ◌<◌, ◌≤◌, ◌==◌, ◌⊎◌, [], ◌∷◌, ◌++◌, get_or, length, refl, sym, ap, ◌∙◌, subst, arith, inl, inr, zero, suc}
+use Rattle.std.proofs.lemmas.Bool.{cases_eq, cases_lt}
 use Rattle.std.proofs.lemmas.List.{length-append}
+use Rattle.std.proofs.lemmas.List.Sums.{sum_by-cons, sum_by-append}
+use Rattle.std.proofs.lemmas.List.Sorted.{sum_by-IsPermutation, All-permutation, IsPermutation-sym}
+use Rattle.std.proofs.lemmas.List.Elements.{All-append, All-contains, Contains-append_right, Contains-get_or}
+use Rattle.std.specs.List.{Contains, sum_by}
+use Rattle.std.specs.List.Sorted.{IsPermutation}
+use Rattle.sol_arena.specs.declared.arena.Arena.{Arena}
+use Rattle.sol_arena.specs.Arenas.{made_of}
+use Rattle.sol_arena.specs.Uses.{one_if}
+use Rattle.sol_arena.proofs.OneLemmas.{one_same, one_other}
 use Rattle.cand_pool.specs.Links.{none, IsIn}
 use Rattle.cand_pool.specs.Candidates.{Candidates}
-use Rattle.cand_pool.specs.Pools.{Block, Holds, HoldsBag, IsLive, items_of, name, Differ, KeepsOthers}
+use Rattle.cand_pool.specs.Pools.{Block, Holds, IsLive, items_of, name}
 use Rattle.cand_pool.specs.declared.ends.List.{List as NamedList}
-use Rattle.cand_pool.specs.declared.ends.Bag.{Bag}
-use Rattle.cand_pool.proofs.MoveLaws.{is_same}
-use Rattle.cand_pool.proofs.PublicLaws.{held_items, held_named, stays, keeps_with}
+use Rattle.cand_pool.proofs.PublicLaws.{held_items, held_named, stays}
 use Rattle.cand_pool.proofs.PoolMoves.{keeps_then}
 use Rattle.cand_pool.proofs.SieveLaws.{keeps_like}
-use Rattle.cand_uses.specs.Uses.{uses_by, HoldsFor, IsExchange}
-use Rattle.cand_uses.proofs.ExchangeLemmas.{uses_of_both, exchange_same, exchange_then, exchange_among, exchanged_held}
-use Rattle.cand_turns.specs.Swaps.{Search, Hand, one_list, IsSwap}
-use Rattle.cand_turns.specs.Branches.{hand_of, AreHeld}
-use Rattle.cand_turns.specs.declared.branch.Branch.{Branch}
+use Rattle.cand_uses.specs.Uses.{uses_by, IsExchange, MeanTheSame}
+use Rattle.cand_uses.proofs.ExchangeLemmas.{uses_of_both, exchange_then, exchange_same, exchange_among, exchanged_held, stays_same}
+use Rattle.cand_turns.specs.Swaps.{Search, search, Lists, names, named, all_of, AreHeld, IsSwap, IsTurn, AreOf}
 
-pub swap_then : (a b c : Search) (given middle made : Hand) → IsSwap a given b middle → IsSwap b middle c made → IsSwap a given c made
+pub swap_then : (a b c : Search) (given middle made : Lists) → IsSwap a given b middle → IsSwap b middle c made → IsSwap a given c made
 swap_then a b c given middle made one two = record {
-  uses = exchange_then a.slots b.slots c.slots given.all middle.all made.all one.uses two.uses;
-  others = keeps_then a.pool b.pool c.pool given.names middle.names middle.names made.names made.names one.others two.others (λ k m. m) (λ k m. inl m);
+  uses = exchange_then a.slots b.slots c.slots (all_of a.pool given) (all_of b.pool middle) (all_of c.pool made) one.uses two.uses;
+  others = keeps_then a.pool b.pool c.pool (names given) (names middle) (names middle) (names made) (names made) one.others two.others (λ k m. m) (λ k m. inl m);
   spare = omega (arith, one.spare, two.spare);
 }
 
--- a list beside a swap stays, and is none of those that were made
-pub list_stays : (old new : Search) (given made : Hand) (list : NamedList) → IsSwap old given new made → (name list ≢ none → IsIn (name list) given.names → ⊥)
-    → IsLive old.pool list → Holds new.pool list (items_of old.pool list)
-list_stays old new given made list one out live = stays old.pool new.pool given.names made.names _ _ _ one.others out live
+pub turn_then : (a b c : Search) (given middle made : Lists) → IsTurn a given b middle → IsTurn b middle c made → IsTurn a given c made
+turn_then a b c given middle made one two = record { held = two.held; swap = swap_then a b c given middle made one.swap two.swap }
 
-pub list_fresh : (old new : Search) (given made : Hand) (list : NamedList) → IsSwap old given new made → (name list ≢ none → IsIn (name list) given.names → ⊥)
-    → IsLive old.pool list → name list ≢ none → IsIn (name list) made.names → ⊥
-list_fresh old new given made list one out live some = one.others.fresh _ _ _ live some (out some)
+-- sums over the lists
+pub uses_of_all : (s : Block) (lists : Lists) (t : ℕ) → uses_by (all_of s lists) t ≡ sum_by (λ list. uses_by (items_of s list) t) lists
+uses_of_all s [] t = refl
+uses_of_all s (list ∷ lists) t =
+    omega (arith, uses_of_both (items_of s list) (all_of s lists) t, sum_by-cons (λ l. uses_by (items_of s l) t) list lists, uses_of_all s lists t)
 
--- the lists of a branch were swapped for those of another one
-pub record IsTurn (old : Search) (branch : Branch) (new : Search) (branch' : Branch) : Type 0 where
-  pub held : AreHeld new branch'
-  pub swap : IsSwap old (hand_of old.pool branch) new (hand_of new.pool branch')
+pub length_of_all : (s : Block) (lists : Lists) → length (all_of s lists) ≡ sum_by (λ list. length (items_of s list)) lists
+length_of_all s [] = refl
+length_of_all s (list ∷ lists) =
+    omega (arith, length-append (items_of s list) (all_of s lists), sum_by-cons (λ l. length (items_of s l)) list lists, length_of_all s lists)
 
-pub turn_then : (a b c : Search) (x y z : Branch) → IsTurn a x b y → IsTurn b y c z → IsTurn a x c z
-turn_then a b c x y z one two = record { held = two.held; swap = swap_then a b c (hand_of a.pool x) (hand_of b.pool y) (hand_of c.pool z) one.swap two.swap }
+-- a list of these
+pub named_some : (k : ℕ) (lists : Lists) → IsIn k (names lists) → 0 < named k lists
+named_some k [] m = absurd m
+named_some k (l ∷ ls) (inl e) = omega (arith, sum_by-cons (λ (x : NamedList). one_if (name x == k)) l ls, one_same (name l) k (sym e))
+named_some k (l ∷ ls) (inr m) = omega (arith, sum_by-cons (λ (x : NamedList). one_if (name x == k)) l ls, named_some k ls m)
 
--- of two names that differ the one is not the other's
-pub not_in : (a b : ℕ) → Differ a b → a ≢ none → IsIn a (b ∷ []) → ⊥
-not_in a b differ some (inl e) = some (differ e)
-not_in a b differ some (inr o) = o
+pub some_named : (k : ℕ) (lists : Lists) → 0 < named k lists → (l : NamedList) × Contains lists l × (name l ≡ k)
+some_named k [] positive = absurd (omega arith)
+some_named k (l ∷ ls) positive = elim (cases_eq (name l) k) [
+  | inl e ↦ (l, (0, omega arith, refl), e)
+  | inr d ↦
+      let (x, (j, j_n, f), e) = some_named k ls (omega (arith, sum_by-cons (λ (x : NamedList). one_if (name x == k)) l ls, one_other (name l) k d, positive)) in
+      (x, (suc j, omega arith, f), e)
+]
 
-pub differ_back : (a b : ℕ) → Differ a b → Differ b a
-differ_back a b differ e = e ∙ differ (sym e)
+pub in_names : (lists : Lists) (l : NamedList) → Contains lists l → IsIn (name l) (names lists)
+in_names [] l (k, k_n, e) = absurd (omega arith)
+in_names (x ∷ xs) l (zero, k_n, e) = inl (ap (λ (y : NamedList). name y) (sym e))
+in_names (x ∷ xs) l (suc k, k_n, e) = inr (in_names xs l (k, omega arith, e))
 
--- the one list of a branch was swapped for another one
-pub even_turn : (old new : Search) (branch : Branch) (list : NamedList) (xs : Candidates) → AreHeld old branch
-    → IsSwap old (one_list branch.even (items_of old.pool branch.even)) new (one_list list xs) → Holds new.pool list xs
-    → IsTurn old branch new (record { even = list; odd = branch.odd })
-even_turn old new branch list xs held one live =
-    let odd : Holds new.pool branch.odd (items_of old.pool branch.odd)
-    = list_stays old new _ _ branch.odd one (not_in _ _ (differ_back _ _ held.apart)) held.odd in
-    let even_is : items_of new.pool list ≡ xs = held_items _ _ _ _ live in
-    let odd_is : items_of new.pool branch.odd ≡ items_of old.pool branch.odd = held_items _ _ _ _ odd in
-    let uses : IsExchange old.slots (items_of old.pool branch.even ++ items_of old.pool branch.odd) new.slots (items_of new.pool list ++ items_of new.pool branch.odd)
-    = exchange_among old.slots new.slots (items_of old.pool branch.odd) (items_of old.pool branch.even) xs _ _
-    (λ s. omega (arith, uses_of_both (items_of old.pool branch.even) (items_of old.pool branch.odd) s))
-    (λ s. omega (arith, uses_of_both (items_of new.pool list) (items_of new.pool branch.odd) s, ap (λ (l : Candidates). uses_by l s) even_is, ap (λ (l : Candidates). uses_by l s) odd_is))
-    one.uses in
-    record {
-      held = record {
-        even = held_named _ _ _ _ live;
-        odd = held_named _ _ _ _ odd;
-        apart = λ e. elim (is_same (name list) none) [
-          | inl z ↦ z
-          | inr some ↦ absurd (list_fresh old new _ _ branch.odd one (not_in _ _ (differ_back _ _ held.apart)) held.odd (λ z. some (e ∙ z)) (inl (sym e)))
+pub name_in : (k : ℕ) (lists : Lists) → IsIn k (names lists) → (l : NamedList) × Contains lists l × (name l ≡ k)
+name_in k lists m = some_named k lists (named_some k lists m)
+
+in_either : (k : ℕ) (xs ys : Lists) → IsIn k (names (xs ++ ys)) → IsIn k (names xs) ⊎ IsIn k (names ys)
+in_either k [] ys m = inr m
+in_either k (x ∷ xs) ys (inl e) = inl (inl e)
+in_either k (x ∷ xs) ys (inr m) = elim (in_either k xs ys m) [ inl a ↦ inl (inr a) | inr b ↦ inr b ]
+
+in_first : (k : ℕ) (xs ys : Lists) → IsIn k (names xs) → IsIn k (names (xs ++ ys))
+in_first k [] ys m = absurd m
+in_first k (x ∷ xs) ys (inl e) = inl e
+in_first k (x ∷ xs) ys (inr m) = inr (in_first k xs ys m)
+
+in_second : (k : ℕ) (xs ys : Lists) → IsIn k (names ys) → IsIn k (names (xs ++ ys))
+in_second k [] ys m = m
+in_second k (x ∷ xs) ys m = inr (in_second k xs ys m)
+
+-- lists in another order
+pub in_order : (k : ℕ) (xs ys : Lists) → IsPermutation xs ys → IsIn k (names xs) → IsIn k (names ys)
+in_order k xs ys order m =
+    let (l, found, e) = some_named k ys (omega (arith, named_some k xs m, sum_by-IsPermutation (λ (x : NamedList). one_if (name x == k)) xs ys order)) in
+    subst (λ (n : ℕ). IsIn n (names ys)) e (in_names ys l found)
+
+pub order_uses : (s : Block) (xs ys : Lists) → IsPermutation xs ys → (t : ℕ) → uses_by (all_of s ys) t ≡ uses_by (all_of s xs) t
+order_uses s xs ys order t =
+    omega (arith, uses_of_all s xs t, uses_of_all s ys t, sum_by-IsPermutation (λ (l : NamedList). uses_by (items_of s l) t) xs ys order)
+
+pub order_length : (s : Block) (xs ys : Lists) → IsPermutation xs ys → length (all_of s ys) ≡ length (all_of s xs)
+order_length s xs ys order =
+    omega (arith, length_of_all s xs, length_of_all s ys, sum_by-IsPermutation (λ (l : NamedList). length (items_of s l)) xs ys order)
+
+pub order_held : (at : Search) (xs ys : Lists) → IsPermutation xs ys → AreHeld at xs → AreHeld at ys
+order_held at xs ys order held = record {
+  live = All-permutation (IsLive at.pool) xs ys order held.live;
+  apart = λ k some. omega (arith, held.apart k some, sum_by-IsPermutation (λ (x : NamedList). one_if (name x == k)) xs ys order);
+  uses = λ s some. omega (arith, held.uses s some, order_uses at.pool xs ys order s);
+}
+
+-- A swap of some lists beside others.
+module _ (old new : Search) (given made others : Lists) (held : AreHeld old (given ++ others)) (turn : IsTurn old given new made) where
+  named_both : (k : ℕ) (xs ys : Lists) → named k (xs ++ ys) ≡ named k xs + named k ys
+  named_both k xs ys = sum_by-append (λ (x : NamedList). one_if (name x == k)) xs ys
+
+  -- none of the others was given
+  not_given : (l : NamedList) → Contains others l → name l ≢ none → IsIn (name l) (names given) → ⊥
+  not_given l found some m =
+      omega (arith, held.apart (name l) some, named_both (name l) given others, named_some (name l) given m, named_some (name l) others (in_names others l found))
+
+  other_live : (l : NamedList) → Contains others l → IsLive old.pool l
+  other_live l found = All-contains (IsLive old.pool) (given ++ others) l held.live (Contains-append_right given others l found)
+
+  pub other_stays : (l : NamedList) → Contains others l → Holds new.pool l (items_of old.pool l)
+  other_stays l found = stays old.pool new.pool (names given) (names made) _ _ _ turn.swap.others (not_given l found) (other_live l found)
+
+  pub other_items : (l : NamedList) → Contains others l → items_of new.pool l ≡ items_of old.pool l
+  other_items l found = held_items _ _ _ _ (other_stays l found)
+
+  not_made : (l : NamedList) → Contains others l → name l ≢ none → IsIn (name l) (names made) → ⊥
+  not_made l found some = turn.swap.others.fresh _ _ _ (other_live l found) some (not_given l found some)
+
+  pub others_same : all_of new.pool others ≡ all_of old.pool others
+  others_same = same others (λ l found. other_items l found) where
+    same : (ls : Lists) → ((l : NamedList) → Contains ls l → items_of new.pool l ≡ items_of old.pool l) → all_of new.pool ls ≡ all_of old.pool ls
+    same [] each = refl
+    same (l ∷ ls) each =
+        let first : items_of new.pool l ≡ items_of old.pool l = each l (0, omega arith, refl) in
+        let rest : all_of new.pool ls ≡ all_of old.pool ls = same ls (λ x (k, k_n, e). each x (suc k, omega arith, e)) in
+        λ i. first i ++ rest i
+
+  all_both : (s : Block) (xs ys : Lists) (t : ℕ) → uses_by (all_of s (xs ++ ys)) t ≡ uses_by (all_of s xs) t + uses_by (all_of s ys) t
+  all_both s xs ys t =
+      omega (arith, uses_of_all s (xs ++ ys) t, uses_of_all s xs t, uses_of_all s ys t, sum_by-append (λ (l : NamedList). uses_by (items_of s l) t) xs ys)
+
+  long_both : (s : Block) (xs ys : Lists) → length (all_of s (xs ++ ys)) ≡ length (all_of s xs) + length (all_of s ys)
+  long_both s xs ys =
+      omega (arith, length_of_all s (xs ++ ys), length_of_all s xs, length_of_all s ys, sum_by-append (λ (l : NamedList). length (items_of s l)) xs ys)
+
+  beside_uses : IsExchange old.slots (all_of old.pool (given ++ others)) new.slots (all_of new.pool (made ++ others))
+  beside_uses =
+      exchange_among old.slots new.slots (all_of old.pool others) (all_of old.pool given) (all_of new.pool made) (all_of old.pool (given ++ others)) (all_of new.pool (made ++ others))
+      (λ t. omega (arith, all_both old.pool given others t))
+      (λ t. omega (arith, all_both new.pool made others t, ap (λ (xs : Candidates). uses_by xs t) others_same))
+      turn.swap.uses
+
+  beside_apart : (k : ℕ) → k ≢ none → named k (made ++ others) ≤ 1
+  beside_apart k some =
+      elim (cases_lt 0 (named k made)) [
+        | inr none_made ↦ omega (arith, none_made, named_both k made others, named_both k given others, held.apart k some)
+        | inl made_so ↦ elim (cases_lt 0 (named k others)) [
+          | inr none_other ↦ omega (arith, none_other, named_both k made others, turn.held.apart k some)
+          | inl other_so ↦
+              let (x, x_in, x_is) = some_named k made made_so in
+              let (l, l_in, l_is) = some_named k others other_so in
+              absurd (not_made l l_in (λ e. some (sym l_is ∙ e)) (subst (λ (n : ℕ). IsIn n (names made)) (x_is ∙ sym l_is) (in_names made x x_in)))
+        ]
+      ]
+
+  pub beside : IsTurn old (given ++ others) new (made ++ others)
+  beside = record {
+    held = record {
+      live = All-append (IsLive new.pool) made others turn.held.live (λ k d k_n. held_named _ _ _ _ (other_stays (get_or others k d) (Contains-get_or others k d k_n)));
+      apart = beside_apart;
+      uses = exchanged_held old.slots new.slots (all_of old.pool (given ++ others)) (all_of new.pool (made ++ others)) held.uses beside_uses;
+    };
+    swap = record {
+      uses = beside_uses;
+      others = record {
+        few = turn.swap.others.few;
+        stays = λ first last xs h some out. turn.swap.others.stays first last xs h some (λ m. out (in_first first given others m));
+        fresh = λ first last xs h some out m. elim (in_either first made others m) [
+          | inl a ↦ turn.swap.others.fresh first last xs h some (λ b. out (in_first first given others b)) a
+          | inr b ↦ out (in_second first given others b)
         ];
-        uses = exchanged_held _ _ _ _ held.uses uses;
       };
+      spare = omega (
+        arith,
+        turn.swap.spare,
+        long_both old.pool given others,
+        long_both new.pool made others,
+        ap (λ (xs : Candidates). length xs) others_same,
+      );
+    };
+  }
+
+-- the same of lists in any order
+pub turn_among : (old new : Search) (given made others before after : Lists) → AreHeld old before → AreOf given others before → AreOf made others after
+    → IsTurn old given new made → IsTurn old before new after
+turn_among old new given made others before after held of_before of_after turn =
+    let back : IsPermutation before (given ++ others) = IsPermutation-sym (given ++ others) before of_before in
+    let whole : IsTurn old (given ++ others) new (made ++ others) = beside old new given made others (order_held old before (given ++ others) back held) turn in
+    record {
+      held = order_held new (made ++ others) after of_after whole.held;
       swap = record {
-        uses = uses;
-        others = keeps_like _ _ _ _ _ _ (keeps_with _ _ (name branch.odd) _ _ one.others)
-            (λ k m. elim m [ inl e ↦ inr (inl e) | inr m' ↦ elim m' [ inl e ↦ inl e | inr o ↦ absurd o ] ])
-            (λ k m. elim m [ inl e ↦ inr (inl e) | inr m' ↦ elim m' [ inl e ↦ inl e | inr o ↦ absurd o ] ]);
-        spare = omega (
-          arith,
-          one.spare,
-          length-append (items_of old.pool branch.even) (items_of old.pool branch.odd),
-          length-append (items_of new.pool list) (items_of new.pool branch.odd),
-          ap (λ (l : Candidates). length l) even_is,
-          ap (λ (l : Candidates). length l) odd_is,
-        );
+        uses = exchange_same old.slots new.slots (all_of old.pool (given ++ others)) (all_of old.pool before) (all_of new.pool (made ++ others)) (all_of new.pool after)
+            (order_uses old.pool (given ++ others) before of_before)
+            (λ t. sym (order_uses new.pool (made ++ others) after of_after t)) whole.swap.uses;
+        others = keeps_like old.pool new.pool _ _ _ _ whole.swap.others (λ k m. in_order k (given ++ others) before of_before m)
+            (λ k m. in_order k after (made ++ others) (IsPermutation-sym (made ++ others) after of_after) m);
+        spare = omega (arith, whole.swap.spare, order_length old.pool (given ++ others) before of_before, order_length new.pool (made ++ others) after of_after);
       };
     }
 
--- the same of the other list
-flip_held : (at : Search) (branch : Branch) → AreHeld at branch → AreHeld at (record { even = branch.odd; odd = branch.even })
-flip_held at branch held = record {
-  even = held.odd;
-  odd = held.even;
-  apart = differ_back _ _ held.apart;
-  uses = λ s some.
-      omega (
-        arith,
-        held.uses s some,
-        uses_of_both (items_of at.pool branch.even) (items_of at.pool branch.odd) s,
-        uses_of_both (items_of at.pool branch.odd) (items_of at.pool branch.even) s,
-      );
-}
-
-flip_turn : (old new : Search) (x y : Branch) → IsTurn old (record { even = x.odd; odd = x.even }) new (record { even = y.odd; odd = y.even }) → IsTurn old x new y
-flip_turn old new x y turn = record {
-  held = flip_held new (record { even = y.odd; odd = y.even }) turn.held;
-  swap = record {
-    uses = exchange_same old.slots new.slots _ _ _ _
-        (λ s. omega (arith, uses_of_both (items_of old.pool x.even) (items_of old.pool x.odd) s, uses_of_both (items_of old.pool x.odd) (items_of old.pool x.even) s))
-        (λ s. omega (arith, uses_of_both (items_of new.pool y.even) (items_of new.pool y.odd) s, uses_of_both (items_of new.pool y.odd) (items_of new.pool y.even) s))
-        turn.swap.uses;
-    others = keeps_like _ _ _ _ _ _ turn.swap.others (turned (name x.odd) (name x.even)) (turned (name y.even) (name y.odd));
-    spare = omega (
-      arith,
-      turn.swap.spare,
-      length-append (items_of old.pool x.even) (items_of old.pool x.odd),
-      length-append (items_of old.pool x.odd) (items_of old.pool x.even),
-      length-append (items_of new.pool y.even) (items_of new.pool y.odd),
-      length-append (items_of new.pool y.odd) (items_of new.pool y.even),
-    );
-  };
-} where
-  turned : (a b k : ℕ) → IsIn k (a ∷ b ∷ []) → IsIn k (b ∷ a ∷ [])
-  turned a b k (inl e) = inr (inl e)
-  turned a b k (inr (inl e)) = inl e
-  turned a b k (inr (inr o)) = absurd o
-
-pub odd_turn : (old new : Search) (branch : Branch) (list : NamedList) (xs : Candidates) → AreHeld old branch
-    → IsSwap old (one_list branch.odd (items_of old.pool branch.odd)) new (one_list list xs) → Holds new.pool list xs
-    → IsTurn old branch new (record { even = branch.even; odd = list })
-odd_turn old new branch list xs held one live =
-    flip_turn old new branch (record { even = branch.even; odd = list })
-    (even_turn old new (record { even = branch.odd; odd = branch.even }) list xs (flip_held old branch held) one live)
-
--- callers hold the uses of each of two lists
-pub held_first : (at : Search) (branch : Branch) → AreHeld at branch → HoldsFor at.slots (items_of at.pool branch.even)
-held_first at branch held s some = omega (arith, held.uses s some, uses_of_both (items_of at.pool branch.even) (items_of at.pool branch.odd) s)
-
-pub held_second : (at : Search) (branch : Branch) → AreHeld at branch → HoldsFor at.slots (items_of at.pool branch.odd)
-held_second at branch held s some = omega (arith, held.uses s some, uses_of_both (items_of at.pool branch.even) (items_of at.pool branch.odd) s)
-
-pub record AreHeldIn (s : Block) (branch : Branch) : Type 0 where
-  pub even : IsLive s branch.even
-  pub odd : IsLive s branch.odd
-
--- both lists of a branch as one bag
-pub bag_given : (s s1 s2 s3 : Block) (branch : Branch) (bag odd both : Bag) → AreHeldIn s branch → (s1 ≡ s) → (s2 ≡ s1)
-    → ((xs : Candidates) → Holds s branch.even xs → HoldsBag s1 bag xs) → ((xs : Candidates) → Holds s1 branch.odd xs → HoldsBag s2 odd xs)
-    → ((xs ys : Candidates) → HoldsBag s2 bag xs → HoldsBag s2 odd ys → HoldsBag s3 both (xs ++ ys)) → HoldsBag s3 both (items_of s branch.even ++ items_of s branch.odd)
-bag_given s s1 s2 s3 branch bag odd both live e f one two joined =
-    joined (items_of s branch.even) (items_of s branch.odd)
-    (subst (λ (t : Block). HoldsBag t bag (items_of s branch.even)) (sym f) (one (items_of s branch.even) live.even))
-    (two (items_of s branch.odd) (subst (λ (t : Block). Holds t branch.odd (items_of s branch.odd)) (sym e) live.odd))
-
-pub pair_in : (k a b a' b' : ℕ) → a ≡ a' → b ≡ b' → IsIn k (a ∷ b ∷ []) → IsIn k (a' ∷ b' ∷ [])
-pair_in k a b a' b' e f (inl m) = inl (m ∙ e)
-pair_in k a b a' b' e f (inr (inl m)) = inr (inl (m ∙ f))
-pair_in k a b a' b' e f (inr (inr o)) = absurd o
-
--- a branch is given up by way of its bag
-pub given_others : (s s' t u : Block) (branch : Branch) (bag odd both : ℕ) → s' ≡ s → bag ≡ name branch.even → odd ≡ name branch.odd
-    → KeepsOthers s' (bag ∷ odd ∷ []) t (both ∷ []) → KeepsOthers t (both ∷ []) u [] → KeepsOthers s (name branch.even ∷ name branch.odd ∷ []) u []
-given_others s s' t u branch bag odd both e bag_is odd_is one two =
-    keeps_then s t u _ (both ∷ []) (both ∷ []) [] []
-    (subst (λ (r : Block). KeepsOthers r (name branch.even ∷ name branch.odd ∷ []) t (both ∷ [])) e (keeps_like s' t _ _ _ _ one (λ k m. pair_in k bag odd _ _ bag_is odd_is m) (λ k m. m)))
-    two (λ k m. m) (λ k m. inl m)
+-- the solutions of the others mean what they did
+pub others_meant : (old new : Arena) (s t : Block) (given made others : Lists) → AreHeld (search s old) (given ++ others) → IsTurn (search s old) given (search t new) made
+    → MeanTheSame (made_of old) (made_of new) (all_of s others)
+others_meant old new s t given made others held turn =
+    stays_same old new (all_of s others) (all_of s given) (all_of t made)
+    (λ u some. omega (arith, held.uses u some, all_both (search s old) (search t new) given made others held turn s given others u, uses_of_both (all_of s others) (all_of s given) u))
+    turn.swap.uses

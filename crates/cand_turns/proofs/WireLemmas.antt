@@ -1,5 +1,5 @@
 -- A wire above the lists of a branch.
-use Rattle.std.proofs.Common.{◌≡◌, ℕ, ◌+◌, ◌<◌, Bool, true, false, List, [], ◌∷◌, ◌++◌, length, refl, sym, ap, ◌∙◌, subst, arith, suc, inl, inr}
+use Rattle.std.proofs.Common.{◌≡◌, ℕ, ◌<◌, Bool, true, false, List, [], ◌∷◌, ◌++◌, length, refl, sym, ap, ◌∙◌, subst, arith, suc, inl, inr}
 use Rattle.std.specs.List.{Contains}
 use Rattle.std.proofs.lemmas.Int.{ints}
 use Rattle.std.proofs.lemmas.Bool.{cases_Bool}
@@ -15,15 +15,12 @@ use Rattle.cand_laws.specs.Solutions.{IsSolutionOf}
 use Rattle.cand_laws.proofs.SmallPairLemmas.{pair_small, resistance_small}
 use Rattle.cand_pool.specs.Candidates.{Candidate, Candidates, AreModest}
 use Rattle.cand_uses.specs.Pairs.{pair_of, pairs_of}
-use Rattle.cand_pool.specs.Pools.{Block, Holds, spare, items_of, name, KeepsOthers}
-use Rattle.cand_pool.specs.declared.ends.List.{List as NamedList}
+use Rattle.cand_pool.specs.Pools.{Block, items_of}
 use Rattle.cand_uses.specs.Uses.{HoldsFor, IsExchange, MeanTheSame}
 use Rattle.cand_uses.proofs.ExchangeLemmas.{uses_of_both, exchanged_held, exchange_among, stays_same}
 use Rattle.cand_lists.specs.ListLaws.{through_wire}
 use Rattle.cand_lists.proofs.ExactLemmas.{wire_exact, wire_takes, pair_in}
-use Rattle.cand_turns.specs.Swaps.{Search, one_list, IsSwap}
-use Rattle.cand_turns.specs.Branches.{classes_in, AreHeld}
-use Rattle.cand_turns.proofs.SwapLemmas.{IsTurn, even_turn, odd_turn}
+use Rattle.cand_turns.specs.Branches.{classes_in}
 use Rattle.cand_turns.specs.declared.branch.Branch.{Branch}
 use Rattle.cand_turns.specs.Solved.{AreSolved, IsClosedAt, IsCarriedSolution, IsAboveWire}
 
@@ -50,12 +47,6 @@ wire_solved p v odd old new xs solved same z found =
       subst (λ held. IsSolutionOf p v odd held (pair_of x)) (sym (same z found ∙ ap (cells_of old) tag_is)) (solved x x_in),
       ap pair_of z_is,
     )
-
--- one list of a branch, above the wire of its node
-pub wire_swap : (old new : Search) (list list' : NamedList) (r : ℕ) (xs : Candidates) → IsExchange old.slots xs new.slots (through_wire r xs)
-    → KeepsOthers old.pool (name list ∷ []) new.pool (name list' ∷ []) → spare new.pool + length (through_wire r xs) ≡ spare old.pool + length xs
-    → IsSwap old (one_list list xs) new (one_list list' (through_wire r xs))
-wire_swap old new list list' r xs uses others spare = record { uses = uses; others = others; spare = spare }
 
 -- both lists of a branch above the wire
 pub both_above : (p : Problem) (v r : ℕ) (old : Block) (branch : Branch) (before after : Arena) (new : Block) (branch' : Branch) → v < length p.tree.nodes → r ≡ resistance p.tree.nodes v
@@ -103,22 +94,3 @@ both_meant before middle after r evens odds held one two first second = record {
   held_mid = exchanged_held (slots_of before) (slots_of middle) (evens ++ odds) (through_wire r evens ++ odds) held
       (exchange_among (slots_of before) (slots_of middle) odds evens (through_wire r evens) (evens ++ odds) (through_wire r evens ++ odds)
       (λ s. omega (arith, uses_of_both evens odds s)) (λ s. omega (arith, uses_of_both (through_wire r evens) odds s)) one)
-
--- a branch, of which the one list or the other is above the wire
-pub first_above : (old new : Search) (branch : Branch) (list : NamedList) (r : ℕ) → AreHeld old branch
-    → IsExchange old.slots (items_of old.pool branch.even) new.slots (through_wire r (items_of old.pool branch.even))
-    → KeepsOthers old.pool (name branch.even ∷ []) new.pool (name list ∷ [])
-    → spare new.pool + length (through_wire r (items_of old.pool branch.even)) ≡ spare old.pool + length (items_of old.pool branch.even)
-    → Holds new.pool list (through_wire r (items_of old.pool branch.even)) → IsTurn old branch new (record { even = list; odd = branch.odd })
-first_above old new branch list r held uses others spare live =
-    even_turn old new branch list (through_wire r (items_of old.pool branch.even)) held
-    (wire_swap old new branch.even list r (items_of old.pool branch.even) uses others spare) live
-
-pub second_above : (old new : Search) (branch : Branch) (list : NamedList) (r : ℕ) → AreHeld old branch
-    → IsExchange old.slots (items_of old.pool branch.odd) new.slots (through_wire r (items_of old.pool branch.odd))
-    → KeepsOthers old.pool (name branch.odd ∷ []) new.pool (name list ∷ [])
-    → spare new.pool + length (through_wire r (items_of old.pool branch.odd)) ≡ spare old.pool + length (items_of old.pool branch.odd)
-    → Holds new.pool list (through_wire r (items_of old.pool branch.odd)) → IsTurn old branch new (record { even = branch.even; odd = list })
-second_above old new branch list r held uses others spare live =
-    odd_turn old new branch list (through_wire r (items_of old.pool branch.odd)) held
-    (wire_swap old new branch.odd list r (items_of old.pool branch.odd) uses others spare) live

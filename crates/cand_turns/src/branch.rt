@@ -1,11 +1,11 @@
 //! The lists of a branch of a net, and what a wire makes of them.
 
-ghost use Rattle.std.specs.Prelude.{◌≡◌, ◌<◌, length};
+ghost use Rattle.std.specs.Prelude.{◌≡◌, ◌<◌, [], length};
 ghost use Rattle.elmore.specs.Trees.{resistance};
 ghost use Rattle.sol_arena.specs.Arenas.{made_of};
 ghost use Rattle.cand_uses.specs.Pairs.{pairs_of};
-ghost use Rattle.cand_turns.specs.Swaps.{IsSwap, search, nothing};
-ghost use Rattle.cand_turns.specs.Branches.{AreHeld, classes_in, hand_of};
+ghost use Rattle.cand_turns.specs.Swaps.{AreHeld, IsSwap, IsTurn, search};
+ghost use Rattle.cand_turns.specs.Branches.{classes_in, lists_of};
 ghost use Rattle.cand_turns.specs.Solved.{IsClosedAt, IsAboveWire};
 
 use cand_lists::wire;
@@ -34,8 +34,8 @@ pub struct Branch {
 impl Branch {
     /// Gives up both lists, with the uses of their solutions.
     pub fn give_up(self, pool: &mut Pool, arena: &mut Arena)
-        requires held { AreHeld (search pool.old arena.old) self }
-        ensures swap { IsSwap (search pool.old arena.old) (hand_of pool.old self) (search pool.new arena.new) nothing }
+        requires held { AreHeld (search pool.old arena.old) (lists_of self) }
+        ensures swap { IsSwap (search pool.old arena.old) (lists_of self) (search pool.new arena.new) [] }
     {
         let Branch { even, odd } = self;
         let mut bag = pool.discard(even);
@@ -54,11 +54,10 @@ impl Branch {
         steps: &mut Steps<L>,
     )
         requires node { node < length p.now.tree.nodes }
-        requires held { AreHeld (search pool.old arena.old) self.old }
+        requires held { AreHeld (search pool.old arena.old) (lists_of self.old) }
         requires closed { IsClosedAt p.now node (made_of arena.old) (classes_in pool.old self.old) }
-        ensures held { AreHeld (search pool.new arena.new) self.new }
         ensures above { IsAboveWire p.now node (λ odd. pairs_of (classes_in pool.old self.old odd)) (made_of arena.new) (classes_in pool.new self.new) }
-        ensures swap { IsSwap (search pool.old arena.old) (hand_of pool.old self.old) (search pool.new arena.new) (hand_of pool.new self.new) }
+        ensures turn { IsTurn (search pool.old arena.old) (lists_of self.old) (search pool.new arena.new) (lists_of self.new) }
     {
         let r = resistance_of(p, node);
         wire(pool, arena, &mut self.even, r, steps);

@@ -3,11 +3,11 @@
 ghost use Rattle.std.specs.Prelude.{◌≡◌, ◌+◌, ◌∷◌, [], length};
 ghost use Rattle.sol_arena.specs.Arenas.{slots_of};
 ghost use Rattle.cand_pool.specs.Candidates.{Candidates};
-ghost use Rattle.cand_pool.specs.Pools.{spare, Holds, HoldsBag, IsLiveBag, bag_of, bag_name, name, Differ, KeepsOthers};
+ghost use Rattle.cand_pool.specs.Pools.{spare, Holds, HoldsBag, IsLive, IsLiveBag, items_of, bag_of, bag_name, name, Differ, KeepsOthers};
 ghost use Rattle.cand_pool.specs.declared.ends.List.{List as NamedList};
 ghost use Rattle.cand_uses.specs.Uses.{HoldsFor, IsExchange};
 
-use cand_pool::{Bag, Pool};
+use cand_pool::{Bag, List, Pool};
 use sol_arena::{Arena, Sol};
 
 /// Empties a bag and ends it: the slots of its candidates are spare again, and the uses of their solutions are given up.
@@ -24,4 +24,17 @@ pub fn give_up(pool: &mut Pool, arena: &mut Arena, bag: Bag)
         arena.release(Sol(tag));
     }
     pool.close(bag);
+}
+
+/// Ends a list: the slots of its candidates are spare again, and the uses of their solutions are given up.
+pub fn end_list(pool: &mut Pool, arena: &mut Arena, list: List)
+    requires live { IsLive pool.old list }
+    requires held { HoldsFor (slots_of arena.old) (items_of pool.old list) }
+    ensures uses { IsExchange (slots_of arena.old) (items_of pool.old list) (slots_of arena.new) [] }
+    ensures spare { spare pool.new ≡ spare pool.old + length (items_of pool.old list) }
+    ensures others { KeepsOthers pool.old (name list ∷ []) pool.new [] }
+    ensures lists { (other : NamedList) (xs : Candidates) → Differ (name other) (name list) → Holds pool.old other xs → Holds pool.new other xs }
+{
+    let bag = pool.discard(list);
+    give_up(pool, arena, bag);
 }
