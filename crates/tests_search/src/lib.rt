@@ -3,3 +3,5 @@
 
 #[cfg(test)]
 mod arena;
+#[cfg(test)]
+mod branches;
