@@ -13,7 +13,7 @@ use Rattle.cand_pool.specs.Pools.{Block, Holds, IsLive, items_of, spare, name, D
 use Rattle.cand_pool.specs.declared.ends.List.{List as NamedList}
 use Rattle.cand_pool.proofs.PublicLaws.{held_items, held_named}
 use Rattle.cand_uses.specs.Uses.{uses_by, HoldsFor, IsExchange}
-use Rattle.cand_uses.proofs.ExchangeLemmas.{uses_of_both, exchange_same, exchanged_held}
+use Rattle.cand_uses.proofs.ExchangeLemmas.{uses_of_both, exchange_of, exchange_same, exchanged_held}
 use Rattle.cand_turns.specs.Swaps.{Search, named, all_of, AreHeld, IsTurn, AreOf}
 use Rattle.cand_turns.specs.Branches.{lists_of}
 use Rattle.cand_turns.specs.declared.branch.Branch.{Branch}
@@ -25,6 +25,20 @@ one_all s list = append-nil (items_of s list)
 pub two_all : (s : Block) (a b : NamedList) → all_of s (a ∷ b ∷ []) ≡ items_of s a ++ items_of s b
 two_all s a b = ap (λ (l : Candidates). items_of s a ++ l) (append-nil (items_of s b))
 
+one_named : (k : ℕ) (l : NamedList) → named k (l ∷ []) ≤ 1
+one_named k l = elim (cases_eq (name l) k) [
+  | inl e ↦ omega (arith, sum_by-cons (λ (x : NamedList). one_if (name x == k)) l [], one_same (name l) k e)
+  | inr d ↦ omega (arith, sum_by-cons (λ (x : NamedList). one_if (name x == k)) l [], one_other (name l) k d)
+]
+
+-- one list is held
+pub one_made : (at : Search) (list : NamedList) → IsLive at.pool list → HoldsFor at.slots (all_of at.pool (list ∷ [])) → AreHeld at (list ∷ [])
+one_made at list live uses = record {
+  live = All-cons (IsLive at.pool) list [] live (All-nil (IsLive at.pool));
+  apart = λ k some. one_named k list;
+  uses = uses;
+}
+
 -- one list is given for another one
 pub one_turn : (old new : Search) (list list' : NamedList) (xs : Candidates) → HoldsFor old.slots (items_of old.pool list)
     → IsExchange old.slots (items_of old.pool list) new.slots xs → KeepsOthers old.pool (name list ∷ []) new.pool (name list' ∷ [])
@@ -34,24 +48,14 @@ one_turn old new list list' xs held uses others free live =
     let uses' : IsExchange old.slots (all_of old.pool (list ∷ [])) new.slots (all_of new.pool (list' ∷ []))
     = exchange_same old.slots new.slots _ _ _ _ (λ s. ap (λ (l : Candidates). uses_by l s) (one_all old.pool list)) (λ s. ap (λ (l : Candidates). uses_by l s) (sym (one_all new.pool list' ∙ xs_is))) uses in
     record {
-      held = record {
-        live = All-cons (IsLive new.pool) list' [] (held_named _ _ _ _ live) (All-nil (IsLive new.pool));
-        apart = λ k some. one_named k list';
-        uses = exchanged_held old.slots new.slots (all_of old.pool (list ∷ [])) (all_of new.pool (list' ∷ []))
-            (subst (λ (l : Candidates). HoldsFor old.slots l) (sym (one_all old.pool list)) held) uses';
-      };
+      held = one_made new list' (held_named _ _ _ _ live)
+          (exchanged_held old.slots new.slots (all_of old.pool (list ∷ [])) (all_of new.pool (list' ∷ [])) (subst (λ (l : Candidates). HoldsFor old.slots l) (sym (one_all old.pool list)) held) uses');
       swap = record {
         uses = uses';
         others = others;
         spare = omega (arith, free, ap (λ (l : Candidates). length l) (one_all old.pool list), ap (λ (l : Candidates). length l) (one_all new.pool list' ∙ xs_is));
       };
     }
-  where
-    one_named : (k : ℕ) (l : NamedList) → named k (l ∷ []) ≤ 1
-    one_named k l = elim (cases_eq (name l) k) [
-      | inl e ↦ omega (arith, sum_by-cons (λ (x : NamedList). one_if (name x == k)) l [], one_same (name l) k e)
-      | inr d ↦ omega (arith, sum_by-cons (λ (x : NamedList). one_if (name x == k)) l [], one_other (name l) k d)
-    ]
 
 -- the lists of a branch, the one first or the other
 pub even_first : (branch : Branch) → AreOf (branch.even ∷ []) (branch.odd ∷ []) (lists_of branch)
@@ -110,3 +114,22 @@ pub even_stays : (old new : Search) (branch : Branch) (list : NamedList) → Are
 even_stays old new branch list held turn =
     other_stays old new (branch.odd ∷ []) (list ∷ []) (branch.even ∷ [])
     (order_held old (lists_of branch) (branch.odd ∷ branch.even ∷ []) (IsPermutation-append_comm (branch.even ∷ []) (branch.odd ∷ [])) held) turn branch.even (0, omega arith, refl)
+
+-- a list ends
+pub end_turn : (old new : Search) (list : NamedList) → IsExchange old.slots (items_of old.pool list) new.slots [] → KeepsOthers old.pool (name list ∷ []) new.pool []
+    → spare new.pool ≡ spare old.pool + length (items_of old.pool list) → IsTurn old (list ∷ []) new []
+end_turn old new list uses others free = record {
+  held = record {
+    live = All-nil (IsLive new.pool);
+    apart = λ k some. omega arith;
+    uses = λ s some. omega arith;
+  };
+  swap = record {
+    uses = exchange_of _ _ _ _ _ (sym (one_all old.pool list)) uses;
+    others = others;
+    spare = omega (arith, free, ap (λ (l : Candidates). length l) (one_all old.pool list));
+  };
+}
+
+pub one_held : (at : Search) (list : NamedList) → AreHeld at (list ∷ []) → IsLive at.pool list × HoldsFor at.slots (items_of at.pool list)
+one_held at list held = (held.live 0 list (omega arith), λ s some. omega (arith, held.uses s some, uses_of_both (items_of at.pool list) [] s))

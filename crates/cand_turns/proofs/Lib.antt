@@ -1,4 +1,5 @@
 pub mod SwapLemmas
 pub mod BranchLemmas
-pub mod BagLemmas
 pub mod WireLemmas
+pub mod MeetLemmas
+pub mod LoadLemmas

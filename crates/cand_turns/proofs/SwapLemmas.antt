@@ -4,7 +4,7 @@ use Rattle.std.proofs.lemmas.Bool.{cases_eq, cases_lt}
 use Rattle.std.proofs.lemmas.List.{length-append}
 use Rattle.std.proofs.lemmas.List.Sums.{sum_by-cons, sum_by-append}
 use Rattle.std.proofs.lemmas.List.Sorted.{sum_by-IsPermutation, All-permutation, IsPermutation-sym}
-use Rattle.std.proofs.lemmas.List.Elements.{All-append, All-contains, Contains-append_right, Contains-get_or}
+use Rattle.std.proofs.lemmas.List.Elements.{All-append, All-contains, Contains-append_left, Contains-append_right, Contains-get_or}
 use Rattle.std.specs.List.{Contains, sum_by}
 use Rattle.std.specs.List.Sorted.{IsPermutation}
 use Rattle.sol_arena.specs.declared.arena.Arena.{Arena}
@@ -12,7 +12,7 @@ use Rattle.sol_arena.specs.Arenas.{made_of}
 use Rattle.sol_arena.specs.Uses.{one_if}
 use Rattle.sol_arena.proofs.OneLemmas.{one_same, one_other}
 use Rattle.cand_pool.specs.Links.{none, IsIn}
-use Rattle.cand_pool.specs.Candidates.{Candidates}
+use Rattle.cand_pool.specs.Candidates.{Candidate, Candidates}
 use Rattle.cand_pool.specs.Pools.{Block, Holds, IsLive, items_of, name}
 use Rattle.cand_pool.specs.declared.ends.List.{List as NamedList}
 use Rattle.cand_pool.proofs.PublicLaws.{held_items, held_named, stays}
@@ -212,3 +212,29 @@ others_meant old new s t given made others held turn =
     stays_same old new (all_of s others) (all_of s given) (all_of t made)
     (λ u some. omega (arith, held.uses u some, all_both (search s old) (search t new) given made others held turn s given others u, uses_of_both (all_of s others) (all_of s given) u))
     turn.swap.uses
+
+-- the first of some lists are held
+pub front_held : (at : Search) (xs ys : Lists) → AreHeld at (xs ++ ys) → AreHeld at xs
+front_held at xs ys held = record {
+  live = λ k d k_n. All-contains (IsLive at.pool) (xs ++ ys) (get_or xs k d) held.live (Contains-append_left xs ys (get_or xs k d) (Contains-get_or xs k d k_n));
+  apart = λ k some. omega (arith, held.apart k some, sum_by-append (λ (x : NamedList). one_if (name x == k)) xs ys);
+  uses = λ s some.
+      omega (
+        arith,
+        held.uses s some,
+        uses_of_all at.pool (xs ++ ys) s,
+        uses_of_all at.pool xs s,
+        sum_by-append (λ (l : NamedList). uses_by (items_of at.pool l) s) xs ys,
+      );
+}
+
+pub in_all : (s : Block) (lists : Lists) (list : NamedList) (x : Candidate) → Contains lists list → Contains (items_of s list) x → Contains (all_of s lists) x
+in_all s [] list x (k, k_n, e) x_in = absurd (omega arith)
+in_all s (l ∷ ls) list x (zero, k_n, e) x_in = Contains-append_left (items_of s l) (all_of s ls) x (subst (λ (k : NamedList). Contains (items_of s k) x) (sym e) x_in)
+in_all s (l ∷ ls) list x (suc k, k_n, e) x_in = Contains-append_right (items_of s l) (all_of s ls) x (in_all s ls list x (k, omega arith, e) x_in)
+
+-- the candidates of a list beside a swap stay, and so do their solutions
+pub list_meant : (old new : Arena) (s t : Block) (given made others : Lists) → AreHeld (search s old) (given ++ others) → IsTurn (search s old) given (search t new) made
+    → (l : NamedList) → Contains others l → MeanTheSame (made_of old) (made_of new) (items_of s l)
+list_meant old new s t given made others held turn l found x x_in =
+    others_meant old new s t given made others held turn x (in_all s others l x found x_in)

@@ -36,3 +36,6 @@ pub record IsAboveWire (p : Problem) (v : ℕ) (kept : Bool → List Pair) (ms :
   pub below : (odd : Bool) → IsUndominated (IsPairAt p v odd) (kept odd)
   pub exact : (odd : Bool) → IsUndominated (Carries p v (kept odd)) (pairs_of (classes odd))
   pub solved : (odd : Bool) → AreSolved (IsCarriedSolution p v odd) ms (classes odd)
+
+abbrev pub IsCarriedAt : Problem → ℕ → List Made → (Bool → Candidates) → Type 0
+IsCarriedAt p v ms classes = (kept : Bool → List Pair) × IsAboveWire p v kept ms classes

@@ -20,6 +20,13 @@ pub record Search : Type 0 where
 abbrev pub search : Block → Arena → Search
 search pool arena = record { pool = pool; slots = slots_of arena }
 
+-- the same, by the slots of the arena
+abbrev pub Slots : Type 0
+Slots = List Slot
+
+abbrev pub at_slots : Block → Slots → Search
+at_slots pool slots = record { pool = pool; slots = slots }
+
 abbrev pub Lists : Type 0
 Lists = List NamedList
 

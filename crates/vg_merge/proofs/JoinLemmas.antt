@@ -1,5 +1,6 @@
 -- One join: the solution of two first candidates, and the uses of those that are taken off their branches.
-use Rattle.std.proofs.Common.{◌≡◌, ◌≢◌, ℕ, ◌+◌, ◌<◌, ◌≤◌, Bool, true, false, cond, List, [], ◌∷◌, ◌++◌, Option, Some, None, MatchOption, refl, sym, ap, ◌∙◌, subst, inl, inr, arith, int_lt}
+use Rattle.std.proofs.Common.{◌≡◌, ◌≢◌, ℕ, ◌<◌, Bool, true, false, cond, List, [], ◌∷◌, ◌++◌, Option, Some, None, MatchOption, refl, sym, ap, ◌∙◌}
+use Rattle.std.proofs.Common.{subst, inl, inr, arith, int_lt}
 use Rattle.std.proofs.lemmas.Bool.{cases_eq}
 use Rattle.std.proofs.lemmas.Option.{MatchOption-at_none, MatchOption-at_some}
 use Rattle.std.specs.List.{Contains}
@@ -11,15 +12,16 @@ use Rattle.sol_arena.specs.Arenas.{slots_of, made_of}
 use Rattle.sol_arena.specs.Changes.{IsNew, IsReleased}
 use Rattle.sol_arena.specs.Meanings.{bare, joined, cells_of}
 use Rattle.sol_arena.specs.Slots.{none, IsLive}
-use Rattle.sol_arena.specs.Uses.{one_if, held_of}
+use Rattle.sol_arena.specs.Uses.{held_of}
 use Rattle.sol_arena.proofs.OneLemmas.{one_same}
 use Rattle.sol_arena.proofs.ReachLemmas.{held_live}
 use Rattle.cand_pool.specs.Candidates.{Candidate, Candidates, formed}
-use Rattle.cand_pool.specs.Pools.{Block, IsHeld, Holds, items, items_of}
+use Rattle.cand_pool.specs.Pools.{Block, Holds, items_of}
 use Rattle.cand_pool.specs.declared.ends.List.{List as NamedList}
 use Rattle.cand_pool.specs.declared.join_pair.Taken.{Taken}
 use Rattle.cand_pool.proofs.PublicLaws.{held_items}
-use Rattle.cand_uses.proofs.ExchangeLemmas.{uses_of_one, uses_of_both, no_exchange, exchange_then, exchange_among, exchanged_held, first_use, new_one, empty_one, empty_cells, released_one, stays_same}
+use Rattle.cand_uses.proofs.ExchangeLemmas.{uses_of_one, uses_of_both, no_exchange, exchange_then, exchange_among, exchanged_held, first_use, new_one}
+use Rattle.cand_uses.proofs.ExchangeLemmas.{empty_one, empty_cells, released_one, stays_same}
 use Rattle.cand_uses.specs.Uses.{uses_by, HoldsFor, IsExchange}
 use Rattle.vg_merge.specs.Branches.{AreAt, AreLive, IsFirst, taken_from, IsJoined}
 use Rattle.vg_merge.specs.declared.branches.Branches.{Branches}
@@ -48,17 +50,21 @@ firsts s at a b first_a first_b =
     record { x = x; y = y; xs = xs; ys = ys; x_tag = x_tag; y_tag = y_tag; a_is = a_is; b_is = b_is }
 
 -- lists whose sequences are known
-pub are_as : (s : Block) (at : Branches) (xs ys : Candidates) → items_of s at.a ≡ xs → items_of s at.b ≡ ys → AreLive s at → AreAt s at (items_of s at.list) xs ys
-are_as s at xs ys a_is b_is live = subst (λ (l : Candidates). AreAt s at (items_of s at.list) l ys) a_is (subst (λ (l : Candidates). AreAt s at (items_of s at.list) (items_of s at.a) l) b_is live)
+pub are_as : (s : Block) (at : Branches) (xs ys : Candidates) → items_of s at.a ≡ xs → items_of s at.b ≡ ys → AreLive s at → AreAt s at
+    (items_of s at.list) xs ys
+are_as s at xs ys a_is b_is live = subst (λ (l : Candidates). AreAt s at (items_of s at.list) l ys) a_is
+    (subst (λ (l : Candidates). AreAt s at (items_of s at.list) (items_of s at.a) l) b_is live)
 
 pub are_held : (slots : List Slot) (xs xs' ys ys' : Candidates) → xs ≡ xs' → ys ≡ ys' → HoldsFor slots (xs ++ ys) → HoldsFor slots (xs' ++ ys')
-are_held slots xs xs' ys ys' e f held = subst (λ (l : Candidates). HoldsFor slots (l ++ ys')) e (subst (λ (l : Candidates). HoldsFor slots (xs ++ l)) f held)
+are_held slots xs xs' ys ys' e f held = subst (λ (l : Candidates). HoldsFor slots (l ++ ys')) e
+    (subst (λ (l : Candidates). HoldsFor slots (xs ++ l)) f held)
 
 pub not_empty : (s : Block) (list : NamedList) (sol : ℕ) → IsFirst (items_of s list) sol → Holds s list [] → ⊥
 not_empty s list sol first h = subst (λ (l : Candidates). IsFirst l sol) (held_items s list.ends.first list.ends.last [] h) first
 
 -- the solution of a first candidate is that which was told
-pub first_is : (s : Block) (list : NamedList) (x : Candidate) (xs : Candidates) (sol : ℕ) → IsFirst (items_of s list) sol → Holds s list (x ∷ xs) → x.tag ≡ sol
+pub first_is : (s : Block) (list : NamedList) (x : Candidate) (xs : Candidates) (sol : ℕ) → IsFirst (items_of s list) sol → Holds s list (x ∷ xs)
+    → x.tag ≡ sol
 first_is s list x xs sol first h = subst (λ (l : Candidates). IsFirst l sol) (held_items s list.ends.first list.ends.last (x ∷ xs) h) first
 
 uses_of_first : (xs : List Candidate) (sol : ℕ) → IsFirst xs sol → 0 < uses_by xs sol
@@ -76,7 +82,8 @@ pub taken_is : (r : Option Taken) (t : Taken) (p q : Option ℕ) → r ≡ Some 
 taken_is r t p q is both =
     let e : ◌≡◌ {A = Taken} t (record { a = p; b = q }) = cc in (ap (λ (k : Taken). k.a) e, ap (λ (k : Taken). k.b) e)
 
-pub taken_held : (slots : List Slot) (stays : Bool) (x : Candidate) (tag : Option ℕ) → tag ≡ cond stays None (Some x.tag) → HoldsFor slots (cond stays [] (x ∷ []))
+pub taken_held : (slots : List Slot) (stays : Bool) (x : Candidate) (tag : Option ℕ) → tag ≡ cond stays None (Some x.tag) → HoldsFor slots
+    (cond stays [] (x ∷ []))
     → ForSome tag (λ sol. sol ≢ none → 0 < held_of slots sol)
 taken_held slots true x tag e held sol is some = let clash : None ≡ Some sol = sym e ∙ is in absurd (cc)
 taken_held slots false x tag e held sol is some =
@@ -108,7 +115,8 @@ joined_new old mid a b z empty same is_new =
             let b_bare : cells_of (made_of old) b ≡ bare = ap (cells_of (made_of old)) b_none ∙ empty_cells old in
             let both_bare : joined (cells_of (made_of old) a) (cells_of (made_of old) b) ≡ bare = λ i. joined (a_bare i) (b_bare i) in
             record {
-              uses = subst (λ (slots : List Slot). IsExchange (slots_of old) [] slots (z ∷ [])) (sym (same a_none b_none)) (empty_one (slots_of old) z (empty a_none b_none));
+              uses = subst (λ (slots : List Slot). IsExchange (slots_of old) [] slots (z ∷ [])) (sym (same a_none b_none))
+                  (empty_one (slots_of old) z (empty a_none b_none));
               cells = ap (cells_of (made_of mid)) (empty a_none b_none) ∙ empty_cells mid ∙ sym both_bare;
             }
       ]
@@ -135,24 +143,35 @@ both_held slots x y xs ys held s some =
 
 made_beside : (old mid : List Slot) (x y z : Candidate) → IsExchange old [] mid (z ∷ []) → IsExchange old (taken_both x y) mid ((z ∷ []) ++ taken_both x y)
 made_beside old mid x y z made =
-    exchange_among old mid (taken_both x y) [] (z ∷ []) (taken_both x y) ((z ∷ []) ++ taken_both x y) (λ s. omega arith) (λ s. omega (arith, uses_of_both (z ∷ []) (taken_both x y) s)) made
+    exchange_among old mid (taken_both x y) [] (z ∷ []) (taken_both x y) ((z ∷ []) ++ taken_both x y) (λ s. omega arith)
+    (λ s. omega (arith, uses_of_both (z ∷ []) (taken_both x y) s)) made
 
 -- after the join callers hold the uses of what was taken off, and that of the new solution
-pub mid_held : (old mid : List Slot) (x y z : Candidate) (xs ys : Candidates) → HoldsFor old ((x ∷ xs) ++ (y ∷ ys)) → IsExchange old [] mid (z ∷ []) → HoldsFor mid ((z ∷ []) ++ taken_both x y)
+pub mid_held : (old mid : List Slot) (x y z : Candidate) (xs ys : Candidates) → HoldsFor old ((x ∷ xs) ++ (y ∷ ys)) → IsExchange old [] mid (z ∷ [])
+    → HoldsFor mid ((z ∷ []) ++ taken_both x y)
 mid_held old mid x y z xs ys held made =
     exchanged_held old mid (taken_both x y) ((z ∷ []) ++ taken_both x y) (both_held old x y xs ys held) (made_beside old mid x y z made)
 
-first_beside : (mid later : List Slot) (x y z : Candidate) → IsExchange mid (taken_from x y) later [] → IsExchange mid ((z ∷ []) ++ taken_both x y) later ((z ∷ []) ++ taken_from y x)
+first_beside : (mid later : List Slot) (x y z : Candidate) → IsExchange mid (taken_from x y) later [] → IsExchange mid
+    ((z ∷ []) ++ taken_both x y) later ((z ∷ []) ++ taken_from y x)
 first_beside mid later x y z one =
     exchange_among mid later ((z ∷ []) ++ taken_from y x) (taken_from x y) [] ((z ∷ []) ++ taken_both x y) ((z ∷ []) ++ taken_from y x)
-    (λ s. omega (arith, uses_of_both (z ∷ []) (taken_both x y) s, uses_of_both (taken_from x y) (taken_from y x) s, uses_of_both (z ∷ []) (taken_from y x) s))
+    (λ s. omega (
+      arith,
+      uses_of_both (z ∷ []) (taken_both x y) s,
+      uses_of_both (taken_from x y) (taken_from y x) s,
+      uses_of_both (z ∷ [])
+          (taken_from y x) s,
+    ))
     (λ s. omega arith) one
 
-pub later_held : (mid later : List Slot) (x y z : Candidate) → HoldsFor mid ((z ∷ []) ++ taken_both x y) → IsExchange mid (taken_from x y) later [] → HoldsFor later ((z ∷ []) ++ taken_from y x)
+pub later_held : (mid later : List Slot) (x y z : Candidate) → HoldsFor mid ((z ∷ []) ++ taken_both x y) → IsExchange mid (taken_from x y) later []
+    → HoldsFor later ((z ∷ []) ++ taken_from y x)
 later_held mid later x y z held one =
     exchanged_held mid later ((z ∷ []) ++ taken_both x y) ((z ∷ []) ++ taken_from y x) held (first_beside mid later x y z one)
 
-second_beside : (later new : List Slot) (x y z : Candidate) → IsExchange later (taken_from y x) new [] → IsExchange later ((z ∷ []) ++ taken_from y x) new (z ∷ [])
+second_beside : (later new : List Slot) (x y z : Candidate) → IsExchange later (taken_from y x) new [] → IsExchange later
+    ((z ∷ []) ++ taken_from y x) new (z ∷ [])
 second_beside later new x y z two =
     exchange_among later new (z ∷ []) (taken_from y x) [] ((z ∷ []) ++ taken_from y x) (z ∷ [])
     (λ s. omega (arith, uses_of_both (z ∷ []) (taken_from y x) s)) (λ s. omega arith) two
@@ -167,8 +186,10 @@ pub first_taken_held : (slots : List Slot) (x y z : Candidate) → HoldsFor slot
 first_taken_held slots x y z held = part_held slots (taken_from x y) (taken_from y x) (rest_held slots (z ∷ []) (taken_both x y) held)
 
 -- the join, and what was taken off released
-pub whole_join : (old mid later new : Arena) (x y : Candidate) (xs ys : Candidates) (a b sol : ℕ) → x.tag ≡ a → y.tag ≡ b → HoldsFor (slots_of old) ((x ∷ xs) ++ (y ∷ ys))
-    → IsMade old mid a b (formed x y sol) → IsExchange (slots_of mid) (taken_from x y) (slots_of later) [] → IsExchange (slots_of later) (taken_from y x) (slots_of new) []
+pub whole_join : (old mid later new : Arena) (x y : Candidate) (xs ys : Candidates) (a b sol : ℕ) → x.tag ≡ a → y.tag ≡ b → HoldsFor (slots_of old)
+    ((x ∷ xs) ++ (y ∷ ys))
+    → IsMade old mid a b (formed x y sol) → IsExchange (slots_of mid) (taken_from x y) (slots_of later) [] → IsExchange (slots_of later)
+    (taken_from y x) (slots_of new) []
     → IsJoined (slots_of old) (slots_of new) x y sol
 whole_join old mid later new x y xs ys a b sol x_tag y_tag held made one two =
     let z = formed x y sol in
@@ -176,14 +197,22 @@ whole_join old mid later new x y xs ys a b sol x_tag y_tag held made one two =
     let held_mid : HoldsFor (slots_of mid) ((z ∷ []) ++ taken_both x y) = mid_held (slots_of old) (slots_of mid) x y z xs ys held made.uses in
     let held_later : HoldsFor (slots_of later) ((z ∷ []) ++ taken_from y x) = later_held (slots_of mid) (slots_of later) x y z held_mid one in
     let held_one : HoldsFor (slots_of mid) ((z ∷ []) ++ taken_from x y)
-    = λ s some. omega (arith, held_mid s some, uses_of_both (z ∷ []) (taken_both x y) s, uses_of_both (taken_from x y) (taken_from y x) s, uses_of_both (z ∷ []) (taken_from x y) s) in
+    = λ s some. omega (
+      arith,
+      held_mid s some,
+      uses_of_both (z ∷ []) (taken_both x y) s,
+      uses_of_both (taken_from x y)
+          (taken_from y x) s,
+      uses_of_both (z ∷ []) (taken_from x y) s,
+    ) in
     record {
       cells = stays_same later new (z ∷ []) (taken_from y x) [] held_later two z z_in
           ∙ stays_same mid later (z ∷ []) (taken_from x y) [] held_one one z z_in
           ∙ made.cells
           ∙ (λ i. joined (cells_of (made_of old) (sym x_tag i)) (cells_of (made_of old) (sym y_tag i)));
       uses =
-          exchange_then (slots_of old) (slots_of mid) (slots_of new) (taken_both x y) ((z ∷ []) ++ taken_both x y) (z ∷ []) (made_beside (slots_of old) (slots_of mid) x y z made.uses)
+          exchange_then (slots_of old) (slots_of mid) (slots_of new) (taken_both x y) ((z ∷ []) ++ taken_both x y) (z ∷ [])
+          (made_beside (slots_of old) (slots_of mid) x y z made.uses)
           (exchange_then (slots_of mid) (slots_of later) (slots_of new) ((z ∷ []) ++ taken_both x y) ((z ∷ []) ++ taken_from y x) (z ∷ [])
           (first_beside (slots_of mid) (slots_of later) x y z one) (second_beside (slots_of later) (slots_of new) x y z two));
     }

@@ -1,24 +1,28 @@
 -- The lists of a merge and their sequences.
-use Rattle.std.proofs.Common.{◌≡◌, ◌≢◌, ℕ, ◌+◌, ◌<◌, ◌≤◌, List, [], ◌∷◌, ◌++◌, length, sym, ap, ◌∙◌, subst, inl, inr, arith}
+use Rattle.std.proofs.Common.{◌≡◌, ℕ, ◌+◌, ◌<◌, ◌≤◌, List, [], ◌∷◌, ◌++◌, length, sym, ap, ◌∙◌, subst, inl, inr, arith}
 use Rattle.std.proofs.lemmas.List.{length-append}
 use Rattle.sol_arena.specs.declared.slot.Slot.{Slot}
 use Rattle.cand_pool.specs.Candidates.{Candidates}
-use Rattle.cand_pool.specs.Links.{none, IsIn}
+use Rattle.cand_pool.specs.Links.{none}
 use Rattle.cand_pool.specs.Pools.{Block, Holds, items_of, spare, name, Differ, KeepsOthers}
 use Rattle.cand_pool.specs.declared.ends.List.{List as NamedList}
+use Rattle.cand_pool.proofs.CallLaws.{apart_one, turned_round}
 use Rattle.cand_pool.proofs.PoolMoves.{keeps_then}
-use Rattle.cand_pool.proofs.PublicLaws.{held_items, held_named, nothing_held, stays_any, differ_from}
+use Rattle.cand_pool.proofs.PublicLaws.{held_items, held_named, nothing_held, stays}
 use Rattle.cand_uses.proofs.ExchangeLemmas.{exchange_as, exchange_of}
 use Rattle.cand_uses.specs.Uses.{HoldsFor, IsExchange}
 use Rattle.vg_merge.specs.Branches.{AreAt, AreLive, names, all_of}
 use Rattle.vg_merge.specs.declared.branches.Branches.{Branches}
 
 -- lists whose sequences are known
-pub are_as : (s : Block) (at : Branches) (xs ys : Candidates) → items_of s at.a ≡ xs → items_of s at.b ≡ ys → AreLive s at → AreAt s at (items_of s at.list) xs ys
-are_as s at xs ys a_is b_is live = subst (λ (l : Candidates). AreAt s at (items_of s at.list) l ys) a_is (subst (λ (l : Candidates). AreAt s at (items_of s at.list) (items_of s at.a) l) b_is live)
+pub are_as : (s : Block) (at : Branches) (xs ys : Candidates) → items_of s at.a ≡ xs → items_of s at.b ≡ ys → AreLive s at → AreAt s at
+    (items_of s at.list) xs ys
+are_as s at xs ys a_is b_is live = subst (λ (l : Candidates). AreAt s at (items_of s at.list) l ys) a_is
+    (subst (λ (l : Candidates). AreAt s at (items_of s at.list) (items_of s at.a) l) b_is live)
 
 pub are_held : (slots : List Slot) (xs xs' ys ys' : Candidates) → xs ≡ xs' → ys ≡ ys' → HoldsFor slots (xs ++ ys) → HoldsFor slots (xs' ++ ys')
-are_held slots xs xs' ys ys' e f held = subst (λ (l : Candidates). HoldsFor slots (l ++ ys')) e (subst (λ (l : Candidates). HoldsFor slots (xs ++ l)) f held)
+are_held slots xs xs' ys ys' e f held = subst (λ (l : Candidates). HoldsFor slots (l ++ ys')) e
+    (subst (λ (l : Candidates). HoldsFor slots (xs ++ l)) f held)
 
 pub list_is : (s : Block) (at : Branches) (zs xs ys : Candidates) → AreAt s at zs xs ys → items_of s at.list ≡ zs
 list_is s at zs xs ys are = held_items s at.list.ends.first at.list.ends.last zs are.list
@@ -126,22 +130,21 @@ keeps_none s t k old new none keeps = record {
 
 -- from the two lists to what is there at the end
 pub keeps_all : (s s' t u : Block) (list a b : NamedList) (at : Branches) (new : List ℕ) → s' ≡ s → Holds s' list []
-    → KeepsOthers s' (names (record { list = list; a = a; b = b })) t (names at) → KeepsOthers t (names at) u new → KeepsOthers s (name a ∷ name b ∷ []) u new
+    → KeepsOthers s' (names (record { list = list; a = a; b = b })) t (names at) → KeepsOthers t (names at) u new → KeepsOthers s
+    (name a ∷ name b ∷ []) u new
 keeps_all s s' t u list a b at new same empty one two =
     subst (λ (r : Block). KeepsOthers r (name a ∷ name b ∷ []) u new) same
     (keeps_none s' u (name list) (name a ∷ name b ∷ []) new (nothing_held s' list.ends.first list.ends.last empty)
     (keeps_then s' t u (names (record { list = list; a = a; b = b })) (names at) (names at) new new one two (λ k m. m) (λ k m. inl m)))
 
-differs_out : (k a b : ℕ) → Differ k a → Differ k b → k ≢ none → IsIn k (a ∷ b ∷ []) → ⊥
-differs_out k a b from_a from_b some m = elim m [ inl e ↦ some (from_a e) | inr (inl e) ↦ some (from_b e) | inr (inr o) ↦ o ]
+-- where the first branch ends, and then the second one, the other lists stay
+pub second_stays : (s t : Block) (at : Branches) (zs xs ys : Candidates) → AreAt s at zs xs ys → KeepsOthers s (name at.a ∷ []) t [] → Holds t at.b ys
+second_stays s t at zs xs ys are one =
+    stays s t (name at.a ∷ []) [] at.b.ends.first at.b.ends.last ys one (apart_one (name at.b) (name at.a) are.a_b) are.b
 
--- each other list stays, the empty one too, and is none of the new ones
-pub other_stays : (s t : Block) (a b : ℕ) (new : List ℕ) (other : NamedList) (zs : Candidates) → KeepsOthers s (a ∷ b ∷ []) t new → length t.links ≤ none
-    → Differ (name other) a → Differ (name other) b → Holds s other zs → Holds t other zs
-other_stays s t a b new other zs keeps few from_a from_b h =
-    stays_any s t (a ∷ b ∷ []) new other.ends.first other.ends.last zs keeps few (differs_out (name other) a b from_a from_b) h
-
-pub other_apart : (s t : Block) (a b k : ℕ) (other : NamedList) (zs : Candidates) → KeepsOthers s (a ∷ b ∷ []) t (k ∷ [])
-    → Differ (name other) a → Differ (name other) b → Holds s other zs → Differ (name other) k
-other_apart s t a b k other zs keeps from_a from_b h =
-    differ_from (name other) k (λ some e. keeps.fresh other.ends.first other.ends.last zs h some (differs_out (name other) a b from_a from_b some) (inl e))
+pub list_stays : (s t u : Block) (at : Branches) (zs xs ys : Candidates) → AreAt s at zs xs ys
+    → KeepsOthers s (name at.a ∷ []) t [] → KeepsOthers t (name at.b ∷ []) u [] → Holds u at.list zs
+list_stays s t u at zs xs ys are one two =
+    stays t u (name at.b ∷ []) [] at.list.ends.first at.list.ends.last zs two
+    (apart_one (name at.list) (name at.b) (turned_round (name at.list) (name at.b) are.list_b))
+    (stays s t (name at.a ∷ []) [] at.list.ends.first at.list.ends.last zs one (apart_one (name at.list) (name at.a) are.a_list) are.list)

@@ -1,12 +1,12 @@
 -- What the turns of a merge keep: how far it has come, and what is made at the end.
-use Rattle.std.proofs.Common.{◌≡◌, ◌⊎◌, ℕ, suc, ◌+◌, ◌-◌, ◌<◌, ◌≤◌, Bool, true, false, cond, List, [], ◌∷◌, ◌++◌, length, get_or, map, refl, sym, ap, ◌∙◌, subst, inl, inr, arith, append_assoc, int_lt, ℤ, ◌||◌, Option}
+use Rattle.std.proofs.Common.{◌≡◌, ◌⊎◌, ℕ, suc, ◌+◌, ◌-◌, ◌<◌, ◌≤◌, Bool, true, false, cond, List, [], ◌∷◌, ◌++◌, length, get_or, refl, sym, ap, ◌∙◌}
+use Rattle.std.proofs.Common.{subst, inl, inr, arith, append_assoc, int_lt, ℤ, ◌||◌, Option}
 use Rattle.std.proofs.Math.Seq.{get_or-append_seam}
 use Rattle.std.proofs.lemmas.Bool.{cases_Bool}
 use Rattle.std.proofs.lemmas.Int.{ints, clamps}
 use Rattle.std.proofs.lemmas.List.{append-nil, length-append, map-append, length-map}
 use Rattle.std.proofs.lemmas.List.Elements.{All-nil, All-push, Contains-append_left, Contains-append_right, Contains-get_or}
-use Rattle.std.specs.List.{All, AllPairs, Contains}
-use Rattle.elmore.specs.Pairs.{IsBelow}
+use Rattle.std.specs.List.{All, Contains}
 use Rattle.elmore.specs.declared.pair.Pair.{Pair}
 use Rattle.sol_arena.specs.declared.arena.Arena.{Arena}
 use Rattle.sol_arena.specs.declared.slot.Made.{Made}
@@ -18,11 +18,12 @@ use Rattle.cand_laws.proofs.MeetLemmas.{nil, meet_at, Merging, Moved, merging_no
 use Rattle.cand_laws.specs.Merging.{meet}
 use Rattle.cand_pool.specs.Candidates.{Candidate, Candidates, AreModest, formed}
 use Rattle.cand_pool.specs.Sequences.{left_of, spare_after}
-use Rattle.cand_uses.proofs.ExchangeLemmas.{uses_of_one, uses_of_both, no_exchange, exchange_then, exchange_as, exchange_beside, exchange_among, exchanged_held, stays_same}
+use Rattle.cand_uses.proofs.ExchangeLemmas.{uses_of_one, uses_of_both, no_exchange, exchange_then, exchange_as, exchange_beside, exchange_among}
+use Rattle.cand_uses.proofs.ExchangeLemmas.{exchanged_held, stays_same}
 use Rattle.cand_uses.specs.Pairs.{pair_of, pairs_of}
 use Rattle.cand_uses.specs.Uses.{uses_by, HoldsFor, IsExchange}
 use Rattle.vg_merge.specs.Branches.{taken_from, IsFirst, IsJoined}
-use Rattle.vg_merge.specs.Merges.{CanMeet, IsMeetOf, IsMet, IsMergeOf}
+use Rattle.vg_merge.specs.Merges.{CanMeet, IsMet, IsMergeOf}
 
 -- How far a merge of the branches all_x and all_y has come: zs are made, and xs and ys are left.
 pub record IsMerging (start now : List Slot) (all_x all_y zs xs ys : Candidates) : Type 0 where
@@ -86,7 +87,8 @@ pairs_long xs = length-map xs pair_of
 -- the pair at the first place that is left
 pair_here : (gone : Candidates) (x : Candidate) (xs all : Candidates) → gone ++ (x ∷ xs) ≡ all → get_or (pairs_of all) (length gone) nil ≡ pair_of x
 pair_here gone x xs all e =
-    let split : pairs_of all ≡ pairs_of gone ++ (pair_of x ∷ pairs_of xs) = ap (λ (l : Candidates). pairs_of l) (sym e) ∙ map-append pair_of gone (x ∷ xs) in
+    let split : pairs_of all ≡ pairs_of gone ++ (pair_of x ∷ pairs_of xs)
+    = ap (λ (l : Candidates). pairs_of l) (sym e) ∙ map-append pair_of gone (x ∷ xs) in
     let at : length gone ≡ length (pairs_of gone) = sym (pairs_long gone) in
     rw (split, at) (get_or-append_seam (pairs_of gone) (pair_of x) (pairs_of xs) nil)
 
@@ -139,7 +141,8 @@ formed_pair x y sol =
 
 pairs_turn : (start now : List Slot) (all_x all_y zs xs ys : Candidates) (x y : Candidate) (sol : ℕ) → CanMeet start all_x all_y
     → (w : IsMerging start now all_x all_y zs (x ∷ xs) (y ∷ ys))
-    → Merging (pairs_of all_x) (pairs_of all_y) (length (w.gone_x ++ taken_from x y)) (length (w.gone_y ++ taken_from y x)) (pairs_of (zs ++ (formed x y sol ∷ [])))
+    → Merging (pairs_of all_x) (pairs_of all_y) (length (w.gone_x ++ taken_from x y)) (length (w.gone_y ++ taken_from y x))
+    (pairs_of (zs ++ (formed x y sol ∷ [])))
 pairs_turn start now all_x all_y zs xs ys x y sol can w =
     let x_here : get_or (pairs_of all_x) (length w.gone_x) nil ≡ pair_of x = pair_here w.gone_x x xs all_x w.x_is in
     let y_here : get_or (pairs_of all_y) (length w.gone_y) nil ≡ pair_of y = pair_here w.gone_y y ys all_y w.y_is in
@@ -150,7 +153,8 @@ pairs_turn start now all_x all_y zs xs ys x y sol can w =
     (pair_within w.gone_x x xs all_x w.x_is) (pair_within w.gone_y y ys all_y w.y_is) w.pairs
     (map-append pair_of zs (formed x y sol ∷ []) ∙ ap (λ (p : Pair). pairs_of zs ++ (p ∷ [])) z_is)
     (moved (pairs_of all_x) (pairs_of all_y) (length w.gone_x) (length w.gone_y) (length (w.gone_x ++ taken_from x y)) (length (w.gone_y ++ taken_from y x))
-    (pair_of x) (pair_of y) (int_lt y.q x.q) (int_lt x.q y.q) x_here y_here refl refl (went_length (int_lt y.q x.q) w.gone_x x) (went_length (int_lt x.q y.q) w.gone_y y))
+    (pair_of x) (pair_of y) (int_lt y.q x.q) (int_lt x.q y.q) x_here y_here refl refl (went_length (int_lt y.q x.q) w.gone_x x)
+    (went_length (int_lt x.q y.q) w.gone_y y))
 
 -- THE SOLUTIONS
 -- a candidate whose solution keeps its cells is still made of two
@@ -196,7 +200,8 @@ pub merging_turn : (start : List Slot) (old new : Arena) (all_x all_y zs xs ys :
 merging_turn start old new all_x all_y zs xs ys x y sol can w together =
     let left = left_of x y xs ++ left_of y x ys in
     let taken = taken_from x y ++ taken_from y x in
-    let held : HoldsFor (slots_of old) (zs ++ ((x ∷ xs) ++ (y ∷ ys))) = exchanged_held start (slots_of old) (all_x ++ all_y) (zs ++ ((x ∷ xs) ++ (y ∷ ys))) can.held w.uses in
+    let held : HoldsFor (slots_of old) (zs ++ ((x ∷ xs) ++ (y ∷ ys)))
+    = exchanged_held start (slots_of old) (all_x ++ all_y) (zs ++ ((x ∷ xs) ++ (y ∷ ys))) can.held w.uses in
     let held' : HoldsFor (slots_of old) ((zs ++ left) ++ taken)
     = λ s some. omega (arith, held s some, turn_uses zs xs ys x y s, uses_of_both (zs ++ left) taken s) in
     let same : (v : Candidate) → Contains (zs ++ left) v → cells_of (made_of new) v.tag ≡ cells_of (made_of old) v.tag
@@ -214,7 +219,8 @@ merging_turn start old new all_x all_y zs xs ys x y sol can w together =
       y_modest = went_modest (int_lt x.q y.q) y ys w.y_modest;
       pairs = pairs_turn start (slots_of old) all_x all_y zs xs ys x y sol can w;
       solutions = All-push (IsMet (made_in start) (made_of new) all_x all_y) zs (formed x y sol)
-          (λ k d k_n. met_still start old new all_x all_y (get_or zs k d) (same (get_or zs k d) (Contains-append_left zs left (get_or zs k d) (Contains-get_or zs k d k_n))) (w.solutions k d k_n)) (
+          (λ k d k_n. met_still start old new all_x all_y (get_or zs k d)
+          (same (get_or zs k d) (Contains-append_left zs left (get_or zs k d) (Contains-get_or zs k d k_n))) (w.solutions k d k_n)) (
             x,
             y,
             in_first w.gone_x x xs all_x w.x_is,
@@ -225,10 +231,13 @@ merging_turn start old new all_x all_y zs xs ys x y sol can w together =
             },
           );
       x_same = λ v found.
-          same v (Contains-append_right zs left v (Contains-append_left (left_of x y xs) (left_of y x ys) v found)) ∙ w.x_same v (went_in (int_lt y.q x.q) x xs v found);
+          same v (Contains-append_right zs left v (Contains-append_left (left_of x y xs) (left_of y x ys) v found)) ∙ w.x_same v
+          (went_in (int_lt y.q x.q) x xs v found);
       y_same = λ v found.
-          same v (Contains-append_right zs left v (Contains-append_right (left_of x y xs) (left_of y x ys) v found)) ∙ w.y_same v (went_in (int_lt x.q y.q) y ys v found);
-      uses = exchange_then start (slots_of old) (slots_of new) (all_x ++ all_y) (zs ++ ((x ∷ xs) ++ (y ∷ ys))) ((zs ++ (formed x y sol ∷ [])) ++ left) w.uses (turn_exchange (slots_of old) (slots_of new) zs xs ys x y sol together);
+          same v (Contains-append_right zs left v (Contains-append_right (left_of x y xs) (left_of y x ys) v found)) ∙ w.y_same v
+          (went_in (int_lt x.q y.q) y ys v found);
+      uses = exchange_then start (slots_of old) (slots_of new) (all_x ++ all_y) (zs ++ ((x ∷ xs) ++ (y ∷ ys)))
+          ((zs ++ (formed x y sol ∷ [])) ++ left) w.uses (turn_exchange (slots_of old) (slots_of new) zs xs ys x y sol together);
       few = omega (arith, length-append zs (formed x y sol ∷ []), w.few, x_went, y_went, one_goes x.q y.q (int_lt y.q x.q) (int_lt x.q y.q) refl refl);
       fewer = omega (
         arith,
@@ -278,7 +287,8 @@ first_apart start now all_x all_y zs (x ∷ xs) (y ∷ ys) a b can w first_a fir
     λ v r t in_a in_b. apart v r t (sym (ap (λ (f : ℕ → Option ℕ). f v) a_is) ∙ in_a) (sym (ap (λ (f : ℕ → Option ℕ). f v) b_is) ∙ in_b)
 
 -- callers hold the uses of what is left
-pub left_held : (start now : List Slot) (all_x all_y zs xs ys : Candidates) → CanMeet start all_x all_y → IsMerging start now all_x all_y zs xs ys → HoldsFor now (xs ++ ys)
+pub left_held : (start now : List Slot) (all_x all_y zs xs ys : Candidates) → CanMeet start all_x all_y → IsMerging start now all_x all_y zs xs ys
+    → HoldsFor now (xs ++ ys)
 left_held start now all_x all_y zs xs ys can w s some =
     omega (arith, exchanged_held start now (all_x ++ all_y) (zs ++ (xs ++ ys)) can.held w.uses s some, uses_of_both zs (xs ++ ys) s)
 
@@ -305,7 +315,8 @@ spare_on n x y false true less more = omega arith
 spare_on n x y false false less more = omega arith
 
 pub spare_turn : (n : ℕ) (zs xs ys : Candidates) (x y z : Candidate)
-    → spare_after x y n + (length (zs ++ (z ∷ [])) + (length (left_of x y xs) + length (left_of y x ys))) ≡ n + (length zs + (length (x ∷ xs) + length (y ∷ ys)))
+    → spare_after x y n + (length (zs ++ (z ∷ [])) + (length (left_of x y xs) + length (left_of y x ys))) ≡ n +
+    (length zs + (length (x ∷ xs) + length (y ∷ ys)))
 spare_turn n zs xs ys x y z =
     omega (
       arith,
@@ -330,18 +341,22 @@ merging_end start now all_x all_y zs xs ys w done = record {
 }
 
 -- AFTER THE END: the uses of what was left are given up
-pub merge_still : (start : List Slot) (old new : Arena) (xs ys zs left : Candidates) → HoldsFor (slots_of old) (zs ++ left) → IsExchange (slots_of old) left (slots_of new) []
+pub merge_still : (start : List Slot) (old new : Arena) (xs ys zs left : Candidates) → HoldsFor (slots_of old) (zs ++ left) → IsExchange
+    (slots_of old) left (slots_of new) []
     → IsMergeOf (made_in start) (made_of old) xs ys zs → IsMergeOf (made_in start) (made_of new) xs ys zs
 merge_still start old new xs ys zs left held ended w = record {
   pairs = w.pairs;
-  solutions = λ k d k_n. met_still start old new xs ys (get_or zs k d) (stays_same old new zs left [] held ended (get_or zs k d) (Contains-get_or zs k d k_n)) (w.solutions k d k_n);
+  solutions = λ k d k_n. met_still start old new xs ys (get_or zs k d)
+      (stays_same old new zs left [] held ended (get_or zs k d) (Contains-get_or zs k d k_n)) (w.solutions k d k_n);
   empty = w.empty;
   few = w.few;
 }
 
-pub merge_of : (old new : List Made) (xs xs' ys ys' zs zs' : Candidates) → xs ≡ xs' → ys ≡ ys' → zs ≡ zs' → IsMergeOf old new xs ys zs → IsMergeOf old new xs' ys' zs'
+pub merge_of : (old new : List Made) (xs xs' ys ys' zs zs' : Candidates) → xs ≡ xs' → ys ≡ ys' → zs ≡ zs' → IsMergeOf old new xs ys zs
+    → IsMergeOf old new xs' ys' zs'
 merge_of old new xs xs' ys ys' zs zs' e f g w =
-    subst (λ (l : Candidates). IsMergeOf old new l ys' zs') e (subst (λ (l : Candidates). IsMergeOf old new xs l zs') f (subst (λ (l : Candidates). IsMergeOf old new xs ys l) g w))
+    subst (λ (l : Candidates). IsMergeOf old new l ys' zs') e
+    (subst (λ (l : Candidates). IsMergeOf old new xs l zs') f (subst (λ (l : Candidates). IsMergeOf old new xs ys l) g w))
 
 pub left_ended : (old new : List Slot) (zs zs' left : Candidates) → zs' ≡ zs → IsExchange old left new [] → IsExchange old (zs ++ left) new zs'
 left_ended old new zs zs' left e ended = exchange_as old new (zs ++ left) (zs ++ []) zs' (append-nil zs ∙ sym e) (exchange_beside old new zs left [] ended)

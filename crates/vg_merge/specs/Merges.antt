@@ -1,5 +1,5 @@
 -- Two branches of a net meet: what their candidates make together (van Ginneken 1990).
-use Rattle.std.specs.Prelude.{◌≡◌, ◌⊎◌, ℕ, ◌+◌, ◌-◌, ◌≤◌, List, [], ◌++◌, length}
+use Rattle.std.specs.Prelude.{◌≡◌, ◌⊎◌, ◌+◌, ◌-◌, ◌≤◌, List, [], ◌++◌, length}
 use Rattle.std.specs.List.{All, AllPairs, Contains}
 use Rattle.elmore.specs.Pairs.{IsBelow, IsUndominated}
 use Rattle.sol_arena.specs.declared.slot.Made.{Made}

@@ -12,7 +12,6 @@ ghost use Rattle.sol_arena.specs.Uses.{held_of};
 ghost use Rattle.cand_pool.specs.Candidates.{Candidate, Candidates, AreModest, formed};
 ghost use Rattle.cand_pool.specs.Pools.{spare, Holds, IsLive, items_of, name, Differ, KeepsOthers};
 ghost use Rattle.cand_pool.specs.Sequences.{left_of, spare_after};
-ghost use Rattle.cand_pool.specs.declared.ends.List.{List as NamedList};
 ghost use Rattle.cand_uses.specs.Uses.{HoldsFor, IsExchange};
 ghost use Rattle.vg_merge.specs.Branches.{AreAt, AreLive, names, all_of, IsFirst, IsJoined};
 ghost use Rattle.vg_merge.specs.Merges.{CanMeet, IsMergeOf};
@@ -156,8 +155,6 @@ pub fn merge<L: Ledger>(
         (λ _. spare pool.new ≡ spare pool.old + length xs + length ys) }
     ensures others { MatchResult result (λ list. KeepsOthers pool.old (name a ∷ name b ∷ []) pool.new (name list ∷ []))
         (λ _. KeepsOthers pool.old (name a ∷ name b ∷ []) pool.new []) }
-    ensures lists { (other : NamedList) (zs : Candidates) → Differ (name other) (name a) → Differ (name other) (name b)
-        → Holds pool.old other zs → Holds pool.new other zs }
     ensures steps { (xs ys : Candidates) → Holds pool.old a xs → Holds pool.old b ys → steps.new ≤ steps.old + 4 * (length xs + length ys) }
 {
     let mut at = Branches {

@@ -1,18 +1,15 @@
-use Rattle.std.proofs.Common.{rules, ◌≡◌, ◌⊎◌, ℕ, ◌+◌, ◌*◌, ◌≤◌, List, [], ◌∷◌, ◌++◌, length, Option, Some, None, refl, sym, ap, ◌∙◌, subst, inl, inr, arith}
+use Rattle.std.proofs.Common.{◌≡◌, ◌⊎◌, [], ◌∷◌, ◌++◌, length, refl, sym, ap, ◌∙◌, subst, inl, inr, arith}
 use Rattle.std.proofs.lemmas.Option.{MatchOption-at_none}
-use Rattle.sol_arena.specs.declared.slot.Slot.{Slot}
-use Rattle.sol_arena.specs.Arenas.{slots_of, made_of}
-use Rattle.cand_pool.specs.Candidates.{Candidate, Candidates, AreModest, formed}
-use Rattle.cand_pool.specs.Pools.{Block, spare, items_of}
+use Rattle.sol_arena.specs.Arenas.{slots_of}
+use Rattle.cand_pool.specs.Candidates.{Candidates, AreModest, formed}
+use Rattle.cand_pool.specs.Pools.{spare, items_of}
 use Rattle.cand_pool.specs.Sequences.{left_of}
 use Rattle.cand_pool.proofs.PoolMoves.{keeps_then}
-use Rattle.cand_uses.specs.Uses.{HoldsFor, IsExchange}
-use Rattle.cand_uses.proofs.ExchangeLemmas.{exchange_as, exchange_of}
 use Rattle.vg_merge.specs.Branches.{IsFirst}
-use Rattle.vg_merge.specs.Merges.{IsMergeOf}
 use Rattle.vg_merge.proofs.JoinLemmas.{split_first}
 use Rattle.vg_merge.proofs.ListLemmas.{are_held, list_is, a_is, b_is, are_live, are_of, are_still, fewer_items, uses_on, spare_on}
-use Rattle.vg_merge.proofs.MergingLemmas.{merge_of, merging_start, merging_of, merging_still, merging_turn, merging_end, first_apart, left_held, fewer_left, spare_turn}
+use Rattle.vg_merge.proofs.MergingLemmas.{merge_of, merging_start, merging_of, merging_still, merging_turn, merging_end, first_apart, left_held}
+use Rattle.vg_merge.proofs.MergingLemmas.{fewer_left, spare_turn}
 use Rattle.vg_merge.proofs.branches.join_firsts.Goals as goal
 
 pub turns-init : goal.turns-init
@@ -57,18 +54,23 @@ turn-requires-clause-apart g c =
 pub turns-smaller : goal.turns-smaller
 turns-smaller g c =
     let w = c.turns.invariant in
-    let (x, xs, x_is, x_tag) = split_first w.xs c.in-Some.sols.0.0 (subst (λ (l : Candidates). IsFirst l c.in-Some.sols.0.0) (a_is _ _ _ _ _ w.at) c.in-Some.ensures.firsts.0) in
-    let (y, ys, y_is, y_tag) = split_first w.ys c.in-Some.sols.1.0 (subst (λ (l : Candidates). IsFirst l c.in-Some.sols.1.0) (b_is _ _ _ _ _ w.at) c.in-Some.ensures.firsts.1) in
+    let (x, xs, x_is, x_tag) = split_first w.xs c.in-Some.sols.0.0
+    (subst (λ (l : Candidates). IsFirst l c.in-Some.sols.0.0) (a_is _ _ _ _ _ w.at) c.in-Some.ensures.firsts.0) in
+    let (y, ys, y_is, y_tag) = split_first w.ys c.in-Some.sols.1.0
+    (subst (λ (l : Candidates). IsFirst l c.in-Some.sols.1.0) (b_is _ _ _ _ _ w.at) c.in-Some.ensures.firsts.1) in
     let at = are_of c.turns.pool c.turns.at w.zs w.zs w.xs (x ∷ xs) w.ys (y ∷ ys) refl x_is y_is w.at in
     let (sol, at', joined, free) = c.in_ok-turn.ensures.joined x y w.zs xs ys at in
     let fewer = fewer_left x y xs ys in
-    fewer_items c.turns.pool c.turn.new.pool c.turns.at c.turn.new.at w.zs (w.zs ++ (formed x y sol ∷ [])) (x ∷ xs) (left_of x y xs) (y ∷ ys) (left_of y x ys) at at' fewer
+    fewer_items c.turns.pool c.turn.new.pool c.turns.at c.turn.new.at w.zs (w.zs ++ (formed x y sol ∷ [])) (x ∷ xs) (left_of x y xs) (y ∷ ys)
+    (left_of y x ys) at at' fewer
 
 pub turns-preserved : goal.turns-preserved
 turns-preserved g c =
     let w = c.turns.invariant in
-    let (x, xs, x_is, x_tag) = split_first w.xs c.in-Some.sols.0.0 (subst (λ (l : Candidates). IsFirst l c.in-Some.sols.0.0) (a_is _ _ _ _ _ w.at) c.in-Some.ensures.firsts.0) in
-    let (y, ys, y_is, y_tag) = split_first w.ys c.in-Some.sols.1.0 (subst (λ (l : Candidates). IsFirst l c.in-Some.sols.1.0) (b_is _ _ _ _ _ w.at) c.in-Some.ensures.firsts.1) in
+    let (x, xs, x_is, x_tag) = split_first w.xs c.in-Some.sols.0.0
+    (subst (λ (l : Candidates). IsFirst l c.in-Some.sols.0.0) (a_is _ _ _ _ _ w.at) c.in-Some.ensures.firsts.0) in
+    let (y, ys, y_is, y_tag) = split_first w.ys c.in-Some.sols.1.0
+    (subst (λ (l : Candidates). IsFirst l c.in-Some.sols.1.0) (b_is _ _ _ _ _ w.at) c.in-Some.ensures.firsts.1) in
     let at = are_of c.turns.pool c.turns.at w.zs w.zs w.xs (x ∷ xs) w.ys (y ∷ ys) refl x_is y_is w.at in
     let (sol, at', joined, free) = c.in_ok-turn.ensures.joined x y w.zs xs ys at in
     let fewer = fewer_left x y xs ys in

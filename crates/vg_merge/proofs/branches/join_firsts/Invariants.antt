@@ -1,4 +1,4 @@
-use Rattle.std.proofs.Common.{◌≡◌, ℕ, ◌+◌, ◌*◌, ◌≤◌, length}
+use Rattle.std.proofs.Common.{◌≡◌, ◌+◌, ◌*◌, ◌≤◌, length}
 use Rattle.sol_arena.specs.Arenas.{slots_of}
 use Rattle.cand_pool.specs.Candidates.{Candidates}
 use Rattle.cand_pool.specs.Pools.{spare, items_of, KeepsOthers}
@@ -13,7 +13,8 @@ invariant-turns g l = record {
   xs : Candidates;
   ys : Candidates;
   at : AreAt l.pool l.at zs xs ys;
-  merging : IsMerging (slots_of l.initial.arena) (slots_of l.arena) (items_of l.initial.pool l.initial.at.a) (items_of l.initial.pool l.initial.at.b) zs xs ys;
+  merging : IsMerging (slots_of l.initial.arena) (slots_of l.arena) (items_of l.initial.pool l.initial.at.a)
+      (items_of l.initial.pool l.initial.at.b) zs xs ys;
   spare : spare l.pool + (length zs + (length xs + length ys))
       ≡ spare l.initial.pool + (length (items_of l.initial.pool l.initial.at.a) + length (items_of l.initial.pool l.initial.at.b));
   others : KeepsOthers l.initial.pool (names l.initial.at) l.pool (names l.at);

@@ -1,13 +1,13 @@
-use Rattle.std.proofs.Common.{rules, ◌≡◌, ℕ, List, [], ◌∷◌, ◌++◌, Option, Some, None, refl, sym, subst, inl, inr, int_lt}
+use Rattle.std.proofs.Common.{[], ◌∷◌, Option, refl, sym, subst, inl, inr, int_lt}
 use Rattle.std.specs.Option.{IsNone}
 use Rattle.sol_arena.specs.Arenas.{slots_of}
-use Rattle.cand_pool.specs.Candidates.{Candidate, Candidates, formed}
+use Rattle.cand_pool.specs.Candidates.{formed}
 use Rattle.cand_pool.specs.Pools.{items_of}
 use Rattle.cand_pool.specs.declared.join_pair.Taken.{Taken}
 use Rattle.cand_pool.proofs.PublicLaws.{held_items}
-use Rattle.cand_uses.specs.Uses.{HoldsFor}
 use Rattle.vg_merge.specs.Branches.{taken_from}
-use Rattle.vg_merge.proofs.JoinLemmas.{firsts, not_empty, first_is, first_live_a, first_live_b, taken_is, taken_held, taken_released, joined_new, mid_held, later_held, first_taken_held, rest_held, whole_join}
+use Rattle.vg_merge.proofs.JoinLemmas.{firsts, not_empty, first_is, first_live_a, first_live_b, taken_is, taken_held, taken_released, joined_new}
+use Rattle.vg_merge.proofs.JoinLemmas.{mid_held, later_held, first_taken_held, rest_held, whole_join}
 use Rattle.vg_merge.proofs.ListLemmas.{are_as, are_held}
 use Rattle.vg_merge.proofs.branches.turn.Goals as goal
 
@@ -33,8 +33,10 @@ release_taken-requires g c =
     let done = c.join_pair.ensures.joined f.x f.y _ f.xs f.ys at.list at.a at.b in
     let taken = taken_is c.join_pair.result c.in-Some.taken _ _ c.in-Some.is done.4 in
     let z = formed f.x f.y c.in_ok-sol.sol.0 in
-    let made = joined_new c.args.arena.now c.join.new.self c.args.sols.0.0 c.args.sols.1.0 z c.in_ok-sol.ensures.empty c.in_ok-sol.ensures.same c.in_ok-sol.ensures.new in
-    let held = mid_held (slots_of c.args.arena.now) (slots_of c.join.new.self) f.x f.y z f.xs f.ys (are_held _ _ _ _ _ f.a_is f.b_is c.requires.held) made.uses in
+    let made = joined_new c.args.arena.now c.join.new.self c.args.sols.0.0 c.args.sols.1.0 z c.in_ok-sol.ensures.empty c.in_ok-sol.ensures.same
+    c.in_ok-sol.ensures.new in
+    let held = mid_held (slots_of c.args.arena.now) (slots_of c.join.new.self) f.x f.y z f.xs f.ys
+    (are_held _ _ _ _ _ f.a_is f.b_is c.requires.held) made.uses in
     taken_held (slots_of c.join.new.self) (int_lt f.y.q f.x.q) f.x c.in-Some.taken.a taken.0 (first_taken_held (slots_of c.join.new.self) f.x f.y z held)
 
 pub release_taken-requires-2 : goal.release_taken-requires-2
@@ -44,23 +46,36 @@ release_taken-requires-2 g c =
     let done = c.join_pair.ensures.joined f.x f.y _ f.xs f.ys at.list at.a at.b in
     let taken = taken_is c.join_pair.result c.in-Some.taken _ _ c.in-Some.is done.4 in
     let z = formed f.x f.y c.in_ok-sol.sol.0 in
-    let made = joined_new c.args.arena.now c.join.new.self c.args.sols.0.0 c.args.sols.1.0 z c.in_ok-sol.ensures.empty c.in_ok-sol.ensures.same c.in_ok-sol.ensures.new in
-    let held = mid_held (slots_of c.args.arena.now) (slots_of c.join.new.self) f.x f.y z f.xs f.ys (are_held _ _ _ _ _ f.a_is f.b_is c.requires.held) made.uses in
+    let made = joined_new c.args.arena.now c.join.new.self c.args.sols.0.0 c.args.sols.1.0 z c.in_ok-sol.ensures.empty c.in_ok-sol.ensures.same
+    c.in_ok-sol.ensures.new in
+    let held = mid_held (slots_of c.args.arena.now) (slots_of c.join.new.self) f.x f.y z f.xs f.ys
+    (are_held _ _ _ _ _ f.a_is f.b_is c.requires.held) made.uses in
     let one = taken_released c.join.new.self c.release_taken.new.arena (int_lt f.y.q f.x.q) f.x c.in-Some.taken.a taken.0 c.release_taken.ensures in
     let later = later_held (slots_of c.join.new.self) (slots_of c.release_taken.new.arena) f.x f.y z held one in
-    taken_held (slots_of c.release_taken.new.arena) (int_lt f.x.q f.y.q) f.y c.in-Some.taken.b taken.1 (rest_held (slots_of c.release_taken.new.arena) (z ∷ []) (taken_from f.y f.x) later)
+    taken_held (slots_of c.release_taken.new.arena) (int_lt f.x.q f.y.q) f.y c.in-Some.taken.b taken.1
+    (rest_held (slots_of c.release_taken.new.arena) (z ∷ []) (taken_from f.y f.x) later)
 
 pub returns-clause-joined : goal.returns-clause-joined
 returns-clause-joined g c = λ x y zs xs ys at.
     let done = c.join_pair.ensures.joined x y zs xs ys at.list at.a at.b in
     let taken = taken_is c.join_pair.result c.in-Some.taken _ _ c.in-Some.is done.4 in
-    let made = joined_new c.args.arena.now c.join.new.self c.args.sols.0.0 c.args.sols.1.0 (formed x y c.in_ok-sol.sol.0) c.in_ok-sol.ensures.empty c.in_ok-sol.ensures.same c.in_ok-sol.ensures.new in
+    let made = joined_new c.args.arena.now c.join.new.self c.args.sols.0.0 c.args.sols.1.0
+    (formed x y c.in_ok-sol.sol.0) c.in_ok-sol.ensures.empty c.in_ok-sol.ensures.same c.in_ok-sol.ensures.new in
     let one = taken_released c.join.new.self c.release_taken.new.arena (int_lt y.q x.q) x c.in-Some.taken.a taken.0 c.release_taken.ensures in
     let two = taken_released c.release_taken.new.arena c.release_taken-2.new.arena (int_lt x.q y.q) y c.in-Some.taken.b taken.1 c.release_taken-2.ensures in
     let held = are_held _ _ _ _ _ (held_items _ _ _ _ at.a) (held_items _ _ _ _ at.b) c.requires.held in (
       c.in_ok-sol.sol.0,
-      record { list = done.0; a = done.1; b = done.2; a_list = c.join_pair.ensures.differ.0; a_b = c.join_pair.ensures.differ.1; list_b = c.join_pair.ensures.differ.2 },
-      whole_join c.args.arena.now c.join.new.self c.release_taken.new.arena c.release_taken-2.new.arena x y xs ys c.args.sols.0.0 c.args.sols.1.0 c.in_ok-sol.sol.0
+      record {
+        list = done.0;
+        a = done.1;
+        b = done.2;
+        a_list = c.join_pair.ensures.differ.0;
+        a_b = c.join_pair.ensures.differ.1;
+        list_b =
+            c.join_pair.ensures.differ.2;
+      },
+      whole_join c.args.arena.now c.join.new.self c.release_taken.new.arena c.release_taken-2.new.arena x y xs ys c.args.sols.0.0 c.args.sols.1.0
+          c.in_ok-sol.sol.0
           (first_is _ c.args.at.now.a x xs _ c.requires.first_a at.a) (first_is _ c.args.at.now.b y ys _ c.requires.first_b at.b) held made one two,
       done.3,
     )

@@ -1,0 +1,124 @@
+-- The greatest time of a repeater, from the worth of the candidates within its limit.
+use Rattle.std.proofs.Common.{◌≡◌, ℕ, ◌+◌, ◌*◌, ◌<◌, ◌≤◌, pos, ◌≤ℤ◌, List, length, slice_index, set, refl, sym, ap, ◌∙◌, subst, arith, inl, inr, Option, Some, None}
+use Rattle.std.specs.Prelude.{◌-ℤ◌}
+use Rattle.std.specs.List.{Contains}
+use Rattle.std.proofs.lemmas.Bool.{cases_lt, cases_eq}
+use Rattle.std.proofs.lemmas.Int.{ints}
+use Rattle.std.proofs.lemmas.List.{get_or-map, length-map, get_or-set_same, get_or-set_other}
+use Rattle.std.proofs.lemmas.List.Elements.{Contains-get_or}
+use Rattle.elmore.specs.Legal.{IsWithin}
+use Rattle.elmore.specs.declared.pair.Pair.{Pair}
+use Rattle.elmore.specs.declared.rep.Rep.{Rep}
+use Rattle.cand_laws.specs.Candidates.{with_cell}
+use Rattle.cand_laws.specs.Merging.{NoneFits}
+use Rattle.cand_pool.specs.Candidates.{Candidates}
+use Rattle.cand_pool.specs.Pools.{Block}
+use Rattle.cand_pool.specs.declared.ends.Cand.{Cand}
+use Rattle.cand_uses.specs.Pairs.{pair_of, pairs_of}
+use Rattle.vg_convex.specs.Hulls.{value, Rise, IsGreatest}
+use Rattle.vg_convex.specs.Places.{row, IsHullOf, AreWithin}
+use Rattle.elmore.specs.Allowances.{Allows}
+use Rattle.elmore.specs.declared.allowed.Allowed.{Allowed}
+use Rattle.vg_convex.specs.Answers.{IsBestOf, IsAnswer, found_at}
+use Rattle.vg_convex.specs.declared.work.Found.{Found}
+use Rattle.vg_convex.proofs.Numbers.{nth}
+use Rattle.vg_convex.proofs.Stacks.{hull_size}
+
+-- a pair of a list has a number
+pub numbered : (xs : Candidates) (y : Pair) → Contains (pairs_of xs) y → (i : ℕ) × (i < length xs) × (row xs i ≡ y)
+numbered xs y (i, low, e) =
+    let low_x : i < length xs = omega (arith, low, length-map xs pair_of) in
+    (i, low_x, sym (get_or-map pair_of xs i (record { q = pos 0; c = 0; tag = 0 }) y low_x) ∙ e)
+
+-- a load within a limit: a lesser one is too
+within_less : (limit : Option ℕ) (a b : ℕ) → a ≤ b → IsWithin limit b → IsWithin limit a
+within_less None a b less is = is
+within_less (Some most) a b less is = omega (arith, less, is)
+
+-- past the first candidate that is over the limit there is none within it
+none_past : (xs : Candidates) (m : ℕ) (limit : Option ℕ) → Rise (row xs) (length xs) → (m < length xs → IsWithin limit (row xs m).c → ⊥)
+    → (i : ℕ) → m ≤ i → i < length xs → IsWithin limit (row xs i).c → ⊥
+none_past xs m limit rise past i from low is = elim (cases_lt m i) [
+  | inl later ↦ past (omega arith) (within_less limit (row xs m).c (row xs i).c (omega (arith, (rise m i later low).room)) is)
+  | inr same ↦ let at : i ≡ m = omega arith in past (omega arith) (subst (λ k. IsWithin limit (row xs k).c) at is)
+]
+
+-- no candidate is within the limit where none came on
+pub none_found : (s : Block) (xs : Candidates) (n : ℕ) (stack : List Cand) (rep : Rep) → IsHullOf s xs n stack → AreWithin rep.limit xs n → length stack ≡ 0 → NoneFits rep (pairs_of xs)
+none_found s xs n stack rep h cut empty y y_in within =
+    let none : n ≡ 0 = elim (cases_lt 0 n) [
+      | inl on ↦ let some = (h.hull.some on).chain.some in absurd (omega (arith, some, empty))
+      | inr off ↦ omega arith
+    ] in
+    let (i, low, e) = numbered xs y y_in in
+    none_past xs n rep.limit h.rise cut.past i (omega (arith, none)) low (subst (λ (p : Pair). IsWithin rep.limit p.c) (sym e) within)
+
+-- the greatest worth of those within the limit gives the greatest time
+pub best_found : (s : Block) (xs : Candidates) (n : ℕ) (stack : List Cand) (rep : Rep) (i : ℕ) (found : Found) → IsHullOf s xs n stack → AreWithin rep.limit xs n
+    → IsGreatest (row xs) n rep.r i → found.tag ≡ (nth xs i).tag → found.time ≡ (nth xs i).q -ℤ pos (rep.k + rep.r * (nth xs i).c) → IsBestOf rep xs found
+best_found s xs n stack rep i found h cut best tag time = record {
+  from = nth xs i;
+  among = Contains-get_or xs i (record { q = pos 0; c = 0; tag = 0 }) i_low;
+  tag = tag;
+  made = record { within = cut.within i best.inside; made = made };
+  greatest = record {
+    made = (row xs i, among, cut.within i best.inside, made);
+    most = λ y y_in within.
+        let (j, low, e) = numbered xs y y_in in
+        let j_in : IsWithin rep.limit (row xs j).c = subst (λ (p : Pair). IsWithin rep.limit p.c) (sym e) within in
+        elim (cases_lt j n) [
+          | inl seen ↦
+              let more : value rep.r (row xs j) ≤ℤ value rep.r (row xs i) = best.most j seen in
+              subst (λ (p : Pair). (with_cell (Some rep) p).q ≤ℤ found.time) e (omega (arith, ints, more, time))
+          | inr past ↦ absurd (none_past xs n rep.limit h.rise cut.past j past low j_in)
+        ];
+  };
+}
+  where
+    i_low : i < length xs
+    i_low = omega (arith, best.inside, h.few)
+
+    made : record { q = found.time; c = rep.cin } ≡ with_cell (Some rep) (pair_of (nth xs i))
+    made = ap (λ q. record { q = q; c = rep.cin }) time
+
+    among : Contains (pairs_of xs) (row xs i)
+    among = (i, omega (arith, i_low, length-map xs pair_of), get_or-map pair_of xs i (record { q = pos 0; c = 0; tag = 0 }) (row xs i) i_low)
+
+pub stack_size : (s : Block) (xs : Candidates) (n : ℕ) (stack : List Cand) → IsHullOf s xs n stack → length stack ≤ length xs
+stack_size s xs n stack h = omega (arith, hull_size (row xs) n h.numbers (length stack) h.hull, h.few)
+
+-- a row with one answer more
+row_none : (allowed : Allowed) (reps : List Rep) (xs : Candidates) (b : ℕ) (found : Option Found) → IsAnswer allowed reps xs b found → (Allows allowed b → ⊥) → found ≡ None
+row_none allowed reps xs b None is not_so = refl
+row_none allowed reps xs b (Some best) is not_so = absurd (not_so is.0)
+
+written_same : (old new : List (Option Found)) (b : ℕ) (found : Option Found) → new ≡ set old b found → b < length old → found_at new b ≡ found
+written_same old new b found e low = ap (λ l. found_at l b) e ∙ get_or-set_same old b found None low
+
+written_other : (old new : List (Option Found)) (b : ℕ) (found : Option Found) → new ≡ set old b found → (k : ℕ) → (k ≡ b → ⊥) → found_at new k ≡ found_at old k
+written_other old new b found e k differ = ap (λ l. found_at l k) e ∙ get_or-set_other old b k found None differ
+
+pub written_none : (allowed : Allowed) (reps : List Rep) (xs : Candidates) (b : ℕ) (found : Option Found) (old new : List (Option Found)) → IsAnswer allowed reps xs b found
+    → new ≡ set old b found → b < length old → ((k : ℕ) → (Allows allowed k → ⊥) → found_at old k ≡ None) → (k : ℕ) → (Allows allowed k → ⊥) → found_at new k ≡ None
+written_none allowed reps xs b found old new is e low none k not_so = elim (cases_eq k b) [
+  | inl same ↦
+      subst (λ m. found_at new m ≡ None) (sym same)
+      (written_same old new b found e low ∙ row_none allowed reps xs b found is (λ may. not_so (subst (λ m. Allows allowed m) (sym same) may)))
+  | inr differ ↦ written_other old new b found e k differ ∙ none k not_so
+]
+
+pub written_answer : (allowed : Allowed) (reps : List Rep) (xs : Candidates) (order : List ℕ) (i : ℕ) (found : Option Found) (old new : List (Option Found))
+    → IsAnswer allowed reps xs (slice_index order i) found → new ≡ set old (slice_index order i) found → slice_index order i < length old
+    → ((j : ℕ) → j < i → IsAnswer allowed reps xs (slice_index order j) (found_at old (slice_index order j)))
+    → (j : ℕ) → j < i + 1 → IsAnswer allowed reps xs (slice_index order j) (found_at new (slice_index order j))
+written_answer allowed reps xs order i found old new is e low before j j_low = elim (cases_eq (slice_index order j) (slice_index order i)) [
+  | inl same ↦
+      subst (λ m. IsAnswer allowed reps xs m (found_at new m)) (sym same)
+      (subst (IsAnswer allowed reps xs (slice_index order i)) (sym (written_same old new (slice_index order i) found e low)) is)
+  | inr differ ↦
+      let less : j < i = elim (cases_lt j i) [
+        | inl less ↦ less
+        | inr more ↦ let at : j ≡ i = omega arith in absurd (differ (ap (λ m. slice_index order m) at))
+      ] in
+      subst (IsAnswer allowed reps xs (slice_index order j)) (sym (written_other old new (slice_index order i) found e (slice_index order j) differ)) (before j less)
+]

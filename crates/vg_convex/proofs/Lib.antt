@@ -1,0 +1,13 @@
+pub mod Lines
+pub mod Stacks
+pub mod Peaks
+pub mod Halves
+pub mod Numbers
+pub mod Places
+pub mod Walks
+pub mod Finds
+pub mod Ranks
+pub mod Results
+pub mod Adds
+pub mod Sweeps
+pub mod Numberings

@@ -1,0 +1,67 @@
+use Rattle.std.proofs.Common.{◌≡◌, ℕ, ◌+◌, ◌-◌, ◌/◌, ◌<◌, ◌<ℤ◌, ◌≤ℤ◌, length, arith, subst, sym}
+use Rattle.vg_convex.specs.Hulls.{value}
+use Rattle.vg_convex.specs.Places.{row}
+use Rattle.vg_convex.proofs.Halves.{one_step_more}
+use Rattle.vg_convex.proofs.Places.{peak_of}
+use Rattle.vg_convex.proofs.hull.greatest_on.Goals as goal
+
+pub is_less-requires : goal.is_less-requires
+is_less-requires g c κs within =
+    let (n, h) = c.requires.1.0 in
+    let middle : ℕ = c.search.low + (c.search.high - c.search.low) / 2 in
+    let low : c.search.low + (c.search.high - c.search.low) / 2 < length c.args.stack.now = omega (arith, c.search.invariant.inside, c.search-test.true) in
+    let next : c.search.low + (c.search.high - c.search.low) / 2 + 1 < length c.args.stack.now = omega (arith, c.search.invariant.inside, c.search-test.true) in (
+      within,
+      (
+        h.modest,
+        (
+          (h.numbers (c.search.low + (c.search.high - c.search.low) / 2), h.places (c.search.low + (c.search.high - c.search.low) / 2) (record { slot = 0 }) low),
+          (h.numbers (c.search.low + (c.search.high - c.search.low) / 2 + 1), h.places (c.search.low + (c.search.high - c.search.low) / 2 + 1) (record { slot = 0 }) next),
+        ),
+      ),
+    )
+
+pub search-preserved-then-is_less : goal.search-preserved-then-is_less
+search-preserved-then-is_less g c = record {
+  order = omega (arith, c.search-test.true);
+  inside = c.search.invariant.inside;
+  before = λ n h j e.
+      let at : j ≡ c.search.low + (c.search.high - c.search.low) / 2 = omega (arith, e) in
+      let low : c.search.low + (c.search.high - c.search.low) / 2 < length c.args.stack.now = omega (arith, c.search.invariant.inside, c.search-test.true) in
+      let next : c.search.low + (c.search.high - c.search.low) / 2 + 1 < length c.args.stack.now = omega (arith, c.search.invariant.inside, c.search-test.true) in
+      subst (λ m. value c.args.r (row g.xs (h.numbers m))
+      <ℤ value c.args.r (row g.xs (h.numbers (c.search.low + (c.search.high - c.search.low) / 2 + 1)))) (sym at)
+      (c.if-is_less.ensures.order (h.numbers (c.search.low + (c.search.high - c.search.low) / 2)) (h.numbers (c.search.low + (c.search.high - c.search.low) / 2 + 1))
+      (h.places (c.search.low + (c.search.high - c.search.low) / 2) (record { slot = 0 }) low)
+      (h.places (c.search.low + (c.search.high - c.search.low) / 2 + 1) (record { slot = 0 }) next));
+  after = c.search.invariant.after;
+  cost = λ d top_d.
+      let (e, so_far, less) = one_step_more c.search.steps c.args.steps.now d (c.search.high - c.search.low) (c.search.high - (c.search.low + (c.search.high - c.search.low) / 2 + 1))
+      (omega (arith, c.search-test.true)) (omega (arith, c.search-test.true)) (c.search.invariant.cost d top_d) in
+      (e, omega (arith, so_far, c.if-is_less.ensures.step), less);
+}
+
+pub search-preserved : goal.search-preserved
+search-preserved g c = record {
+  order = omega arith;
+  inside = omega (arith, c.search.invariant.inside, c.search-test.true);
+  before = c.search.invariant.before;
+  after = λ n h next.
+      c.if-is_less.ensures.order (h.numbers (c.search.low + (c.search.high - c.search.low) / 2)) (h.numbers (c.search.low + (c.search.high - c.search.low) / 2 + 1))
+      (h.places (c.search.low + (c.search.high - c.search.low) / 2) (record { slot = 0 }) (omega (arith, c.search.invariant.inside, c.search-test.true)))
+      (h.places (c.search.low + (c.search.high - c.search.low) / 2 + 1) (record { slot = 0 }) (omega (arith, c.search.invariant.inside, c.search-test.true)));
+  cost = λ d top_d.
+      let (e, so_far, less) = one_step_more c.search.steps c.args.steps.now d (c.search.high - c.search.low) (c.search.low + (c.search.high - c.search.low) / 2 - c.search.low)
+      (omega (arith, c.search-test.true)) (omega (arith, c.search-test.true)) (c.search.invariant.cost d top_d) in
+      (e, omega (arith, so_far, c.if-is_less.ensures.step), less);
+}
+
+pub returns-clause-greatest : goal.returns-clause-greatest
+returns-clause-greatest g c = λ n h.
+    let at : c.search.high ≡ c.search.low = omega (arith, c.search-test.false, c.search.invariant.order) in
+    let low : c.search.low < length c.args.stack.now = omega (arith, at, c.search.invariant.inside) in (
+      h.numbers c.search.low,
+      h.places c.search.low (record { slot = 0 }) low,
+      peak_of c.args.pool.now g.xs n c.args.stack.now h c.args.r c.search.low low (c.search.invariant.before n h)
+          (subst (λ m. m + 1 < length c.args.stack.now → value c.args.r (row g.xs (h.numbers (m + 1))) ≤ℤ value c.args.r (row g.xs (h.numbers m))) at (c.search.invariant.after n h)),
+    )

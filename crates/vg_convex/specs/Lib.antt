@@ -1,0 +1,7 @@
+pub mod Hulls
+pub mod HullLaws
+pub mod Places
+pub mod Answers
+pub mod Orders
+pub mod Lists
+pub mod Rooms

@@ -1,0 +1,117 @@
+//! The list of what repeaters make of a list at a node.
+
+ghost use Rattle.std.specs.Prelude.{◌≡◌, ℕ, ◌+◌, ◌*◌, ◌^◌, ◌<◌, ◌≤◌, ◌∷◌, [], length, None, IfOk, OnOk, OnErr, MatchResult};
+ghost use Rattle.std.specs.List.{All, AllPairs, Contains};
+ghost use Rattle.elmore.specs.Cells.{rep_at};
+ghost use Rattle.elmore.specs.Pairs.{IsBelow, IsUndominated};
+ghost use Rattle.sol_arena.specs.Arenas.{slots_of, made_of};
+ghost use Rattle.sol_arena.specs.Meanings.{cells_of};
+ghost use Rattle.sol_arena.specs.Reach.{IsRestored};
+ghost use Rattle.sol_arena.specs.Slots.{IsLive as IsLiveSolution};
+ghost use Rattle.cand_pool.specs.Candidates.{Candidate, Candidates, AreModest};
+ghost use Rattle.cand_pool.specs.Pools.{spare, Holds, IsLive, items_of, KeepsOthers, name};
+ghost use Rattle.cand_uses.specs.Pairs.{pairs_of};
+ghost use Rattle.cand_uses.specs.Uses.{IsExchange};
+ghost use Rattle.vg_convex.specs.Orders.{AreRising, IsShelf};
+ghost use Rattle.vg_convex.specs.Lists.{MayStand, IsMade, IsAttained, IsCell, KeepsSolutions, AreAdded, AreWithCells};
+
+use crate::search::find_all;
+use crate::shelf::Shelf;
+use crate::sweep::sweep;
+use crate::work::{Made, Work};
+use cand_pool::{List, Pool, Steps};
+use cand_uses::give_up;
+use elmore::{Allowed, Rep};
+use sol_arena::{Arena, Sol};
+use std::sync::ledger::Ledger;
+use vg_num::Memory;
+
+/// Puts results on a list, each with its cell. Answers `Memory` where there is no room; then some are on the list.
+fn put_all(
+    pool: &mut Pool,
+    arena: &mut Arena,
+    node: u32,
+    results: &[Made],
+    list: &mut List,
+) -> Result<(), Memory>
+    requires list { Holds pool.old list.old [] }
+    requires room { length results.now ≤ spare pool.old }
+    requires live { All (λ result. IsLiveSolution (made_of arena.old) result.tag) results.now }
+    requires bare { All (λ result. cells_of (made_of arena.old) result.tag node ≡ None) results.now }
+    ensures { (zs : Candidates) × AreAdded pool.old pool.new (slots_of arena.old) (slots_of arena.new) list.new zs
+        × OnOk result (AreWithCells (made_of arena.old) (made_of arena.new) node results.now zs) }
+{
+    'results: for made in results {
+        let sol = arena.cell(node, made.rep, Sol(made.tag))?;
+        pool.push(list, made.pair.q, made.pair.c, sol.0);
+    }
+    Ok(())
+}
+
+/// The list of these results, each with its cell. Answers `Memory` where there is no room; then lists, spare slots and
+/// solutions are as before.
+fn list_of(pool: &mut Pool, arena: &mut Arena, node: u32, results: &[Made]) -> Result<List, Memory>
+    requires room { length results.now ≤ spare pool.old }
+    requires live { All (λ result. IsLiveSolution (made_of arena.old) result.tag) results.now }
+    requires bare { All (λ result. cells_of (made_of arena.old) result.tag node ≡ None) results.now }
+    ensures added { IfOk result (λ list. (zs : Candidates) × AreAdded pool.old pool.new (slots_of arena.old) (slots_of arena.new) list zs
+        × AreWithCells (made_of arena.old) (made_of arena.new) node results.now zs) }
+    ensures others { OnErr result (KeepsOthers pool.old [] pool.new []) }
+    ensures spare { OnErr result (spare pool.new ≡ spare pool.old) }
+    ensures restored { OnErr result (IsRestored (slots_of arena.old) (slots_of arena.new)) }
+{
+    let mut list = pool.none();
+    match put_all(pool, arena, node, results, &mut list) {
+        Ok(()) => Ok(list),
+        Err(error) => {
+            let bag = pool.discard(list);
+            give_up(pool, arena, bag);
+            Err(error)
+        }
+    }
+}
+
+/// What the repeaters of a shelf make of a list at a node that allows some of them: each drives the candidate within its
+/// limit that gives it the most time, found on the upper convex hull of the list (Li and Shi 2005). The answer has the
+/// undominated ones of these pairs, each with the repeater's cell added to the solution of the candidate that it drives.
+/// It is a new list; `from` stays. The work is room, and keeps nothing. Answers `Memory` where there is no room; then
+/// lists, spare slots and solutions are as before.
+pub fn add_cells<L: Ledger>(
+    pool: &mut Pool,
+    arena: &mut Arena,
+    from: &List,
+    node: u32,
+    reps: &[Rep],
+    shelf: &Shelf,
+    allowed: &Allowed,
+    work: &mut Work,
+    steps: &mut Steps<L>,
+) -> Result<List, Memory>
+    requires from { IsLive pool.old from.now }
+    requires rising { AllPairs IsBelow (pairs_of (items_of pool.old from.now)) }
+    requires modest { AreModest (items_of pool.old from.now) }
+    requires room { length shelf.now.by_input.items ≤ spare pool.old }
+    requires shelf { IsShelf reps.now shelf.now }
+    requires allowed { AreRising allowed.now }
+    requires live { All (λ x. IsLiveSolution (made_of arena.old) x.tag) (items_of pool.old from.now) }
+    requires bare { All (λ x. cells_of (made_of arena.old) x.tag node ≡ None) (items_of pool.old from.now) }
+    ensures list { IfOk result (λ list. IsLive pool.new list) }
+    ensures undominated { IfOk result (λ list.
+        IsUndominated (IsMade reps.now shelf.now allowed.now (items_of pool.old from.now)) (pairs_of (items_of pool.new list))) }
+    ensures attained { IfOk result (λ list. All (λ z. (b : ℕ) × (x : Candidate) × MayStand shelf.now allowed.now b
+        × IsAttained reps.now b (items_of pool.old from.now) x z × IsCell (made_of arena.old) (made_of arena.new) node b x.tag z.tag) (items_of pool.new list)) }
+    ensures empty { items_of pool.old from.now ≡ [] → IfOk result (λ list. items_of pool.new list ≡ []) }
+    ensures uses { IfOk result (λ list. IsExchange (slots_of arena.old) [] (slots_of arena.new) (items_of pool.new list)) }
+    ensures solutions { KeepsSolutions (made_of arena.old) (made_of arena.new) }
+    ensures restored { OnErr result (IsRestored (slots_of arena.old) (slots_of arena.new)) }
+    ensures others { MatchResult result (λ list. KeepsOthers pool.old [] pool.new (name list ∷ [])) (λ _. KeepsOthers pool.old [] pool.new []) }
+    ensures spare { MatchResult result (λ list. spare pool.old ≡ spare pool.new + length (items_of pool.new list)) (λ _. spare pool.new ≡ spare pool.old) }
+    ensures steps { (d : ℕ) → length (items_of pool.old from.now) < 2 ^ d
+        → steps.new ≤ steps.old + 3 * length (items_of pool.old from.now) + length shelf.now.by_input.items * (d + 2) }
+{
+    work.clear(reps.len())?;
+    find_all(pool, from, reps, &shelf.by_limit, allowed, work, steps)?;
+    sweep(reps, &shelf.by_input, &work.found, &mut work.kept)?;
+    let list = list_of(pool, arena, node, &work.kept)?;
+    Ok(list)
+}

@@ -1,0 +1,18 @@
+//! Repeaters at a node, each of which drives the candidate that gives it the most time, found on the upper convex hull of
+//! the candidates (Li and Shi 2005).
+#![tactic(auto)]
+
+mod cells;
+mod hull;
+mod laws;
+mod search;
+mod shelf;
+mod sweep;
+mod work;
+
+pub use cells::add_cells;
+pub use laws::{
+    greatest_turns, hull_serves, pair_comes_off, pair_goes_on, peak_is_greatest, values_fall,
+};
+pub use shelf::Shelf;
+pub use work::Work;

@@ -1,0 +1,62 @@
+//! Room to work in.
+
+ghost use Rattle.std.specs.Prelude.{◌≡◌, ℕ, IfOk, OnOk, [], length, None};
+ghost use Rattle.vg_convex.specs.Answers.{found_at};
+ghost use Rattle.vg_convex.specs.Rooms.{HasRoom};
+
+use cand_pool::Cand;
+use elmore::Pair;
+use std::alloc::Global;
+use vg_num::Memory;
+
+/// The greatest time that a repeater makes of a list's candidates, and the tag of a candidate of which it makes that.
+#[derive(Clone, Copy)]
+pub(crate) struct Found {
+    pub(crate) time: i128,
+    pub(crate) tag: u64,
+}
+
+/// A pair that a repeater makes, the repeater's number, and the tag of the candidate that it drives.
+#[derive(Clone, Copy)]
+pub(crate) struct Made {
+    pub(crate) pair: Pair,
+    pub(crate) rep: u32,
+    pub(crate) tag: u64,
+}
+
+/// A stack of candidates' places, and rows of results. One serves all nodes; what stands in it before a call does not
+/// matter.
+#[derive(Drop)]
+pub struct Work {
+    pub(crate) stack: Vec<Cand>,
+    pub(crate) found: Vec<Option<Found>>,
+    pub(crate) kept: Vec<Made>,
+}
+
+impl Work {
+    /// Room for lists of so many candidates and for so many repeaters; for more it grows as it is used. Answers `Memory`
+    /// where there is no room.
+    pub fn new(alloc: Global, room: usize) -> Result<Work, Memory>
+        ensures { IfOk result (HasRoom room) }
+    {
+        Ok(Work {
+            stack: Vec::with_capacity(alloc, room)?,
+            found: Vec::with_capacity(alloc, room)?,
+            kept: Vec::with_capacity(alloc, room)?,
+        })
+    }
+
+    /// Empties the stack, and makes a row of so many results, which have found nothing.
+    pub(crate) fn clear(&mut self, results: usize) -> Result<(), Memory>
+        ensures stack { OnOk result (self.new.stack.items ≡ []) }
+        ensures rows { OnOk result (length self.new.found.items ≡ results) }
+        ensures found { OnOk result ((b : ℕ) → found_at self.new.found.items b ≡ None) }
+    {
+        self.stack.clear();
+        self.found.clear();
+        'results: for _ in 0..results {
+            self.found.push(None)?;
+        }
+        Ok(())
+    }
+}
