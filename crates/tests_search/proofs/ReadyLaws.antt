@@ -1,13 +1,13 @@
 -- Lists that rise strictly, as they are made, and what a merge needs of them.
 use Rattle.std.proofs.Common.{◌≡◌, ◌≢◌, ℕ, zero, suc, ◌+◌, ◌*◌, ◌<◌, ◌≤◌, List, [], ◌∷◌, ◌++◌, length, refl, sym, ap, ◌∙◌, subst, arith, inl, length-append, get_or, Option, None, Some, pos}
-use Rattle.std.specs.Prelude.{◌≤ℤ◌, ◌<ℤ◌}
-use Rattle.std.specs.List.{AllPairs, Contains}
+use Rattle.std.specs.Prelude.{ℤ, ◌+ℤ◌, ◌≤ℤ◌, ◌<ℤ◌}
+use Rattle.std.specs.List.{All, AllPairs, Contains}
 use Rattle.std.proofs.lemmas.Int.{ints}
 use Rattle.std.proofs.lemmas.List.{map-append}
 use Rattle.std.proofs.lemmas.List.Quantifiers.{all_pairs_push}
 use Rattle.elmore.specs.Pairs.{IsBelow}
 use Rattle.elmore.specs.declared.pair.Pair.{Pair}
-use Rattle.sol_arena.specs.Slots.{none}
+use Rattle.sol_arena.specs.Slots.{none, IsLive}
 use Rattle.sol_arena.specs.declared.arena.Arena.{Arena}
 use Rattle.sol_arena.specs.declared.slot.Slot.{Slot}
 use Rattle.sol_arena.specs.Arenas.{slots_of, made_of}
@@ -24,7 +24,7 @@ use Rattle.cand_uses.specs.Pairs.{pair_of, pairs_of}
 use Rattle.cand_uses.specs.Uses.{uses_by, HoldsFor, IsExchange}
 use Rattle.cand_uses.proofs.ExchangeLemmas.{uses_of_one, empty_cells}
 use Rattle.vg_merge.specs.Merges.{CanMeet}
-use Rattle.tests_search.specs.Ready.{AreBare, IsReady}
+use Rattle.tests_search.specs.Ready.{AreBare, IsReady, AreUnder, IsListed}
 
 modest_append : (xs : List Candidate) (x : Candidate) → AreModest xs → IsModest x → AreModest (xs ++ x ∷ [])
 modest_append [] x all one = (one, tt)
@@ -33,11 +33,6 @@ modest_append (y ∷ ys) x all one = (all.0, modest_append ys x all.1 one)
 bare_append : (xs ys : List Candidate) → AreBare xs → AreBare ys → AreBare (xs ++ ys)
 bare_append [] ys one two = two
 bare_append (x ∷ xs) ys one two = (one.0, bare_append xs ys one.1 two)
-
--- each pair is below this one
-abbrev pub AreUnder : Pair → List Pair → Type 0
-AreUnder top [] = Unit {0}
-AreUnder top (x ∷ xs) = IsBelow x top × AreUnder top xs
 
 under_at : (top : Pair) (xs : List Pair) → AreUnder top xs → (k : ℕ) (d : Pair) → k < length xs → IsBelow (get_or xs k d) top
 under_at top [] under k d low = absurd (omega arith)
@@ -214,3 +209,98 @@ empty_others s t list same h = subst (λ (b : Block). KeepsOthers b [] t (name l
 
 pub bare_both : (s : Block) (a b : NamedList) → IsReady s a → IsReady s b → AreBare (items_of s a ++ items_of s b)
 bare_both s a b one two = bare_append (items_of s a) (items_of s b) one.bare two.bare
+
+pub listed_start : (s t : Block) (list : NamedList) → t ≡ s → Holds t list [] → IsListed s t list (record { q = pos 0; c = 0 }) 0
+listed_start s t list same h = record {
+  xs = [];
+  held = h;
+  modest = tt;
+  rises = none_pairs;
+  under = tt;
+  bare = tt;
+  low = omega (arith, ints);
+  others = empty_others s t list same h;
+  room = let e : spare t ≡ spare s = ap spare same in omega (arith, e);
+}
+
+-- a pair that does not rise is left out
+pub listed_skip : (s t : Block) (list : NamedList) (floor : Pair) (n : ℕ) → IsListed s t list floor n → IsListed s t list floor (suc n)
+listed_skip s t list floor n f = record {
+  xs = f.xs;
+  held = f.held;
+  modest = f.modest;
+  rises = f.rises;
+  under = f.under;
+  bare = f.bare;
+  low = f.low;
+  others = f.others;
+  room = let room = f.room in omega (arith, room);
+}
+
+-- a pair that rises over the floor and is small
+pub record IsOver (floor : Pair) (q : ℤ) (c : ℕ) : Type 0 where
+  pub time : floor.q ≤ℤ q
+  pub load : floor.c ≤ c
+  pub early : q ≤ℤ pos 1000
+  pub light : c ≤ 1000
+
+over_modest : (floor : Pair) (q : ℤ) (c : ℕ) → pos 0 ≤ℤ floor.q → IsOver floor q c → IsModest (record { q = q; c = c; tag = none })
+over_modest floor q c low over = let a = over.time in let b = over.early in let d = over.light in record { low = omega (arith, ints, a, low); high = omega (arith, ints, b); load = omega (arith, d) }
+
+next_up : (q : ℤ) → q ≤ℤ (q +ℤ pos 1)
+next_up q = omega (arith, ints)
+
+next_over : (q : ℤ) → q <ℤ (q +ℤ pos 1)
+next_over q = omega (arith, ints)
+
+up_low : (a q : ℤ) → pos 0 ≤ℤ a → a ≤ℤ q → pos 0 ≤ℤ (q +ℤ pos 1)
+up_low a q low up = omega (arith, ints)
+
+up_floor : (a q : ℤ) → a ≤ℤ q → a ≤ℤ (q +ℤ pos 1)
+up_floor a q up = omega (arith, ints)
+
+pub listed_more : (s t u : Block) (list list' : NamedList) (floor : Pair) (n : ℕ) (q : ℤ) (c : ℕ) → IsListed s t list floor n → IsOver floor q c
+    → ((xs : Candidates) → Holds t list xs → Holds u list' (xs ++ record { q = q; c = c; tag = none } ∷ []))
+    → KeepsOthers t (name list ∷ []) u (name list' ∷ []) → spare t ≡ suc (spare u) → IsListed s u list' (record { q = q +ℤ pos 1; c = c + 1 }) (suc n)
+listed_more s t u list list' floor n q c f over pushed others free =
+    let x : Candidate = record { q = q; c = c; tag = none } in
+    let top : Pair = record { q = q +ℤ pos 1; c = c + 1 } in
+    let e : pairs_of (f.xs ++ x ∷ []) ≡ pairs_of f.xs ++ pair_of x ∷ [] = map-append pair_of f.xs (x ∷ []) in
+    let under : AreUnder (pair_of x) (pairs_of f.xs) = under_more floor (pair_of x) (pairs_of f.xs) over.time over.load f.under in
+    let light : floor.c ≤ c + 1 = let a = over.load in omega (arith, a) in
+    record {
+      xs = f.xs ++ x ∷ [];
+      held = pushed f.xs f.held;
+      modest = modest_append f.xs x f.modest (over_modest floor q c f.low over);
+      rises = subst (λ (ps : List Pair). AllPairs IsBelow ps) (sym e) (all_pairs_push IsBelow (pairs_of f.xs) (pair_of x) f.rises (under_at (pair_of x) (pairs_of f.xs) under));
+      under = subst (λ (ps : List Pair). AreUnder top ps) (sym e)
+          (under_append top (pair_of x) (pairs_of f.xs) (under_more floor top (pairs_of f.xs) (up_floor floor.q q over.time) light f.under) (record { time = next_over q; room = omega arith }));
+      bare = bare_append f.xs (x ∷ []) f.bare (refl, tt);
+      low = up_low floor.q q f.low over.time;
+      others = keeps_then s t u [] (name list ∷ []) (name list ∷ []) (name list' ∷ []) (name list' ∷ []) f.others others (λ k m. m) (λ k m. inl m);
+      room = let room = f.room in omega (arith, room, free);
+    }
+
+pub listed_ready : (s t : Block) (list : NamedList) (floor : Pair) (n : ℕ) → IsListed s t list floor n → IsReady t list
+listed_ready s t list floor n f = ready_of t list f.xs f.held f.modest f.rises f.bare
+
+-- a list stays ready where a pool makes room
+pub ready_still : (s t : Block) (list : NamedList) → IsReady s list → KeepsOthers s [] t [] → IsReady t list
+ready_still s t list ready keeps =
+    ready_of t list (items_of s list) (stays s t [] [] list.ends.first list.ends.last (items_of s list) keeps (λ some m. m) ready.live) ready.modest ready.rises ready.bare
+
+all_live : (arena : Arena) (xs : Candidates) → AreBare xs → All (λ x. IsLive (made_of arena) x.tag) xs
+all_live arena [] are_bare k d low = absurd (omega arith)
+all_live arena (x ∷ xs) are_bare zero d low = λ some. absurd (some are_bare.0)
+all_live arena (x ∷ xs) are_bare (suc k) d low = all_live arena xs are_bare.1 k d (omega arith)
+
+pub ready_live : (arena : Arena) (s : Block) (list : NamedList) → IsReady s list → All (λ x. IsLive (made_of arena) x.tag) (items_of s list)
+ready_live arena s list ready = all_live arena (items_of s list) ready.bare
+
+all_uncut : (arena : Arena) (node : ℕ) (xs : Candidates) → AreBare xs → All (λ x. cells_of (made_of arena) x.tag node ≡ None) xs
+all_uncut arena node [] are_bare k d low = absurd (omega arith)
+all_uncut arena node (x ∷ xs) are_bare zero d low = ap (λ (j : ℕ). cells_of (made_of arena) j node) are_bare.0 ∙ ap (λ (f : ℕ → Option ℕ). f node) (empty_cells arena)
+all_uncut arena node (x ∷ xs) are_bare (suc k) d low = all_uncut arena node xs are_bare.1 k d (omega arith)
+
+pub ready_uncut : (arena : Arena) (node : ℕ) (s : Block) (list : NamedList) → IsReady s list → All (λ x. cells_of (made_of arena) x.tag node ≡ None) (items_of s list)
+ready_uncut arena node s list ready = all_uncut arena node (items_of s list) ready.bare

@@ -16,17 +16,21 @@ use vg_merge::merge;
 use vg_num::Memory;
 
 /// The tag of a candidate without cells: the number of the empty solution.
-const BARE: u64 = u64::MAX;
+pub const BARE: u64 = u64::MAX;
 
 /// Numbers at random, the same on each run.
 #[derive(Drop)]
-struct Random {
+pub struct Random {
     state: u64,
 }
 
 impl Random {
+    pub fn new() -> Self {
+        Random { state: 1 }
+    }
+
     /// A number below `most`.
-    fn draw(&mut self, most: u64) -> u64
+    pub fn draw(&mut self, most: u64) -> u64
         requires { 0 < most }
         ensures { result < most }
     {
@@ -38,7 +42,7 @@ impl Random {
     }
 
     /// The pair at this place of a list that rises strictly.
-    fn pair(&mut self, at: u32) -> Pair
+    pub fn pair(&mut self, at: u32) -> Pair
         ensures from_q { pos (8 * at) ≤ℤ result.q }
         ensures to_q { result.q <ℤ pos (8 * at + 8) }
         ensures from_c { 4 * at ≤ result.c }
@@ -70,7 +74,7 @@ fn rising(pool: &mut Pool, random: &mut Random, size: u32) -> List
 }
 
 /// The pairs of a list.
-fn pairs<L: Ledger>(
+pub fn pairs<L: Ledger>(
     alloc: Global,
     pool: &Pool,
     list: &List,
@@ -134,9 +138,14 @@ fn all_met(alloc: Global, one: &[Pair], two: &[Pair]) -> Result<Vec<Pair>, Alloc
             })?;
         }
     }
+    undominated(alloc, all.as_slice())
+}
+
+/// Of these pairs those that no other one dominates, by rising c.
+pub fn undominated(alloc: Global, all: &[Pair]) -> Result<Vec<Pair>, AllocError> {
     let mut kept = Vec::new(alloc);
     for at in 0..all.len() {
-        if !is_dominated(all.as_slice(), at) {
+        if !is_dominated(all, at) {
             kept.push(all[at])?;
         }
     }
@@ -178,7 +187,7 @@ fn first_wrong<L: Ledger>(alloc: Global, blank: Blank, cases: u32) -> Result<Opt
     pool.reserve(MOST as usize)?;
     let mut arena = Arena::new(alloc);
     let mut steps = Steps::<L>::new(blank);
-    let mut random = Random { state: 1 };
+    let mut random = Random::new();
     'cases: for case in 0..cases {
         if !agrees(alloc, &mut pool, &mut arena, &mut random, &mut steps)? {
             return Ok(Some(case));

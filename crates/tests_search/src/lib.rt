@@ -5,3 +5,5 @@
 mod arena;
 #[cfg(test)]
 mod branches;
+#[cfg(test)]
+mod cells;
