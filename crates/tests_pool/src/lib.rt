@@ -2,4 +2,8 @@
 #![tactic(auto)]
 
 #[cfg(test)]
+mod lists;
+#[cfg(test)]
 mod pools;
+#[cfg(test)]
+mod rows;
