@@ -14,3 +14,5 @@ pub mod KeptLaws
 pub mod UnionOrder
 pub mod LoadLaws
 pub mod BendLaws
+pub mod LengthLaws
+pub mod CallLaws

@@ -131,6 +131,7 @@ loading_end c s first last xs t slot e h w =
 -- the other lists stay
 pub loading_others : (c : ℕ) (s : Block) (first last : ℕ) (xs : List Candidate) (t : Block) (slot : ℕ) → IsPool s → IsHeld s first last xs → IsLoading c s (slots_of s first) t slot → KeepsOthers s (first ∷ []) t (first ∷ [])
 loading_others c s first last xs t slot pool h w = record {
+  few = λ few. subst (λ (u : Block). length u.links ≤ none) (sym w.same) few;
   stays = λ k k_last ys other some out. subst (λ (u : Block). IsHeld u k k_last ys) (sym w.same) (record {
     few = other.few;
     slots = other.slots;

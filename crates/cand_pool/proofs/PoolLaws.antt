@@ -45,6 +45,7 @@ pub keeps_relinked : (s : Block) (at to free : ℕ) (old new : List ℕ) → Kee
     → ((k : ℕ) (slots : List ℕ) → IsWhole (link s.links) (length s.links) k slots → k ≢ none → (IsIn k old → ⊥) → k ≢ s.free → k ≢ free)
     → KeepsOthers s old (relinked s at to free) new
 keeps_relinked s at to free old new keeps apart_free = record {
+  few = few_relinked s.links at to;
   stays = λ first last xs h some out. record {
     few = few_relinked s.links at to h.few;
     slots = h.slots;

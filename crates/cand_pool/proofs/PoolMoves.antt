@@ -59,6 +59,7 @@ put s a a_last b b_last ps rs pool one two some_a some_b differ =
 pub keeps_then : (s t u : Block) (old middle from to new : List ℕ) → KeepsOthers s old t middle → KeepsOthers t from u to → ((k : ℕ) → IsIn k from → IsIn k middle) → ((k : ℕ) → IsIn k new → IsIn k to ⊎ IsIn k middle)
     → KeepsOthers s old u new
 keeps_then s t u old middle from to new one two below above = record {
+  few = λ few. two.few (one.few few);
   stays = λ first last xs h some out. two.stays first last xs (one.stays first last xs h some out) some (λ m. one.fresh first last xs h some out (below first m));
   fresh = λ first last xs h some out is_new. elim (above first is_new) [
     | inl m ↦ two.fresh first last xs (one.stays first last xs h some out) some (λ k. one.fresh first last xs h some out (below first k)) m
@@ -67,7 +68,7 @@ keeps_then s t u old middle from to new one two below above = record {
 }
 
 pub keeps_itself : (s : Block) (old : List ℕ) → KeepsOthers s old s old
-keeps_itself s old = record { stays = λ first last xs h some out. h; fresh = λ first last xs h some out. out }
+keeps_itself s old = record { few = λ few. few; stays = λ first last xs h some out. h; fresh = λ first last xs h some out. out }
 
 draw_from : (s : Block) (slots : List ℕ) → slots_of s s.free ≡ slots → IsPool s → IsWhole (link s.links) (length s.links) s.free slots → s.free ≢ none → IsDrawn s (relinked s s.free none (link s.links s.free))
 draw_from s [] slots_are pool whole some = absurd (some whole.chain)
@@ -91,6 +92,7 @@ draw_from s (y ∷ ys) slots_are pool whole some =
         shows = refl;
       };
       others = record {
+        few = others.few;
         stays = λ first last xs h some_k out. others.stays first last xs h some_k (λ is_free. elim is_free [ inl e ↦ some_k (h.kept e) | inr none_of ↦ none_of ]);
         fresh = λ first last xs h some_k out is_new. elim is_new [ inl e ↦ some_k (h.kept e) | inr none_of ↦ none_of ];
       };

@@ -22,7 +22,7 @@ free_slots s first [] slots_are pool free one low kept some =
     = keeps_relinked s first s.free first (first ∷ []) (first ∷ link s.links first ∷ []) is_cut.others (λ k slots w some_k out not_free e. out (inl e)) in
     record {
       pool = pool';
-      others = record { stays = λ f l xs h s_f out. others.stays f l xs h s_f out; fresh = λ f l xs h s_f out is_new. is_new };
+      others = record { few = others.few; stays = λ f l xs h s_f out. others.stays f l xs h s_f out; fresh = λ f l xs h s_f out is_new. is_new };
       free = ap (λ (l : List ℕ). length l) free_is ∙ ap (λ (l : List ℕ). suc (length l)) (sym slots_are);
     }
 free_slots s first (y ∷ ys) slots_are pool free one low kept some =
@@ -34,6 +34,7 @@ free_slots s first (y ∷ ys) slots_are pool free one low kept some =
     record {
       pool = pool';
       others = record {
+        few = others.few;
         stays = λ f l xs h s_f out. others.stays f l xs h s_f (λ is_old. elim is_old [ inl e ↦ out (inl e) | inr (inl e) ↦ s_f (h.kept e) | inr (inr none_of) ↦ none_of ]);
         fresh = λ f l xs h s_f out is_new. is_new;
       };
@@ -90,6 +91,7 @@ write s first last x qs cs tags pool h all_q all_c all_tags same =
       pool = record { block = pool.block; all_q = all_q; all_c = all_c; all_tags = all_tags; free = pool.free };
       one = record { few = h.few; slots = first ∷ []; whole = one.whole; ends = λ _. refl; kept = h.kept; shows = refl };
       others = record {
+        few = λ few. few;
         stays = λ k k_last xs other some out. record {
           few = other.few;
           slots = other.slots;
@@ -171,6 +173,7 @@ grow s q c tag pool room =
         shows = refl;
       };
       others = record {
+        few = λ _. omega arith;
         stays = λ k k_last xs other some_k out. record {
           few = omega arith;
           slots = other.slots;
@@ -244,6 +247,7 @@ pad s qs cs tags pool =
     record {
       pool = record { block = pool.block; all_q = omega arith; all_c = omega arith; all_tags = omega arith; free = pool.free };
       others = record {
+        few = λ few. few;
         stays = λ k k_last xs other some out. record {
           few = other.few;
           slots = other.slots;
@@ -265,6 +269,7 @@ pad s qs cs tags pool =
 -- a block that grew by a slot, which is then free
 pub grown_freed : (s t u : Block) (n : ℕ) → IsGrown s t → n ≡ length s.links → IsFreed t n u → KeepsOthers s [] u []
 grown_freed s t u n grown e freed = record {
+  few = λ few. freed.others.few (grown.others.few few);
   stays = λ k kl xs h some out. freed.others.stays k kl xs (grown.others.stays k kl xs h some out) some (λ m. grown.others.fresh k kl xs h some out (elim m [ inl f ↦ inl (f ∙ e) | inr o ↦ inr o ]));
   fresh = λ k kl xs h some out is_new. is_new;
 }

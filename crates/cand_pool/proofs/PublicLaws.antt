@@ -37,14 +37,14 @@ empty_held s first last few e = record { few = few; slots = []; whole = whole_no
 pub append_none : (s : Block) (a a_last b b_last : ℕ) → b ≡ none → IsAppended s a a_last b b_last s a a_last
 append_none s a a_last b b_last e = record {
   joined = λ xs ys one two. let f : ys ≡ [] = none_holds s b b_last ys e two in rw (f, append-nil) one;
-  others = record { stays = λ first last xs h some out. h; fresh = λ first last xs h some out is_new. elim is_new [ inl m ↦ out (inl m) | inr z ↦ z ] };
+  others = record { few = λ few. few; stays = λ first last xs h some out. h; fresh = λ first last xs h some out is_new. elim is_new [ inl m ↦ out (inl m) | inr z ↦ z ] };
   free = refl;
 }
 
 pub append_to_none : (s : Block) (a a_last b b_last : ℕ) → a ≡ none → IsAppended s a a_last b b_last s b b_last
 append_to_none s a a_last b b_last e = record {
   joined = λ xs ys one two. let f : xs ≡ [] = none_holds s a a_last xs e one in rw f two;
-  others = record { stays = λ first last xs h some out. h; fresh = λ first last xs h some out is_new. elim is_new [ inl m ↦ out (inr (inl m)) | inr z ↦ z ] };
+  others = record { few = λ few. few; stays = λ first last xs h some out. h; fresh = λ first last xs h some out is_new. elim is_new [ inl m ↦ out (inr (inl m)) | inr z ↦ z ] };
   free = refl;
 }
 
@@ -81,6 +81,7 @@ one_held s first last x h =
 -- what a call that names another list too keeps
 pub keeps_with : (s t : Block) (k : ℕ) (old new : List ℕ) → KeepsOthers s old t new → KeepsOthers s (k ∷ old) t (k ∷ new)
 keeps_with s t k old new keeps = record {
+  few = keeps.few;
   stays = λ first last xs h some out. keeps.stays first last xs h some (λ m. out (inr m));
   fresh = λ first last xs h some out is_new. elim is_new [ inl e ↦ out (inl e) | inr m ↦ keeps.fresh first last xs h some (λ m. out (inr m)) m ];
 }
@@ -92,6 +93,10 @@ stays_any s t old new first last xs keeps few out h =
       | inl e ↦ let f : xs ≡ [] = none_holds s first last xs e h in rw f (empty_held t first last few e)
       | inr some ↦ keeps.stays first last xs h some (out some)
     ]
+
+-- the same, where the slots were few enough
+pub stays : (s t : Block) (old new : List ℕ) (first last : ℕ) (xs : List Candidate) → KeepsOthers s old t new → (first ≢ none → IsIn first old → ⊥) → IsHeld s first last xs → IsHeld t first last xs
+stays s t old new first last xs keeps out h = stays_any s t old new first last xs keeps (keeps.few h.few) out h
 
 -- a slot is drawn and written
 pub made : (s t u : Block) (slot : ℕ) → slot ≡ s.free → IsDrawn s t → IsWritten t slot u → KeepsOthers s [] u (slot ∷ [])

@@ -12,6 +12,7 @@ use Rattle.cand_pool.proofs.PublicLaws.{keeps_with, stays_any}
 -- what is kept, said of more old names and fewer new ones
 pub keeps_like : (s t : Block) (old new old' new' : List ℕ) → KeepsOthers s old t new → ((k : ℕ) → IsIn k old → IsIn k old') → ((k : ℕ) → IsIn k new' → IsIn k new) → KeepsOthers s old' t new'
 keeps_like s t old new old' new' keeps more fewer = record {
+  few = keeps.few;
   stays = λ first last xs h some out. keeps.stays first last xs h some (λ m. out (more first m));
   fresh = λ first last xs h some out is_new. keeps.fresh first last xs h some (λ m. out (more first m)) (fewer first is_new);
 }

@@ -215,6 +215,7 @@ union_start s one two empty xs ys e h k differ = record {
   };
   split = split_start (union xs ys);
   others = record {
+    few = λ few. few;
     stays = λ first last zs held some out. held;
     fresh = λ first last zs held some out is_new. elim is_new [
       | inl f ↦ out (inr (inl f))

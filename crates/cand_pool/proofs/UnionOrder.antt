@@ -123,7 +123,7 @@ ordered_after w (x ∷ xs) (y ∷ ys) one two = elim (cases_Bool (comes_first y 
   | inr f ↦ rw f (one.0, one.1, ordered_after x xs (y ∷ ys) one.2 (second_heavy y x f, second_order y x f, two.2))
 ]
 
-union_ordered : (xs ys : List Candidate) → IsInOrder xs → IsInOrder ys → IsInOrder (union xs ys)
+pub union_ordered : (xs ys : List Candidate) → IsInOrder xs → IsInOrder ys → IsInOrder (union xs ys)
 union_ordered [] ys one two = two
 union_ordered (x ∷ xs) [] one two = ordered_after x xs [] one tt
 union_ordered (x ∷ xs) (y ∷ ys) one two = elim (cases_Bool (comes_first y x)) [
@@ -151,7 +151,7 @@ order_tail : (x : Candidate) (xs : List Candidate) → InOrderAfter x xs → IsI
 order_tail x [] order = tt
 order_tail x (y ∷ ys) order = order.2
 
-rises_kept : (best : ℤ) (xs : List Candidate) → IsInOrder xs → RisesInLoad (kept best xs)
+pub rises_kept : (best : ℤ) (xs : List Candidate) → IsInOrder xs → RisesInLoad (kept best xs)
 rises_kept best [] order = tt
 rises_kept best (x ∷ xs) order = elim (cases_Bool (int_lt best x.q)) [
   | inl t ↦ rw t (heavier_kept x x xs (omega arith) (omega (arith, ints)) order)

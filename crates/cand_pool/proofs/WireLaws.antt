@@ -137,6 +137,7 @@ wire_start r s list empty all e h modest = record {
   split = split_start (map (wired r) all);
   modest = modest;
   others = record {
+    few = λ few. few;
     stays = λ k kl xs h some out. h;
     fresh = λ k kl xs h some out is_new. elim is_new [ inl f ↦ out (inl f) | inr (inl f) ↦ some (f ∙ e) | inr (inr (inl f)) ↦ some (f ∙ e) | inr (inr (inr o)) ↦ o ];
   };

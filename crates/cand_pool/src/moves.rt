@@ -91,32 +91,6 @@ impl Pool {
         }
     }
 
-    /// Takes the first off a list that is not empty, writes its q, and puts it after another list.
-    pub(crate) fn move_first(&mut self, rest: Ends, to: Ends, q: i128) -> Moved
-        requires one { IsNamed self.old rest.first rest.last }
-        requires two { IsNamed self.old to.first to.last }
-        requires some { rest.first ≢ NONE }
-        requires differ { rest.first ≢ to.first }
-        ensures { (b : Ends) (x : Candidate) (xs ps rs : Candidates) → IsSieve self.old rest to b (x ∷ xs) ps rs
-            → IsSifted self.old self.new rest to b result.rest result.to xs ps rs (record { q = q; c = x.c; tag = x.tag }) }
-    {
-        let slot = rest.first;
-        let next = self.take_first(slot);
-        self.write_q(slot, q);
-        let one = Ends {
-            first: slot,
-            last: slot,
-        };
-        let to = self.put_after(to, one);
-        Moved {
-            rest: Ends {
-                first: next,
-                last: rest.last,
-            },
-            to,
-        }
-    }
-
     /// Takes the first off a list that is not empty, writes it anew, and puts it after another list.
     pub(crate) fn move_formed(&mut self, rest: Ends, to: Ends, q: i128, c: u64, tag: u64) -> Moved
         requires one { IsNamed self.old rest.first rest.last }

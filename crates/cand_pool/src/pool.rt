@@ -1,6 +1,6 @@
 //! A pool: one block of slots.
 
-ghost use Rattle.std.specs.Prelude.{◌≡◌, suc, ◌≤◌, [], IfOk};
+ghost use Rattle.std.specs.Prelude.{◌≡◌, suc, ◌≤◌, [], IfOk, MatchResult};
 ghost use Rattle.cand_pool.specs.Pools.{spare, KeepsOthers};
 
 use crate::ends::NONE;
@@ -45,7 +45,7 @@ impl Pool {
     /// Adds a free slot.
     fn grow(&mut self) -> Result<(), Memory>
         ensures others { KeepsOthers self.old [] self.new [] }
-        ensures spare { IfOk result (λ _. spare self.new ≡ suc (spare self.old)) }
+        ensures spare { MatchResult result (λ _. spare self.new ≡ suc (spare self.old)) (λ _. spare self.new ≡ spare self.old) }
     {
         if self.links.len() >= 4_294_967_295 {
             return Err(Memory);
@@ -59,12 +59,28 @@ impl Pool {
         Ok(())
     }
 
-    /// Makes room for `n` more candidates. All lists and bags stay, also where memory wants.
+    /// How many slots are free, counted up to `most`.
+    fn count_spare(&self, most: usize) -> usize
+        ensures low { result ≤ spare self.now }
+        ensures most { result ≤ most }
+    {
+        let mut count = 0;
+        let mut slot = self.free;
+        'free: while count < most && slot != NONE {
+            slot = self.links[slot as usize];
+            count += 1;
+        }
+        count
+    }
+
+    /// Makes room for `n` candidates, with new slots for those that lack one. All lists and bags stay, also when out of memory.
     pub fn reserve(&mut self, n: usize) -> Result<(), Memory>
         ensures others { KeepsOthers self.old [] self.new [] }
         ensures room { IfOk result (λ _. n ≤ spare self.new) }
+        ensures more { spare self.old ≤ spare self.new }
     {
-        for i in 0..n {
+        let there = self.count_spare(n);
+        'slots: for at in there..n {
             self.grow()?;
         }
         Ok(())

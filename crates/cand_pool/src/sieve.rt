@@ -25,19 +25,31 @@ impl Pool {
         ensures { (x : Candidate) (xs ks ds : Candidates) → Sifts self.old at (x ∷ xs) ks ds
             → IsTurned self.old self.new at result xs ks ds (record { q = q; c = x.c; tag = x.tag }) }
     {
+        // The slot is cut off and written before the choice, so that what is left stays in registers.
+        let slot = at.rest.first;
+        let next = self.take_first(slot);
+        self.write_q(slot, q);
+        let rest = Ends {
+            first: next,
+            last: at.rest.last,
+        };
+        let one = Ends {
+            first: slot,
+            last: slot,
+        };
         if q > at.best {
-            let moved = self.move_first(at.rest, at.kept, q);
+            let kept = self.put_after(at.kept, one);
             Sieve {
-                rest: moved.rest,
-                kept: moved.to,
+                rest,
+                kept,
                 best: q,
                 ..at
             }
         } else {
-            let moved = self.move_first(at.rest, at.dropped, q);
+            let dropped = self.put_after(at.dropped, one);
             Sieve {
-                rest: moved.rest,
-                dropped: moved.to,
+                rest,
+                dropped,
                 ..at
             }
         }

@@ -1,16 +1,21 @@
 -- Exchanges of uses: they follow each other, and stand beside other candidates.
-use Rattle.std.proofs.Common.{◌≡◌, ◌≢◌, ℕ, ◌+◌, ◌-◌, ◌<◌, ◌≤◌, ◌==◌, List, [], ◌∷◌, ◌++◌, refl, subst, arith}
+use Rattle.std.proofs.Common.{◌≡◌, ◌≢◌, ℕ, ◌+◌, ◌-◌, ◌<◌, ◌≤◌, ◌==◌, List, [], ◌∷◌, ◌++◌, length, refl, sym, ap, ◌∙◌, subst, zero, suc, inl, inr, arith}
+use Rattle.std.proofs.lemmas.Bool.{cases_eq}
 use Rattle.std.proofs.lemmas.List.Sums.{sum_by-cons, sum_by-append}
+use Rattle.std.specs.List.{Contains}
 use Rattle.sol_arena.specs.declared.arena.Arena.{Arena}
 use Rattle.sol_arena.specs.declared.slot.Slot.{Slot}
 use Rattle.sol_arena.specs.declared.slot.Made.{Made}
 use Rattle.sol_arena.specs.Slots.{none, made_in}
 use Rattle.sol_arena.specs.Uses.{one_if, held_of}
-use Rattle.sol_arena.specs.Changes.{IsReleased}
-use Rattle.sol_arena.specs.Reach.{IsFrame, IsReached}
-use Rattle.sol_arena.specs.Arenas.{slots_of}
-use Rattle.sol_arena.proofs.OneLemmas.{one_same}
-use Rattle.sol_arena.proofs.ReachLemmas.{frames, reached_too, release_frame}
+use Rattle.sol_arena.specs.Changes.{IsNew, IsReleased}
+use Rattle.sol_arena.specs.Meanings.{bare, cells_of}
+use Rattle.sol_arena.specs.Reach.{IsFrame, IsReached, root}
+use Rattle.sol_arena.specs.Arenas.{slots_of, made_of}
+use Rattle.sol_arena.proofs.CountLemmas.{length-made_in}
+use Rattle.sol_arena.proofs.MeaningLemmas.{none_bare}
+use Rattle.sol_arena.proofs.OneLemmas.{one_same, one_other}
+use Rattle.sol_arena.proofs.ReachLemmas.{frames, reached_too, release_frame, new_frame}
 use Rattle.cand_pool.specs.Candidates.{Candidate, Candidates}
 use Rattle.cand_uses.specs.Uses.{uses_by, HoldsFor, HoldsBeside, IsExchange}
 
@@ -90,3 +95,51 @@ released_first old new x xs released =
 -- a use of the first candidate is held
 pub first_use : (slots : List Slot) (x : Candidate) (xs : Candidates) → HoldsFor slots (x ∷ xs) → x.tag ≢ none → 0 < held_of slots x.tag
 first_use slots x xs held some = omega (arith, held x.tag some, uses_of_one x xs x.tag, one_same x.tag x.tag refl)
+
+-- beside candidates that stay, in any order
+pub exchange_among : (a b : List Slot) (ws xs ys all all' : Candidates)
+    → ((s : ℕ) → uses_by all s ≡ uses_by ws s + uses_by xs s) → ((s : ℕ) → uses_by all' s ≡ uses_by ws s + uses_by ys s)
+    → IsExchange a xs b ys → IsExchange a all b all'
+exchange_among a b ws xs ys all all' before after one =
+    exchange_same a b (ws ++ xs) all (ws ++ ys) all' (λ s. omega (arith, before s, uses_of_both ws xs s)) (λ s. omega (arith, after s, uses_of_both ws ys s))
+    (exchange_beside a b ws xs ys one)
+
+-- callers hold one use of a new solution
+pub new_one : (old new : Arena) (z : Candidate) (made_so : Made) → IsNew (slots_of old) (slots_of new) z.tag made_so
+    → IsExchange (slots_of old) [] (slots_of new) (z ∷ [])
+new_one old new z made_so is_new = record {
+  held = λ others h s some. omega (arith, h s some, uses_of_one z [] s, is_new.held s some);
+  frame = λ others h. new_frame old new others z.tag made_so (λ s some. omega (arith, h s some)) is_new;
+}
+
+-- uses of the empty solution are not counted
+pub empty_one : (slots : List Slot) (z : Candidate) → z.tag ≡ none → IsExchange slots [] slots (z ∷ [])
+empty_one slots z empty = record {
+  held = λ others h s some. omega (arith, h s some, uses_of_one z [] s, one_other z.tag s (λ e. some (sym e ∙ empty)));
+  frame = λ others h. record { made = λ s reached. refl; cells = λ s reached. refl };
+}
+
+-- the empty solution has no cell at any time
+pub empty_cells : (arena : Arena) → cells_of (made_of arena) none ≡ bare
+unfolding cells_of
+empty_cells arena =
+    none_bare (made_of arena) (omega (arith, length-made_in arena.slots.items, arena.sound.kept.room)) (length (made_of arena))
+
+uses_of_some : (ws : Candidates) (w : Candidate) → Contains ws w → 0 < uses_by ws w.tag
+uses_of_some [] w (k, k_n, e) = absurd (omega arith)
+uses_of_some (x ∷ ws) w (zero, k_n, e) =
+    let same : x.tag ≡ w.tag = ap (λ (y : Candidate). y.tag) e in omega (arith, uses_of_one x ws w.tag, one_same x.tag w.tag same)
+uses_of_some (x ∷ ws) w (suc k, k_n, e) =
+    let later : Contains ws w = (k, omega arith, e) in omega (arith, uses_of_one x ws w.tag, uses_of_some ws w later)
+
+-- a candidate beside those whose uses are exchanged keeps the cells of its solution
+pub stays_same : (old new : Arena) (ws xs ys : Candidates) → HoldsFor (slots_of old) (ws ++ xs) → IsExchange (slots_of old) xs (slots_of new) ys
+    → (w : Candidate) → Contains ws w → cells_of (made_of new) w.tag ≡ cells_of (made_of old) w.tag
+stays_same old new ws xs ys held one w found =
+    elim (cases_eq w.tag none) [
+      | inl e ↦ ap (cells_of (made_of new)) e ∙ empty_cells new ∙ sym (ap (cells_of (made_of old)) e ∙ empty_cells old)
+      | inr some ↦
+          let frame : IsFrame (beside (slots_of old) xs) (made_of old) (made_of new) =
+          one.frame (beside (slots_of old) xs) (λ s s_some. omega (arith, held s s_some, uses_of_both ws xs s)) in
+          frame.cells w.tag (root w.tag some (omega (arith, held w.tag some, uses_of_both ws xs w.tag, uses_of_some ws w found)))
+    ]

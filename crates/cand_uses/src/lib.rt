@@ -4,4 +4,4 @@
 
 mod bags;
 
-pub use bags::give_up;
+pub use bags::{end_list, give_up};

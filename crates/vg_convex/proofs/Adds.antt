@@ -29,6 +29,7 @@ pub added_none : (s : Block) (slots : List Slot) (list : NamedList) → Holds s 
 added_none s slots list h = record {
   held = h;
   others = record {
+    few = λ few. few;
     stays = λ first last xs held some out. held;
     fresh = λ first last xs held some out m. elim m [ inl e ↦ some (e ∙ nothing_held s list.ends.first list.ends.last h) | inr more ↦ more ];
   };
@@ -151,7 +152,7 @@ pub arena_same : (slots : List Slot) → IsRestored slots slots
 arena_same slots = record { live = λ s. refl; made = λ s is. refl; cells = λ s is. refl; uses = λ s some. refl; count = refl }
 
 pub pool_same : (s : Block) → KeepsOthers s [] s []
-pool_same s = record { stays = λ first last xs held some out. held; fresh = λ first last xs held some out m. m }
+pool_same s = record { few = λ few. few; stays = λ first last xs held some out. held; fresh = λ first last xs held some out m. m }
 
 pub solutions_same : (ms : List Made) → KeepsSolutions ms ms
 solutions_same ms = record { made = λ s is. refl; cells = λ s is. refl }

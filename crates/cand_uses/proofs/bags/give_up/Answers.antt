@@ -1,4 +1,4 @@
-use Rattle.std.proofs.Common.{◌≡◌, ℕ, suc, ◌<◌, List, ◌∷◌, [], length, Option, Some, None, MatchOption, refl, inl, ap, sym, subst, arith, ◌∙◌}
+use Rattle.std.proofs.Common.{◌≡◌, ℕ, suc, ◌<◌, List, ◌∷◌, [], length, Option, Some, None, MatchOption, refl, inl, inr, ap, sym, subst, arith, ◌∙◌}
 use Rattle.std.specs.Option.{IsNone}
 use Rattle.sol_arena.specs.declared.slot.Slot.{Slot}
 use Rattle.sol_arena.specs.Uses.{held_of}
@@ -6,9 +6,9 @@ use Rattle.sol_arena.specs.Arenas.{slots_of}
 use Rattle.sol_arena.specs.Changes.{IsReleased}
 use Rattle.sol_arena.proofs.ReachLemmas.{held_live}
 use Rattle.cand_pool.specs.Candidates.{Candidate, Candidates}
-use Rattle.cand_pool.specs.Pools.{Block, HoldsBag, spare}
+use Rattle.cand_pool.specs.Pools.{Block, Holds, HoldsBag, spare}
 use Rattle.cand_pool.specs.declared.ends.Bag.{Bag}
-use Rattle.cand_pool.proofs.PublicLaws.{held_items, held_named}
+use Rattle.cand_pool.proofs.PublicLaws.{held_items, held_named, stays_any}
 use Rattle.cand_pool.proofs.PoolMoves.{keeps_then}
 use Rattle.cand_uses.specs.Uses.{HoldsFor}
 use Rattle.cand_uses.proofs.ExchangeLemmas.{no_exchange, exchange_as, exchange_of, exchange_then, exchanged_held, released_first, first_use}
@@ -27,7 +27,7 @@ tags-init c = record {
   held = c.requires.held;
   uses = no_exchange _ _;
   spare = refl;
-  others = record { stays = λ first last xs h some out. h; fresh = λ first last xs h some out. out };
+  others = record { few = λ few. few; stays = λ first last xs h some out. h; fresh = λ first last xs h some out. out };
 }
 
 pub take-requires : goal.take-requires
@@ -100,3 +100,10 @@ returns-clause-spare c = λ xs h.
     let k = ap (λ (l : Candidates). length l) (held_items _ _ _ xs h) in
     let z = (c.take.ensures.none (subst (λ (r : Option ℕ). IsNone r) (sym c.in_default.is) refl)).1 in
     omega (arith, c.tags.invariant.spare, f, k, ap spare (c.close.ensures), ap spare z)
+
+pub returns-clause-lists : goal.returns-clause-lists
+returns-clause-lists c = λ list xs differ h.
+    let same = c.close.ensures ∙ (c.take.ensures.none (subst (λ (r : Option ℕ). IsNone r) (sym c.in_default.is) refl)).1 in
+    let stays = stays_any _ _ _ _ _ _ _ c.tags.invariant.others c.tags.invariant.bag.few
+    (λ some m. elim m [ inl e ↦ some (differ e) | inr o ↦ o ]) h in
+    subst (λ (s : Block). Holds s list xs) (sym same) stays

@@ -1,0 +1,52 @@
+//! Candidates at random, the same on each run.
+
+ghost use Rattle.std.specs.Prelude.{◌≤◌, ◌<◌, ◌^◌, pos, ◌≤ℤ◌};
+
+/// How many candidates a list may have here.
+pub const MOST: u32 = 1_000_000;
+
+/// What was drawn so far.
+#[derive(Drop)]
+pub struct Random {
+    state: u64,
+}
+
+/// The numbers of a candidate.
+#[derive(Clone, Copy)]
+pub struct Point {
+    pub q: i128,
+    pub c: u64,
+}
+
+impl Random {
+    pub fn new() -> Self {
+        Random { state: 1 }
+    }
+
+    /// A number below 2^31.
+    fn draw(&mut self) -> u64
+        ensures { result < 2 ^ 31 }
+    {
+        self.state = self
+            .state
+            .wrapping_mul(6_364_136_223_846_793_005)
+            .wrapping_add(1_442_695_040_888_963_407);
+        self.state >> 33
+    }
+
+    /// The candidate at this place of a list, in which q and c rise strictly.
+    pub fn point(&mut self, at: u32) -> Point
+        requires { at < 10 ^ 6 }
+        ensures low { pos 0 ≤ℤ result.q }
+        ensures high { result.q ≤ℤ pos (10 ^ 12) }
+        ensures load { result.c ≤ 10 ^ 10 }
+    {
+        let bits = self.draw();
+        let (step, noise) = (bits & 255, bits >> 8 & 4095);
+        let at = u64::from(at);
+        Point {
+            q: i128::from(at * 16_384 + step * 48 + noise),
+            c: at * 256 + step,
+        }
+    }
+}

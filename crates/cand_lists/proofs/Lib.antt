@@ -1,0 +1,4 @@
+pub mod RisingLemmas
+pub mod KeptLemmas
+pub mod ExactLemmas
+pub mod MoveLemmas

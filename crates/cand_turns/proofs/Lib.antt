@@ -1,0 +1,4 @@
+pub mod SwapLemmas
+pub mod BranchLemmas
+pub mod WireLemmas
+pub mod MeetLemmas

@@ -1,0 +1,3 @@
+pub mod Swaps
+pub mod Branches
+pub mod Solved

@@ -1,0 +1,109 @@
+//! The lists of a branch of a net, and what a wire makes of them.
+
+ghost use Rattle.std.specs.Prelude.{◌≡◌, ◌+◌, ◌<◌, true, [], ◌++◌, length, IfOk, MatchResult};
+ghost use Rattle.elmore.specs.Problems.{is_live};
+ghost use Rattle.elmore.specs.Trees.{parent_of, resistance};
+ghost use Rattle.sol_arena.specs.Arenas.{made_of};
+ghost use Rattle.cand_uses.specs.Pairs.{pairs_of};
+ghost use Rattle.cand_turns.specs.Swaps.{AreHeld, IsSwap, IsTurn, search};
+ghost use Rattle.cand_turns.specs.Branches.{classes_in, lists_of};
+ghost use Rattle.cand_turns.specs.Solved.{IsOpenAt, IsClosedAt, IsAboveWire, IsCarriedAt};
+
+use cand_lists::wire;
+use cand_pool::{List, Pool, Steps};
+use cand_uses::end_list;
+use elmore::Problem;
+use sol_arena::Arena;
+use std::sync::ledger::Ledger;
+use vg_merge::merge;
+use vg_num::Memory;
+
+/// The resistance (mΩ) of the wire above a node.
+fn resistance_of(p: &Problem, node: usize) -> u64
+    requires { node < length p.now.tree.nodes }
+    ensures { result ≡ resistance p.now.tree.nodes node }
+{
+    p.tree.nodes.as_slice()[node].r
+}
+
+/// The candidates of a branch at its node: a list for a signal that is not inverted there, and one for a signal that is
+/// (Lillis, Cheng and Lin 1996).
+#[derive(Drop)]
+pub struct Branch {
+    pub even: List,
+    pub odd: List,
+}
+
+impl Branch {
+    /// Gives up both lists, with the uses of their solutions.
+    pub fn give_up(self, pool: &mut Pool, arena: &mut Arena)
+        requires held { AreHeld (search pool.old arena.old) (lists_of self) }
+        ensures swap { IsSwap (search pool.old arena.old) (lists_of self) (search pool.new arena.new) [] }
+    {
+        let Branch { even, odd } = self;
+        end_list(pool, arena, even);
+        end_list(pool, arena, odd);
+    }
+
+    /// Charges the wire of the branch's node to both lists, and gives up what is then dominated.
+    pub fn carry<L: Ledger>(
+        &mut self,
+        pool: &mut Pool,
+        arena: &mut Arena,
+        p: &Problem,
+        node: usize,
+        steps: &mut Steps<L>,
+    )
+        requires node { node < length p.now.tree.nodes }
+        requires held { AreHeld (search pool.old arena.old) (lists_of self.old) }
+        requires closed { IsClosedAt p.now node (made_of arena.old) (classes_in pool.old self.old) }
+        ensures above { IsAboveWire p.now node (λ odd. pairs_of (classes_in pool.old self.old odd)) (made_of arena.new) (classes_in pool.new self.new) }
+        ensures turn { IsTurn (search pool.old arena.old) (lists_of self.old) (search pool.new arena.new) (lists_of self.new) }
+    {
+        let r = resistance_of(p, node);
+        wire(pool, arena, &mut self.even, r, steps);
+        wire(pool, arena, &mut self.odd, r, steps);
+    }
+
+    /// The candidates of this branch and of the one below `node`, a child of this branch's node, together, where those of the
+    /// other are above the wire of `node`. Answers `Memory` where there is no room; both branches are given up then.
+    pub fn meet<L: Ledger>(
+        self,
+        pool: &mut Pool,
+        arena: &mut Arena,
+        p: &Problem,
+        node: usize,
+        lower: Branch,
+        steps: &mut Steps<L>,
+    ) -> Result<Branch, Memory>
+        requires below_root { 0 < node }
+        requires node { node < length p.now.tree.nodes }
+        requires live { is_live p.now.tree.nodes p.now.sinks node ≡ true }
+        requires held { AreHeld (search pool.old arena.old) (lists_of self ++ lists_of lower) }
+        requires upper { IsOpenAt p.now (node + 1) (parent_of p.now.tree.nodes node) (made_of arena.old) (classes_in pool.old self) }
+        requires lower { IsCarriedAt p.now node (made_of arena.old) (classes_in pool.old lower) }
+        ensures turn { MatchResult result
+            (λ branch. IsTurn (search pool.old arena.old) (lists_of self ++ lists_of lower) (search pool.new arena.new) (lists_of branch))
+            (λ _. IsSwap (search pool.old arena.old) (lists_of self ++ lists_of lower) (search pool.new arena.new) []) }
+        ensures open { IfOk result (λ branch. IsOpenAt p.now node (parent_of p.now.tree.nodes node) (made_of arena.new) (classes_in pool.new branch)) }
+    {
+        let _ = p;
+        let Branch { even, odd } = self;
+        let lower_odd = lower.odd;
+        let even = match merge(pool, arena, even, lower.even, steps) {
+            Ok(even) => even,
+            Err(memory) => {
+                end_list(pool, arena, odd);
+                end_list(pool, arena, lower_odd);
+                return Err(memory);
+            }
+        };
+        match merge(pool, arena, odd, lower_odd, steps) {
+            Ok(odd) => Ok(Branch { even, odd }),
+            Err(memory) => {
+                end_list(pool, arena, even);
+                Err(memory)
+            }
+        }
+    }
+}
