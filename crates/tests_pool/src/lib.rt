@@ -1,5 +1,7 @@
-//! Tests of the public calls of pools.
+//! Tests of the public calls of pools, and of what is made of their lists.
 #![tactic(auto)]
 
+#[cfg(test)]
+mod cells;
 #[cfg(test)]
 mod pools;
