@@ -1,4 +1,4 @@
-//! Tests of the public calls of pools.
+//! Tests of the public calls of pools, and of what is made of their lists.
 #![tactic(auto)]
 
 #[cfg(test)]
