@@ -146,16 +146,3 @@ given_back old t new zs uses keeps back =
   where
     beside : HoldsBeside (slots_of t) zs (held_of (slots_of old))
     beside u some = omega (arith, uses u some)
-
--- an arena and a pool that were not changed
-pub arena_same : (slots : List Slot) → IsRestored slots slots
-arena_same slots = record { live = λ s. refl; made = λ s is. refl; cells = λ s is. refl; uses = λ s some. refl; count = refl }
-
-pub pool_same : (s : Block) → KeepsOthers s [] s []
-pool_same s = record { few = λ few. few; stays = λ first last xs held some out. held; fresh = λ first last xs held some out m. m }
-
-pub solutions_same : (ms : List Made) → KeepsSolutions ms ms
-solutions_same ms = record { made = λ s is. refl; cells = λ s is. refl }
-
-pub solutions_restored : (old new : List Slot) → IsRestored old new → KeepsSolutions (made_in old) (made_in new)
-solutions_restored old new r = record { made = r.made; cells = r.cells }

@@ -10,7 +10,7 @@ use Rattle.cand_pool.specs.Candidates.{Candidate, Candidates, AreModest}
 use Rattle.cand_pool.specs.Pools.{Block, items, IsPlace}
 use Rattle.cand_pool.proofs.PlaceLaws.{from_items}
 use Rattle.cand_pool.specs.declared.ends.Cand.{Cand}
-use Rattle.vg_convex.specs.Places.{row, IsNumber, IsHullOf, IsWalk, IsFurther, IsOver, AreWithin}
+use Rattle.vg_convex.specs.Places.{row, IsNumber, IsHullOf, IsWalk, IsFurther, IsOver}
 use Rattle.vg_convex.specs.Hulls.{Rise}
 use Rattle.vg_convex.specs.Orders.{AreByLimit}
 use Rattle.vg_convex.proofs.Numbers.{nth, at_place}
@@ -116,14 +116,6 @@ walk_begins s xs stack next rise modest empty first = record {
   where
     none : length stack ≡ 0
     none = ap (λ (l : List Cand). length l) empty
-
--- all candidates of the hull are within the limit
-pub all_within : (s : Block) (xs : Candidates) (limit : Option ℕ) (n : ℕ) (stack : List Cand) (next : Option Cand) → (f : IsFurther s xs limit n stack next)
-    → ((i : ℕ) → i < n → IsWithin limit (row xs i).c) → IsOver limit xs f.seen → AreWithin limit xs f.seen
-all_within s xs limit n stack next f before over = record {
-  within = λ i low. elim (cases_lt i n) [ inl less ↦ before i less | inr more ↦ f.within i more low ];
-  past = over;
-}
 
 -- nothing came on
 abbrev pub no_further : (s : Block) (xs : Candidates) (limit : Option ℕ) (n : ℕ) (stack : List Cand) (next : Option Cand) → IsWalk s xs n stack next
