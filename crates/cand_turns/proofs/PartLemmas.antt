@@ -29,6 +29,7 @@ use Rattle.cand_turns.specs.Swaps.{search, Lists, AreHeld, IsTurn}
 use Rattle.cand_turns.specs.Branches.{lists_of, classes_in}
 use Rattle.cand_turns.specs.Solved.{AreSolved, IsOpenAt, IsAboveWire}
 use Rattle.cand_turns.specs.declared.branch.Branch.{Branch}
+use Rattle.cand_turns.proofs.SwapLemmas.{other_items}
 use Rattle.cand_turns.proofs.MeetLemmas.{IsOpenClass, open_beside, open_modest}
 
 -- a candidate of a list with a load more
@@ -112,6 +113,14 @@ open_at_beside p i v old new s t given made branch held turn at = record {
   both : (odd : Bool) → IsOpenClass p i v odd (made_of new) (classes_in t branch odd)
   both true = open_beside p i v true old new s t given made (lists_of branch) held turn branch.odd (1, omega arith, refl) (record { exact = at.part.exact true; solved = at.solved true })
   both false = open_beside p i v false old new s t given made (lists_of branch) held turn branch.even (0, omega arith, refl) (record { exact = at.part.exact false; solved = at.solved false })
+
+-- a branch beside a swap has as many candidates as it had
+pub class_beside : (old new : Arena) (s t : Block) (given made : Lists) (branch : Branch) → AreHeld (search s old) (given ++ lists_of branch)
+    → IsTurn (search s old) given (search t new) made → (odd : Bool) → length (classes_in t branch odd) ≡ length (classes_in s branch odd)
+class_beside old new s t given made branch held turn true =
+    ap (λ (xs : Candidates). length xs) (other_items (search s old) (search t new) given made (lists_of branch) held turn branch.odd (1, omega arith, refl))
+class_beside old new s t given made branch held turn false =
+    ap (λ (xs : Candidates). length xs) (other_items (search s old) (search t new) given made (lists_of branch) held turn branch.even (0, omega arith, refl))
 
 -- what holds where an error is answered
 pub err_answers : {A E : Type 0} (r : Result A E) (P : A → Type 0) (Q : Type 0) → IsErr r → Q → MatchResult r P (λ _. Q)

@@ -1,5 +1,5 @@
 -- A wire above the lists of a branch.
-use Rattle.std.proofs.Common.{◌≡◌, ℕ, ◌<◌, Bool, true, false, List, [], ◌∷◌, ◌++◌, length, refl, sym, ap, ◌∙◌, subst, arith, suc, inl, inr}
+use Rattle.std.proofs.Common.{map, ◌≡◌, ℕ, ◌<◌, Bool, true, false, List, [], ◌∷◌, ◌++◌, length, refl, sym, ap, ◌∙◌, subst, arith, suc, inl, inr, ◌≤◌}
 use Rattle.std.specs.List.{Contains}
 use Rattle.std.proofs.lemmas.Int.{ints}
 use Rattle.std.proofs.lemmas.Bool.{cases_Bool}
@@ -13,12 +13,15 @@ use Rattle.sol_arena.specs.Meanings.{cells_of}
 use Rattle.cand_laws.specs.Merging.{IsSmallPair, Carries}
 use Rattle.cand_laws.specs.Solutions.{IsSolutionOf}
 use Rattle.cand_laws.proofs.SmallPairLemmas.{pair_small, resistance_small}
-use Rattle.cand_pool.specs.Candidates.{Candidate, Candidates, AreModest}
+use Rattle.cand_pool.specs.Candidates.{Candidate, Candidates, AreModest, wired}
 use Rattle.cand_uses.specs.Pairs.{pair_of, pairs_of}
 use Rattle.cand_pool.specs.Pools.{Block, items_of}
 use Rattle.cand_uses.specs.Uses.{HoldsFor, IsExchange, MeanTheSame}
 use Rattle.cand_uses.proofs.ExchangeLemmas.{uses_of_both, exchanged_held, exchange_among, stays_same}
 use Rattle.cand_lists.specs.ListLaws.{through_wire}
+use Rattle.cand_pool.specs.Sequences.{lowest}
+use Rattle.std.proofs.lemmas.List.{length-map}
+use Rattle.cand_lists.proofs.KeptLemmas.{kept_length}
 use Rattle.cand_lists.proofs.ExactLemmas.{wire_exact, wire_takes, pair_in}
 use Rattle.cand_turns.specs.Branches.{classes_in}
 use Rattle.cand_turns.specs.declared.branch.Branch.{Branch}
@@ -94,3 +97,6 @@ both_meant before middle after r evens odds held one two first second = record {
   held_mid = exchanged_held (slots_of before) (slots_of middle) (evens ++ odds) (through_wire r evens ++ odds) held
       (exchange_among (slots_of before) (slots_of middle) odds evens (through_wire r evens) (evens ++ odds) (through_wire r evens ++ odds)
       (λ s. omega (arith, uses_of_both evens odds s)) (λ s. omega (arith, uses_of_both (through_wire r evens) odds s)) one)
+
+pub wire_length : (r : ℕ) (xs : Candidates) → length (through_wire r xs) ≤ length xs
+wire_length r xs = omega (arith, kept_length lowest (map (wired r) xs), length-map xs (wired r))

@@ -1,5 +1,5 @@
 -- What is known of a node while the nodes below come in, from the last to the first.
-use Rattle.std.specs.Prelude.{ℕ, List, []}
+use Rattle.std.specs.Prelude.{ℕ, Bool, List, [], length}
 use Rattle.elmore.specs.declared.problem.Problem.{Problem}
 use Rattle.sol_arena.specs.declared.slot.Made.{Made}
 use Rattle.cand_laws.specs.Parts.{IsDeadPart}
@@ -14,6 +14,11 @@ use Rattle.cand_turns.specs.Solved.{IsOpenAt}
 abbrev pub lists_in : Part → Lists
 lists_in (Dead c) = []
 lists_in (Live branch) = lists_of branch
+
+-- how many candidates a part has in a class
+abbrev pub size_in : Block → Part → Bool → ℕ
+size_in s (Dead c) odd = 0
+size_in s (Live branch) odd = length (classes_in s branch odd)
 
 -- the part of node v, with those of its children from number i on that came in
 abbrev pub IsPart : Problem → ℕ → ℕ → List Made → Block → Part → Type 0

@@ -1,6 +1,6 @@
 //! The lists of a branch of a net, and what a wire makes of them.
 
-ghost use Rattle.std.specs.Prelude.{◌≡◌, ◌+◌, ◌<◌, Bool, true, [], map, ◌++◌, length, IfOk, MatchResult};
+ghost use Rattle.std.specs.Prelude.{◌≡◌, ◌+◌, ◌<◌, ◌≤◌, Bool, true, [], map, ◌++◌, length, IfOk, MatchResult};
 ghost use Rattle.elmore.specs.Problems.{is_live};
 ghost use Rattle.elmore.specs.Trees.{parent_of, resistance};
 ghost use Rattle.sol_arena.specs.Arenas.{made_of};
@@ -60,6 +60,7 @@ impl Branch {
         requires closed { IsClosedAt p.now node (made_of arena.old) (classes_in pool.old self.old) }
         ensures above { IsAboveWire p.now node (λ odd. pairs_of (classes_in pool.old self.old odd)) (made_of arena.new) (classes_in pool.new self.new) }
         ensures turn { IsTurn (search pool.old arena.old) (lists_of self.old) (search pool.new arena.new) (lists_of self.new) }
+        ensures few { (odd : Bool) → length (classes_in pool.new self.new odd) ≤ length (classes_in pool.old self.old odd) }
     {
         let r = resistance_of(p, node);
         wire(pool, arena, &mut self.even, r, steps);
@@ -99,6 +100,8 @@ impl Branch {
             (λ branch. IsTurn (search pool.old arena.old) (lists_of self ++ lists_of lower) (search pool.new arena.new) (lists_of branch))
             (λ _. IsSwap (search pool.old arena.old) (lists_of self ++ lists_of lower) (search pool.new arena.new) []) }
         ensures open { IfOk result (λ branch. IsOpenAt p.now node (parent_of p.now.tree.nodes node) (made_of arena.new) (classes_in pool.new branch)) }
+        ensures few { IfOk result (λ branch. (odd : Bool)
+            → length (classes_in pool.new branch odd) ≤ length (classes_in pool.old self odd) + length (classes_in pool.old lower odd)) }
     {
         let _ = p;
         let Branch { even, odd } = self;

@@ -1,6 +1,6 @@
 //! The part of a node, to which its children come in.
 
-ghost use Rattle.std.specs.Prelude.{◌≡◌, ◌+◌, ◌<◌, ◌≤◌, ◌^◌, true, false, [], ◌++◌, length, IfOk, MatchResult};
+ghost use Rattle.std.specs.Prelude.{◌≡◌, ◌+◌, ◌<◌, ◌≤◌, ◌^◌, Bool, true, false, [], ◌++◌, length, IfOk, MatchResult};
 ghost use Rattle.elmore.specs.Problems.{is_live};
 ghost use Rattle.elmore.specs.Trees.{parent_of};
 ghost use Rattle.elmore.specs.Wire.{downstream_in};
@@ -8,7 +8,7 @@ ghost use Rattle.sol_arena.specs.Arenas.{made_of};
 ghost use Rattle.cand_turns.specs.Swaps.{Slots, AreHeld, IsSwap, IsTurn, search, at_slots};
 ghost use Rattle.cand_turns.specs.Branches.{classes_in, lists_of};
 ghost use Rattle.cand_turns.specs.Solved.{IsClosedAt};
-ghost use Rattle.cand_turns.specs.Parts.{lists_in, IsPart, Solutions};
+ghost use Rattle.cand_turns.specs.Parts.{lists_in, size_in, IsPart, Solutions};
 
 use crate::branch::Branch;
 use cand_pool::{Pool, Steps};
@@ -48,6 +48,7 @@ impl Part {
             (λ part. IsTurn (search pool.old arena.old) (lists_in self ++ lists_of branch) (search pool.new arena.new) (lists_in part))
             (λ _. IsSwap (search pool.old arena.old) (lists_in self ++ lists_of branch) (search pool.new arena.new) []) }
         ensures part { IfOk result (λ part. IsPart p.now node (parent_of p.now.tree.nodes node) (made_of arena.new) pool.new part) }
+        ensures few { IfOk result (λ part. (odd : Bool) → size_in pool.new part odd ≤ size_in pool.old self odd + length (classes_in pool.old branch odd)) }
     {
         let mut branch = branch;
         branch.carry(pool, arena, p, node, steps);
@@ -82,6 +83,7 @@ impl Part {
             → IsTurn (at_slots pool.old slots) (lists_in self) (at_slots pool.new slots) (lists_in result) }
         ensures part { (ms : Solutions) → IsPart p.now (node + 1) (parent_of p.now.tree.nodes node) ms pool.old self
             → IsPart p.now node (parent_of p.now.tree.nodes node) ms pool.new result }
+        ensures same { (odd : Bool) → size_in pool.new result odd ≡ size_in pool.old self odd }
     {
         match self {
             Part::Dead(own) => Part::Dead(own + c),

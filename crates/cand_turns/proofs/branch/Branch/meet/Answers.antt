@@ -1,12 +1,14 @@
-use Rattle.std.proofs.Common.{◌+◌, ◌∷◌, [], true, false, refl, sym, arith}
+use Rattle.std.proofs.Common.{◌+◌, ◌∷◌, [], true, false, refl, sym, arith, ◌≤◌, Bool, length, ap}
 use Rattle.std.proofs.lemmas.List.Sorted.{IsPermutation-refl, IsPermutation-sym, IsPermutation-append_comm}
 use Rattle.elmore.specs.Trees.{parent_of}
 use Rattle.cand_laws.specs.Merging.{Meets, fork_from}
 use Rattle.cand_laws.specs.Solutions.{IsOpenSolutionOf}
+use Rattle.cand_pool.specs.Candidates.{Candidates}
 use Rattle.cand_pool.specs.Pools.{items_of}
 use Rattle.sol_arena.specs.Arenas.{slots_of, made_of}
 use Rattle.cand_uses.specs.Pairs.{pairs_of}
 use Rattle.cand_turns.specs.Swaps.{search}
+use Rattle.cand_turns.specs.Branches.{classes_in}
 use Rattle.cand_turns.proofs.SwapLemmas.{turn_then, turn_among, beside, order_held, other_items}
 use Rattle.cand_turns.proofs.BranchLemmas.{two_held, one_held, end_turn}
 use Rattle.cand_turns.proofs.MeetLemmas.{merge_turn, lost_turn, evens_first, later_first, pair_held, pair_uses, can_meet, met_solved, solved_beside, open_beside, carried_beside, exact_as, both_met}
@@ -204,3 +206,47 @@ returns-in-Err-merge-clause-turn g c =
     let whole2 = turn_among (search c.merge.new.pool c.merge.new.arena) (search c.merge-2.new.pool c.merge-2.new.arena) (c.args.self.odd ∷ c.args.lower.odd ∷ []) [] (c.in-Ok.even ∷ []) (c.in-Ok.even ∷ c.args.self.odd ∷ c.args.lower.odd ∷ []) (c.in-Ok.even ∷ []) whole.held (later_first c.in-Ok.even c.args.self.odd c.args.lower.odd) (IsPermutation-refl (c.in-Ok.even ∷ [])) one2 in
     let last = end_turn (search c.merge-2.new.pool c.merge-2.new.arena) (search c.end_list-in-Err-merge.new.pool c.end_list-in-Err-merge.new.arena) c.in-Ok.even c.end_list-in-Err-merge.ensures.uses c.end_list-in-Err-merge.ensures.others c.end_list-in-Err-merge.ensures.spare in
     (turn_then (search c.args.pool.now c.args.arena.now) (search c.merge.new.pool c.merge.new.arena) (search c.end_list-in-Err-merge.new.pool c.end_list-in-Err-merge.new.arena) _ _ _ whole (turn_then (search c.merge.new.pool c.merge.new.arena) (search c.merge-2.new.pool c.merge-2.new.arena) (search c.end_list-in-Err-merge.new.pool c.end_list-in-Err-merge.new.arena) _ _ _ whole2 last)).swap
+
+pub returns-in-Ok-merge-clause-few : goal.returns-in-Ok-merge-clause-few
+returns-in-Ok-merge-clause-few g c = few where
+  even_few : length (items_of c.merge-2.new.pool c.in-Ok.even) ≤ length (items_of c.args.pool.now c.args.self.even) + length (items_of c.args.pool.now c.args.lower.even)
+  even_few =
+      let ac = pair_held (search c.args.pool.now c.args.arena.now) c.args.self.even c.args.lower.even (c.args.self.odd ∷ c.args.lower.odd ∷ []) (c.args.self.even ∷ c.args.self.odd ∷ c.args.lower.even ∷ c.args.lower.odd ∷ []) (evens_first c.args.self.even c.args.self.odd c.args.lower.even c.args.lower.odd) c.requires.held in
+      let two = two_held (search c.args.pool.now c.args.arena.now) c.args.self.even c.args.lower.even ac in
+      let one = merge_turn (search c.args.pool.now c.args.arena.now) (search c.merge.new.pool c.merge.new.arena) c.args.self.even c.args.lower.even c.in-Ok.even (pair_uses (search c.args.pool.now c.args.arena.now) c.args.self.even c.args.lower.even ac) (c.in-Ok.ensures.uses _ _ two.one two.two) c.in-Ok.ensures.others (c.in-Ok.ensures.spare _ _ two.one two.two) c.in-Ok.ensures.live in
+      let whole = turn_among (search c.args.pool.now c.args.arena.now) (search c.merge.new.pool c.merge.new.arena) (c.args.self.even ∷ c.args.lower.even ∷ []) (c.in-Ok.even ∷ []) (c.args.self.odd ∷ c.args.lower.odd ∷ []) (c.args.self.even ∷ c.args.self.odd ∷ c.args.lower.even ∷ c.args.lower.odd ∷ []) (c.in-Ok.even ∷ c.args.self.odd ∷ c.args.lower.odd ∷ []) c.requires.held (evens_first c.args.self.even c.args.self.odd c.args.lower.even c.args.lower.odd) (IsPermutation-refl (c.in-Ok.even ∷ c.args.self.odd ∷ c.args.lower.odd ∷ [])) one in
+      let bd = pair_held (search c.merge.new.pool c.merge.new.arena) c.args.self.odd c.args.lower.odd (c.in-Ok.even ∷ []) (c.in-Ok.even ∷ c.args.self.odd ∷ c.args.lower.odd ∷ []) (later_first c.in-Ok.even c.args.self.odd c.args.lower.odd) whole.held in
+      let then = two_held (search c.merge.new.pool c.merge.new.arena) c.args.self.odd c.args.lower.odd bd in
+      let all_held = order_held (search c.args.pool.now c.args.arena.now) (c.args.self.even ∷ c.args.self.odd ∷ c.args.lower.even ∷ c.args.lower.odd ∷ []) (c.args.self.even ∷ c.args.lower.even ∷ c.args.self.odd ∷ c.args.lower.odd ∷ []) (IsPermutation-sym (c.args.self.even ∷ c.args.lower.even ∷ c.args.self.odd ∷ c.args.lower.odd ∷ []) (c.args.self.even ∷ c.args.self.odd ∷ c.args.lower.even ∷ c.args.lower.odd ∷ []) (evens_first c.args.self.even c.args.self.odd c.args.lower.even c.args.lower.odd)) c.requires.held in
+      let b_is = other_items (search c.args.pool.now c.args.arena.now) (search c.merge.new.pool c.merge.new.arena) (c.args.self.even ∷ c.args.lower.even ∷ []) (c.in-Ok.even ∷ []) (c.args.self.odd ∷ c.args.lower.odd ∷ []) all_held one c.args.self.odd (0, omega arith, refl) in
+      let d_is = other_items (search c.args.pool.now c.args.arena.now) (search c.merge.new.pool c.merge.new.arena) (c.args.self.even ∷ c.args.lower.even ∷ []) (c.in-Ok.even ∷ []) (c.args.self.odd ∷ c.args.lower.odd ∷ []) all_held one c.args.lower.odd (1, omega arith, refl) in
+      let one2 = merge_turn (search c.merge.new.pool c.merge.new.arena) (search c.merge-2.new.pool c.merge-2.new.arena) c.args.self.odd c.args.lower.odd c.in-Ok-merge.odd (pair_uses (search c.merge.new.pool c.merge.new.arena) c.args.self.odd c.args.lower.odd bd) (c.in-Ok-merge.ensures.uses _ _ then.one then.two) c.in-Ok-merge.ensures.others (c.in-Ok-merge.ensures.spare _ _ then.one then.two) c.in-Ok-merge.ensures.live in
+      let whole2 = turn_among (search c.merge.new.pool c.merge.new.arena) (search c.merge-2.new.pool c.merge-2.new.arena) (c.args.self.odd ∷ c.args.lower.odd ∷ []) (c.in-Ok-merge.odd ∷ []) (c.in-Ok.even ∷ []) (c.in-Ok.even ∷ c.args.self.odd ∷ c.args.lower.odd ∷ []) (c.in-Ok.even ∷ c.in-Ok-merge.odd ∷ []) whole.held (later_first c.in-Ok.even c.args.self.odd c.args.lower.odd) (IsPermutation-append_comm (c.in-Ok-merge.odd ∷ []) (c.in-Ok.even ∷ [])) one2 in
+      let e_held = order_held (search c.merge.new.pool c.merge.new.arena) (c.in-Ok.even ∷ c.args.self.odd ∷ c.args.lower.odd ∷ []) (c.args.self.odd ∷ c.args.lower.odd ∷ c.in-Ok.even ∷ []) (IsPermutation-sym (c.args.self.odd ∷ c.args.lower.odd ∷ c.in-Ok.even ∷ []) (c.in-Ok.even ∷ c.args.self.odd ∷ c.args.lower.odd ∷ []) (later_first c.in-Ok.even c.args.self.odd c.args.lower.odd)) whole.held in
+      let e_is = other_items (search c.merge.new.pool c.merge.new.arena) (search c.merge-2.new.pool c.merge-2.new.arena) (c.args.self.odd ∷ c.args.lower.odd ∷ []) (c.in-Ok-merge.odd ∷ []) (c.in-Ok.even ∷ []) e_held one2 c.in-Ok.even (0, omega arith, refl) in
+      let evens = c.in-Ok.ensures.merge _ _ two.one two.two in
+      let odds = c.in-Ok-merge.ensures.merge _ _ then.one then.two in
+      omega (arith, ap (λ (l : Candidates). length l) e_is, evens.few)
+
+  odd_few : length (items_of c.merge-2.new.pool c.in-Ok-merge.odd) ≤ length (items_of c.args.pool.now c.args.self.odd) + length (items_of c.args.pool.now c.args.lower.odd)
+  odd_few =
+      let ac = pair_held (search c.args.pool.now c.args.arena.now) c.args.self.even c.args.lower.even (c.args.self.odd ∷ c.args.lower.odd ∷ []) (c.args.self.even ∷ c.args.self.odd ∷ c.args.lower.even ∷ c.args.lower.odd ∷ []) (evens_first c.args.self.even c.args.self.odd c.args.lower.even c.args.lower.odd) c.requires.held in
+      let two = two_held (search c.args.pool.now c.args.arena.now) c.args.self.even c.args.lower.even ac in
+      let one = merge_turn (search c.args.pool.now c.args.arena.now) (search c.merge.new.pool c.merge.new.arena) c.args.self.even c.args.lower.even c.in-Ok.even (pair_uses (search c.args.pool.now c.args.arena.now) c.args.self.even c.args.lower.even ac) (c.in-Ok.ensures.uses _ _ two.one two.two) c.in-Ok.ensures.others (c.in-Ok.ensures.spare _ _ two.one two.two) c.in-Ok.ensures.live in
+      let whole = turn_among (search c.args.pool.now c.args.arena.now) (search c.merge.new.pool c.merge.new.arena) (c.args.self.even ∷ c.args.lower.even ∷ []) (c.in-Ok.even ∷ []) (c.args.self.odd ∷ c.args.lower.odd ∷ []) (c.args.self.even ∷ c.args.self.odd ∷ c.args.lower.even ∷ c.args.lower.odd ∷ []) (c.in-Ok.even ∷ c.args.self.odd ∷ c.args.lower.odd ∷ []) c.requires.held (evens_first c.args.self.even c.args.self.odd c.args.lower.even c.args.lower.odd) (IsPermutation-refl (c.in-Ok.even ∷ c.args.self.odd ∷ c.args.lower.odd ∷ [])) one in
+      let bd = pair_held (search c.merge.new.pool c.merge.new.arena) c.args.self.odd c.args.lower.odd (c.in-Ok.even ∷ []) (c.in-Ok.even ∷ c.args.self.odd ∷ c.args.lower.odd ∷ []) (later_first c.in-Ok.even c.args.self.odd c.args.lower.odd) whole.held in
+      let then = two_held (search c.merge.new.pool c.merge.new.arena) c.args.self.odd c.args.lower.odd bd in
+      let all_held = order_held (search c.args.pool.now c.args.arena.now) (c.args.self.even ∷ c.args.self.odd ∷ c.args.lower.even ∷ c.args.lower.odd ∷ []) (c.args.self.even ∷ c.args.lower.even ∷ c.args.self.odd ∷ c.args.lower.odd ∷ []) (IsPermutation-sym (c.args.self.even ∷ c.args.lower.even ∷ c.args.self.odd ∷ c.args.lower.odd ∷ []) (c.args.self.even ∷ c.args.self.odd ∷ c.args.lower.even ∷ c.args.lower.odd ∷ []) (evens_first c.args.self.even c.args.self.odd c.args.lower.even c.args.lower.odd)) c.requires.held in
+      let b_is = other_items (search c.args.pool.now c.args.arena.now) (search c.merge.new.pool c.merge.new.arena) (c.args.self.even ∷ c.args.lower.even ∷ []) (c.in-Ok.even ∷ []) (c.args.self.odd ∷ c.args.lower.odd ∷ []) all_held one c.args.self.odd (0, omega arith, refl) in
+      let d_is = other_items (search c.args.pool.now c.args.arena.now) (search c.merge.new.pool c.merge.new.arena) (c.args.self.even ∷ c.args.lower.even ∷ []) (c.in-Ok.even ∷ []) (c.args.self.odd ∷ c.args.lower.odd ∷ []) all_held one c.args.lower.odd (1, omega arith, refl) in
+      let one2 = merge_turn (search c.merge.new.pool c.merge.new.arena) (search c.merge-2.new.pool c.merge-2.new.arena) c.args.self.odd c.args.lower.odd c.in-Ok-merge.odd (pair_uses (search c.merge.new.pool c.merge.new.arena) c.args.self.odd c.args.lower.odd bd) (c.in-Ok-merge.ensures.uses _ _ then.one then.two) c.in-Ok-merge.ensures.others (c.in-Ok-merge.ensures.spare _ _ then.one then.two) c.in-Ok-merge.ensures.live in
+      let whole2 = turn_among (search c.merge.new.pool c.merge.new.arena) (search c.merge-2.new.pool c.merge-2.new.arena) (c.args.self.odd ∷ c.args.lower.odd ∷ []) (c.in-Ok-merge.odd ∷ []) (c.in-Ok.even ∷ []) (c.in-Ok.even ∷ c.args.self.odd ∷ c.args.lower.odd ∷ []) (c.in-Ok.even ∷ c.in-Ok-merge.odd ∷ []) whole.held (later_first c.in-Ok.even c.args.self.odd c.args.lower.odd) (IsPermutation-append_comm (c.in-Ok-merge.odd ∷ []) (c.in-Ok.even ∷ [])) one2 in
+      let e_held = order_held (search c.merge.new.pool c.merge.new.arena) (c.in-Ok.even ∷ c.args.self.odd ∷ c.args.lower.odd ∷ []) (c.args.self.odd ∷ c.args.lower.odd ∷ c.in-Ok.even ∷ []) (IsPermutation-sym (c.args.self.odd ∷ c.args.lower.odd ∷ c.in-Ok.even ∷ []) (c.in-Ok.even ∷ c.args.self.odd ∷ c.args.lower.odd ∷ []) (later_first c.in-Ok.even c.args.self.odd c.args.lower.odd)) whole.held in
+      let e_is = other_items (search c.merge.new.pool c.merge.new.arena) (search c.merge-2.new.pool c.merge-2.new.arena) (c.args.self.odd ∷ c.args.lower.odd ∷ []) (c.in-Ok-merge.odd ∷ []) (c.in-Ok.even ∷ []) e_held one2 c.in-Ok.even (0, omega arith, refl) in
+      let evens = c.in-Ok.ensures.merge _ _ two.one two.two in
+      let odds = c.in-Ok-merge.ensures.merge _ _ then.one then.two in
+      omega (arith, ap (λ (l : Candidates). length l) b_is, ap (λ (l : Candidates). length l) d_is, odds.few)
+
+  few : (odd : Bool) → length (classes_in c.merge-2.new.pool (record { even = c.in-Ok.even; odd = c.in-Ok-merge.odd }) odd) ≤ length (classes_in c.args.pool.now c.args.self odd) + length (classes_in c.args.pool.now c.args.lower odd)
+  few true = odd_few
+  few false = even_few

@@ -1,4 +1,4 @@
-use Rattle.std.proofs.Common.{◌+◌, ◌++◌, [], map, subst, sym}
+use Rattle.std.proofs.Common.{◌+◌, ◌++◌, [], map, subst, sym, ap, arith}
 use Rattle.std.proofs.lemmas.List.Sorted.{IsPermutation-append_comm}
 use Rattle.elmore.specs.Trees.{parent_of}
 use Rattle.sol_arena.specs.Arenas.{slots_of, made_of}
@@ -6,9 +6,9 @@ use Rattle.cand_laws.proofs.JoinLemmas.{parent_within}
 use Rattle.cand_pool.specs.Candidates.{loaded}
 use Rattle.cand_turns.specs.Swaps.{search, AreHeld, IsTurn, IsSwap}
 use Rattle.cand_turns.specs.Branches.{classes_in, lists_of}
-use Rattle.cand_turns.specs.Parts.{IsPart, lists_in}
+use Rattle.cand_turns.specs.Parts.{IsPart, lists_in, size_in}
 use Rattle.cand_turns.proofs.SwapLemmas.{turn_then, turn_among, swap_then, order_held, front_held}
-use Rattle.cand_turns.proofs.PartLemmas.{err_answers, live_dead, open_at_modest, open_at_as, open_at_beside}
+use Rattle.cand_turns.proofs.PartLemmas.{err_answers, class_beside, live_dead, open_at_modest, open_at_as, open_at_beside}
 use Rattle.cand_turns.proofs.part.Part.take_live.Goals as goal
 
 pub carry-requires-clause-held : goal.carry-requires-clause-held
@@ -59,3 +59,11 @@ returns-in_ok-both-in-Live-clause-turn g c =
     let whole = turn_among (search c.args.pool.now c.args.arena.now) (search c.carry.new.pool c.carry.new.arena) (lists_of c.args.branch) (lists_of c.carry.new.self) (lists_in c.args.self) (lists_in c.args.self ++ lists_of c.args.branch) (lists_in c.args.self ++ lists_of c.carry.new.self) c.requires.held
     (IsPermutation-append_comm (lists_of c.args.branch) (lists_in c.args.self)) (IsPermutation-append_comm (lists_of c.carry.new.self) (lists_in c.args.self)) c.carry.ensures.turn in
     turn_then (search c.args.pool.now c.args.arena.now) (search c.carry.new.pool c.carry.new.arena) (search c.meet.new.pool c.meet.new.arena) _ _ _ whole (subst (λ part. IsTurn (search c.carry.new.pool c.carry.new.arena) (lists_in part ++ lists_of c.carry.new.self) (search c.meet.new.pool c.meet.new.arena) (lists_of c.in_ok-both-in-Live.both)) (sym c.in-Live.is) c.in_ok-both-in-Live.ensures.turn)
+
+pub returns-in_ok-both-in-Live-clause-few : goal.returns-in_ok-both-in-Live-clause-few
+returns-in_ok-both-in-Live-clause-few g c = λ odd.
+    let held = subst (λ part. AreHeld (search c.args.pool.now c.args.arena.now) (lists_of c.args.branch ++ lists_in part)) c.in-Live.is
+    (order_held (search c.args.pool.now c.args.arena.now) (lists_in c.args.self ++ lists_of c.args.branch) (lists_of c.args.branch ++ lists_in c.args.self) (IsPermutation-append_comm (lists_in c.args.self) (lists_of c.args.branch)) c.requires.held) in
+    let above = class_beside c.args.arena.now c.carry.new.arena c.args.pool.now c.carry.new.pool (lists_of c.args.branch) (lists_of c.carry.new.self) c.in-Live.above held c.carry.ensures.turn odd in
+    let size = ap (λ part. size_in c.args.pool.now part odd) c.in-Live.is in
+    omega (arith, c.in_ok-both-in-Live.ensures.few odd, c.carry.ensures.few odd, above, size)
