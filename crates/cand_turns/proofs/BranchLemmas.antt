@@ -71,6 +71,7 @@ pub record AreTwo (at : Search) (a b : NamedList) : Type 0 where
   pub apart : Differ (name a) (name b)
   pub first : HoldsFor at.slots (items_of at.pool a)
   pub second : HoldsFor at.slots (items_of at.pool b)
+  pub both : HoldsFor at.slots (items_of at.pool a ++ items_of at.pool b)
 
 pub two_held : (at : Search) (a b : NamedList) → AreHeld at (a ∷ b ∷ []) → AreTwo at a b
 two_held at a b held = record {
@@ -90,6 +91,7 @@ two_held at a b held = record {
   ];
   first = λ s some. omega (arith, held.uses s some, uses_of_both (items_of at.pool a) (items_of at.pool b ++ []) s, uses_of_both (items_of at.pool b) [] s);
   second = λ s some. omega (arith, held.uses s some, uses_of_both (items_of at.pool a) (items_of at.pool b ++ []) s, uses_of_both (items_of at.pool b) [] s);
+  both = subst (λ (l : Candidates). HoldsFor at.slots l) (two_all at.pool a b) held.uses;
 }
 
 -- the first list of a branch was given for another one, and the second was

@@ -3,7 +3,7 @@ use Rattle.std.proofs.Common.{◌≡◌, ℕ, ◌+◌, ◌*◌, ◌^◌, ◌<◌
 use Rattle.std.specs.Prelude.{◌-ℤ◌}
 use Rattle.std.proofs.lemmas.Int.{ints}
 use Rattle.std.proofs.lemmas.List.{length-append}
-use Rattle.std.proofs.lemmas.List.Sorted.{IsPermutation-append_comm, IsPermutation-append_left, IsPermutation-cons, IsPermutation-sym}
+use Rattle.std.proofs.lemmas.List.Sorted.{IsPermutation-refl, IsPermutation-append_comm, IsPermutation-append_left, IsPermutation-cons, IsPermutation-sym}
 use Rattle.std.proofs.lemmas.List.Elements.{All-nil, All-contains}
 use Rattle.std.specs.List.{All, Contains}
 use Rattle.elmore.specs.Pairs.{IsPairAt, IsUndominated}
@@ -39,8 +39,8 @@ use Rattle.cand_turns.specs.Swaps.{Search, search, Lists, all_of, AreHeld, IsTur
 use Rattle.cand_turns.specs.Branches.{classes_in}
 use Rattle.cand_turns.specs.Solved.{AreSolved, IsOpenAt, IsCarriedAt, IsCarriedSolution}
 use Rattle.cand_turns.specs.declared.branch.Branch.{Branch}
-use Rattle.cand_turns.proofs.SwapLemmas.{other_items, list_meant, front_held, order_held}
-use Rattle.cand_turns.proofs.BranchLemmas.{one_all, two_all, one_made}
+use Rattle.cand_turns.proofs.SwapLemmas.{turn_among, other_items, list_meant, front_held, order_held}
+use Rattle.cand_turns.proofs.BranchLemmas.{one_all, two_all, one_made, AreTwo, two_held}
 
 -- two lists are given for one
 pub merge_turn : (old new : Search) (a b list : NamedList) → HoldsFor old.slots (items_of old.pool a ++ items_of old.pool b)
@@ -83,9 +83,6 @@ lost_turn old new a b uses others free = record {
 pub evens_first : (a b c d : NamedList) → AreOf (a ∷ c ∷ []) (b ∷ d ∷ []) (a ∷ b ∷ c ∷ d ∷ [])
 evens_first a b c d =
     IsPermutation-cons a (c ∷ b ∷ d ∷ []) (b ∷ c ∷ d ∷ []) (IsPermutation-append_left (d ∷ []) (c ∷ b ∷ []) (b ∷ c ∷ []) (IsPermutation-append_comm (c ∷ []) (b ∷ [])))
-
-pub later_first : (e b d : NamedList) → AreOf (b ∷ d ∷ []) (e ∷ []) (e ∷ b ∷ d ∷ [])
-later_first e b d = IsPermutation-append_comm (b ∷ d ∷ []) (e ∷ [])
 
 -- the numbers of an open class are small, and those above a wire
 pub each : (xs : Candidates) → ((x : Candidate) → Contains xs x → IsModest x) → AreModest xs
@@ -173,12 +170,38 @@ solved_beside Is old new s t given made others held turn l found solved =
     (solved_still Is (made_of old) (made_of new) (items_of s l) (list_meant old new s t given made others held turn l found) solved)
 
 -- the two lists of one class
-pub pair_held : (at : Search) (a b : NamedList) (others all : Lists) → AreOf (a ∷ b ∷ []) others all → AreHeld at all → AreHeld at (a ∷ b ∷ [])
-pair_held at a b others all of held =
-    front_held at (a ∷ b ∷ []) others (order_held at all ((a ∷ b ∷ []) ++ others) (IsPermutation-sym ((a ∷ b ∷ []) ++ others) all of) held)
+pub pair_two : (at : Search) (a b : NamedList) (others all : Lists) → AreOf (a ∷ b ∷ []) others all → AreHeld at all → AreTwo at a b
+pair_two at a b others all of held =
+    two_held at a b (front_held at (a ∷ b ∷ []) others (order_held at all ((a ∷ b ∷ []) ++ others) (IsPermutation-sym ((a ∷ b ∷ []) ++ others) all of) held))
 
-pub pair_uses : (at : Search) (a b : NamedList) → AreHeld at (a ∷ b ∷ []) → HoldsFor at.slots (items_of at.pool a ++ items_of at.pool b)
-pair_uses at a b held = subst (λ (l : Candidates). HoldsFor at.slots l) (two_all at.pool a b) held.uses
+pub evens_two : (at : Search) (a b c d : NamedList) → AreHeld at (a ∷ b ∷ c ∷ d ∷ []) → AreTwo at a c
+evens_two at a b c d held = pair_two at a c (b ∷ d ∷ []) (a ∷ b ∷ c ∷ d ∷ []) (evens_first a b c d) held
+
+-- the lists of two branches, where those of one class were given for others
+pub record IsMetFirst (old new : Search) (a b c d : NamedList) (made : Lists) : Type 0 where
+  pub beside : AreHeld old (a ∷ c ∷ b ∷ d ∷ [])
+  pub whole : IsTurn old (a ∷ b ∷ c ∷ d ∷ []) new (made ++ (b ∷ d ∷ []))
+  pub left : AreTwo new b d
+
+pub met_first : (old new : Search) (a b c d : NamedList) (made : Lists) → AreHeld old (a ∷ b ∷ c ∷ d ∷ []) → IsTurn old (a ∷ c ∷ []) new made → IsMetFirst old new a b c d made
+met_first old new a b c d made held one = record {
+  beside = order_held old (a ∷ b ∷ c ∷ d ∷ []) (a ∷ c ∷ b ∷ d ∷ []) (IsPermutation-sym (a ∷ c ∷ b ∷ d ∷ []) (a ∷ b ∷ c ∷ d ∷ []) (evens_first a b c d)) held;
+  whole = whole;
+  left = pair_two new b d made (made ++ (b ∷ d ∷ [])) (IsPermutation-append_comm (b ∷ d ∷ []) made) whole.held;
+} where
+  whole : IsTurn old (a ∷ b ∷ c ∷ d ∷ []) new (made ++ (b ∷ d ∷ []))
+  whole = turn_among old new (a ∷ c ∷ []) made (b ∷ d ∷ []) (a ∷ b ∷ c ∷ d ∷ []) (made ++ (b ∷ d ∷ [])) held (evens_first a b c d) (IsPermutation-refl (made ++ (b ∷ d ∷ []))) one
+
+-- and then those of the other
+pub record IsMetThen (old new : Search) (e b d : NamedList) (made : Lists) : Type 0 where
+  pub beside : AreHeld old (b ∷ d ∷ e ∷ [])
+  pub whole : IsTurn old (e ∷ b ∷ d ∷ []) new (e ∷ made)
+
+pub met_then : (old new : Search) (e b d : NamedList) (made : Lists) → AreHeld old (e ∷ b ∷ d ∷ []) → IsTurn old (b ∷ d ∷ []) new made → IsMetThen old new e b d made
+met_then old new e b d made held one = record {
+  beside = order_held old (e ∷ b ∷ d ∷ []) (b ∷ d ∷ e ∷ []) (IsPermutation-append_comm (e ∷ []) (b ∷ d ∷ [])) held;
+  whole = turn_among old new (b ∷ d ∷ []) made (e ∷ []) (e ∷ b ∷ d ∷ []) (e ∷ made) held (IsPermutation-append_comm (b ∷ d ∷ []) (e ∷ [])) (IsPermutation-append_comm made (e ∷ [])) one;
+}
 
 -- both classes of two branches together
 pub both_met : (p : Problem) (i : ℕ) (before after : Arena) (s t : Block) (upper lower made : Branch) → 0 < i → i < length p.tree.nodes → is_live p.tree.nodes p.sinks i ≡ true

@@ -14,6 +14,7 @@ use Rattle.cand_laws.specs.Merging.{IsSmallPair, Carries}
 use Rattle.cand_laws.specs.Solutions.{IsSolutionOf}
 use Rattle.cand_laws.proofs.SmallPairLemmas.{pair_small, resistance_small}
 use Rattle.cand_pool.specs.Candidates.{Candidate, Candidates, AreModest, wired}
+use Rattle.cand_pool.specs.declared.ends.List.{List as NamedList}
 use Rattle.cand_uses.specs.Pairs.{pair_of, pairs_of}
 use Rattle.cand_pool.specs.Pools.{Block, items_of}
 use Rattle.cand_uses.specs.Uses.{HoldsFor, IsExchange, MeanTheSame}
@@ -23,7 +24,10 @@ use Rattle.cand_pool.specs.Sequences.{lowest}
 use Rattle.std.proofs.lemmas.List.{length-map}
 use Rattle.cand_lists.proofs.KeptLemmas.{kept_length}
 use Rattle.cand_lists.proofs.ExactLemmas.{wire_exact, wire_takes, pair_in}
-use Rattle.cand_turns.specs.Branches.{classes_in}
+use Rattle.cand_pool.proofs.PublicLaws.{held_items}
+use Rattle.cand_turns.specs.Swaps.{Search, AreHeld, IsTurn}
+use Rattle.cand_turns.specs.Branches.{lists_of, classes_in}
+use Rattle.cand_turns.proofs.BranchLemmas.{AreTwo, two_held, even_turn, odd_stays}
 use Rattle.cand_turns.specs.declared.branch.Branch.{Branch}
 use Rattle.cand_turns.specs.Solved.{AreSolved, IsClosedAt, IsCarriedSolution, IsAboveWire}
 
@@ -100,3 +104,16 @@ both_meant before middle after r evens odds held one two first second = record {
 
 pub wire_length : (r : ℕ) (xs : Candidates) → length (through_wire r xs) ≤ length xs
 wire_length r xs = omega (arith, kept_length lowest (map (wired r) xs), length-map xs (wired r))
+
+-- one list of a branch was given for what the wire leaves of it, and then the other
+pub record IsCarriedFirst (old new : Search) (branch : Branch) (list : NamedList) : Type 0 where
+  pub turn : IsTurn old (lists_of branch) new (list ∷ branch.odd ∷ [])
+  pub odd_is : items_of new.pool branch.odd ≡ items_of old.pool branch.odd
+  pub left : AreTwo new list branch.odd
+
+pub carried_first : (old new : Search) (branch : Branch) (list : NamedList) → AreHeld old (lists_of branch) → IsTurn old (branch.even ∷ []) new (list ∷ []) → IsCarriedFirst old new branch list
+carried_first old new branch list held one = record {
+  turn = even_turn old new branch list held one;
+  odd_is = held_items _ _ _ _ (odd_stays old new branch list held one);
+  left = two_held new list branch.odd (even_turn old new branch list held one).held;
+}
