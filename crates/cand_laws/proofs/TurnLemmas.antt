@@ -29,10 +29,10 @@ use Rattle.cand_laws.proofs.FromLemmas.{live_here, live_own, dead_here, dead_own
 use Rattle.cand_laws.proofs.MergeLemmas.{dense_exact, meets_dense, first_dense, raises_dense, owns_dense, sink_alone, sink_parts}
 
 -- THE START
-start_live : (p : Problem) (v : ℕ) → live_from p v (length p.tree.nodes) ≡ []
+pub start_live : (p : Problem) (v : ℕ) → live_from p v (length p.tree.nodes) ≡ []
 start_live p v = ap (filter (λ u. is_live p.tree.nodes p.sinks u)) (children_none p v)
 
-start_own : (p : Problem) (v : ℕ) → own_from p v (length p.tree.nodes) ≡ capacitance p.tree.nodes v
+pub start_own : (p : Problem) (v : ℕ) → own_from p v (length p.tree.nodes) ≡ capacitance p.tree.nodes v
 start_own p v =
     omega (
       arith,

@@ -25,11 +25,23 @@ one_all s list = append-nil (items_of s list)
 pub two_all : (s : Block) (a b : NamedList) → all_of s (a ∷ b ∷ []) ≡ items_of s a ++ items_of s b
 two_all s a b = ap (λ (l : Candidates). items_of s a ++ l) (append-nil (items_of s b))
 
-one_named : (k : ℕ) (l : NamedList) → named k (l ∷ []) ≤ 1
+pub one_named : (k : ℕ) (l : NamedList) → named k (l ∷ []) ≤ 1
 one_named k l = elim (cases_eq (name l) k) [
   | inl e ↦ omega (arith, sum_by-cons (λ (x : NamedList). one_if (name x == k)) l [], one_same (name l) k e)
   | inr d ↦ omega (arith, sum_by-cons (λ (x : NamedList). one_if (name x == k)) l [], one_other (name l) k d)
 ]
+
+-- a name is that of one of two, where it is not that of the second
+pub named_two : (k : ℕ) (a b : NamedList) → (name b ≡ k → ⊥) → named k (a ∷ b ∷ []) ≤ 1
+named_two k a b other =
+    omega (
+      arith,
+      one_named k a,
+      sum_by-cons (λ (x : NamedList). one_if (name x == k)) a [],
+      sum_by-cons (λ (x : NamedList). one_if (name x == k)) a (b ∷ []),
+      sum_by-cons (λ (x : NamedList). one_if (name x == k)) b [],
+      one_other (name b) k other,
+    )
 
 -- one list is held
 pub one_made : (at : Search) (list : NamedList) → IsLive at.pool list → HoldsFor at.slots (all_of at.pool (list ∷ [])) → AreHeld at (list ∷ [])

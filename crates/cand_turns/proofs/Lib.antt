@@ -4,3 +4,4 @@ pub mod WireLemmas
 pub mod MeetLemmas
 pub mod LoadLemmas
 pub mod PartLemmas
+pub mod StartLemmas

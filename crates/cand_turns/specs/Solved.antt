@@ -1,10 +1,13 @@
 -- What the lists of a node are worth: all undominated pairs there, each with a solution that comes to it.
-use Rattle.std.specs.Prelude.{◌≡◌, ℕ, Bool, List, Option}
+use Rattle.std.specs.Prelude.{◌≡◌, ℕ, Bool, cond, List, [], ◌∷◌, Option}
+use Rattle.std.specs.Bool.{beq}
 use Rattle.std.specs.List.{Contains}
 use Rattle.elmore.specs.Pairs.{IsPairAt, IsUndominated}
 use Rattle.elmore.specs.declared.pair.Pair.{Pair}
+use Rattle.elmore.specs.declared.parts.Sink.{Sink}
 use Rattle.elmore.specs.declared.problem.Problem.{Problem}
 use Rattle.sol_arena.specs.declared.slot.Made.{Made}
+use Rattle.sol_arena.specs.Slots.{none}
 use Rattle.sol_arena.specs.Meanings.{cells_of}
 use Rattle.cand_laws.specs.Candidates.{carried}
 use Rattle.cand_laws.specs.Merging.{Carries, fork_from}
@@ -16,6 +19,10 @@ use Rattle.cand_uses.specs.Pairs.{pair_of, pairs_of}
 -- the solution of each candidate comes to its pair in this sense
 abbrev pub AreSolved : ((ℕ → Option ℕ) → Pair → Type 0) → List Made → Candidates → Type 0
 AreSolved Is ms xs = (x : Candidate) → Contains xs x → Is (cells_of ms x.tag) (pair_of x)
+
+-- one candidate in the class that a sink wants, with the empty solution, and none in the other
+abbrev pub sink_classes : Sink → ℕ → Bool → Candidates
+sink_classes sink c odd = cond (beq odd sink.inverted) (record { q = sink.required; c = c; tag = none } ∷ []) []
 
 -- the candidates of node v, with those of its children from number i on that came in, and without a cell at v
 pub record IsOpenAt (p : Problem) (i v : ℕ) (ms : List Made) (classes : Bool → Candidates) : Type 0 where

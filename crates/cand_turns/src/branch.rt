@@ -5,15 +5,16 @@ ghost use Rattle.elmore.specs.Problems.{is_live};
 ghost use Rattle.elmore.specs.Trees.{parent_of, resistance};
 ghost use Rattle.sol_arena.specs.Arenas.{made_of};
 ghost use Rattle.cand_pool.specs.Candidates.{AreModest, loaded};
+ghost use Rattle.cand_pool.specs.Pools.{spare};
 ghost use Rattle.cand_uses.specs.Pairs.{pairs_of};
 ghost use Rattle.cand_turns.specs.Swaps.{Slots, AreHeld, IsSwap, IsTurn, search, at_slots};
 ghost use Rattle.cand_turns.specs.Branches.{classes_in, lists_of};
-ghost use Rattle.cand_turns.specs.Solved.{IsOpenAt, IsClosedAt, IsAboveWire, IsCarriedAt};
+ghost use Rattle.cand_turns.specs.Solved.{sink_classes, IsOpenAt, IsClosedAt, IsAboveWire, IsCarriedAt};
 
 use cand_lists::wire;
 use cand_pool::{List, Pool, Steps};
 use cand_uses::end_list;
-use elmore::Problem;
+use elmore::{Problem, Sink};
 use sol_arena::Arena;
 use std::sync::ledger::Ledger;
 use vg_merge::merge;
@@ -36,6 +37,27 @@ pub struct Branch {
 }
 
 impl Branch {
+    /// The branch of a sink alone, at a node of this capacitance (aF): one candidate, for the signal that the sink wants.
+    pub(crate) fn of_sink(pool: &mut Pool, arena: &Arena, sink: Sink, c: u64) -> Branch
+        requires room { 0 < spare pool.old }
+        ensures classes { (odd : Bool) → classes_in pool.new result odd ≡ sink_classes sink c odd }
+        ensures turn { (slots : Slots) → IsTurn (at_slots pool.old slots) [] (at_slots pool.new slots) (lists_of result) }
+    {
+        let list = pool.one(sink.required, c, arena.empty().0);
+        let none = pool.none();
+        if sink.inverted {
+            Branch {
+                even: none,
+                odd: list,
+            }
+        } else {
+            Branch {
+                even: list,
+                odd: none,
+            }
+        }
+    }
+
     /// Gives up both lists, with the uses of their solutions.
     pub fn give_up(self, pool: &mut Pool, arena: &mut Arena)
         requires held { AreHeld (search pool.old arena.old) (lists_of self) }

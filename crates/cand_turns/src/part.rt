@@ -1,10 +1,11 @@
 //! The part of a node, to which its children come in.
 
 ghost use Rattle.std.specs.Prelude.{◌≡◌, ◌+◌, ◌<◌, ◌≤◌, ◌^◌, Bool, true, false, [], ◌++◌, length, IfOk, MatchResult};
-ghost use Rattle.elmore.specs.Problems.{is_live};
-ghost use Rattle.elmore.specs.Trees.{parent_of};
+ghost use Rattle.elmore.specs.Problems.{is_live, sink_of};
+ghost use Rattle.elmore.specs.Trees.{parent_of, capacitance};
 ghost use Rattle.elmore.specs.Wire.{downstream_in};
 ghost use Rattle.sol_arena.specs.Arenas.{made_of};
+ghost use Rattle.cand_pool.specs.Pools.{spare};
 ghost use Rattle.cand_turns.specs.Swaps.{Slots, AreHeld, IsSwap, IsTurn, search, at_slots};
 ghost use Rattle.cand_turns.specs.Branches.{classes_in, lists_of};
 ghost use Rattle.cand_turns.specs.Solved.{IsClosedAt};
@@ -12,7 +13,7 @@ ghost use Rattle.cand_turns.specs.Parts.{lists_in, size_in, IsPart, Solutions};
 
 use crate::branch::Branch;
 use cand_pool::{Pool, Steps};
-use elmore::Problem;
+use elmore::{Problem, Sink};
 use sol_arena::Arena;
 use std::sync::ledger::Ledger;
 use vg_num::Memory;
@@ -26,7 +27,41 @@ pub enum Part {
     Live(Branch),
 }
 
+/// The capacitance (aF) at a node, which is within the limits of a problem.
+fn capacitance_of(p: &Problem, node: usize) -> u64
+    requires { node < length p.now.tree.nodes }
+    ensures { result ≡ capacitance p.now.tree.nodes node }
+{
+    p.tree.nodes.as_slice()[node].c as u64
+}
+
+/// The sink at a node, if there is one.
+fn sink_at(p: &Problem, node: usize) -> Option<Sink>
+    requires { node < length p.now.tree.nodes }
+    ensures { result ≡ sink_of p.now.sinks node }
+{
+    p.sinks.as_slice()[node]
+}
+
 impl Part {
+    /// The part of a node to which no child came in yet: the candidate of its sink, without a cell, or its capacitance.
+    pub fn start(pool: &mut Pool, arena: &Arena, p: &Problem, node: usize) -> Part
+        requires node { node < length p.now.tree.nodes }
+        requires room { 0 < spare pool.old }
+        ensures part { IsPart p.now (length p.now.tree.nodes) node (made_of arena.now) pool.new result }
+        ensures turn { (slots : Slots) → IsTurn (at_slots pool.old slots) [] (at_slots pool.new slots) (lists_in result) }
+        ensures few { (odd : Bool) → size_in pool.new result odd ≤ 1 }
+    {
+        let c = capacitance_of(p, node);
+        match sink_at(p, node) {
+            None => Part::Dead(c),
+            Some(sink) => {
+                let branch = Branch::of_sink(pool, arena, sink, c);
+                Part::Live(branch)
+            }
+        }
+    }
+
     /// A live node comes in to its parent, whose part this is: with the candidates that it has, above its wire. Answers `Memory`
     /// where there is no room; the part and the branch are given up then.
     pub fn take_live<L: Ledger>(
