@@ -4,3 +4,9 @@ pub mod WireLemmas
 pub mod MeetLemmas
 pub mod LoadLemmas
 pub mod PartLemmas
+pub mod RestoredLemmas
+pub mod CellLemmas
+pub mod AddLemmas
+pub mod AbsorbLemmas
+pub mod ClassLemmas
+pub mod CloseLemmas

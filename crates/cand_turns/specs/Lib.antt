@@ -3,3 +3,4 @@ pub mod Branches
 pub mod Solved
 pub mod Parts
 pub mod Tooled
+pub mod Celled
