@@ -1,6 +1,6 @@
 //! Cells at a node.
 
-ghost use Rattle.std.specs.Prelude.{◌≡◌, ℕ, ◌+◌, ◌*◌, ◌<◌, ◌≤◌, Bool, true, false, [], ◌∷◌, ◌++◌, length, slice_index_or, IfOk, MatchResult};
+ghost use Rattle.std.specs.Prelude.{◌≡◌, ◌+◌, ◌*◌, ◌<◌, ◌≤◌, Bool, true, false, [], ◌∷◌, ◌++◌, length, slice_index_or, IfOk, MatchResult};
 ghost use Rattle.sol_arena.specs.Arenas.{slots_of, made_of};
 ghost use Rattle.cand_pool.specs.Pools.{spare, IsLive, items_of};
 ghost use Rattle.cand_uses.specs.Pairs.{pairs_of};
@@ -193,7 +193,8 @@ impl Branch {
             (λ branch. IsTurn (search pool.old arena.old) (lists_of self) (search pool.new arena.new) (lists_of branch))
             (λ _. IsSwap (search pool.old arena.old) (lists_of self) (search pool.new arena.new) []) }
         ensures closed { IfOk result (λ branch. IsClosedAt p.now node (made_of arena.new) (classes_in pool.new branch)) }
-        ensures few { IfOk result (λ branch. (odd : Bool) → length (classes_in pool.new branch odd) ≤ length (classes_in pool.old self odd) + added_at p.now node) }
+        ensures few { IfOk result (λ branch. (odd : Bool)
+            → length (classes_in pool.new branch odd) ≤ length (classes_in pool.old self odd) + added_at p.now node) }
     {
         if !p.places.as_slice()[node] {
             return Ok(self);
