@@ -5,3 +5,9 @@ pub mod MeetLemmas
 pub mod LoadLemmas
 pub mod PartLemmas
 pub mod StartLemmas
+pub mod RestoredLemmas
+pub mod CellLemmas
+pub mod AddLemmas
+pub mod AbsorbLemmas
+pub mod ClassLemmas
+pub mod CloseLemmas

@@ -2,3 +2,5 @@ pub mod Swaps
 pub mod Branches
 pub mod Solved
 pub mod Parts
+pub mod Tooled
+pub mod Celled

@@ -2,7 +2,10 @@
 #![tactic(auto)]
 
 mod branch;
+mod close;
 mod part;
+mod tools;
 
 pub use branch::Branch;
 pub use part::Part;
+pub use tools::Tools;

@@ -101,6 +101,7 @@ pub fn add_cells<L: Ledger>(
     ensures attained { IfOk result (λ list. All (λ z. (b : ℕ) × (x : Candidate) × MayStand shelf.now allowed.now b
         × IsAttained reps.now b (items_of pool.old from.now) x z × IsCell (made_of arena.old) (made_of arena.new) node b x.tag z.tag) (items_of pool.new list)) }
     ensures empty { items_of pool.old from.now ≡ [] → IfOk result (λ list. items_of pool.new list ≡ []) }
+    ensures few { IfOk result (λ list. length (items_of pool.new list) ≤ length shelf.now.by_input.items) }
     ensures uses { IfOk result (λ list. IsExchange (slots_of arena.old) [] (slots_of arena.new) (items_of pool.new list)) }
     ensures solutions { KeepsSolutions (made_of arena.old) (made_of arena.new) }
     ensures restored { OnErr result (IsRestored (slots_of arena.old) (slots_of arena.new)) }

@@ -12,9 +12,9 @@ use Rattle.cand_pool.proofs.PublicLaws.{held_items, held_named}
 use Rattle.cand_uses.specs.Pairs.{pairs_of}
 use Rattle.cand_uses.specs.Uses.{IsExchange}
 use Rattle.vg_convex.specs.Answers.{made_pairs, AreSwept}
-use Rattle.vg_convex.specs.Lists.{IsMade}
+use Rattle.vg_convex.specs.Lists.{IsMade, IsWithCell}
 use Rattle.vg_convex.specs.declared.shelf.Shelf.{Shelf}
-use Rattle.vg_convex.proofs.Adds.{added_exchange}
+use Rattle.vg_convex.proofs.Adds.{added_exchange, zip_length}
 use Rattle.vg_convex.proofs.Results.{AreFound, IsAttainedBy, tags_of, made_undominated, pairs_same, all_attained, none_attained, swept_as, found_as}
 use Rattle.vg_convex.specs.Orders.{AreByInput, AreByLimit, IsShelf}
 use Rattle.vg_convex.proofs.Numbers.{rise_of}
@@ -152,6 +152,16 @@ returns-clause-empty g c = λ none.
     answer g c
     ∙ none_attained c.args.reps.now c.args.shelf.now c.args.allowed.now (items_of c.args.pool.now c.args.from.now) (made_of c.args.arena.now) (made_of c.list_of.new.arena)
     c.args.node c.in_ok-list.ensures.added.0 none (attained g c)
+
+pub returns-clause-few : goal.returns-clause-few
+returns-clause-few g c =
+    let (zs, added, cells) = c.in_ok-list.ensures.added in
+    omega (
+      arith,
+      ap (λ (l : Candidates). length l) (answer g c),
+      zip_length (IsWithCell (made_of c.args.arena.now) (made_of c.list_of.new.arena) c.args.node) c.deref-4.result.now zs cells,
+      (swept_after g c).few,
+    )
 
 pub returns-clause-uses : goal.returns-clause-uses
 returns-clause-uses g c =

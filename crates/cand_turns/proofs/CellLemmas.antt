@@ -1,0 +1,274 @@
+-- What repeaters make of the candidates of a node.
+use Rattle.std.proofs.Common.{◌≡◌, ◌⊎◌, ℕ, ◌+◌, ◌<◌, ◌≤◌, Bool, true, false, not, cond, List, length, get_or, slice_index_or, refl, sym, ap, ◌∙◌, subst, arith, inl, inr, Option, Some, None}
+use Rattle.std.proofs.lemmas.Bool.{cases_Bool}
+use Rattle.std.proofs.lemmas.List.Elements.{All-contains, Contains-get_or}
+use Rattle.std.proofs.lemmas.List.{get_or_default}
+use Rattle.std.proofs.lemmas.List.Filters.{length-filter_both}
+use Rattle.std.proofs.lemmas.List.FromFn.{length-range_with_len}
+use Rattle.std.proofs.lemmas.List.Sorted.{Contains-permutation, IsPermutation-sym, length_permutation}
+use Rattle.std.specs.List.{All, AllPairs, Contains, range_with_len}
+use Rattle.elmore.specs.Allowances.{allowed_at}
+use Rattle.elmore.specs.Cells.{rep_at}
+use Rattle.elmore.specs.Legal.{IsFit}
+use Rattle.elmore.specs.Pairs.{IsPairAt, IsUndominated}
+use Rattle.elmore.specs.Trees.{parent_of}
+use Rattle.elmore.specs.declared.allowed.Allowed.{Allowed}
+use Rattle.elmore.specs.declared.allowed.Allowed.TheVariants.{All as AllOf, Only}
+use Rattle.elmore.specs.declared.pair.Pair.{Pair}
+use Rattle.elmore.specs.declared.problem.Problem.{Problem}
+use Rattle.elmore.specs.declared.rep.Rep.{Rep}
+use Rattle.elmore.proofs.PathLemmas.{over_le}
+use Rattle.elmore.proofs.TreeLemmas.{tree_falls}
+use Rattle.sol_arena.specs.declared.slot.Made.{Made}
+use Rattle.sol_arena.specs.Meanings.{cells_of}
+use Rattle.cand_laws.specs.Candidates.{with_cell, own_capacitance, fork_of, whole_fork}
+use Rattle.cand_laws.specs.Merging.{fork_from, live_from, Greatest, Owns, IsChoiceAt, IsGreatestBy}
+use Rattle.cand_laws.specs.Parts.{IsLivePart}
+use Rattle.cand_laws.specs.Solutions.{cells_by, with_own, IsOpenSolutionOf, IsSolutionOf}
+use Rattle.cand_laws.proofs.ChildLemmas.{child_above, in_nodes, nodes_in, in_filter, filter_parts}
+use Rattle.cand_laws.proofs.FromLemmas.{live_all, own_all}
+use Rattle.cand_laws.proofs.GreatestLemmas.{greatest_dense}
+use Rattle.cand_laws.proofs.MergeLemmas.{IsDense, dense_exact, same_exact}
+use Rattle.cand_laws.proofs.PairPartLemmas.{live_child_parts}
+use Rattle.cand_laws.proofs.SmallPairLemmas.{pair_small, live_from_in}
+use Rattle.cand_laws.proofs.SolutionLemmas.{solution_closed, solution_bare}
+use Rattle.cand_laws.proofs.StepLemmas.{over_self}
+use Rattle.cand_laws.proofs.TurnLemmas.{part_steps, part_open, bare_steps, kept_exact}
+use Rattle.cand_pool.specs.Candidates.{Candidate, Candidates, AreModest}
+use Rattle.cand_pool.specs.Sequences.{union, lowest}
+use Rattle.cand_uses.specs.Pairs.{pair_of, pairs_of}
+use Rattle.cand_uses.specs.Uses.{MeanTheSame}
+use Rattle.cand_lists.specs.ListLaws.{Either, both}
+use Rattle.cand_lists.proofs.ExactLemmas.{both_exact, both_take}
+use Rattle.cand_lists.proofs.KeptLemmas.{kept_length, union_length}
+use Rattle.vg_convex.specs.Lists.{MayStand, IsMade, IsAttained, IsCell}
+use Rattle.vg_convex.specs.Orders.{AreRising, numbers_of}
+use Rattle.vg_convex.specs.declared.shelf.Shelf.{Shelf}
+use Rattle.cand_turns.specs.Solved.{AreSolved, IsOpenAt, IsClosedAt}
+use Rattle.cand_turns.specs.Tooled.{IsShelfOf}
+use Rattle.cand_turns.specs.Celled.{IsMadeBy, behind, IsMadeOfClasses, IsOpenList, AreBest}
+use Rattle.cand_turns.proofs.WireLemmas.{small_modest}
+
+-- what a node allows rises
+rising_of : (a : Allowed) → ((numbers : List ℕ) → a ≡ Only numbers → AllPairs (λ b c. b < c) numbers) → AreRising a
+rising_of AllOf only = tt
+rising_of (Only numbers) only = only numbers refl
+
+pub allowed_rises : (p : Problem) (v : ℕ) → AreRising (allowed_at p.allowed v)
+allowed_rises p v = rising_of (allowed_at p.allowed v) (p.allowed_are.rising v)
+
+pub allowed_is : (p : Problem) (v : ℕ) (all : List Allowed) (a : Allowed) → v < length p.tree.nodes → all ≡ p.allowed → a ≡ get_or all v a → a ≡ allowed_at p.allowed v
+allowed_is p v all a v_n all_are is =
+    is ∙ ap (λ (l : List Allowed). get_or l v a) all_are ∙ get_or_default p.allowed v a AllOf (omega (arith, p.allowed_are.one_each))
+
+-- no cell stands at the node itself
+none_or : (o : Option ℕ) → ((b : ℕ) → o ≡ Some b → ⊥) → o ≡ None
+none_or None never = refl
+none_or (Some b) never = absurd (never b refl)
+
+pub open_bare : (p : Problem) (v : ℕ) (odd : Bool) (ms : List Made) (xs : Candidates) → IsOpenList p v odd ms xs
+    → (x : Candidate) → Contains xs x → cells_of ms x.tag v ≡ None
+open_bare p v odd ms xs opens x found =
+    none_or (cells_of ms x.tag v) (λ b e.
+    let (h, h_in, over) = (opens.solved x found).inside v b e in
+    omega (
+      arith,
+      child_above p.tree.nodes p.tree.a_tree v h (live_child_parts p v h (live_from_in p v (v + 1) h h_in)).child,
+      over_le (parent_of p.tree.nodes) (tree_falls p.tree.nodes p.tree.a_tree) h v over,
+    ))
+
+-- all children of a node came in
+pub whole_solution : (p : Problem) (v : ℕ) (odd : Bool) (f : ℕ → Option ℕ) (x : Pair) → v < length p.tree.nodes
+    → IsOpenSolutionOf p odd (fork_from p v (v + 1)) f x → IsOpenSolutionOf p odd (whole_fork p v) f x
+whole_solution p v odd f x v_n is =
+    subst (λ (us : List ℕ). IsOpenSolutionOf p odd (fork_of v (own_capacitance p v) us) f x) (live_all p v v_n)
+    (subst (λ (own : ℕ). IsOpenSolutionOf p odd (fork_of v own (live_from p v (v + 1))) f x) (own_all p v v_n) is)
+
+-- THE REPEATERS OF A SHELF
+kind_is : (inverts : Bool) (rep : Rep) → cond inverts rep.inverts (not rep.inverts) ≡ true → rep.inverts ≡ inverts
+kind_is true rep e = e
+kind_is false rep e = elim (cases_Bool rep.inverts) [ inl t ↦ absurd (let clash : false ≡ true = sym (ap not t) ∙ e in cc) | inr f ↦ f ]
+
+of_kind : (inverts : Bool) (rep : Rep) → rep.inverts ≡ inverts → cond inverts rep.inverts (not rep.inverts) ≡ true
+of_kind true rep e = e
+of_kind false rep e = ap not e
+
+module _ (p : Problem) (v : ℕ) (inverts : Bool) (shelf : Shelf) (of : IsShelfOf p inverts shelf) (place : slice_index_or p.places v false ≡ true) where
+  pub choice_from : (b : ℕ) → MayStand shelf (allowed_at p.allowed v) b → IsChoiceAt p v b × ((rep_at p.reps b).inverts ≡ inverts)
+  choice_from b (there, allows) =
+      let found : Contains (numbers_of p.reps inverts) b
+      = Contains-permutation shelf.by_input.items (numbers_of p.reps inverts) b (IsPermutation-sym (numbers_of p.reps inverts) shelf.by_input.items of.kind) there in
+      let (among, is) = filter_parts (λ k. cond inverts (rep_at p.reps k).inverts (not (rep_at p.reps k).inverts)) (range_with_len 0 (length p.reps)) b found in (
+        record { at_place = place; named = nodes_in (length p.reps) b among; allows = allows },
+        kind_is inverts (rep_at p.reps b) is,
+      )
+
+  pub stands : (b : ℕ) → IsChoiceAt p v b → (rep_at p.reps b).inverts ≡ inverts → MayStand shelf (allowed_at p.allowed v) b
+  stands b choice is = (
+    Contains-permutation (numbers_of p.reps inverts) shelf.by_input.items b of.kind
+        (in_filter (λ k. cond inverts (rep_at p.reps k).inverts (not (rep_at p.reps k).inverts)) (range_with_len 0 (length p.reps)) b (in_nodes (length p.reps) b choice.named) (of_kind inverts (rep_at p.reps b) is)),
+    choice.allows,
+  )
+
+  pub made_exact : (xs zs : Candidates) → IsUndominated (IsMade p.reps shelf (allowed_at p.allowed v) xs) (pairs_of zs) → IsUndominated (IsMadeBy p v inverts (pairs_of xs)) (pairs_of zs)
+  made_exact xs zs are =
+      same_exact (IsMade p.reps shelf (allowed_at p.allowed v) xs) (IsMadeBy p v inverts (pairs_of xs)) (pairs_of zs)
+      (λ z (b, may, is). let (choice, kind) = choice_from b may in (b, choice, kind, is))
+      (λ z (b, choice, kind, is). (b, stands b choice kind, is)) are
+
+  -- the solutions of what they make
+  pub made_solved : (odd : Bool) (old new : List Made) (xs zs : Candidates) → v < length p.tree.nodes
+      → IsOpenList p v (behind inverts odd) old xs
+      → ((z : Candidate) → Contains zs z → (b : ℕ) × (x : Candidate) × MayStand shelf (allowed_at p.allowed v) b × IsAttained p.reps b xs x z × IsCell old new v b x.tag z.tag)
+      → AreSolved (IsSolutionOf p v odd) new zs
+  made_solved odd old new xs zs v_n opens each z found =
+      let (b, x, may, made, cell) = each z found in
+      let (choice, kind) = choice_from b may in
+      let fit : IsFit (slice_index_or p.places v false) (allowed_at p.allowed v) p.reps b x.c
+      = record { at_place = choice.at_place; named = choice.named; allows = choice.allows; limit = made.made.within } in
+      let whole : IsOpenSolutionOf p (behind inverts odd) (whole_fork p v) (cells_of old x.tag) (pair_of x)
+      = whole_solution p v (behind inverts odd) (cells_of old x.tag) (pair_of x) v_n (opens.solved x made.among) in
+      let closed : IsSolutionOf p v odd (with_own v (Some b) (cells_of old x.tag)) (with_cell (Some (rep_at p.reps b)) (pair_of x))
+      = solution_closed p v odd (Some b) (cells_of old x.tag) (pair_of x)
+      (λ d e. let same : b ≡ d = cc (e) in subst (λ (k : ℕ). IsFit (slice_index_or p.places v false) (allowed_at p.allowed v) p.reps k x.c) same fit)
+      (subst (λ (i : Bool). IsOpenSolutionOf p (behind i odd) (whole_fork p v) (cells_of old x.tag) (pair_of x)) (sym kind) whole) in
+      subst (λ (q : Pair). IsSolutionOf p v odd (cells_of new z.tag) q) (sym made.made.made)
+      (subst (λ held. IsSolutionOf p v odd held (with_cell (Some (rep_at p.reps b)) (pair_of x))) (sym cell.means) closed)
+
+  -- both, for a list of repeaters and what a node allows
+  pub made_best : (odd : Bool) (old new : List Made) (xs zs : Candidates) (reps : List Rep) (allowed : Allowed) → v < length p.tree.nodes
+      → IsOpenList p v (behind inverts odd) old xs → reps ≡ p.reps → allowed ≡ allowed_at p.allowed v → IsUndominated (IsMade reps shelf allowed xs) (pairs_of zs)
+      → All (λ z. (b : ℕ) × (x : Candidate) × MayStand shelf allowed b × IsAttained reps b xs x z × IsCell old new v b x.tag z.tag) zs
+      → AreBest p v odd (IsMadeBy p v inverts (pairs_of xs)) new zs
+  made_best odd old new xs zs reps allowed v_n opens reps_are allowed_is are all = record {
+    exact = made_exact xs zs (subst (λ (r : List Rep). IsUndominated (IsMade r shelf (allowed_at p.allowed v) xs) (pairs_of zs)) reps_are
+        (subst (λ (a : Allowed). IsUndominated (IsMade reps shelf a xs) (pairs_of zs)) allowed_is are));
+    solved = made_solved odd old new xs zs v_n opens (λ z found.
+        let (b, x, may, made, cell) = All-contains (λ z. (b : ℕ) × (x : Candidate) × MayStand shelf allowed b × IsAttained reps b xs x z × IsCell old new v b x.tag z.tag) zs z all found in (
+          b,
+          x,
+          subst (λ (a : Allowed). MayStand shelf a b) allowed_is may,
+          subst (λ (r : List Rep). IsAttained r b xs x z) reps_are made,
+          cell,
+        ));
+  }
+
+-- CLASSES OF A NODE
+best_modest : (p : Problem) (v : ℕ) (odd : Bool) (ms : List Made) (xs : Candidates) → AreSolved (IsSolutionOf p v odd) ms xs → AreModest xs
+best_modest p v odd ms xs solved = small_modest xs (λ x found. pair_small p v odd (pair_of x) (cells_by p (cells_of ms x.tag), (solved x found).pair))
+
+pub open_best : (p : Problem) (v : ℕ) (odd : Bool) (ms : List Made) (xs : Candidates) → v < length p.tree.nodes → IsOpenList p v odd ms xs
+    → AreBest p v odd (λ z. Contains (pairs_of xs) z) ms xs
+open_best p v odd ms xs v_n opens = record {
+  exact = record {
+    rising = opens.exact.rising;
+    taken = λ k d k_n. Contains-get_or (pairs_of xs) k d k_n;
+    covers = λ y y_in. (y, y_in, over_self y);
+  };
+  solved = λ x found. solution_bare p v odd (cells_of ms x.tag) (pair_of x) (whole_solution p v odd (cells_of ms x.tag) (pair_of x) v_n (opens.solved x found));
+}
+
+-- the same set, said otherwise
+pub best_as : (p : Problem) (v : ℕ) (odd : Bool) (A B : Pair → Type 0) (ms : List Made) (xs : Candidates) → ((z : Pair) → A z → B z) → ((z : Pair) → B z → A z)
+    → AreBest p v odd A ms xs → AreBest p v odd B ms xs
+best_as p v odd A B ms xs to from are = record { exact = same_exact A B (pairs_of xs) to from are.exact; solved = are.solved }
+
+either_dense : (A B : Pair → Type 0) (xs ys : List Pair) → IsUndominated A xs → IsUndominated B ys → IsDense (Either xs ys) (λ z. A z ⊎ B z)
+either_dense A B xs ys one two = record {
+  part = λ z z_in. elim z_in [
+    | inl a ↦ inl (All-contains A xs z one.taken a)
+    | inr b ↦ inr (All-contains B ys z two.taken b)
+  ];
+  covers = λ y y_in. elim y_in [
+    | inl a ↦ let (x, x_in, dom) = one.covers y a in (x, inl x_in, dom)
+    | inr b ↦ let (x, x_in, dom) = two.covers y b in (x, inr x_in, dom)
+  ];
+}
+
+-- two lists of one class together
+pub both_best : (p : Problem) (v : ℕ) (odd : Bool) (A B : Pair → Type 0) (old new : List Made) (xs ys : Candidates) → AreBest p v odd A old xs → AreBest p v odd B old ys
+    → MeanTheSame old new (both xs ys) → AreBest p v odd (λ z. A z ⊎ B z) new (both xs ys)
+both_best p v odd A B old new xs ys one two same = record {
+  exact = dense_exact (Either (pairs_of xs) (pairs_of ys)) (λ z. A z ⊎ B z) (pairs_of (both xs ys)) (either_dense A B (pairs_of xs) (pairs_of ys) one.exact two.exact)
+      (both_exact xs ys one.exact.rising two.exact.rising (best_modest p v odd old xs one.solved) (best_modest p v odd old ys two.solved));
+  solved = λ z found. subst (λ held. IsSolutionOf p v odd held (pair_of z)) (sym (same z found)) (elim (both_take xs ys z found) as (λ _. IsSolutionOf p v odd (cells_of old z.tag) (pair_of z)) [
+    | inl a ↦ one.solved z a
+    | inr b ↦ two.solved z b
+  ]);
+}
+
+pub both_few : (xs ys : Candidates) → length (both xs ys) ≤ length xs + length ys
+both_few xs ys = omega (arith, kept_length lowest (union xs ys), union_length xs ys)
+
+-- of both kinds
+pub either_kind : (p : Problem) (v : ℕ) (odd : Bool) (classes : Bool → Candidates) (ms : List Made) (xs : Candidates)
+    → AreBest p v odd (λ z. IsMadeBy p v false (pairs_of (classes odd)) z ⊎ IsMadeBy p v true (pairs_of (classes (not odd))) z) ms xs
+    → AreBest p v odd (IsMadeOfClasses p v odd classes) ms xs
+either_kind p v odd classes ms xs are =
+    best_as p v odd (λ z. IsMadeBy p v false (pairs_of (classes odd)) z ⊎ IsMadeBy p v true (pairs_of (classes (not odd))) z) (IsMadeOfClasses p v odd classes) ms xs
+    (λ z z_in. elim z_in [ inl a ↦ (false, a) | inr b ↦ (true, b) ]) from are where
+      from : (z : Pair) → IsMadeOfClasses p v odd classes z → IsMadeBy p v false (pairs_of (classes odd)) z ⊎ IsMadeBy p v true (pairs_of (classes (not odd))) z
+      from z (true, made) = inr made
+      from z (false, made) = inl made
+
+-- the candidates with and without a cell are those of the node
+module _ (p : Problem) (v : ℕ) (v_n : v < length p.tree.nodes) (classes : Bool → Candidates) (part : IsLivePart p (IsPairAt p) (v + 1) v (λ odd. pairs_of (classes odd))) where
+  to_greatest : (odd : Bool) (z : Pair) → (Contains (pairs_of (classes odd)) z) ⊎ IsMadeOfClasses p v odd classes z → Greatest p v odd (λ o. pairs_of (classes o)) z
+  to_greatest odd z (inl a) = inl a
+  to_greatest odd z (inr (inverts, (b, choice, kind, is))) =
+      inr (b, choice, subst (λ (i : Bool). IsGreatestBy (rep_at p.reps b) (pairs_of (classes (behind i odd))) z) (sym kind) is)
+
+  from_greatest : (odd : Bool) (z : Pair) → Greatest p v odd (λ o. pairs_of (classes o)) z → (Contains (pairs_of (classes odd)) z) ⊎ IsMadeOfClasses p v odd classes z
+  from_greatest odd z (inl a) = inl a
+  from_greatest odd z (inr (b, choice, is)) = inr ((rep_at p.reps b).inverts, (b, choice, refl, is))
+
+  pub all_exact : (kept : Bool → Candidates)
+      → ((odd : Bool) → IsUndominated (λ z. (Contains (pairs_of (classes odd)) z) ⊎ IsMadeOfClasses p v odd classes z) (pairs_of (kept odd)))
+      → (odd : Bool) → IsUndominated (IsPairAt p v odd) (pairs_of (kept odd))
+  all_exact kept are odd =
+      kept_exact p v odd (pairs_of (kept odd))
+      (part_steps p (IsPairAt p) v (λ o. pairs_of (classes o)) (λ o. pairs_of (kept o)) v_n part
+      (λ o. dense_exact (Greatest p v o (λ q. pairs_of (classes q))) (Owns p v o (λ q. pairs_of (classes q))) (pairs_of (kept o)) (greatest_dense p v o (λ q. pairs_of (classes q)))
+      (same_exact (λ z. (Contains (pairs_of (classes o)) z) ⊎ IsMadeOfClasses p v o classes z) (Greatest p v o (λ q. pairs_of (classes q))) (pairs_of (kept o)) (to_greatest o) (from_greatest o) (are o))) odd)
+
+pub open_list : (p : Problem) (v : ℕ) (ms : List Made) (classes : Bool → Candidates) (odd : Bool) → IsOpenAt p (v + 1) v ms classes → IsOpenList p v odd ms (classes odd)
+open_list p v ms classes odd at = record { exact = at.part.exact odd; solved = at.solved odd }
+
+-- a node that is no place
+pub bare_closed : (p : Problem) (v : ℕ) (ms : List Made) (classes : Bool → Candidates) → v < length p.tree.nodes → slice_index_or p.places v false ≡ false
+    → IsOpenAt p (v + 1) v ms classes → IsClosedAt p v ms classes
+bare_closed p v ms classes v_n no_place at = record {
+  exact = λ odd. kept_exact p v odd (pairs_of (classes odd))
+      (bare_steps p (IsPairAt p) v odd (pairs_of (classes odd)) no_place (part_open p (IsPairAt p) v (λ o. pairs_of (classes o)) v_n at.part odd));
+  solved = λ odd. (open_best p v odd ms (classes odd) v_n (open_list p v ms classes odd at)).solved;
+}
+
+-- the candidates of both lists of a branch, with those that cells make
+pub place_closed : (p : Problem) (v : ℕ) (old new : List Made) (classes cells kept : Bool → Candidates) → v < length p.tree.nodes → IsOpenAt p (v + 1) v old classes
+    → ((odd : Bool) → AreBest p v odd (IsMadeOfClasses p v odd classes) old (cells odd)) → ((odd : Bool) → kept odd ≡ both (classes odd) (cells odd))
+    → ((odd : Bool) → MeanTheSame old new (kept odd)) → IsClosedAt p v new kept
+place_closed p v old new classes cells kept v_n at best kept_is same = record {
+  exact = all_exact p v v_n classes at.part kept (λ odd. (all odd).exact);
+  solved = λ odd. (all odd).solved;
+} where
+  all : (odd : Bool) → AreBest p v odd (λ z. (Contains (pairs_of (classes odd)) z) ⊎ IsMadeOfClasses p v odd classes z) new (kept odd)
+  all odd =
+      subst (λ (xs : Candidates). AreBest p v odd (λ z. (Contains (pairs_of (classes odd)) z) ⊎ IsMadeOfClasses p v odd classes z) new xs) (sym (kept_is odd))
+      (both_best p v odd (λ z. Contains (pairs_of (classes odd)) z) (IsMadeOfClasses p v odd classes) old new (classes odd) (cells odd)
+      (open_best p v odd old (classes odd) v_n (open_list p v old classes odd at)) (best odd)
+      (subst (λ (xs : Candidates). MeanTheSame old new xs) (kept_is odd) (same odd)))
+
+-- the shelves have at most all repeaters
+pub shelves_few : (p : Problem) (buffers inverters : Shelf) → IsShelfOf p false buffers → IsShelfOf p true inverters
+    → length buffers.by_input.items + length inverters.by_input.items ≡ length p.reps
+shelves_few p buffers inverters one two =
+    omega (
+      arith,
+      length_permutation (numbers_of p.reps false) buffers.by_input.items one.kind,
+      length_permutation (numbers_of p.reps true) inverters.by_input.items two.kind,
+      length-filter_both (λ b. not (rep_at p.reps b).inverts) (λ b. (rep_at p.reps b).inverts) (λ b. twice (rep_at p.reps b).inverts) (range_with_len 0 (length p.reps)),
+      length-range_with_len 0 (length p.reps),
+    ) where
+      twice : (b : Bool) → b ≡ not (not b)
+      twice true = refl
+      twice false = refl

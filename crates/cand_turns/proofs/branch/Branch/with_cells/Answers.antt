@@ -1,0 +1,39 @@
+use Rattle.cand_turns.specs.Swaps.{search}
+use Rattle.cand_turns.proofs.BranchLemmas.{one_held, end_turn}
+use Rattle.cand_turns.proofs.AddLemmas.{two_adds, still_held, add_lost}
+use Rattle.cand_turns.proofs.ClassLemmas.{branch_held, branch_open, both_classes, classes_few}
+use Rattle.cand_turns.proofs.branch.Branch.with_cells.Goals as goal
+
+pub class_with_cells-requires-2-clause-held : goal.class_with_cells-requires-2-clause-held
+class_with_cells-requires-2-clause-held g c =
+    branch_held c.args.p.now c.args.node c.args.self.now c.args.arena.now c.class_with_cells.new.arena c.args.pool.now c.class_with_cells.new.pool c.in_ok-even.even c.requires.held c.in_ok-even.ensures.turn
+
+pub class_with_cells-requires-2-clause-open : goal.class_with_cells-requires-2-clause-open
+class_with_cells-requires-2-clause-open g c =
+    branch_open c.args.p.now c.args.node c.args.self.now c.args.arena.now c.class_with_cells.new.arena c.args.pool.now c.class_with_cells.new.pool c.in_ok-even.even c.requires.held c.in_ok-even.ensures.turn c.requires.«open»
+
+pub end_list-requires-clause-live : goal.end_list-requires-clause-live
+end_list-requires-clause-live g c =
+    let still = one_held (search c.class_with_cells-2.new.pool c.class_with_cells-2.new.arena) c.in_ok-even.even (still_held (search c.class_with_cells.new.pool c.class_with_cells.new.arena) (search c.class_with_cells-2.new.pool c.class_with_cells-2.new.arena) c.in_ok-even.even c.in_ok-even.ensures.turn.held c.in-Err.ensures.turn).held in
+    still.0
+
+pub end_list-requires-clause-held : goal.end_list-requires-clause-held
+end_list-requires-clause-held g c =
+    let still = one_held (search c.class_with_cells-2.new.pool c.class_with_cells-2.new.arena) c.in_ok-even.even (still_held (search c.class_with_cells.new.pool c.class_with_cells.new.arena) (search c.class_with_cells-2.new.pool c.class_with_cells-2.new.arena) c.in_ok-even.even c.in_ok-even.ensures.turn.held c.in-Err.ensures.turn).held in
+    still.1
+
+pub returns-in-Ok-clause-turn : goal.returns-in-Ok-clause-turn
+returns-in-Ok-clause-turn g c =
+    two_adds (search c.args.pool.now c.args.arena.now) (search c.class_with_cells.new.pool c.class_with_cells.new.arena) (search c.class_with_cells-2.new.pool c.class_with_cells-2.new.arena) c.in_ok-even.even c.in-Ok.odd c.in_ok-even.ensures.turn c.in-Ok.ensures.turn
+
+pub returns-in-Ok-clause-best : goal.returns-in-Ok-clause-best
+returns-in-Ok-clause-best g c =
+    both_classes c.args.p.now c.args.node c.args.self.now c.args.arena.now c.class_with_cells.new.arena c.args.pool.now c.class_with_cells.new.pool c.in_ok-even.even c.requires.held c.in_ok-even.ensures.turn c.class_with_cells-2.new.arena c.class_with_cells-2.new.pool c.in-Ok.odd c.in-Ok.ensures.turn c.in_ok-even.ensures.best c.in-Ok.ensures.best
+
+pub returns-in-Ok-clause-few : goal.returns-in-Ok-clause-few
+returns-in-Ok-clause-few g c =
+    classes_few (search c.class_with_cells.new.pool c.class_with_cells.new.arena) (search c.class_with_cells-2.new.pool c.class_with_cells-2.new.arena) c.in_ok-even.even c.in-Ok.odd _ c.in_ok-even.ensures.turn.held c.in-Ok.ensures.turn c.in_ok-even.ensures.few c.in-Ok.ensures.few
+
+pub returns-in-Err-clause-turn : goal.returns-in-Err-clause-turn
+returns-in-Err-clause-turn g c =
+    add_lost (search c.args.pool.now c.args.arena.now) (search c.class_with_cells.new.pool c.class_with_cells.new.arena) (search c.class_with_cells-2.new.pool c.class_with_cells-2.new.arena) (search c.end_list.new.pool c.end_list.new.arena) c.in_ok-even.even c.in_ok-even.ensures.turn c.in-Err.ensures.turn (end_turn (search c.class_with_cells-2.new.pool c.class_with_cells-2.new.arena) (search c.end_list.new.pool c.end_list.new.arena) c.in_ok-even.even c.end_list.ensures.uses c.end_list.ensures.others c.end_list.ensures.spare)
