@@ -28,9 +28,8 @@ impl Pool {
         ensures { result ≡ comes_first (candidate self.now y) (candidate self.now x) }
     {
         let (x, y) = (x as usize, y as usize);
-        let (x_q, x_c) = (self.qs[x], self.cs[x]);
-        let (y_q, y_c) = (self.qs[y], self.cs[y]);
-        y_c < x_c || y_c == x_c && x_q < y_q
+        let (x_c, y_c) = (self.cs[x], self.cs[y]);
+        y_c < x_c || y_c == x_c && self.qs[x] < self.qs[y]
     }
 
     /// The q of a slot.
@@ -72,11 +71,11 @@ impl Pool {
         let second = self.begins_with_second(at.sieve.rest, at.other, steps);
         if second {
             let q = self.q_of(at.other.first, steps);
-            let from_second = Sieve {
+            let mut sieve = Sieve {
                 rest: at.other,
                 ..at.sieve
             };
-            let sieve = self.turn(from_second, q);
+            self.turn(&mut sieve, q);
             Union {
                 other: sieve.rest,
                 sieve: Sieve {
@@ -86,10 +85,9 @@ impl Pool {
             }
         } else {
             let q = self.q_of(at.sieve.rest.first, steps);
-            Union {
-                sieve: self.turn(at.sieve, q),
-                ..at
-            }
+            let mut sieve = at.sieve;
+            self.turn(&mut sieve, q);
+            Union { sieve, ..at }
         }
     }
 

@@ -19,39 +19,25 @@ pub(crate) struct Sieve {
 
 impl Pool {
     /// Puts the first of the rest, with this q, after the kept ones if its q is over the best, else after the dropped ones.
-    pub(crate) fn turn(&mut self, at: Sieve, q: i128) -> Sieve
-        requires three { Sifts self.old at (items self.old at.rest.first) (items self.old at.kept.first) (items self.old at.dropped.first) }
-        requires some { at.rest.first ≢ NONE }
-        ensures { (x : Candidate) (xs ks ds : Candidates) → Sifts self.old at (x ∷ xs) ks ds
-            → IsTurned self.old self.new at result xs ks ds (record { q = q; c = x.c; tag = x.tag }) }
+    pub(crate) fn turn(&mut self, at: &mut Sieve, q: i128)
+        requires three { Sifts self.old at.old (items self.old at.old.rest.first) (items self.old at.old.kept.first) (items self.old at.old.dropped.first) }
+        requires some { at.old.rest.first ≢ NONE }
+        ensures { (x : Candidate) (xs ks ds : Candidates) → Sifts self.old at.old (x ∷ xs) ks ds
+            → IsTurned self.old self.new at.old at.new xs ks ds (record { q = q; c = x.c; tag = x.tag }) }
     {
-        // The slot is cut off and written before the choice, so that what is left stays in registers.
+        // What does not change is not copied, and stays in registers.
         let slot = at.rest.first;
-        let next = self.take_first(slot);
+        at.rest.first = self.take_first(slot);
         self.write_q(slot, q);
-        let rest = Ends {
-            first: next,
-            last: at.rest.last,
-        };
         let one = Ends {
             first: slot,
             last: slot,
         };
         if q > at.best {
-            let kept = self.put_after(at.kept, one);
-            Sieve {
-                rest,
-                kept,
-                best: q,
-                ..at
-            }
+            at.kept = self.put_after(at.kept, one);
+            at.best = q;
         } else {
-            let dropped = self.put_after(at.dropped, one);
-            Sieve {
-                rest,
-                dropped,
-                ..at
-            }
+            at.dropped = self.put_after(at.dropped, one);
         }
     }
 }

@@ -43,17 +43,17 @@ impl Pool {
     }
 
     /// One turn of a wire, at the first of the rest.
-    fn wire_turn<L: Ledger>(&mut self, at: Sieve, r: u64, steps: &mut Steps<L>) -> Sieve
-        requires three { Sifts self.old at (items self.old at.rest.first) (items self.old at.kept.first) (items self.old at.dropped.first) }
-        requires some { at.rest.first ≢ NONE }
-        requires modest { IsModest (candidate self.old at.rest.first) }
-        ensures wiring { (s : Block) (list : Ends) (all : Candidates) → IsWiring r s list all self.old at → IsWiring r s list all self.new result }
-        ensures fewer { suc (length (items self.new result.rest.first)) ≡ length (items self.old at.rest.first) }
+    fn wire_turn<L: Ledger>(&mut self, at: &mut Sieve, r: u64, steps: &mut Steps<L>)
+        requires three { Sifts self.old at.old (items self.old at.old.rest.first) (items self.old at.old.kept.first) (items self.old at.old.dropped.first) }
+        requires some { at.old.rest.first ≢ NONE }
+        requires modest { IsModest (candidate self.old at.old.rest.first) }
+        ensures wiring { (s : Block) (list : Ends) (all : Candidates) → IsWiring r s list all self.old at.old → IsWiring r s list all self.new at.new }
+        ensures fewer { suc (length (items self.new at.new.rest.first)) ≡ length (items self.old at.old.rest.first) }
         ensures step { steps.new ≡ suc steps.old }
     {
         steps.tick();
         let q = self.after_wire(at.rest.first, r);
-        self.turn(at, q)
+        self.turn(at, q);
     }
 
     /// Charges a wire to each candidate of a list, and moves those that are then dominated to a bag.
@@ -74,7 +74,7 @@ impl Pool {
             best: i128::MIN,
         };
         'turns: while at.rest.first != NONE {
-            at = self.wire_turn(at, r, steps);
+            self.wire_turn(&mut at, r, steps);
         }
         list.ends = at.kept;
         Bag { ends: at.dropped }

@@ -3,3 +3,7 @@
 
 #[cfg(test)]
 mod arena;
+#[cfg(test)]
+mod branches;
+#[cfg(test)]
+mod cells;

@@ -30,8 +30,8 @@ pub record IsMeetOf (old new : List Made) (x y z : Candidate) : Type 0 where
 abbrev pub IsMet : List Made → List Made → Candidates → Candidates → Candidate → Type 0
 IsMet old new xs ys z = (x : Candidate) × (y : Candidate) × Contains xs x × Contains ys y × IsMeetOf old new x y z
 
--- The candidates zs are what two branches make together: of the pairs of both those that no other one dominates, each with
--- the solutions of two candidates of which it is made.
+-- The candidates zs are what two branches make together: of all pairs of both those that no other one dominates, each with
+-- the cells of the two candidates that it is made of.
 pub record IsMergeOf (old new : List Made) (xs ys zs : Candidates) : Type 0 where
   pub pairs : IsUndominated (Meets (pairs_of xs) (pairs_of ys)) (pairs_of zs)
   pub solutions : All (IsMet old new xs ys) zs

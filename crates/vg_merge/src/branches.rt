@@ -2,8 +2,6 @@
 
 ghost use Rattle.std.specs.Prelude.{◌≡◌, ◌≢◌, ◌⊎◌, ℕ, ◌+◌, ◌*◌, ◌≤◌, ◌<◌, ◌++◌, ◌∷◌, [], length, MatchOption, MatchResult, IfOk, OnOk, OnErr};
 ghost use Rattle.std.specs.Option.{ForSome};
-ghost use Rattle.std.specs.List.{All};
-ghost use Rattle.elmore.specs.Pairs.{IsUndominated};
 ghost use Rattle.sol_arena.specs.Arenas.{slots_of, made_of};
 ghost use Rattle.sol_arena.specs.Changes.{IsReleased};
 ghost use Rattle.sol_arena.specs.Meanings.{cells_of, AreApart};
@@ -57,8 +55,8 @@ fn release_taken(arena: &mut Arena, tag: Option<u64>)
     }
 }
 
-/// Joins the first candidates of both branches, which have these solutions. Answers `Memory` where there is no room;
-/// nothing changes then.
+/// Joins the first candidates of both branches, which have these solutions. Answers `Memory` when out of memory; nothing
+/// changes then.
 fn turn<L: Ledger>(
     pool: &mut Pool,
     arena: &mut Arena,
@@ -90,8 +88,8 @@ fn turn<L: Ledger>(
     Ok(())
 }
 
-/// Joins first candidates until one of the branches is empty. Answers `Memory` where there is no room; what was made and what
-/// is left stay then.
+/// Joins first candidates until one of the branches is empty. Answers `Memory` when out of memory; what was made and what is
+/// left stay then.
 fn join_firsts<L: Ledger>(
     pool: &mut Pool,
     arena: &mut Arena,
@@ -132,8 +130,8 @@ fn end_branches(pool: &mut Pool, arena: &mut Arena, at: Branches) -> List
 
 /// Merges two branches of a net: of all pairs of their candidates those together that no other ones dominate, with the
 /// lesser time (zs) and the sum of the loads (aF), by rising load, each with the cells of both solutions. The lists of both
-/// branches end, and the uses of their solutions are given up. Answers `Memory` where there is no room; both lists end then too,
-/// and nothing is made.
+/// branches end, and the uses of their solutions are given up. Answers `Memory` when out of memory; both lists end then too, and
+/// nothing is made.
 pub fn merge<L: Ledger>(
     pool: &mut Pool,
     arena: &mut Arena,

@@ -20,59 +20,59 @@ two_stays s t u first last rest a a_last x xs ps taken written differ h =
 y_is : (y old x : Candidate) (q' q : ℤ) → y ≡ record { q = q'; c = old.c; tag = old.tag } → q' ≡ q → old ≡ x → y ≡ record { q = q; c = x.c; tag = x.tag }
 y_is y old x q' q e f g = e ∙ (λ i. record { q = f i; c = (g i).c; tag = (g i).tag })
 
-pub take_first-next-requires-clause-live : goal.take_first-next-requires-clause-live
-take_first-next-requires-clause-live c = held_live c.args.self.now c.args.at.rest.first c.args.at.rest.last _ c.requires.three.more
+pub take_first-at-requires-clause-live : goal.take_first-at-requires-clause-live
+take_first-at-requires-clause-live c = held_live c.args.self.now c.args.at.now.rest.first c.args.at.now.rest.last _ c.requires.three.more
 
 pub write_q-requires : goal.write_q-requires
 write_q-requires c =
-    let (ys, e) = first_held c.args.self.now c.args.at.rest.first c.args.at.rest.last _ c.requires.some c.requires.three.more in
-    let t = c.take_first-next.ensures.taken c.args.at.rest.last _ ys (subst (λ (l : List Candidate). IsHeld c.args.self.now c.args.at.rest.first c.args.at.rest.last l) e c.requires.three.more) in
+    let (ys, e) = first_held c.args.self.now c.args.at.now.rest.first c.args.at.now.rest.last _ c.requires.some c.requires.three.more in
+    let t = c.take_first-at.ensures.taken c.args.at.now.rest.last _ ys (subst (λ (l : List Candidate). IsHeld c.args.self.now c.args.at.now.rest.first c.args.at.now.rest.last l) e c.requires.three.more) in
     one_held _ _ _ _ t.one
 
-pub put_after-kept-requires-clause-one : goal.put_after-kept-requires-clause-one
-put_after-kept-requires-clause-one c =
-    let (ys, e) = first_held c.args.self.now c.args.at.rest.first c.args.at.rest.last _ c.requires.some c.requires.three.more in
-    let t = c.take_first-next.ensures.taken c.args.at.rest.last _ ys (subst (λ (l : List Candidate). IsHeld c.args.self.now c.args.at.rest.first c.args.at.rest.last l) e c.requires.three.more) in
-    held_named _ c.args.at.kept.first c.args.at.kept.last _
-    (two_stays _ _ _ c.args.at.rest.first c.args.at.rest.last _ c.args.at.kept.first c.args.at.kept.last _ ys _ t c.write_q.ensures.written (c.requires.three.rest_one c.requires.some) c.requires.three.one)
+pub put_after-at-requires-clause-one : goal.put_after-at-requires-clause-one
+put_after-at-requires-clause-one c =
+    let (ys, e) = first_held c.args.self.now c.args.at.now.rest.first c.args.at.now.rest.last _ c.requires.some c.requires.three.more in
+    let t = c.take_first-at.ensures.taken c.args.at.now.rest.last _ ys (subst (λ (l : List Candidate). IsHeld c.args.self.now c.args.at.now.rest.first c.args.at.now.rest.last l) e c.requires.three.more) in
+    held_named _ c.args.at.now.kept.first c.args.at.now.kept.last _
+    (two_stays _ _ _ c.args.at.now.rest.first c.args.at.now.rest.last _ c.args.at.now.kept.first c.args.at.now.kept.last _ ys _ t c.write_q.ensures.written (c.requires.three.rest_one c.requires.some) c.requires.three.one)
 
-pub put_after-kept-requires-clause-two : goal.put_after-kept-requires-clause-two
-put_after-kept-requires-clause-two c = held_named _ c.args.at.rest.first c.args.at.rest.first _ c.write_q.ensures.written.one
+pub put_after-at-requires-clause-two : goal.put_after-at-requires-clause-two
+put_after-at-requires-clause-two c = held_named _ c.args.at.now.rest.first c.args.at.now.rest.first _ c.write_q.ensures.written.one
 
-pub put_after-kept-requires-clause-differ : goal.put_after-kept-requires-clause-differ
-put_after-kept-requires-clause-differ c = λ e. absurd (c.requires.three.rest_one c.requires.some (sym e))
+pub put_after-at-requires-clause-differ : goal.put_after-at-requires-clause-differ
+put_after-at-requires-clause-differ c = λ e. absurd (c.requires.three.rest_one c.requires.some (sym e))
 
-pub put_after-dropped-requires-clause-one : goal.put_after-dropped-requires-clause-one
-put_after-dropped-requires-clause-one c =
-    let (ys, e) = first_held c.args.self.now c.args.at.rest.first c.args.at.rest.last _ c.requires.some c.requires.three.more in
-    let t = c.take_first-next.ensures.taken c.args.at.rest.last _ ys (subst (λ (l : List Candidate). IsHeld c.args.self.now c.args.at.rest.first c.args.at.rest.last l) e c.requires.three.more) in
-    held_named _ c.args.at.dropped.first c.args.at.dropped.last _
-    (two_stays _ _ _ c.args.at.rest.first c.args.at.rest.last _ c.args.at.dropped.first c.args.at.dropped.last _ ys _ t c.write_q.ensures.written (c.requires.three.rest_two c.requires.some) c.requires.three.two)
+pub put_after-at-requires-else-q-at-clause-one : goal.put_after-at-requires-else-q-at-clause-one
+put_after-at-requires-else-q-at-clause-one c =
+    let (ys, e) = first_held c.args.self.now c.args.at.now.rest.first c.args.at.now.rest.last _ c.requires.some c.requires.three.more in
+    let t = c.take_first-at.ensures.taken c.args.at.now.rest.last _ ys (subst (λ (l : List Candidate). IsHeld c.args.self.now c.args.at.now.rest.first c.args.at.now.rest.last l) e c.requires.three.more) in
+    held_named _ c.args.at.now.dropped.first c.args.at.now.dropped.last _
+    (two_stays _ _ _ c.args.at.now.rest.first c.args.at.now.rest.last _ c.args.at.now.dropped.first c.args.at.now.dropped.last _ ys _ t c.write_q.ensures.written (c.requires.three.rest_two c.requires.some) c.requires.three.two)
 
-pub put_after-dropped-requires-clause-two : goal.put_after-dropped-requires-clause-two
-put_after-dropped-requires-clause-two c = held_named _ c.args.at.rest.first c.args.at.rest.first _ c.write_q.ensures.written.one
+pub put_after-at-requires-else-q-at-clause-two : goal.put_after-at-requires-else-q-at-clause-two
+put_after-at-requires-else-q-at-clause-two c = held_named _ c.args.at.now.rest.first c.args.at.now.rest.first _ c.write_q.ensures.written.one
 
-pub put_after-dropped-requires-clause-differ : goal.put_after-dropped-requires-clause-differ
-put_after-dropped-requires-clause-differ c = λ e. absurd (c.requires.three.rest_two c.requires.some (sym e))
+pub put_after-at-requires-else-q-at-clause-differ : goal.put_after-at-requires-else-q-at-clause-differ
+put_after-at-requires-else-q-at-clause-differ c = λ e. absurd (c.requires.three.rest_two c.requires.some (sym e))
 
 pub returns-then-q-at : goal.returns-then-q-at
 returns-then-q-at c = λ x xs ks ds sieve.
     let q_is = to_z-of_z {w = w128} {z = c.args.q} (search rules) in
-    let best_is = to_z-of_z {w = w128} {z = c.args.at.best} (search rules) in
-    let t = c.take_first-next.ensures.taken c.args.at.rest.last x xs sieve.more in
+    let best_is = to_z-of_z {w = w128} {z = c.args.at.now.best} (search rules) in
+    let t = c.take_first-at.ensures.taken c.args.at.now.rest.last x xs sieve.more in
     let same = (one_slot _ _ _ _ t.one).shows in
     let is_y = y_is _ _ x _ c.args.q c.write_q.ensures.there q_is same in
-    let sifted = sift _ _ _ _ c.args.at.rest.first c.args.at.rest.last c.args.at.kept.first c.args.at.kept.last c.args.at.dropped.first c.args.at.dropped.last c.take_first-next.result _ _ x _ xs ks ds sieve c.requires.some t
-    c.write_q.ensures.written is_y c.put_after-kept.ensures in
-    rw q_is (turn_kept _ _ c.args.at _ _ xs ks ds _ (rw (q_is, best_is) at c.if-q-at.true) sifted)
+    let sifted = sift _ _ _ _ c.args.at.now.rest.first c.args.at.now.rest.last c.args.at.now.kept.first c.args.at.now.kept.last c.args.at.now.dropped.first c.args.at.now.dropped.last c.take_first-at.result _ _ x _ xs ks ds sieve c.requires.some t
+    c.write_q.ensures.written is_y c.put_after-at.ensures in
+    rw q_is (turn_kept _ _ c.args.at.now _ _ xs ks ds _ (rw (q_is, best_is) at c.if-q-at.true) sifted)
 
 pub returns-else-q-at : goal.returns-else-q-at
 returns-else-q-at c = λ x xs ks ds sieve.
     let q_is = to_z-of_z {w = w128} {z = c.args.q} (search rules) in
-    let best_is = to_z-of_z {w = w128} {z = c.args.at.best} (search rules) in
-    let t = c.take_first-next.ensures.taken c.args.at.rest.last x xs sieve.more in
+    let best_is = to_z-of_z {w = w128} {z = c.args.at.now.best} (search rules) in
+    let t = c.take_first-at.ensures.taken c.args.at.now.rest.last x xs sieve.more in
     let same = (one_slot _ _ _ _ t.one).shows in
     let is_y = y_is _ _ x _ c.args.q c.write_q.ensures.there q_is same in
-    let sifted = sift _ _ _ _ c.args.at.rest.first c.args.at.rest.last c.args.at.dropped.first c.args.at.dropped.last c.args.at.kept.first c.args.at.kept.last c.take_first-next.result _ _ x _ xs ds ks (turned _ _ _ _ _ _ _ sieve)
-    c.requires.some t c.write_q.ensures.written is_y c.put_after-dropped.ensures in
-    rw best_is (turn_dropped _ _ c.args.at _ _ xs ks ds _ (rw (q_is, best_is) at c.if-q-at.false) sifted)
+    let sifted = sift _ _ _ _ c.args.at.now.rest.first c.args.at.now.rest.last c.args.at.now.dropped.first c.args.at.now.dropped.last c.args.at.now.kept.first c.args.at.now.kept.last c.take_first-at.result _ _ x _ xs ds ks (turned _ _ _ _ _ _ _ sieve)
+    c.requires.some t c.write_q.ensures.written is_y c.put_after-at-else-q-at.ensures in
+    turn_dropped _ _ c.args.at.now _ _ xs ks ds _ (rw (q_is, best_is) at c.if-q-at.false) sifted

@@ -13,13 +13,13 @@ turns-init g c = record {
   steps = refl;
 }
 
-pub wire_turn-at-requires-clause-three : goal.wire_turn-at-requires-clause-three
-wire_turn-at-requires-clause-three g c =
+pub wire_turn-requires-clause-three : goal.wire_turn-requires-clause-three
+wire_turn-requires-clause-three g c =
     let some : c.turns.at.rest.first ≢ none = omega (arith, c.turns-test) in
     (ready _ _ _ _ c.turns.self c.turns.at c.turns.invariant.wiring some).sieve
 
-pub wire_turn-at-requires-clause-modest : goal.wire_turn-at-requires-clause-modest
-wire_turn-at-requires-clause-modest g c =
+pub wire_turn-requires-clause-modest : goal.wire_turn-requires-clause-modest
+wire_turn-requires-clause-modest g c =
     let some : c.turns.at.rest.first ≢ none = omega (arith, c.turns-test) in
     (ready _ _ _ _ c.turns.self c.turns.at c.turns.invariant.wiring some).modest
 

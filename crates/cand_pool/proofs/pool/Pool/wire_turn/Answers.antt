@@ -5,12 +5,12 @@ use Rattle.cand_pool.proofs.WireLaws.{wire_turned, turn_fewer}
 use Rattle.cand_pool.proofs.pool.Pool.wire_turn.Goals as goal
 
 pub after_wire-q-requires-clause-there : goal.after_wire-q-requires-clause-there
-after_wire-q-requires-clause-there g c = live_low c.args.self.now c.args.at.rest.first (held_live c.args.self.now c.args.at.rest.first c.args.at.rest.last _ c.requires.three.more) c.requires.some
+after_wire-q-requires-clause-there g c = live_low c.args.self.now c.args.at.now.rest.first (held_live c.args.self.now c.args.at.now.rest.first c.args.at.now.rest.last _ c.requires.three.more) c.requires.some
 
 pub returns-clause-wiring : goal.returns-clause-wiring
 returns-clause-wiring g c = λ s list all w.
     let q_is = to_z-of_z {w = w128} {z = c.after_wire-q.result} (search rules) ∙ c.after_wire-q.ensures in
-    wire_turned c.args.r s list all c.args.self.now c.turn.new.self c.args.at c.turn.result _ w c.requires.some q_is c.turn.ensures
+    wire_turned c.args.r s list all c.args.self.now c.turn.new.self c.args.at.now c.turn.new.at _ w c.requires.some q_is c.turn.ensures
 
 pub returns-clause-fewer : goal.returns-clause-fewer
-returns-clause-fewer g c = turn_fewer c.args.self.now c.turn.new.self c.args.at c.turn.result _ _ _ _ c.requires.three c.requires.some c.turn.ensures
+returns-clause-fewer g c = turn_fewer c.args.self.now c.turn.new.self c.args.at.now c.turn.new.at _ _ _ _ c.requires.three c.requires.some c.turn.ensures
