@@ -1,5 +1,5 @@
 -- The last node that has not come in comes in to its parent.
-use Rattle.std.proofs.Common.{◌≡◌, ℕ, ◌+◌, ◌*◌, ◌<◌, ◌≤◌, Bool, true, false, cond, List, [], ◌∷◌, ◌++◌, length, set, get_or, slice_index_or, refl, sym, ap, ◌∙◌, subst, arith}
+use Rattle.std.proofs.Common.{◌≡◌, ℕ, ◌+◌, ◌<◌, ◌≤◌, true, List, [], ◌∷◌, ◌++◌, length, set, get_or, refl, sym, ap, ◌∙◌, subst, arith}
 use Rattle.std.proofs.lemmas.List.{append-nil, length-append, length-set, get_or_default, set-set}
 use Rattle.std.proofs.lemmas.List.Sorted.{IsPermutation-sym, IsPermutation-append_comm}
 use Rattle.elmore.specs.Pairs.{IsPairAt}
@@ -18,7 +18,6 @@ use Rattle.cand_turns.specs.declared.part.Part.TheVariants.{Dead, Live}
 use Rattle.cand_turns.specs.Swaps.{Search, Lists, search, AreHeld, IsSwap, IsTurn}
 use Rattle.cand_turns.specs.Branches.{classes_in}
 use Rattle.cand_turns.specs.Parts.{lists_in, IsPart}
-use Rattle.cand_turns.specs.Tooled.{added_at}
 use Rattle.cand_turns.proofs.SwapLemmas.{order_held, front_held}
 use Rattle.vg_slack.specs.Climbs.{all_lists, part_at, AreParts}
 use Rattle.vg_slack.proofs.PartsLemmas.{all_more, with_more, of_parts, beside_at, given_up, place_turn, more_turn, parts_beside, parts_after, rest_parts, last_part}
@@ -33,9 +32,9 @@ pub record IsLast (p : Problem) (items rest : List Part) (last upper : Part) (i 
   pub upper_is : upper ≡ part_at rest v
 
 -- as the code finds it: the upper part is what it reads at v, and the last part what it takes from the end
-pub at_last : (p : Problem) (items rest : List Part) (part last upper read : Part) (i v : ℕ) → items ≡ rest ++ part ∷ [] → part ≡ last → i ≡ length rest
+pub at_last : (p : Problem) {items rest : List Part} {part last upper read : Part} (i : ℕ) {v : ℕ} → items ≡ rest ++ part ∷ [] → part ≡ last → i ≡ length rest
     → length items ≤ length p.tree.nodes → v ≡ parent_of p.tree.nodes i → v < i → upper ≡ read → read ≡ get_or rest v read → IsLast p items rest last upper i v
-at_last p items rest part last upper read i v items_are part_is i_is items_n v_is v_i upper_is read_is = record {
+at_last p {items} {rest} {part} {last} {upper} {read} i {v} items_are part_is i_is items_n v_is v_i upper_is read_is = record {
   all_are = items_are ∙ ap (λ (x : Part). rest ++ x ∷ []) part_is;
   node = i_is;
   within = omega (arith, items_n, i_is, ap (λ (xs : List Part). length xs) items_are, length-append rest (part ∷ []));
@@ -45,9 +44,9 @@ at_last p items rest part last upper read i v items_are part_is i_is items_n v_i
 }
 
 -- before it reads the upper part
-pub at_end : (p : Problem) (items rest : List Part) (part last : Part) (i v : ℕ) → items ≡ rest ++ part ∷ [] → part ≡ last → i ≡ length rest
+pub at_end : (p : Problem) {items rest : List Part} {part last : Part} (i : ℕ) {v : ℕ} → items ≡ rest ++ part ∷ [] → part ≡ last → i ≡ length rest
     → length items ≤ length p.tree.nodes → v ≡ parent_of p.tree.nodes i → v < i → IsLast p items rest last (part_at rest v) i v
-at_end p items rest part last i v items_are part_is i_is items_n v_is v_i = record {
+at_end p {items} {rest} {part} {last} i {v} items_are part_is i_is items_n v_is v_i = record {
   all_are = items_are ∙ ap (λ (x : Part). rest ++ x ∷ []) part_is;
   node = i_is;
   within = omega (arith, items_n, i_is, ap (λ (xs : List Part). length xs) items_are, length-append rest (part ∷ []));
@@ -56,17 +55,17 @@ at_end p items rest part last i v items_are part_is i_is items_n v_is v_i = reco
   upper_is = refl;
 }
 
-module _ (p : Problem) (items rest : List Part) (last upper : Part) (i v : ℕ) (at : IsLast p items rest last upper i v) where
+module _ {p : Problem} {items rest : List Part} {last upper : Part} {i v : ℕ} (at : IsLast p items rest last upper i v) where
   in_rest : v < length rest
   in_rest = omega (arith, at.less, at.node)
 
-  pub count : length items ≡ i + 1
+  count : length items ≡ i + 1
   count = omega (arith, at.node, ap (λ (xs : List Part). length xs) at.all_are, length-append rest (last ∷ []))
 
-  pub lists_are : all_lists items ≡ all_lists rest ++ lists_in last
+  lists_are : all_lists items ≡ all_lists rest ++ lists_in last
   lists_are = ap (λ (xs : List Part). all_lists xs) at.all_are ∙ all_more rest last
 
-  pub all_held : (s : Search) → AreHeld s (all_lists items) → AreHeld s (all_lists rest ++ lists_in last)
+  all_held : (s : Search) → AreHeld s (all_lists items) → AreHeld s (all_lists rest ++ lists_in last)
   all_held s held = subst (λ (ls : Lists). AreHeld s ls) lists_are held
 
   -- the lists of the last part, and those of its parent's, are held
@@ -115,53 +114,62 @@ module _ (p : Problem) (items rest : List Part) (last upper : Part) (i v : ℕ) 
   closed_parts old new s t made held turn parts =
       parts_beside p (i + 1) old new s t rest (lists_in last) made (all_held (search s old) held) turn (parts_of_rest (made_of old) s parts)
 
-  -- the parts with another one for the upper
-  put_twice : (gone x : Part) → set (set rest v gone) v x ≡ set rest v x
-  put_twice gone x = set-set rest v gone x
-
-  pub taken_turn : (old new : Search) (more : Lists) (x : Part) → AreHeld old (all_lists rest ++ more) → IsTurn old (lists_in upper ++ more) new (lists_in x)
+  -- the upper part was given for another one
+  one_taken : (old new : Search) (more : Lists) (x : Part) → AreHeld old (all_lists rest ++ more) → IsTurn old (lists_in upper ++ more) new (lists_in x)
       → IsTurn old (all_lists rest ++ more) new (all_lists (set rest v x))
-  taken_turn old new more x held turn =
+  one_taken old new more x held turn =
       place_turn old new rest v more x in_rest held (subst (λ (y : Part). IsTurn old (lists_in y ++ more) new (lists_in x)) at.upper_is turn)
 
-  pub taken_twice : (old new : Search) (before : Lists) (gone x : Part) → IsTurn old before new (all_lists (set rest v x))
-      → IsTurn old before new (all_lists (set (set rest v gone) v x))
-  taken_twice old new before gone x turn = subst (λ (xs : List Part). IsTurn old before new (all_lists xs)) (sym (put_twice gone x)) turn
+  -- or for none
+  pub upper_lost : (old new : Search) (more : Lists) (gone : Part) → gone ≡ Dead 0 → AreHeld old (all_lists rest ++ more)
+      → IsSwap old (lists_in upper ++ more) new [] → IsTurn old (all_lists rest ++ more) new (all_lists (set rest v gone))
+  upper_lost old new more gone gone_is held swap =
+      subst (λ (x : Part). IsTurn old (all_lists rest ++ more) new (all_lists (set rest v x))) (sym gone_is)
+      (one_taken old new more (Dead 0) held (given_up old new (lists_in upper ++ more) swap))
+
+  -- while it was away another one stood there
+  pub taken_turn : (old new : Search) (more : Lists) (gone x : Part) → AreHeld old (all_lists rest ++ more) → IsTurn old (lists_in upper ++ more) new (lists_in x)
+      → IsTurn old (all_lists rest ++ more) new (all_lists (set (set rest v gone) v x))
+  taken_turn old new more gone x held turn =
+      subst (λ (xs : List Part). IsTurn old (all_lists rest ++ more) new (all_lists xs)) (sym (set-set rest v gone x)) (one_taken old new more x held turn)
 
   pub taken_parts : (old new : Arena) (s t : Block) (more : Lists) (gone x : Part) → AreHeld (search s old) (all_lists rest ++ more)
       → IsTurn (search s old) (lists_in upper ++ more) (search t new) (lists_in x) → AreParts p (i + 1) (made_of old) s rest
       → IsPart p i (parent_of p.tree.nodes i) (made_of new) t x
       → AreParts p (length (set (set rest v gone) v x)) (made_of new) t (set (set rest v gone) v x)
   taken_parts old new s t more gone x held turn parts part =
+      let turn' : IsTurn (search s old) (lists_in (part_at rest v) ++ more) (search t new) (lists_in x)
+      = subst (λ (y : Part). IsTurn (search s old) (lists_in y ++ more) (search t new) (lists_in x)) at.upper_is turn in
+      let part' : IsPart p i v (made_of new) t x = subst (λ (k : ℕ). IsPart p i k (made_of new) t x) (sym at.parent) part in
       let after : AreParts p i (made_of new) t (set rest v x)
-      = parts_after p i v old new s t rest more x at.within at.parent in_rest held (subst (λ (y : Part). IsTurn (search s old) (lists_in y ++ more) (search t new) (lists_in x)) at.upper_is turn)
-      parts (subst (λ (k : ℕ). IsPart p i k (made_of new) t x) (sym at.parent) part) in
+      = parts_after p i v old new s t rest more x at.within at.parent in_rest held turn' parts part' in
       let left : length (set rest v x) ≡ i = length-set rest v x ∙ sym at.node in
-      subst (λ (xs : List Part). AreParts p (length xs) (made_of new) t xs) (sym (put_twice gone x))
+      subst (λ (xs : List Part). AreParts p (length xs) (made_of new) t xs) (sym (set-set rest v gone x))
       (subst (λ (k : ℕ). AreParts p k (made_of new) t (set rest v x)) (sym left) after)
 
-  -- all that was held is given up but the other parts' lists
-  pub upper_lost : (old new : Search) (more : Lists) (gone : Part) → gone ≡ Dead 0 → AreHeld old (all_lists rest ++ more) → IsSwap old (lists_in upper ++ more) new []
-      → IsTurn old (all_lists rest ++ more) new (all_lists (set rest v gone))
-  upper_lost old new more gone gone_is held swap =
-      subst (λ (x : Part). IsTurn old (all_lists rest ++ more) new (all_lists (set rest v x))) (sym gone_is)
-      (taken_turn old new more (Dead 0) held (given_up old new (lists_in upper ++ more) swap))
+  -- a last part that is dead has no list
+  alone : lists_in last ≡ [] → lists_in upper ++ lists_in last ≡ lists_in upper
+  alone none = ap (λ (ls : Lists). lists_in upper ++ ls) none ∙ append-nil (lists_in upper)
 
--- a dead node gives its parent no list
-pub no_lists : (old new : Search) (ls made : Lists) → IsTurn old ls new made → IsTurn old (ls ++ []) new made
-no_lists old new ls made turn = subst (λ (xs : Lists). IsTurn old xs new made) (sym (append-nil ls)) turn
+  pub upper_alone : (s : Search) → lists_in last ≡ [] → AreHeld s (all_lists items) → AreHeld s (lists_in upper)
+  upper_alone s none held = subst (λ (ls : Lists). AreHeld s ls) (alone none) (upper_held s (lists_in last) (all_held s held))
 
-pub held_alone : (s : Search) (ls : Lists) → AreHeld s (ls ++ []) → AreHeld s ls
-held_alone s ls held = subst (λ (xs : Lists). AreHeld s xs) (append-nil ls) held
+  pub dead_turn : (old new : Search) (gone x : Part) → lists_in last ≡ [] → AreHeld old (all_lists items) → IsTurn old (lists_in upper) new (lists_in x)
+      → IsTurn old (all_lists items) new (all_lists (set (set rest v gone) v x))
+  dead_turn old new gone x none held turn =
+      subst (λ (ls : Lists). IsTurn old ls new (all_lists (set (set rest v gone) v x))) (sym lists_are)
+      (taken_turn old new (lists_in last) gone x (all_held old held)
+      (subst (λ (ls : Lists). IsTurn old ls new (lists_in x)) (sym (alone none)) turn))
 
--- what is added at a node is no more than the repeaters
-pub few_added : (p : Problem) (v n : ℕ) → 2 * length p.reps ≤ n → 2 * added_at p v ≤ n
-few_added p v n room = few (slice_index_or p.places v false) where
-  few : (b : Bool) → 2 * cond b (length p.reps) 0 ≤ n
-  few true = room
-  few false = omega arith
+  pub dead_parts : (arena : Arena) (s t : Block) (gone x : Part) → lists_in last ≡ [] → AreHeld (search s arena) (all_lists items)
+      → IsTurn (search s arena) (lists_in upper) (search t arena) (lists_in x) → AreParts p (i + 1) (made_of arena) s rest
+      → IsPart p i (parent_of p.tree.nodes i) (made_of arena) t x
+      → AreParts p (length (set (set rest v gone) v x)) (made_of arena) t (set (set rest v gone) v x)
+  dead_parts arena s t gone x none held turn parts part =
+      taken_parts arena arena s t (lists_in last) gone x (all_held (search s arena) held)
+      (subst (λ (ls : Lists). IsTurn (search s arena) ls (search t arena) (lists_in x)) (sym (alone none)) turn) parts part
 
--- the last node is live or dead, as its part says
+-- the last node is live where its part is
 pub last_is_live : (p : Problem) (i : ℕ) (ms : List Made) (s : Block) (branch : Branch) → i < length p.tree.nodes → IsPart p (i + 1) i ms s (Live branch)
     → is_live p.tree.nodes p.sinks i ≡ true
 last_is_live p i ms s branch i_n part = part_is_live p (IsPairAt p) i (λ odd. pairs_of (classes_in s branch odd)) i_n part.part
