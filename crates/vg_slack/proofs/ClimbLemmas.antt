@@ -20,7 +20,8 @@ use Rattle.cand_turns.specs.Branches.{classes_in}
 use Rattle.cand_turns.specs.Parts.{lists_in, IsPart}
 use Rattle.cand_turns.proofs.SwapLemmas.{order_held, front_held}
 use Rattle.vg_slack.specs.Climbs.{all_lists, part_at, AreParts}
-use Rattle.vg_slack.proofs.PartsLemmas.{all_more, with_more, of_parts, beside_at, given_up, place_turn, more_turn, parts_beside, parts_after, rest_parts, last_part}
+use Rattle.vg_slack.proofs.PartsLemmas.{all_more, with_more, of_parts, beside_at, given_up, place_turn, more_turn}
+use Rattle.vg_slack.proofs.PartsLemmas.{parts_beside, parts_after, rest_parts, last_part}
 
 -- node i has the last part, and its parent, v, the upper one
 pub record IsLast (p : Problem) (items rest : List Part) (last upper : Part) (i v : ℕ) : Type 0 where
@@ -72,7 +73,8 @@ module _ {p : Problem} {items rest : List Part} {last upper : Part} {i v : ℕ} 
   pub last_held : (s : Search) → AreHeld s (all_lists items) → AreHeld s (lists_in last)
   last_held s held =
       front_held s (lists_in last) (all_lists rest)
-      (order_held s (all_lists rest ++ lists_in last) (lists_in last ++ all_lists rest) (IsPermutation-append_comm (all_lists rest) (lists_in last)) (all_held s held))
+      (order_held s (all_lists rest ++ lists_in last) (lists_in last ++ all_lists rest) (IsPermutation-append_comm (all_lists rest) (lists_in last))
+      (all_held s held))
 
   pub upper_held : (s : Search) (more : Lists) → AreHeld s (all_lists rest ++ more) → AreHeld s (lists_in upper ++ more)
   upper_held s more held =
@@ -107,10 +109,11 @@ module _ {p : Problem} {items rest : List Part} {last upper : Part} {i v : ℕ} 
 
   pub lost_turn : (old new : Search) → AreHeld old (all_lists items) → IsSwap old (lists_in last) new [] → IsTurn old (all_lists items) new (all_lists rest)
   lost_turn old new held swap =
-      subst (λ (ls : Lists). IsTurn old (all_lists items) new ls) (append-nil (all_lists rest)) (closed_turn old new [] held (given_up old new (lists_in last) swap))
+      subst (λ (ls : Lists). IsTurn old (all_lists items) new ls) (append-nil (all_lists rest))
+      (closed_turn old new [] held (given_up old new (lists_in last) swap))
 
-  pub closed_parts : (old new : Arena) (s t : Block) (made : Lists) → AreHeld (search s old) (all_lists items) → IsTurn (search s old) (lists_in last) (search t new) made
-      → AreParts p (length items) (made_of old) s items → AreParts p (i + 1) (made_of new) t rest
+  pub closed_parts : (old new : Arena) (s t : Block) (made : Lists) → AreHeld (search s old) (all_lists items)
+      → IsTurn (search s old) (lists_in last) (search t new) made → AreParts p (length items) (made_of old) s items → AreParts p (i + 1) (made_of new) t rest
   closed_parts old new s t made held turn parts =
       parts_beside p (i + 1) old new s t rest (lists_in last) made (all_held (search s old) held) turn (parts_of_rest (made_of old) s parts)
 
@@ -128,7 +131,8 @@ module _ {p : Problem} {items rest : List Part} {last upper : Part} {i v : ℕ} 
       (one_taken old new more (Dead 0) held (given_up old new (lists_in upper ++ more) swap))
 
   -- while it was away another one stood there
-  pub taken_turn : (old new : Search) (more : Lists) (gone x : Part) → AreHeld old (all_lists rest ++ more) → IsTurn old (lists_in upper ++ more) new (lists_in x)
+  pub taken_turn : (old new : Search) (more : Lists) (gone x : Part) → AreHeld old (all_lists rest ++ more)
+      → IsTurn old (lists_in upper ++ more) new (lists_in x)
       → IsTurn old (all_lists rest ++ more) new (all_lists (set (set rest v gone) v x))
   taken_turn old new more gone x held turn =
       subst (λ (xs : List Part). IsTurn old (all_lists rest ++ more) new (all_lists xs)) (sym (set-set rest v gone x)) (one_taken old new more x held turn)

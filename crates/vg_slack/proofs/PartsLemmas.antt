@@ -5,7 +5,8 @@ use Rattle.std.proofs.Math.ListN.{get_or-append}
 use Rattle.std.proofs.Math.Seq.{get_or-append_seam}
 use Rattle.std.proofs.lemmas.List.{append-nil, append_assoc, length-append, set-get_or, length-set, get_or-set_same, get_or-set_other}
 use Rattle.std.proofs.lemmas.List.Elements.{All-nil, Contains-append_left, Contains-append_right}
-use Rattle.std.proofs.lemmas.List.Sorted.{IsPermutation-refl, IsPermutation-sym, IsPermutation-trans, IsPermutation-append_left, IsPermutation-append_right, IsPermutation-append_comm}
+use Rattle.std.proofs.lemmas.List.Sorted.{IsPermutation-refl, IsPermutation-sym, IsPermutation-trans}
+use Rattle.std.proofs.lemmas.List.Sorted.{IsPermutation-append_left, IsPermutation-append_right, IsPermutation-append_comm}
 use Rattle.std.specs.List.{Contains}
 use Rattle.std.specs.List.Sorted.{IsPermutation}
 use Rattle.elmore.specs.Trees.{parent_of}
@@ -69,7 +70,8 @@ with_more some more others all of =
 
 pub of_parts : (parts : List Part) (v : ℕ) → v < length parts → AreOf (lists_in (part_at parts v)) (beside_at parts v) (all_lists parts)
 of_parts parts v v_n =
-    subst (λ (xs : List Part). AreOf (lists_in (part_at parts v)) (beside_at parts v) (all_lists xs)) (set-get_or parts v (Dead 0)) (with_part parts v (part_at parts v) v_n)
+    subst (λ (xs : List Part). AreOf (lists_in (part_at parts v)) (beside_at parts v) (all_lists xs)) (set-get_or parts v (Dead 0))
+    (with_part parts v (part_at parts v) v_n)
 
 -- each part's lists are among all, and beside another part
 pub in_all_parts : (parts : List Part) (w : ℕ) (l : NamedList) → w < length parts → Contains (lists_in (part_at parts w)) l → Contains (all_lists parts) l
@@ -77,7 +79,8 @@ in_all_parts [] w l w_n found = absurd (omega arith)
 in_all_parts (x ∷ xs) zero l w_n found = Contains-append_left (lists_in x) (all_lists xs) l found
 in_all_parts (x ∷ xs) (suc w) l w_n found = Contains-append_right (lists_in x) (all_lists xs) l (in_all_parts xs w l (omega arith) found)
 
-pub in_beside : (parts : List Part) (v w : ℕ) (l : NamedList) → w < length parts → w ≢ v → Contains (lists_in (part_at parts w)) l → Contains (beside_at parts v) l
+pub in_beside : (parts : List Part) (v w : ℕ) (l : NamedList) → w < length parts → w ≢ v
+    → Contains (lists_in (part_at parts w)) l → Contains (beside_at parts v) l
 in_beside [] v w l w_n other found = absurd (omega arith)
 in_beside (x ∷ xs) zero zero l w_n other found = absurd (other refl)
 in_beside (x ∷ xs) zero (suc w) l w_n other found = in_all_parts xs w l (omega arith) found
@@ -114,15 +117,17 @@ part_stays p i w ms s (Dead c) i_n no_child part = dead_stays p w i c i_n no_chi
 part_stays p i w ms s (Live branch) i_n no_child part = record {
   part = live_stays p (IsPairAt p) w i (λ odd. pairs_of (classes_in s branch odd)) i_n no_child part.part;
   solved = λ odd.
-      subst (λ (us : List ℕ). AreSolved (IsOpenSolutionOf p odd (fork_of w (own_from p w i) us)) ms (classes_in s branch odd)) (sym (other_live p w i i_n no_child))
-      (subst (λ (own : ℕ). AreSolved (IsOpenSolutionOf p odd (fork_of w own (live_from p w (i + 1)))) ms (classes_in s branch odd)) (sym (other_own p w i i_n no_child)) (part.solved odd));
+      subst (λ (us : List ℕ). AreSolved (IsOpenSolutionOf p odd (fork_of w (own_from p w i) us)) ms (classes_in s branch odd))
+      (sym (other_live p w i i_n no_child))
+      (subst (λ (own : ℕ). AreSolved (IsOpenSolutionOf p odd (fork_of w own (live_from p w (i + 1)))) ms (classes_in s branch odd))
+      (sym (other_own p w i i_n no_child)) (part.solved odd));
 }
 
 -- a part that stands beside a swap
 module _ (p : Problem) (i v : ℕ) (old new : Arena) (s t : Block) (given made others : Lists) (held : AreHeld (search s old) (given ++ others))
     (turn : IsTurn (search s old) given (search t new) made) where
-  branch_beside : (branch : Branch) → ((l : NamedList) → Contains (lists_in (Live branch)) l → Contains others l) → IsOpenAt p i v (made_of old) (classes_in s branch)
-      → IsOpenAt p i v (made_of new) (classes_in t branch)
+  branch_beside : (branch : Branch) → ((l : NamedList) → Contains (lists_in (Live branch)) l → Contains others l)
+      → IsOpenAt p i v (made_of old) (classes_in s branch) → IsOpenAt p i v (made_of new) (classes_in t branch)
   branch_beside branch among at = record {
     part = record { end = at.part.end; exact = λ odd. (both odd).exact };
     solved = λ odd. (both odd).solved;
@@ -135,16 +140,19 @@ module _ (p : Problem) (i v : ℕ) (old new : Arena) (s t : Block) (given made o
         open_beside p i v false old new s t given made others held turn branch.even (among branch.even (0, omega arith, refl))
         (record { exact = at.part.exact false; solved = at.solved false })
 
-  pub part_beside : (x : Part) → ((l : NamedList) → Contains (lists_in x) l → Contains others l) → IsPart p i v (made_of old) s x → IsPart p i v (made_of new) t x
+  pub part_beside : (x : Part) → ((l : NamedList) → Contains (lists_in x) l → Contains others l) → IsPart p i v (made_of old) s x
+      → IsPart p i v (made_of new) t x
   part_beside (Dead c) among part = part
   part_beside (Live branch) among part = branch_beside branch among part
 
 -- all parts stand beside a swap
-pub parts_beside : (p : Problem) (i : ℕ) (old new : Arena) (s t : Block) (rest : List Part) (given made : Lists) → AreHeld (search s old) (all_lists rest ++ given)
-    → IsTurn (search s old) given (search t new) made → AreParts p i (made_of old) s rest → AreParts p i (made_of new) t rest
+pub parts_beside : (p : Problem) (i : ℕ) (old new : Arena) (s t : Block) (rest : List Part) (given made : Lists)
+    → AreHeld (search s old) (all_lists rest ++ given) → IsTurn (search s old) given (search t new) made
+    → AreParts p i (made_of old) s rest → AreParts p i (made_of new) t rest
 parts_beside p i old new s t rest given made held turn parts w w_n =
     part_beside p i w old new s t given made (all_lists rest)
-    (order_held (search s old) (all_lists rest ++ given) (given ++ all_lists rest) (IsPermutation-append_comm (all_lists rest) given) held) turn (part_at rest w)
+    (order_held (search s old) (all_lists rest ++ given) (given ++ all_lists rest) (IsPermutation-append_comm (all_lists rest) given) held)
+    turn (part_at rest w)
     (λ l found. in_all_parts rest w l w_n found) (parts w w_n)
 
 -- node i came in to the part at v, its parent: the others had no child that came in
@@ -169,10 +177,13 @@ parts_after p i v old new s t rest more x i_n v_is v_n held turn parts part w w_
     ]
 
 -- the parts but the last
-pub rest_parts : (p : Problem) (i : ℕ) (ms : List Made) (s : Block) (rest : List Part) (last : Part) → AreParts p i ms s (rest ++ last ∷ []) → AreParts p i ms s rest
+pub rest_parts : (p : Problem) (i : ℕ) (ms : List Made) (s : Block) (rest : List Part) (last : Part) → AreParts p i ms s (rest ++ last ∷ [])
+    → AreParts p i ms s rest
 rest_parts p i ms s rest last parts w w_n =
     subst (λ (x : Part). IsPart p i w ms s x) (get_or-append rest (last ∷ []) (Dead 0) w w_n) (parts w (omega (arith, length-append rest (last ∷ []))))
 
-pub last_part : (p : Problem) (i : ℕ) (ms : List Made) (s : Block) (rest : List Part) (last : Part) → AreParts p i ms s (rest ++ last ∷ []) → IsPart p i (length rest) ms s last
+pub last_part : (p : Problem) (i : ℕ) (ms : List Made) (s : Block) (rest : List Part) (last : Part) → AreParts p i ms s (rest ++ last ∷ [])
+    → IsPart p i (length rest) ms s last
 last_part p i ms s rest last parts =
-    subst (λ (x : Part). IsPart p i (length rest) ms s x) (get_or-append_seam rest last [] (Dead 0)) (parts (length rest) (omega (arith, length-append rest (last ∷ []))))
+    subst (λ (x : Part). IsPart p i (length rest) ms s x) (get_or-append_seam rest last [] (Dead 0))
+    (parts (length rest) (omega (arith, length-append rest (last ∷ []))))
