@@ -1,0 +1,66 @@
+//! The way from the last node of a net to its root.
+
+ghost use Rattle.std.specs.Prelude.{◌≡◌, ℕ, ◌+◌, ◌*◌, ◌<◌, ◌≤◌, [], ◌++◌, length, OnOk, OnErr};
+ghost use Rattle.elmore.specs.Trees.{parent_of};
+ghost use Rattle.sol_arena.specs.Arenas.{made_of};
+ghost use Rattle.cand_pool.specs.Pools.{spare};
+ghost use Rattle.cand_turns.specs.Swaps.{Slots, AreHeld, IsSwap, IsTurn, search, at_slots};
+ghost use Rattle.cand_turns.specs.Tooled.{AreToolsOf, added_at};
+ghost use Rattle.vg_slack.specs.Climbs.{all_lists, AreParts};
+
+use cand_pool::{Pool, Steps};
+use cand_turns::{Part, Tools};
+use elmore::Problem;
+use sol_arena::Arena;
+use std::mem;
+use std::sync::ledger::Ledger;
+use vg_num::Memory;
+
+/// The parent of a node.
+fn parent_of(p: &Problem, node: usize) -> usize
+    requires some { 0 < node }
+    requires node { node < length p.now.tree.nodes }
+    ensures parent { result ≡ parent_of p.now.tree.nodes node }
+    ensures less { result < node }
+{
+    p.tree.nodes.as_slice()[node].parent as usize
+}
+
+/// The last node of those that have not come in comes in to its parent. Answers `Memory` where there is no room.
+fn turn<L: Ledger>(
+    pool: &mut Pool,
+    arena: &mut Arena,
+    p: &Problem,
+    parts: &mut Vec<Part>,
+    tools: &mut Tools,
+    steps: &mut Steps<L>,
+) -> Result<(), Memory>
+    requires more { 1 < length parts.old.items }
+    requires nodes { length parts.old.items ≤ length p.now.tree.nodes }
+    requires tools { AreToolsOf p.now tools.old }
+    requires room { 2 * length p.now.reps ≤ spare pool.old }
+    requires held { AreHeld (search pool.old arena.old) (all_lists parts.old.items) }
+    requires parts { AreParts p.now (length parts.old.items) (made_of arena.old) pool.old parts.old.items }
+    ensures tools { AreToolsOf p.now tools.new }
+    ensures turn { IsTurn (search pool.old arena.old) (all_lists parts.old.items) (search pool.new arena.new) (all_lists parts.new.items) }
+    ensures fewer { OnOk result (length parts.new.items + 1 ≡ length parts.old.items) }
+    ensures parts { OnOk result (AreParts p.now (length parts.new.items) (made_of arena.new) pool.new parts.new.items) }
+{
+    let Some(part) = parts.pop() else {
+        unreachable!()
+    };
+    let node = parts.len();
+    let parent = parent_of(p, node);
+    match part {
+        Part::Dead(c) => {
+            let upper = mem::replace(&mut parts[parent], Part::Dead(0));
+            parts[parent] = upper.take_dead(pool, p, node, c, steps);
+        }
+        Part::Live(branch) => {
+            let branch = branch.close(pool, arena, p, node, tools, steps)?;
+            let upper = mem::replace(&mut parts[parent], Part::Dead(0));
+            parts[parent] = upper.take_live(pool, arena, p, node, branch, steps)?;
+        }
+    }
+    Ok(())
+}

@@ -1,0 +1,4 @@
+//! The best placement of repeaters on a net.
+#![tactic(auto)]
+
+mod climb;
