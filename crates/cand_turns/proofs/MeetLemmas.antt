@@ -170,9 +170,18 @@ solved_beside Is old new s t given made others held turn l found solved =
     (solved_still Is (made_of old) (made_of new) (items_of s l) (list_meant old new s t given made others held turn l found) solved)
 
 -- the two lists of one class
+pub pair_held : (at : Search) (a b : NamedList) (others all : Lists) → AreOf (a ∷ b ∷ []) others all → AreHeld at all → AreHeld at (a ∷ b ∷ [])
+pair_held at a b others all of held =
+    front_held at (a ∷ b ∷ []) others (order_held at all ((a ∷ b ∷ []) ++ others) (IsPermutation-sym ((a ∷ b ∷ []) ++ others) all of) held)
+
+pub pair_uses : (at : Search) (a b : NamedList) → AreHeld at (a ∷ b ∷ []) → HoldsFor at.slots (items_of at.pool a ++ items_of at.pool b)
+pair_uses at a b held = (two_held at a b held).both
+
+pub later_first : (e b d : NamedList) → AreOf (b ∷ d ∷ []) (e ∷ []) (e ∷ b ∷ d ∷ [])
+later_first e b d = IsPermutation-append_comm (b ∷ d ∷ []) (e ∷ [])
+
 pub pair_two : (at : Search) (a b : NamedList) (others all : Lists) → AreOf (a ∷ b ∷ []) others all → AreHeld at all → AreTwo at a b
-pair_two at a b others all of held =
-    two_held at a b (front_held at (a ∷ b ∷ []) others (order_held at all ((a ∷ b ∷ []) ++ others) (IsPermutation-sym ((a ∷ b ∷ []) ++ others) all of) held))
+pair_two at a b others all of held = two_held at a b (pair_held at a b others all of held)
 
 pub evens_two : (at : Search) (a b c d : NamedList) → AreHeld at (a ∷ b ∷ c ∷ d ∷ []) → AreTwo at a c
 evens_two at a b c d held = pair_two at a c (b ∷ d ∷ []) (a ∷ b ∷ c ∷ d ∷ []) (evens_first a b c d) held
