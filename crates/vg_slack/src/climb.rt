@@ -1,12 +1,12 @@
 //! The way from the last node of a net to its root.
 
-ghost use Rattle.std.specs.Prelude.{◌≡◌, ℕ, ◌+◌, ◌*◌, ◌<◌, ◌≤◌, [], ◌++◌, length, OnOk, OnErr};
+ghost use Rattle.std.specs.Prelude.{◌≡◌, ◌+◌, ◌-◌, ◌*◌, ◌<◌, ◌≤◌, length, OnOk};
 ghost use Rattle.elmore.specs.Trees.{parent_of};
 ghost use Rattle.sol_arena.specs.Arenas.{made_of};
 ghost use Rattle.cand_pool.specs.Pools.{spare};
-ghost use Rattle.cand_turns.specs.Swaps.{Slots, AreHeld, IsSwap, IsTurn, search, at_slots};
+ghost use Rattle.cand_turns.specs.Swaps.{AreHeld, IsTurn, search};
 ghost use Rattle.cand_turns.specs.Tooled.{AreToolsOf, added_at};
-ghost use Rattle.vg_slack.specs.Climbs.{all_lists, AreParts};
+ghost use Rattle.vg_slack.specs.Climbs.{all_lists, added_below, AreParts};
 
 use cand_pool::{Pool, Steps};
 use cand_turns::{Part, Tools};
@@ -38,13 +38,14 @@ fn turn<L: Ledger>(
     requires more { 1 < length parts.old.items }
     requires nodes { length parts.old.items ≤ length p.now.tree.nodes }
     requires tools { AreToolsOf p.now tools.old }
-    requires room { 2 * length p.now.reps ≤ spare pool.old }
+    requires room { 2 * added_at p.now (length parts.old.items - 1) ≤ spare pool.old }
     requires held { AreHeld (search pool.old arena.old) (all_lists parts.old.items) }
     requires parts { AreParts p.now (length parts.old.items) (made_of arena.old) pool.old parts.old.items }
     ensures tools { AreToolsOf p.now tools.new }
     ensures turn { IsTurn (search pool.old arena.old) (all_lists parts.old.items) (search pool.new arena.new) (all_lists parts.new.items) }
     ensures fewer { OnOk result (length parts.new.items + 1 ≡ length parts.old.items) }
     ensures parts { OnOk result (AreParts p.now (length parts.new.items) (made_of arena.new) pool.new parts.new.items) }
+    ensures spare { OnOk result (spare pool.old ≤ spare pool.new + 2 * added_at p.now (length parts.old.items - 1)) }
 {
     let Some(part) = parts.pop() else {
         unreachable!()
@@ -61,6 +62,30 @@ fn turn<L: Ledger>(
             let upper = mem::replace(&mut parts[parent], Part::Dead(0));
             parts[parent] = upper.take_live(pool, arena, p, node, branch, steps)?;
         }
+    }
+    Ok(())
+}
+
+/// All nodes but the root come in, each to its parent, from the last to the first. Answers `Memory` where there is no room.
+fn climb<L: Ledger>(
+    pool: &mut Pool,
+    arena: &mut Arena,
+    p: &Problem,
+    parts: &mut Vec<Part>,
+    tools: &mut Tools,
+    steps: &mut Steps<L>,
+) -> Result<(), Memory>
+    requires nodes { length parts.old.items ≡ length p.now.tree.nodes }
+    requires tools { AreToolsOf p.now tools.old }
+    requires room { 2 * added_below p.now (length p.now.tree.nodes) ≤ spare pool.old }
+    requires held { AreHeld (search pool.old arena.old) (all_lists parts.old.items) }
+    requires parts { AreParts p.now (length parts.old.items) (made_of arena.old) pool.old parts.old.items }
+    ensures turn { IsTurn (search pool.old arena.old) (all_lists parts.old.items) (search pool.new arena.new) (all_lists parts.new.items) }
+    ensures root { OnOk result (length parts.new.items ≡ 1) }
+    ensures parts { OnOk result (AreParts p.now 1 (made_of arena.new) pool.new parts.new.items) }
+{
+    'nodes: while 1 < parts.len() {
+        turn(pool, arena, p, parts, tools, steps)?;
     }
     Ok(())
 }
