@@ -1,6 +1,6 @@
 -- The parts of all nodes: one is exchanged, and the others stay.
 use Rattle.std.proofs.Common.{◌≡◌, ◌≢◌, ℕ, ◌+◌, ◌<◌, Bool, true, false, List, [], ◌∷◌, ◌++◌, length, set, zero, suc, refl, sym, ap, ◌∙◌, subst, arith, inl, inr}
-use Rattle.std.proofs.lemmas.Bool.{cases_eq}
+use Rattle.std.proofs.lemmas.Bool.{cases_eq, cases_lt}
 use Rattle.std.proofs.Math.ListN.{get_or-append}
 use Rattle.std.proofs.Math.Seq.{get_or-append_seam}
 use Rattle.std.proofs.lemmas.List.{append-nil, append_assoc, length-append, set-get_or, length-set, get_or-set_same, get_or-set_other}
@@ -187,3 +187,23 @@ pub last_part : (p : Problem) (i : ℕ) (ms : List Made) (s : Block) (rest : Lis
 last_part p i ms s rest last parts =
     subst (λ (x : Part). IsPart p i (length rest) ms s x) (get_or-append_seam rest last [] (Dead 0))
     (parts (length rest) (omega (arith, length-append rest (last ∷ []))))
+
+-- one part more, of the node after them
+pub parts_more : (p : Problem) (i : ℕ) (ms : List Made) (s : Block) (parts : List Part) (part : Part) → AreParts p i ms s parts → IsPart p i (length parts) ms s part
+    → AreParts p i ms s (parts ++ part ∷ [])
+parts_more p i ms s parts part are is w w_n =
+    elim (cases_lt w (length parts)) [
+      | inl low ↦ subst (λ (x : Part). IsPart p i w ms s x) (sym (get_or-append parts (part ∷ []) (Dead 0) w low)) (are w low)
+      | inr high ↦
+          let last : w ≡ length parts = omega (arith, high, w_n, length-append parts (part ∷ [])) in
+          subst (λ (u : ℕ). IsPart p i u ms s (part_at (parts ++ part ∷ []) u)) (sym last)
+          (subst (λ (x : Part). IsPart p i (length parts) ms s x) (sym (get_or-append_seam parts part [] (Dead 0))) is)
+    ]
+
+-- a part more beside all that are there
+pub start_more : (old new : Search) (parts : List Part) (part : Part) → AreHeld old (all_lists parts) → IsTurn old [] new (lists_in part)
+    → IsTurn old (all_lists parts) new (all_lists (parts ++ part ∷ []))
+start_more old new parts part held turn =
+    subst (λ (lists : Lists). IsTurn old (all_lists parts) new lists) (sym (all_more parts part))
+    (turn_among old new [] (lists_in part) (all_lists parts) (all_lists parts) (all_lists parts ++ lists_in part) held (IsPermutation-refl (all_lists parts))
+      (IsPermutation-append_comm (lists_in part) (all_lists parts)) turn)

@@ -1,5 +1,5 @@
 -- How many candidates a step leaves, and how many slots are spare then.
-use Rattle.std.proofs.Common.{◌≡◌, ℕ, zero, suc, ◌+◌, ◌-◌, ◌*◌, ◌<◌, ◌≤◌, Bool, true, false, ◌++◌, length, refl, sym, ap, arith}
+use Rattle.std.proofs.Common.{[], ◌≡◌, ℕ, zero, suc, ◌+◌, ◌-◌, ◌*◌, ◌<◌, ◌≤◌, Bool, true, false, ◌++◌, length, refl, sym, ap, arith}
 use Rattle.std.proofs.lemmas.List.{length-append}
 use Rattle.std.proofs.lemmas.List.Sums.{sum_by-append}
 use Rattle.cand_pool.specs.Candidates.{Candidates}
@@ -69,3 +69,7 @@ turn_itself at lists held = record {
 pub one_below : (p : Problem) (n : ℕ) → 0 < n → added_below p n ≡ added_below p (n - 1) + added_at p (n - 1)
 one_below p zero some = absurd (omega arith)
 one_below p (suc n) some = let back : suc n - 1 ≡ n = omega arith in ap (λ (k : ℕ). added_below p k + added_at p k) (sym back)
+
+-- a node to which no child came in
+pub start_spare : (old new : Search) (part : Part) → IsSwap old [] new (lists_in part) → ((odd : Bool) → size_in new.pool part odd ≤ 1) → spare old.pool ≤ spare new.pool + 2
+start_spare old new part swap few = omega (arith, swap.spare, part_size new.pool part, few true, few false)

@@ -1,10 +1,10 @@
 //! The way from the last node of a net to its root.
 
-ghost use Rattle.std.specs.Prelude.{◌≡◌, ◌+◌, ◌-◌, ◌*◌, ◌<◌, ◌≤◌, length, OnOk};
+ghost use Rattle.std.specs.Prelude.{◌≡◌, ◌+◌, ◌-◌, ◌*◌, ◌<◌, ◌≤◌, [], length, OnOk};
 ghost use Rattle.elmore.specs.Trees.{parent_of};
 ghost use Rattle.sol_arena.specs.Arenas.{made_of};
 ghost use Rattle.cand_pool.specs.Pools.{spare};
-ghost use Rattle.cand_turns.specs.Swaps.{AreHeld, IsTurn, search};
+ghost use Rattle.cand_turns.specs.Swaps.{Slots, AreHeld, IsTurn, search, at_slots};
 ghost use Rattle.cand_turns.specs.Tooled.{AreToolsOf, added_at};
 ghost use Rattle.vg_slack.specs.Climbs.{all_lists, added_below, AreParts};
 
@@ -24,6 +24,22 @@ fn parent_of(p: &Problem, node: usize) -> usize
     ensures less { result < node }
 {
     p.tree.nodes.as_slice()[node].parent as usize
+}
+
+/// The parts of all nodes, to which no child came in yet. Answers `Memory` where there is no room.
+fn start(pool: &mut Pool, arena: &Arena, p: &Problem, parts: &mut Vec<Part>) -> Result<(), Memory>
+    requires none { parts.old.items ≡ [] }
+    requires room { 2 * length p.now.tree.nodes ≤ spare pool.old }
+    ensures all { OnOk result (length parts.new.items ≡ length p.now.tree.nodes) }
+    ensures turn { OnOk result ((slots : Slots) → IsTurn (at_slots pool.old slots) [] (at_slots pool.new slots) (all_lists parts.new.items)) }
+    ensures parts { OnOk result (AreParts p.now (length p.now.tree.nodes) (made_of arena.now) pool.new parts.new.items) }
+    ensures spare { OnOk result (spare pool.old ≤ spare pool.new + 2 * length p.now.tree.nodes) }
+{
+    'nodes: for node in 0..p.tree.nodes.len() {
+        let part = Part::start(pool, arena, p, node);
+        parts.push(part)?;
+    }
+    Ok(())
 }
 
 /// The last node of those that have not come in comes in to its parent. Answers `Memory` where there is no room.
