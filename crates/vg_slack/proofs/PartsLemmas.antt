@@ -31,7 +31,7 @@ use Rattle.cand_turns.specs.Swaps.{Search, Lists, search, AreHeld, IsSwap, IsTur
 use Rattle.cand_turns.specs.Branches.{classes_in}
 use Rattle.cand_turns.specs.Parts.{lists_in, IsPart}
 use Rattle.cand_turns.specs.Solved.{AreSolved, IsOpenAt}
-use Rattle.cand_turns.proofs.SwapLemmas.{turn_among, order_held}
+use Rattle.cand_turns.proofs.SwapLemmas.{turn_among, order_held, front_held}
 use Rattle.cand_turns.proofs.MeetLemmas.{IsOpenClass, open_beside}
 use Rattle.vg_slack.specs.Climbs.{all_lists, part_at, AreParts}
 
@@ -207,3 +207,18 @@ start_more old new parts part held turn =
     subst (λ (lists : Lists). IsTurn old (all_lists parts) new lists) (sym (all_more parts part))
     (turn_among old new [] (lists_in part) (all_lists parts) (all_lists parts) (all_lists parts ++ lists_in part) held (IsPermutation-refl (all_lists parts))
       (IsPermutation-append_comm (lists_in part) (all_lists parts)) turn)
+
+-- the lists of the last part alone
+pub last_alone : (at : Search) (rest : List Part) (last : Part) → AreHeld at (all_lists (rest ++ last ∷ [])) → AreHeld at (lists_in last)
+last_alone at rest last held =
+    front_held at (lists_in last) (all_lists rest)
+    (order_held at (all_lists rest ++ lists_in last) (lists_in last ++ all_lists rest) (IsPermutation-append_comm (all_lists rest) (lists_in last))
+    (subst (AreHeld at) (all_more rest last) held))
+
+-- the last part was given up
+pub last_given : (old new : Search) (rest : List Part) (last : Part) → AreHeld old (all_lists (rest ++ last ∷ [])) → IsSwap old (lists_in last) new []
+    → IsTurn old (all_lists (rest ++ last ∷ [])) new (all_lists rest)
+last_given old new rest last held swap =
+    subst (λ (lists : Lists). IsTurn old lists new (all_lists rest)) (sym (all_more rest last))
+    (subst (λ (lists : Lists). IsTurn old (all_lists rest ++ lists_in last) new lists) (append-nil (all_lists rest))
+    (more_turn old new rest (lists_in last) [] (subst (AreHeld old) (all_more rest last) held) (given_up old new (lists_in last) swap)))

@@ -4,7 +4,7 @@ ghost use Rattle.std.specs.Prelude.{◌≡◌, ◌+◌, ◌-◌, ◌*◌, ◌<�
 ghost use Rattle.elmore.specs.Trees.{parent_of};
 ghost use Rattle.sol_arena.specs.Arenas.{made_of};
 ghost use Rattle.cand_pool.specs.Pools.{spare};
-ghost use Rattle.cand_turns.specs.Swaps.{Slots, AreHeld, IsTurn, search, at_slots};
+ghost use Rattle.cand_turns.specs.Swaps.{Slots, AreHeld, IsSwap, IsTurn, search, at_slots};
 ghost use Rattle.cand_turns.specs.Tooled.{AreToolsOf, added_at};
 ghost use Rattle.vg_slack.specs.Climbs.{all_lists, added_below, AreParts};
 
@@ -104,4 +104,17 @@ fn climb<L: Ledger>(
         turn(pool, arena, p, parts, tools, steps)?;
     }
     Ok(())
+}
+
+/// Gives up the lists of all parts, with the uses of their solutions.
+fn give_up(pool: &mut Pool, arena: &mut Arena, parts: &mut Vec<Part>)
+    requires held { AreHeld (search pool.old arena.old) (all_lists parts.old.items) }
+    ensures swap { IsSwap (search pool.old arena.old) (all_lists parts.old.items) (search pool.new arena.new) [] }
+{
+    'parts: while let Some(part) = parts.pop() {
+        match part {
+            Part::Dead(_) => {}
+            Part::Live(branch) => branch.give_up(pool, arena),
+        }
+    }
 }
