@@ -1,5 +1,5 @@
 -- Lists that are made beside others.
-use Rattle.std.proofs.Common.{◌≡◌, ℕ, ◌+◌, Bool, true, false, [], ◌∷◌, ◌++◌, length, refl, sym, ap, arith}
+use Rattle.std.proofs.Common.{◌≡◌, ℕ, ◌+◌, ◌≤◌, Bool, true, false, [], ◌∷◌, ◌++◌, length, refl, sym, ap, arith}
 use Rattle.std.proofs.lemmas.List.Sorted.{IsPermutation-refl, IsPermutation-append_comm}
 use Rattle.std.proofs.lemmas.List.Elements.{All-nil}
 use Rattle.std.specs.List.{Contains}
@@ -10,10 +10,10 @@ use Rattle.cand_pool.specs.Candidates.{Candidates}
 use Rattle.cand_pool.specs.Pools.{Block, IsLive, items_of, spare, name, KeepsOthers}
 use Rattle.cand_pool.specs.declared.ends.List.{List as NamedList}
 use Rattle.cand_uses.specs.Uses.{IsExchange}
-use Rattle.cand_uses.proofs.ExchangeLemmas.{exchange_as, exchanged_held}
+use Rattle.cand_uses.proofs.ExchangeLemmas.{exchange_as, exchanged_held, no_exchange}
 use Rattle.elmore.specs.declared.pair.Pair.{Pair}
 use Rattle.elmore.specs.declared.problem.Problem.{Problem}
-use Rattle.cand_turns.specs.Swaps.{Search, search, Lists, AreHeld, IsSwap, IsTurn}
+use Rattle.cand_turns.specs.Swaps.{Search, search, Slots, at_slots, Lists, AreHeld, IsSwap, IsTurn}
 use Rattle.cand_turns.specs.Branches.{classes_in, lists_of}
 use Rattle.cand_turns.specs.Celled.{AreBest}
 use Rattle.cand_turns.specs.declared.branch.Branch.{Branch}
@@ -76,3 +76,16 @@ best_beside p v odd In old new s t given made others held turn l found is = reco
   exact = exact_as In _ _ (sym (other_items (search s old) (search t new) given made others held turn l found)) is.exact;
   solved = solved_beside (IsSolutionOf p v odd) old new s t given made others held turn l found is.solved;
 }
+
+-- a pool gets more slots
+pub grown : (s t : Block) (slots : Slots) → KeepsOthers s [] t [] → spare s ≤ spare t → IsTurn (at_slots s slots) [] (at_slots t slots) []
+grown s t slots others more = none_turn (at_slots s slots) (at_slots t slots) [] (record { uses = no_exchange slots []; others = others; spare = omega (arith, more) })
+
+pub grown_turn : (s t : Block) (slots : Slots) (lists : Lists) → AreHeld (at_slots s slots) lists → KeepsOthers s [] t [] → spare s ≤ spare t
+    → IsTurn (at_slots s slots) lists (at_slots t slots) lists
+grown_turn s t slots lists held others more = beside (at_slots s slots) (at_slots t slots) [] [] lists held (grown s t slots others more)
+
+pub grown_classes : (s t : Block) (slots : Slots) (branch : Branch) → AreHeld (at_slots s slots) (lists_of branch) → KeepsOthers s [] t [] → spare s ≤ spare t
+    → classes_in t branch ≡ classes_in s branch
+grown_classes s t slots branch held others more =
+    λ i odd. classes_same (at_slots s slots) (at_slots t slots) [] [] branch held (grown s t slots others more) odd i

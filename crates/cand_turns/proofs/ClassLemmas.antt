@@ -40,7 +40,7 @@ pub class_open : (p : Problem) (v : ℕ) (ms : List Made) (s : Block) (branch : 
 class_open p v ms s branch odd l e at = subst (λ (k : NamedList). IsOpenList p v odd ms (items_of s k)) (sym e) (open_list p v ms (classes_in s branch) odd at)
 
 -- the slots that a list took
-pub spare_less : (old new : Search) (x : NamedList) → IsTurn old [] new (x ∷ []) → spare new.pool + length (items_of new.pool x) ≡ spare old.pool
+pub spare_less : (old new : Search) (x : NamedList) → IsTurn old [] new (x ∷ []) → spare old.pool ≤ spare new.pool + length (items_of new.pool x)
 spare_less old new x one = omega (arith, one.swap.spare, ap (λ (l : Candidates). length l) (one_all new.pool x))
 
 -- the same pairs of the same classes

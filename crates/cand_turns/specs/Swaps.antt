@@ -1,5 +1,5 @@
 -- The lists that a search holds, and lists that are given for others.
-use Rattle.std.specs.Prelude.{◌≡◌, ◌≢◌, ℕ, ◌+◌, ◌≤◌, ◌==◌, List, ◌∷◌, [], ◌++◌, length, map}
+use Rattle.std.specs.Prelude.{◌≢◌, ℕ, ◌+◌, ◌≤◌, ◌==◌, List, ◌∷◌, [], ◌++◌, length, map}
 use Rattle.std.specs.List.{All, sum_by}
 use Rattle.std.specs.List.Sorted.{IsPermutation}
 use Rattle.sol_arena.specs.declared.arena.Arena.{Arena}
@@ -48,12 +48,12 @@ pub record AreHeld (at : Search) (lists : Lists) : Type 0 where
   pub apart : (k : ℕ) → k ≢ none → named k lists ≤ 1
   pub uses : HoldsFor at.slots (all_of at.pool lists)
 
--- lists were given for others: the uses of their solutions for those of the others, their slots for those of the others, and
--- each other list and use that callers hold stays
+-- lists were given for others: the uses of their solutions for those of the others, no slot is lost, and each other list and use
+-- that callers hold stays
 pub record IsSwap (old : Search) (given : Lists) (new : Search) (made : Lists) : Type 0 where
   pub uses : IsExchange old.slots (all_of old.pool given) new.slots (all_of new.pool made)
   pub others : KeepsOthers old.pool (names given) new.pool (names made)
-  pub spare : spare new.pool + length (all_of new.pool made) ≡ spare old.pool + length (all_of old.pool given)
+  pub spare : spare old.pool + length (all_of old.pool given) ≤ spare new.pool + length (all_of new.pool made)
 
 -- and those that were made are held
 pub record IsTurn (old : Search) (given : Lists) (new : Search) (made : Lists) : Type 0 where

@@ -133,7 +133,6 @@ impl Branch {
         requires node { node < length p.now.tree.nodes }
         requires place { slice_index_or p.now.places node false ≡ true }
         requires tools { AreToolsOf p.now tools.old }
-        requires room { 2 * length p.now.reps ≤ spare pool.old }
         requires held { AreHeld (search pool.old arena.old) (lists_of self.now) }
         requires open { IsOpenAt p.now (node + 1) node (made_of arena.old) (classes_in pool.old self.now) }
         ensures tools { AreToolsOf p.now tools.new }
@@ -144,6 +143,7 @@ impl Branch {
             → AreBest p.now node odd (IsMadeOfClasses p.now node odd (classes_in pool.old self.now)) (made_of arena.new) (classes_in pool.new cells odd)) }
         ensures few { IfOk result (λ cells. (odd : Bool) → length (classes_in pool.new cells odd) ≤ length p.now.reps) }
     {
+        pool.reserve(2 * p.reps.len())?;
         let even = self.class_with_cells(pool, arena, p, node, false, tools, steps)?;
         match self.class_with_cells(pool, arena, p, node, true, tools, steps) {
             Ok(odd) => Ok(Branch { even, odd }),
@@ -185,7 +185,6 @@ impl Branch {
     ) -> Result<Branch, Memory>
         requires node { node < length p.now.tree.nodes }
         requires tools { AreToolsOf p.now tools.old }
-        requires room { 2 * added_at p.now node ≤ spare pool.old }
         requires held { AreHeld (search pool.old arena.old) (lists_of self) }
         requires open { IsOpenAt p.now (node + 1) node (made_of arena.old) (classes_in pool.old self) }
         ensures tools { AreToolsOf p.now tools.new }

@@ -23,11 +23,13 @@ use Rattle.cand_laws.proofs.TurnLemmas.{live_stays, dead_stays}
 use Rattle.elmore.specs.Pairs.{IsPairAt}
 use Rattle.cand_pool.specs.Pools.{Block, IsLive}
 use Rattle.cand_pool.specs.declared.ends.List.{List as NamedList}
+use Rattle.cand_pool.proofs.PoolMoves.{keeps_itself}
 use Rattle.cand_uses.specs.Pairs.{pairs_of}
+use Rattle.cand_uses.proofs.ExchangeLemmas.{no_exchange}
 use Rattle.cand_turns.specs.declared.branch.Branch.{Branch}
 use Rattle.cand_turns.specs.declared.part.Part.{Part}
 use Rattle.cand_turns.specs.declared.part.Part.TheVariants.{Dead, Live}
-use Rattle.cand_turns.specs.Swaps.{Search, Lists, search, AreHeld, IsSwap, IsTurn, AreOf}
+use Rattle.cand_turns.specs.Swaps.{Search, Lists, names, all_of, search, AreHeld, IsSwap, IsTurn, AreOf}
 use Rattle.cand_turns.specs.Branches.{classes_in}
 use Rattle.cand_turns.specs.Parts.{lists_in, IsPart}
 use Rattle.cand_turns.specs.Solved.{AreSolved, IsOpenAt}
@@ -206,7 +208,7 @@ pub start_more : (old new : Search) (parts : List Part) (part : Part) → AreHel
 start_more old new parts part held turn =
     subst (λ (lists : Lists). IsTurn old (all_lists parts) new lists) (sym (all_more parts part))
     (turn_among old new [] (lists_in part) (all_lists parts) (all_lists parts) (all_lists parts ++ lists_in part) held (IsPermutation-refl (all_lists parts))
-      (IsPermutation-append_comm (lists_in part) (all_lists parts)) turn)
+    (IsPermutation-append_comm (lists_in part) (all_lists parts)) turn)
 
 -- the lists of the last part alone
 pub last_alone : (at : Search) (rest : List Part) (last : Part) → AreHeld at (all_lists (rest ++ last ∷ [])) → AreHeld at (lists_in last)
@@ -222,3 +224,10 @@ last_given old new rest last held swap =
     subst (λ (lists : Lists). IsTurn old lists new (all_lists rest)) (sym (all_more rest last))
     (subst (λ (lists : Lists). IsTurn old (all_lists rest ++ lists_in last) new lists) (append-nil (all_lists rest))
     (more_turn old new rest (lists_in last) [] (subst (AreHeld old) (all_more rest last) held) (given_up old new (lists_in last) swap)))
+
+-- nothing happened yet
+pub turn_itself : (at : Search) (lists : Lists) → AreHeld at lists → IsTurn at lists at lists
+turn_itself at lists held = record {
+  held = held;
+  swap = record { uses = no_exchange at.slots (all_of at.pool lists); others = keeps_itself at.pool (names lists); spare = omega arith };
+}

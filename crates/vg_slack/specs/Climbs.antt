@@ -1,11 +1,10 @@
 -- How far a search has come up a net: the nodes from number i on came in, each to its parent.
-use Rattle.std.specs.Prelude.{ℕ, ◌<◌, List, [], ◌∷◌, ◌++◌, length, slice_index_or, zero, suc, ◌+◌}
+use Rattle.std.specs.Prelude.{ℕ, ◌<◌, List, [], ◌∷◌, ◌++◌, length, slice_index_or}
 use Rattle.elmore.specs.declared.problem.Problem.{Problem}
 use Rattle.sol_arena.specs.declared.slot.Made.{Made}
 use Rattle.cand_pool.specs.Pools.{Block}
 use Rattle.cand_turns.specs.declared.part.Part.{Part}
 use Rattle.cand_turns.specs.declared.part.Part.TheVariants.{Dead}
-use Rattle.cand_turns.specs.Tooled.{added_at}
 use Rattle.cand_turns.specs.Swaps.{Lists}
 use Rattle.cand_turns.specs.Parts.{lists_in, IsPart}
 
@@ -20,8 +19,3 @@ part_at parts v = slice_index_or parts v (Dead 0)
 -- of the nodes below i each has its part, with those of its children that came in
 abbrev pub AreParts : Problem → ℕ → List Made → Block → List Part → Type 0
 AreParts p i ms s parts = (v : ℕ) → v < length parts → IsPart p i v ms s (part_at parts v)
-
--- how many candidates the nodes below number i may add to each class
-abbrev pub added_below : Problem → ℕ → ℕ
-added_below p zero = 0
-added_below p (suc i) = added_below p i + added_at p i

@@ -3,10 +3,9 @@
 ghost use Rattle.std.specs.Prelude.{◌≡◌, ◌+◌, ◌-◌, ◌*◌, ◌<◌, ◌≤◌, [], length, OnOk};
 ghost use Rattle.elmore.specs.Trees.{parent_of};
 ghost use Rattle.sol_arena.specs.Arenas.{made_of};
-ghost use Rattle.cand_pool.specs.Pools.{spare};
 ghost use Rattle.cand_turns.specs.Swaps.{Slots, AreHeld, IsSwap, IsTurn, search, at_slots};
-ghost use Rattle.cand_turns.specs.Tooled.{AreToolsOf, added_at};
-ghost use Rattle.vg_slack.specs.Climbs.{all_lists, added_below, AreParts};
+ghost use Rattle.cand_turns.specs.Tooled.{AreToolsOf};
+ghost use Rattle.vg_slack.specs.Climbs.{all_lists, AreParts};
 
 use cand_pool::{Pool, Steps};
 use cand_turns::{Part, Tools};
@@ -29,13 +28,12 @@ fn parent_of(p: &Problem, node: usize) -> usize
 /// The parts of all nodes, to which no child came in yet. Answers `Memory` where there is no room.
 fn start(pool: &mut Pool, arena: &Arena, p: &Problem, parts: &mut Vec<Part>) -> Result<(), Memory>
     requires none { parts.old.items ≡ [] }
-    requires room { 2 * length p.now.tree.nodes ≤ spare pool.old }
     ensures all { OnOk result (length parts.new.items ≡ length p.now.tree.nodes) }
     ensures turn { OnOk result ((slots : Slots) → IsTurn (at_slots pool.old slots) [] (at_slots pool.new slots) (all_lists parts.new.items)) }
     ensures parts { OnOk result (AreParts p.now (length p.now.tree.nodes) (made_of arena.now) pool.new parts.new.items) }
-    ensures spare { OnOk result (spare pool.old ≤ spare pool.new + 2 * length p.now.tree.nodes) }
 {
     'nodes: for node in 0..p.tree.nodes.len() {
+        pool.reserve(1)?;
         let part = Part::start(pool, arena, p, node);
         parts.push(part)?;
     }
@@ -54,14 +52,12 @@ fn turn<L: Ledger>(
     requires more { 1 < length parts.old.items }
     requires nodes { length parts.old.items ≤ length p.now.tree.nodes }
     requires tools { AreToolsOf p.now tools.old }
-    requires room { 2 * added_at p.now (length parts.old.items - 1) ≤ spare pool.old }
     requires held { AreHeld (search pool.old arena.old) (all_lists parts.old.items) }
     requires parts { AreParts p.now (length parts.old.items) (made_of arena.old) pool.old parts.old.items }
     ensures tools { AreToolsOf p.now tools.new }
     ensures turn { IsTurn (search pool.old arena.old) (all_lists parts.old.items) (search pool.new arena.new) (all_lists parts.new.items) }
     ensures fewer { OnOk result (length parts.new.items + 1 ≡ length parts.old.items) }
     ensures parts { OnOk result (AreParts p.now (length parts.new.items) (made_of arena.new) pool.new parts.new.items) }
-    ensures spare { OnOk result (spare pool.old ≤ spare pool.new + 2 * added_at p.now (length parts.old.items - 1)) }
 {
     let Some(part) = parts.pop() else {
         unreachable!()
@@ -93,7 +89,6 @@ fn climb<L: Ledger>(
 ) -> Result<(), Memory>
     requires nodes { length parts.old.items ≡ length p.now.tree.nodes }
     requires tools { AreToolsOf p.now tools.old }
-    requires room { 2 * added_below p.now (length p.now.tree.nodes) ≤ spare pool.old }
     requires held { AreHeld (search pool.old arena.old) (all_lists parts.old.items) }
     requires parts { AreParts p.now (length parts.old.items) (made_of arena.old) pool.old parts.old.items }
     ensures turn { IsTurn (search pool.old arena.old) (all_lists parts.old.items) (search pool.new arena.new) (all_lists parts.new.items) }

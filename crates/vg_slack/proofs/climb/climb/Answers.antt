@@ -1,9 +1,9 @@
-use Rattle.std.proofs.Common.{◌≡◌, ◌-◌, length, subst, arith}
+use Rattle.std.proofs.Common.{◌≡◌, length, subst, arith}
 use Rattle.sol_arena.specs.Arenas.{made_of}
 use Rattle.cand_turns.specs.Swaps.{search}
 use Rattle.cand_turns.proofs.SwapLemmas.{turn_then}
 use Rattle.vg_slack.specs.Climbs.{all_lists, AreParts}
-use Rattle.vg_slack.proofs.SizeLemmas.{turn_itself, one_below}
+use Rattle.vg_slack.proofs.PartsLemmas.{turn_itself}
 use Rattle.vg_slack.proofs.climb.climb.Goals as goal
 
 pub nodes-init : goal.nodes-init
@@ -11,24 +11,16 @@ nodes-init g c = record {
   some = omega (arith, c.requires.nodes, c.args.p.now.tree.a_tree.some_node);
   most = omega (arith, c.requires.nodes);
   tools = c.requires.tools;
-  room = rw c.requires.nodes c.requires.room;
   turn = turn_itself (search c.args.pool.now c.args.arena.now) (all_lists c.args.parts.now.items) c.requires.held;
   parts = c.requires.parts;
 }
 
-pub turn-requires-clause-room : goal.turn-requires-clause-room
-turn-requires-clause-room g c =
-    omega (arith, c.nodes.invariant.room, one_below c.args.p.now (length c.nodes.parts.items) c.nodes.invariant.some)
-
 pub nodes-preserved : goal.nodes-preserved
 nodes-preserved g c =
-    let n = length c.nodes.parts.items in
-    let back : length c.turn.new.parts.items ≡ n - 1 = omega (arith, c.in_ok-turn.ensures.fewer) in
     record {
       some = omega (arith, c.in_ok-turn.ensures.fewer, c.nodes-test, c.len.ensures);
       most = omega (arith, c.in_ok-turn.ensures.fewer, c.nodes.invariant.most);
       tools = c.in_ok-turn.ensures.tools;
-      room = rw back (omega (arith, c.nodes.invariant.room, c.in_ok-turn.ensures.spare, one_below c.args.p.now n c.nodes.invariant.some));
       turn = turn_then (search c.args.pool.now c.args.arena.now) (search c.nodes.pool c.nodes.arena) (search c.turn.new.pool c.turn.new.arena) _ _ _ c.nodes.invariant.turn c.in_ok-turn.ensures.turn;
       parts = c.in_ok-turn.ensures.parts;
     }

@@ -1,9 +1,8 @@
-use Rattle.std.proofs.Common.{◌*◌, ◌<◌, ◌≤◌, length}
+use Rattle.std.proofs.Common.{◌<◌, ◌≤◌, length}
 use Rattle.sol_arena.specs.Arenas.{made_of}
-use Rattle.cand_pool.specs.Pools.{spare}
 use Rattle.cand_turns.specs.Swaps.{IsTurn, search}
 use Rattle.cand_turns.specs.Tooled.{AreToolsOf}
-use Rattle.vg_slack.specs.Climbs.{all_lists, added_below, AreParts}
+use Rattle.vg_slack.specs.Climbs.{all_lists, AreParts}
 use Rattle.vg_slack.proofs.climb.climb.Given as goal
 
 abbrev pub invariant-nodes : goal.invariant-nodes
@@ -11,7 +10,6 @@ invariant-nodes g l = record {
   some : 0 < length l.parts.items;
   most : length l.parts.items ≤ length l.fn.p.tree.nodes;
   tools : AreToolsOf l.fn.p l.tools;
-  room : 2 * added_below l.fn.p (length l.parts.items) ≤ spare l.pool;
   turn : IsTurn (search l.initial.pool l.initial.arena) (all_lists l.initial.parts.items) (search l.pool l.arena) (all_lists l.parts.items);
   parts : AreParts l.fn.p (length l.parts.items) (made_of l.arena) l.pool l.parts.items;
 }

@@ -1,13 +1,11 @@
-use Rattle.std.proofs.Common.{◌≡◌, ◌∷◌, ◌++◌, [], List, sym, ap, ◌∙◌, subst}
+use Rattle.std.proofs.Common.{◌++◌, [], List, sym, ap, ◌∙◌, subst}
 use Rattle.std.proofs.lemmas.List.{append-nil}
 use Rattle.cand_turns.specs.declared.part.Part.{Part}
 use Rattle.cand_turns.specs.Swaps.{Lists, search, AreHeld, IsSwap, IsTurn}
-use Rattle.cand_turns.specs.Branches.{lists_of}
 use Rattle.cand_turns.specs.Parts.{lists_in}
 use Rattle.cand_turns.proofs.SwapLemmas.{turn_then}
 use Rattle.vg_slack.specs.Climbs.{all_lists}
-use Rattle.vg_slack.proofs.PartsLemmas.{all_more, last_alone, last_given}
-use Rattle.vg_slack.proofs.SizeLemmas.{turn_itself}
+use Rattle.vg_slack.proofs.PartsLemmas.{turn_itself, all_more, last_alone, last_given}
 use Rattle.vg_slack.proofs.climb.give_up.Goals as goal
 
 pub parts-init : goal.parts-init
@@ -18,7 +16,7 @@ give_up-requires c =
     let held = subst (λ (items : List Part). AreHeld (search c.parts.pool c.parts.arena) (all_lists items)) c.in-Some.ensures.items c.parts.invariant.held in
     record {
       held = subst (λ (x : Part). AreHeld (search c.parts.pool c.parts.arena) (lists_in x)) c.in-Live.is
-        (last_alone (search c.parts.pool c.parts.arena) c.pop.new.self.items c.in-Some.part held);
+          (last_alone (search c.parts.pool c.parts.arena) c.pop.new.self.items c.in-Some.part held);
     }
 
 pub parts-preserved : goal.parts-preserved

@@ -1,6 +1,5 @@
-use Rattle.std.proofs.Common.{◌≡◌, ◌+◌, ◌*◌, ◌≤◌, [], length}
+use Rattle.std.proofs.Common.{◌≡◌, [], length}
 use Rattle.sol_arena.specs.Arenas.{made_of}
-use Rattle.cand_pool.specs.Pools.{spare}
 use Rattle.cand_turns.specs.Swaps.{Slots, IsTurn, at_slots}
 use Rattle.vg_slack.specs.Climbs.{all_lists, AreParts}
 use Rattle.vg_slack.proofs.climb.start.Given as goal
@@ -10,5 +9,4 @@ invariant-nodes l = record {
   count : length l.parts.items ≡ l.node;
   turn : (slots : Slots) → IsTurn (at_slots l.initial.pool slots) [] (at_slots l.pool slots) (all_lists l.parts.items);
   parts : AreParts l.fn.p (length l.fn.p.tree.nodes) (made_of l.fn.arena) l.pool l.parts.items;
-  spare : spare l.initial.pool ≤ spare l.pool + 2 * l.node;
 }

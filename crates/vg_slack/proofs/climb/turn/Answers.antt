@@ -1,4 +1,4 @@
-use Rattle.std.proofs.Common.{◌≡◌, ◌-◌, ◌++◌, ◌∷◌, [], List, length, refl, sym, ap, arith}
+use Rattle.std.proofs.Common.{◌++◌, refl, arith}
 use Rattle.sol_arena.specs.Arenas.{slots_of, made_of}
 use Rattle.cand_laws.proofs.TurnLemmas.{part_is_dead, part_load}
 use Rattle.cand_turns.specs.Swaps.{search}
@@ -7,9 +7,6 @@ use Rattle.cand_turns.proofs.SwapLemmas.{turn_then}
 use Rattle.vg_slack.specs.Climbs.{all_lists}
 use Rattle.vg_slack.proofs.ClimbLemmas.{at_last, at_end, last_held, upper_held, upper_alone, parts_of_rest, part_of_last, part_of_upper, last_is_live}
 use Rattle.vg_slack.proofs.ClimbLemmas.{closed_turn, lost_turn, closed_parts, taken_turn, taken_parts, upper_lost, dead_turn, dead_parts}
-use Rattle.std.proofs.lemmas.List.{length-append}
-use Rattle.cand_turns.specs.declared.part.Part.{Part}
-use Rattle.vg_slack.proofs.SizeLemmas.{closed_spare, taken_spare, dead_spare}
 use Rattle.vg_slack.proofs.climb.turn.Goals as goal
 
 pub take_dead-requires-clause-dead : goal.take_dead-requires-clause-dead
@@ -144,20 +141,3 @@ returns-in_ok-parts-in-Live-clause-parts g c =
     (closed_parts at c.args.arena.now c.close.new.arena c.args.pool.now c.close.new.pool (lists_of c.in_ok-branch-in-Live.branch) c.requires.held
     c.in_ok-branch-in-Live.ensures.turn c.requires.parts)
     c.in_ok-parts-in-Live.ensures.part
-
-pub returns-in-Dead-clause-spare : goal.returns-in-Dead-clause-spare
-returns-in-Dead-clause-spare g c =
-    let at = at_last c.args.p.now c.len-node.result c.in-Some.ensures.items c.in-Dead.is
-    (omega (arith, c.len-node.ensures, c.pop.new.self.ok.0)) c.requires.nodes
-    c.parent_of-parent.ensures.parent c.parent_of-parent.ensures.less c.replace-upper.ensures.value c.index_mut.ensures.value in
-    let same = c.take_dead.ensures.turn (slots_of c.args.arena.now) (upper_alone at (search c.args.pool.now c.args.arena.now) refl c.requires.held) in
-    let spare_is = dead_spare (search c.args.pool.now c.args.arena.now) (search c.take_dead.new.pool c.args.arena.now) _ c.take_dead.result same.swap c.take_dead.ensures.same in
-    omega (arith, spare_is)
-
-pub returns-in_ok-parts-in-Live-clause-spare : goal.returns-in_ok-parts-in-Live-clause-spare
-returns-in_ok-parts-in-Live-clause-spare g c =
-    let closed = closed_spare (search c.args.pool.now c.args.arena.now) (search c.close.new.pool c.close.new.arena) c.in-Live.branch c.in_ok-branch-in-Live.branch _ c.in_ok-branch-in-Live.ensures.turn.swap c.in_ok-branch-in-Live.ensures.few in
-    let taken = taken_spare (search c.close.new.pool c.close.new.arena) (search c.take_live.new.pool c.take_live.new.arena) _ c.in_ok-parts-in-Live.field-0 c.in_ok-branch-in-Live.branch c.in_ok-parts-in-Live.ensures.turn.swap c.in_ok-parts-in-Live.ensures.few in
-    let node_is : c.len-node.result ≡ length c.args.parts.now.items - 1
-    = omega (arith, c.len-node.ensures, c.pop.new.self.ok.0, ap (λ (xs : List Part). length xs) c.in-Some.ensures.items, length-append c.pop.new.self.items (c.in-Some.part ∷ [])) in
-    rw (sym node_is) (omega (arith, closed, taken))
