@@ -1,6 +1,6 @@
 //! Candidates at random, the same on each run.
 
-ghost use Rattle.std.specs.Prelude.{◌≤◌, ◌<◌, ◌^◌, pos, ◌≤ℤ◌};
+ghost use Rattle.std.specs.Prelude.{◌≤◌, ◌<◌, ◌+◌, ◌*◌, ◌^◌, pos, ◌≤ℤ◌, ◌<ℤ◌};
 
 /// How many candidates a list may have here.
 pub const MOST: u32 = 1_000_000;
@@ -36,10 +36,10 @@ impl Random {
 
     /// The candidate at this place of a list, in which q and c rise strictly.
     pub fn point(&mut self, at: u32) -> Point
-        requires { at < 10 ^ 6 }
-        ensures low { pos 0 ≤ℤ result.q }
-        ensures high { result.q ≤ℤ pos (10 ^ 12) }
-        ensures load { result.c ≤ 10 ^ 10 }
+        ensures from_q { pos (16384 * at) ≤ℤ result.q }
+        ensures to_q { result.q <ℤ pos (16384 * at + 16384) }
+        ensures from_c { 256 * at ≤ result.c }
+        ensures to_c { result.c < 256 * at + 256 }
     {
         let bits = self.draw();
         let (step, noise) = (bits & 255, bits >> 8 & 4095);

@@ -1,17 +1,24 @@
 //! Rounds of turns, shown and timed.
 
-ghost use Rattle.std.specs.Prelude.{◌≡◌, ◌^◌, ◌*◌, ◌≤◌, ◌<◌};
+ghost use Rattle.std.specs.Prelude.{◌≡◌, ◌^◌, ◌*◌, ◌≤◌, ◌<◌, IfOk};
 ghost use Rattle.cand_pool.specs.Pools.{spare};
 
-use crate::lists::{show, turn};
+use crate::branches::merge_two;
+use crate::lists::{Sum, show, sum_up};
 use crate::operation::Operation;
 use crate::plan::Plan;
 use crate::random::Random;
+use crate::task::Task;
+use crate::turns::turn;
 use anyhow::{Context, Result};
 use cand_pool::{Pool, Steps};
+use cand_uses::end_list;
+use sol_arena::Arena;
+use std::alloc::Global;
 use std::marker::Brand;
 use std::sync::ledger::{Blank, Ledger};
 use std::time::Instant;
+use vg_num::Memory;
 
 /// Turns in a round. Each moves what was dropped to the other end of the free slots, so that few turns keep them in order.
 const TURNS: u32 = 8;
@@ -52,7 +59,28 @@ fn show_all<L: Ledger>(rt: &HostRuntime, blank: Blank) -> Result<()>
             sum.count, sum.numbers
         )?;
     }
+    let merged = show_merge(rt.alloc(), &mut random, &mut steps)
+        .ok()
+        .context("out of memory")?;
+    println!(rt; "merge: {} left, numbers {}", merged.count, merged.numbers)?;
     Ok(())
+}
+
+/// What two branches make together.
+fn show_merge<L: Ledger>(
+    alloc: Global,
+    random: &mut Random,
+    steps: &mut Steps<L>,
+) -> Result<Sum, Memory> {
+    let (mut pool, mut arena) = (Pool::new(alloc), Arena::new(alloc));
+    pool.reserve(2 * SHOWN_SIZE as usize)?;
+    let list = merge_two(&mut pool, &mut arena, SHOWN_SIZE, random, steps)?;
+    let sum = Sum {
+        count: pool.len(&list),
+        numbers: sum_up(&pool, &list, steps),
+    };
+    end_list(&mut pool, &mut arena, list);
+    Ok(sum)
 }
 
 /// Prints the nanoseconds of the fastest round, and of the fastest round without the operation.
@@ -74,7 +102,7 @@ fn time_all<L: Ledger>(rt: &HostRuntime, plan: Plan, blank: Blank) -> Result<()>
     let mut sum = 0u64;
     'rounds: for _ in 0..plan.rounds {
         let bare = Plan {
-            operation: plan.operation.without(),
+            task: plan.task.without(),
             ..plan
         };
         let timed = time_round(rt, plan, &mut random, &mut steps)?;
@@ -83,8 +111,7 @@ fn time_all<L: Ledger>(rt: &HostRuntime, plan: Plan, blank: Blank) -> Result<()>
         without = without.min(empty.nanoseconds);
         sum = sum.wrapping_add(timed.sum).wrapping_add(empty.sum);
     }
-    let others = plan.operation.others(plan.size);
-    let slots = (u64::from(plan.size) + u64::from(others)) * u64::from(TURNS);
+    let slots = plan.task.candidates(plan.size) * u64::from(TURNS);
     println!(rt; "{with} ns with, {without} ns without, {slots} slots, sum {sum}")?;
     Ok(())
 }
@@ -105,44 +132,46 @@ fn time_round<L: Ledger>(
 ) -> Result<Round>
     requires { plan.size ≤ 10 ^ 6 }
 {
-    let mut pool = Pool::new(rt.alloc());
+    let (mut pool, mut arena) = (Pool::new(rt.alloc()), Arena::new(rt.alloc()));
     pool.reserve(2 * plan.size as usize)
         .ok()
         .context("out of memory")?;
     if plan.scattered {
-        repeat(
-            &mut pool,
-            Operation::Absorb,
-            plan.size,
-            SHUFFLES,
-            random,
-            steps,
-        );
+        let shuffle = Plan {
+            task: Task::Change(Operation::Absorb),
+            ..plan
+        };
+        repeat(&mut pool, &mut arena, shuffle, SHUFFLES, random, steps)
+            .ok()
+            .context("out of memory")?;
     }
     let start = Instant::now(rt)?;
-    let sum = repeat(&mut pool, plan.operation, plan.size, TURNS, random, steps);
+    let sum = repeat(&mut pool, &mut arena, plan, TURNS, random, steps)
+        .ok()
+        .context("out of memory")?;
     Ok(Round {
         nanoseconds: start.elapsed(rt)?.as_nanos(),
         sum,
     })
 }
 
-/// Does so many turns. Answers a sum over all tags.
+/// Does so many turns. Answers a sum over all tags that were given up, or `Memory` when out of memory.
 fn repeat<L: Ledger>(
     pool: &mut Pool,
-    operation: Operation,
-    size: u32,
+    arena: &mut Arena,
+    plan: Plan,
     turns: u32,
     random: &mut Random,
     steps: &mut Steps<L>,
-) -> u64
-    requires few { size ≤ 10 ^ 6 }
-    requires room { 2 * size ≤ spare pool.old }
-    ensures { spare pool.new ≡ spare pool.old }
+) -> Result<u64, Memory>
+    requires few { plan.size ≤ 10 ^ 6 }
+    requires room { 2 * plan.size ≤ spare pool.old }
+    ensures { IfOk result (λ _. spare pool.new ≡ spare pool.old) }
 {
     let mut sum = 0u64;
     'turns: for _ in 0..turns {
-        sum = sum.wrapping_add(turn(pool, operation, size, random, steps));
+        let tags = turn(pool, arena, plan.task, plan.size, random, steps)?;
+        sum = sum.wrapping_add(tags);
     }
-    sum
+    Ok(sum)
 }

@@ -1,0 +1,34 @@
+//! Turns of tasks.
+
+ghost use Rattle.std.specs.Prelude.{◌≡◌, ◌^◌, ◌*◌, ◌≤◌, IfOk};
+ghost use Rattle.cand_pool.specs.Pools.{spare};
+
+use crate::branches::{end_two, merge_and_end};
+use crate::lists;
+use crate::random::Random;
+use crate::task::Task;
+use cand_pool::{Pool, Steps};
+use sol_arena::Arena;
+use std::sync::ledger::Ledger;
+use vg_num::Memory;
+
+/// One turn of a task. Answers a sum over the tags that were given up, or `Memory` when out of memory.
+pub fn turn<L: Ledger>(
+    pool: &mut Pool,
+    arena: &mut Arena,
+    task: Task,
+    size: u32,
+    random: &mut Random,
+    steps: &mut Steps<L>,
+) -> Result<u64, Memory>
+    requires few { size ≤ 10 ^ 6 }
+    requires room { 2 * size ≤ spare pool.old }
+    ensures { IfOk result (λ _. spare pool.new ≡ spare pool.old) }
+{
+    match task {
+        Task::Change(operation) => return Ok(lists::turn(pool, operation, size, random, steps)),
+        Task::Branches => end_two(pool, arena, size, random),
+        Task::Merge => merge_and_end(pool, arena, size, random, steps)?,
+    }
+    Ok(0)
+}
