@@ -1,13 +1,19 @@
 -- Branches as they are made, and what a merge needs of them.
-use Rattle.std.proofs.Common.{◌≡◌, ◌≢◌, ℕ, zero, suc, ◌+◌, ◌*◌, ◌^◌, ◌<◌, ◌≤◌, List, [], ◌∷◌, ◌++◌, length, refl, sym, ap, ◌∙◌, subst, arith, get_or, Option, None, Some, pos}
-use Rattle.std.specs.Prelude.{◌≤ℤ◌, ◌<ℤ◌}
-use Rattle.std.specs.List.{AllPairs, Contains}
+use Rattle.std.proofs.Common.{◌≡◌, ◌≢◌, ℕ, zero, suc, ◌+◌, ◌*◌, ◌^◌, ◌<◌, ◌≤◌, List, [], ◌∷◌, ◌++◌, length, refl, sym, ap, ◌∙◌, subst, arith, get_or, Bool, cond, not, Option, None, Some, pos}
+use Rattle.std.specs.Prelude.{ℤ, ◌≤ℤ◌, ◌<ℤ◌}
+use Rattle.std.specs.List.{All, AllPairs, Contains, filter, range_with_len}
+use Rattle.std.specs.List.Sorted.{IsPermutation}
 use Rattle.std.proofs.lemmas.Int.{ints}
 use Rattle.std.proofs.lemmas.List.{map-append}
+use Rattle.std.proofs.lemmas.List.Filters.{length-filter_both}
+use Rattle.std.proofs.lemmas.List.FromFn.{length-range_with_len}
+use Rattle.std.proofs.lemmas.List.Sorted.{length_permutation}
 use Rattle.std.proofs.lemmas.List.Quantifiers.{all_pairs_push}
+use Rattle.elmore.specs.Cells.{rep_at}
 use Rattle.elmore.specs.Pairs.{IsBelow}
 use Rattle.elmore.specs.declared.pair.Pair.{Pair}
-use Rattle.sol_arena.specs.Slots.{none}
+use Rattle.elmore.specs.declared.rep.Rep.{Rep}
+use Rattle.sol_arena.specs.Slots.{none, IsLive as IsLiveSolution}
 use Rattle.sol_arena.specs.declared.arena.Arena.{Arena}
 use Rattle.sol_arena.specs.declared.slot.Slot.{Slot}
 use Rattle.sol_arena.specs.Arenas.{slots_of, made_of}
@@ -15,14 +21,16 @@ use Rattle.sol_arena.specs.Uses.{held_of}
 use Rattle.sol_arena.specs.Meanings.{cells_of}
 use Rattle.sol_arena.proofs.OneLemmas.{one_other}
 use Rattle.cand_pool.specs.Candidates.{Candidate, Candidates}
-use Rattle.cand_pool.specs.Pools.{Block, items_of, spare, Holds, KeepsOthers, Differ, name}
+use Rattle.cand_pool.specs.Pools.{Block, items_of, spare, Holds, KeepsOthers, IsLive, Differ, name}
 use Rattle.cand_pool.specs.declared.ends.List.{List as NamedList}
 use Rattle.cand_pool.proofs.PublicLaws.{held_items}
 use Rattle.cand_uses.specs.Pairs.{pair_of, pairs_of}
 use Rattle.cand_uses.specs.Uses.{uses_by, HoldsFor, IsExchange}
 use Rattle.cand_uses.proofs.ExchangeLemmas.{uses_of_one, empty_cells}
 use Rattle.vg_merge.specs.Merges.{CanMeet}
+use Rattle.vg_convex.specs.Orders.{numbers_of}
 use Rattle.bench_lists.specs.Turns.{IsSmall, AreSmall, IsMade}
+use Rattle.bench_lists.specs.declared.random.Top.{Top}
 use Rattle.bench_lists.specs.Branches.{AreBare, IsReady}
 use Rattle.bench_lists.proofs.Lengths.{small_modest}
 use Rattle.bench_lists.proofs.TurnLaws.{IsFilling, filling_start, filling_more, filled_made}
@@ -64,48 +72,94 @@ bare_append [] ys one two = two
 bare_append (x ∷ xs) ys one two = (one.0, bare_append xs ys one.1 two)
 
 -- the pair that those before place n are below
-abbrev floor : ℕ → Pair
+abbrev pub floor : ℕ → Pair
 floor n = record { q = pos (16384 * n); c = 256 * n }
-
-floor_rises : (n : ℕ) → pos (16384 * n) ≤ℤ pos (16384 * (n + 1))
-floor_rises n = omega (arith, ints)
 
 at_below : (n : ℕ) (x : Candidate) → IsAt n x → IsBelow (pair_of x) (floor (n + 1))
 at_below n x at = let b = at.to_q in let c = at.to_c in record { time = omega (arith, ints, b); room = omega (arith, c) }
 
--- how far a branch is made: it has these n candidates
-pub record IsRising (s t : Block) (list : NamedList) (n : ℕ) (xs : Candidates) : Type 0 where
+-- how far a branch is made: it has these n candidates, all below the top
+pub record IsRising (s t : Block) (list : NamedList) (n : ℕ) (top : Pair) (xs : Candidates) : Type 0 where
   pub filling : IsFilling s t list n xs
   rises : AllPairs IsBelow (pairs_of xs)
-  under : AreUnder (floor n) (pairs_of xs)
+  under : AreUnder top (pairs_of xs)
   bare : AreBare xs
 
 no_pairs : AllPairs IsBelow []
 no_pairs i j d before low = absurd (omega arith)
 
-pub rising_start : (s t : Block) (list : NamedList) → t ≡ s → Holds t list [] → IsRising s t list 0 []
-rising_start s t list same h = record { filling = filling_start s t list same h; rises = no_pairs; under = tt; bare = tt }
+pub rising_start : (s t : Block) (list : NamedList) (top : Pair) → t ≡ s → Holds t list [] → IsRising s t list 0 top []
+rising_start s t list top same h = record { filling = filling_start s t list same h; rises = no_pairs; under = tt; bare = tt }
 
-pub rising_more : (s t u : Block) (list list' : NamedList) (n : ℕ) (xs : Candidates) (x : Candidate) → IsRising s t list n xs → n < 10 ^ 6 → IsAt n x → x.tag ≡ none
+-- a small candidate without cells, from one top on and below the next one
+pub record IsBetween (top higher : Pair) (x : Candidate) : Type 0 where
+  pub small : IsSmall x
+  pub empty : x.tag ≡ none
+  pub from_q : top.q ≤ℤ x.q
+  pub from_c : top.c ≤ x.c
+  pub below : IsBelow (pair_of x) higher
+
+between_q : (q x r : ℤ) → q ≤ℤ x → x <ℤ r → q ≤ℤ r
+between_q q x r low high = omega (arith, ints)
+
+pub rising_more : (s t u : Block) (list list' : NamedList) (n : ℕ) (top higher : Pair) (xs : Candidates) (x : Candidate) → IsRising s t list n top xs → IsBetween top higher x
     → ((ys : Candidates) → Holds t list ys → Holds u list' (ys ++ x ∷ [])) → KeepsOthers t (name list ∷ []) u (name list' ∷ []) → spare t ≡ suc (spare u)
-    → IsRising s u list' (n + 1) (xs ++ x ∷ [])
-rising_more s t u list list' n xs x f few at empty pushed others free =
+    → IsRising s u list' (n + 1) higher (xs ++ x ∷ [])
+rising_more s t u list list' n top higher xs x f here pushed others free =
     let e : pairs_of (xs ++ x ∷ []) ≡ pairs_of xs ++ pair_of x ∷ [] = map-append pair_of xs (x ∷ []) in
-    let under : AreUnder (pair_of x) (pairs_of xs) = under_more (floor n) (pair_of x) (pairs_of xs) at.from_q at.from_c f.under in
+    let under : AreUnder (pair_of x) (pairs_of xs) = under_more top (pair_of x) (pairs_of xs) here.from_q here.from_c f.under in
+    let below : IsBelow (pair_of x) higher = here.below in
+    let low : top.q ≤ℤ higher.q = between_q top.q x.q higher.q here.from_q below.time in
+    let light : top.c ≤ higher.c = let a = here.from_c in let b = below.room in omega (arith, a, b) in
     record {
-      filling = filling_more s t u list list' n xs x f.filling (small_at n x few at) pushed others free;
+      filling = filling_more s t u list list' n xs x f.filling here.small pushed others free;
       rises = subst (λ (ps : List Pair). AllPairs IsBelow ps) (sym e) (all_pairs_push IsBelow (pairs_of xs) (pair_of x) f.rises (under_at (pair_of x) (pairs_of xs) under));
-      under = subst (λ (ps : List Pair). AreUnder (floor (n + 1)) ps) (sym e)
-          (under_append (floor (n + 1)) (pair_of x) (pairs_of xs) (under_more (floor n) (floor (n + 1)) (pairs_of xs) (floor_rises n) (omega arith) f.under) (at_below n x at));
-      bare = bare_append xs (x ∷ []) f.bare (empty, tt);
+      under = subst (λ (ps : List Pair). AreUnder higher ps) (sym e) (under_append higher (pair_of x) (pairs_of xs) (under_more top higher (pairs_of xs) low light f.under) below);
+      bare = bare_append xs (x ∷ []) f.bare (here.empty, tt);
     }
+
+pub at_between : (n : ℕ) (x : Candidate) → n < 10 ^ 6 → IsAt n x → x.tag ≡ none → IsBetween (floor n) (floor (n + 1)) x
+at_between n x few at empty = record { small = small_at n x few at; empty = empty; from_q = at.from_q; from_c = at.from_c; below = at_below n x at }
+
+-- how far a list that bends is made: what comes next is small
+pub record IsTop (n : ℕ) (top : Top) (gain : ℕ) : Type 0 where
+  pub early : top.q ≤ 2 ^ 19 * n
+  pub light : top.c ≤ 256 * n
+  pub less : gain ≤ 2 ^ 18
+
+abbrev pub pair_at : Top → Pair
+pair_at top = record { q = pos top.q; c = top.c }
+
+top_small : (n q : ℕ) (x : Candidate) → n < 10 ^ 6 → x.q ≡ pos q → q ≤ 2 ^ 19 * n → x.c ≤ 256 * n → IsSmall x
+top_small n q x few is early light = record { low = omega (arith, ints, is); high = omega (arith, ints, is, early, few); load = omega (arith, light, few) }
+
+pos_below : (x : ℤ) (q r : ℕ) → x ≡ pos q → q < r → x <ℤ pos r
+pos_below x q r is slow = omega (arith, ints, is, slow)
+
+pos_from : (x : ℤ) (q : ℕ) → x ≡ pos q → pos q ≤ℤ x
+pos_from x q is = omega (arith, ints, is)
+
+-- the candidate at the top
+pub top_between : (n : ℕ) (top higher : Top) (gain : ℕ) (x : Candidate) → n < 10 ^ 6 → IsTop n top gain → x.q ≡ pos top.q → x.c ≡ top.c → x.tag ≡ none → top.q < higher.q → top.c < higher.c
+    → IsBetween (pair_at top) (pair_at higher) x
+top_between n top higher gain x few is q c empty slow light = record {
+  small = top_small n top.q x few q is.early (let a = is.light in omega (arith, a, c));
+  empty = empty;
+  from_q = pos_from x.q top.q q;
+  from_c = omega (arith, c);
+  below = record { time = pos_below x.q top.q higher.q q slow; room = omega (arith, c, light) };
+}
+
+pub top_more : (n : ℕ) (top higher : Top) (gain less : ℕ) → IsTop n top gain → higher.q ≤ top.q + 2 ^ 19 → higher.c ≤ top.c + 256 → less ≤ gain → IsTop (n + 1) higher less
+top_more n top higher gain less is early light fewer =
+    let a = is.early in let b = is.light in let c = is.less in record { early = omega (arith, a, early); light = omega (arith, b, light); less = omega (arith, c, fewer) }
 
 ready_of : (s : Block) (list : NamedList) (xs : Candidates) → xs ≡ items_of s list → IsMade s list → AllPairs IsBelow (pairs_of xs) → AreBare xs → IsReady s list
 ready_of s list xs is made rises bare =
     record { made = made; rises = subst (λ (ys : Candidates). AllPairs IsBelow (pairs_of ys)) is rises; bare = subst AreBare is bare }
 
-pub rising_ready : (s t : Block) (list : NamedList) (n : ℕ) (xs : Candidates) → IsRising s t list n xs → IsReady t list
-rising_ready s t list n xs f = ready_of t list xs (sym (held_items t list.ends.first list.ends.last xs f.filling.held)) (filled_made s t list n xs f.filling) f.rises f.bare
+pub rising_ready : (s t : Block) (list : NamedList) (n : ℕ) (top : Pair) (xs : Candidates) → IsRising s t list n top xs → IsReady t list
+rising_ready s t list n top xs f = ready_of t list xs (sym (held_items t list.ends.first list.ends.last xs f.filling.held)) (filled_made s t list n xs f.filling) f.rises f.bare
 
 -- a branch that was made stays while another list is made
 pub record IsBeside (s t : Block) (list other : NamedList) : Type 0 where
@@ -113,9 +167,9 @@ pub record IsBeside (s t : Block) (list other : NamedList) : Type 0 where
   pub same : items_of t list ≡ items_of s list
   pub differ : Differ (name list) (name other)
 
-pub stays_beside : (s t : Block) (list other : NamedList) → IsReady s list → IsReady t other → KeepsOthers s [] t (name other ∷ []) → IsBeside s t list other
+pub stays_beside : (s t : Block) (list other : NamedList) → IsReady s list → IsLive t other → KeepsOthers s [] t (name other ∷ []) → IsBeside s t list other
 stays_beside s t list other ready beside keeps =
-    let two : IsSecond s t list other = second s t list other ready.made beside.made.0.few keeps in
+    let two : IsSecond s t list other = second s t list other ready.made beside.few keeps in
     record {
       ready = ready_of t list (items_of s list) (sym two.items) two.made ready.rises ready.bare;
       same = two.items;
@@ -169,3 +223,23 @@ beside_held slots s t list ready held =
 
 pub beside_long : (s t : Block) (list : NamedList) → Holds t list (items_of s list) → length (items_of t list) ≡ length (items_of s list)
 beside_long s t list held = ap length (held_items t list.ends.first list.ends.last (items_of s list) held)
+
+-- solutions of candidates without cells are live, and have no cell at a node
+pub all_live : (arena : Arena) (xs : Candidates) → AreBare xs → All (λ x. IsLiveSolution (made_of arena) x.tag) xs
+all_live arena [] bare k d low = absurd (omega arith)
+all_live arena (x ∷ xs) bare zero d low = λ some. absurd (some bare.0)
+all_live arena (x ∷ xs) bare (suc k) d low = all_live arena xs bare.1 k d (omega arith)
+
+pub all_uncut : (arena : Arena) (node : ℕ) (xs : Candidates) → AreBare xs → All (λ x. cells_of (made_of arena) x.tag node ≡ None) xs
+all_uncut arena node [] bare k d low = absurd (omega arith)
+all_uncut arena node (x ∷ xs) bare zero d low = ap (λ (j : ℕ). cells_of (made_of arena) j node) bare.0 ∙ ap (λ (f : ℕ → Option ℕ). f node) (empty_cells arena)
+all_uncut arena node (x ∷ xs) bare (suc k) d low = all_uncut arena node xs bare.1 k d (omega arith)
+
+-- at most all repeaters are of a kind
+pub few_of_kind : (reps : List Rep) (inverts : Bool) (order : List ℕ) → IsPermutation (numbers_of reps inverts) order → length order ≤ length reps
+few_of_kind reps inverts order same =
+    let p : ℕ → Bool = λ b. cond inverts (rep_at reps b).inverts (not (rep_at reps b).inverts) in
+    let all : List ℕ = range_with_len 0 (length reps) in
+    let e : length order ≡ length (filter p all) = length_permutation (numbers_of reps inverts) order same in
+    let f : length (filter p all) + length (filter (λ b. not (p b)) all) ≡ length all = length-filter_both p (λ b. not (p b)) (λ b. refl) all in
+    let n : length all ≡ length reps = length-range_with_len 0 (length reps) in omega (arith, e, f, n)

@@ -16,7 +16,7 @@ use vg_merge::merge;
 use vg_num::Memory;
 
 /// The tag of a candidate without cells: the number of the empty solution.
-const BARE: u64 = u64::MAX;
+pub const BARE: u64 = u64::MAX;
 
 /// A list of so many candidates without cells, which rise strictly.
 pub fn rising(pool: &mut Pool, size: u32, random: &mut Random) -> List

@@ -3,6 +3,7 @@
 #![tactic(auto)]
 
 mod branches;
+mod cells;
 mod lists;
 mod operation;
 mod plan;

@@ -13,10 +13,12 @@ push-requires-clause-live c = held_named _ _ _ _ c.places.invariant.1.held
 
 pub places-preserved : goal.places-preserved
 places-preserved c =
-    let e = to_z-of_z {w = w128} {z = c.point-point.result.q} (search rules) in
-    (_, filling_more _ _ _ c.places.list c.push.new.list c.places.at c.places.invariant.0 _ c.places.invariant.1
-    (small_at c.places.at _ (omega arith) (record { from_q = rw e c.point-point.ensures.from_q; to_q = rw e c.point-point.ensures.to_q; from_c = c.point-point.ensures.from_c; to_c = c.point-point.ensures.to_c }))
-    c.push.ensures.list c.push.ensures.others c.push.ensures.spare)
+    let e = to_z-of_z {w = w128} {z = c.point-point.result.q} (search rules) in (
+      _,
+      filling_more _ _ _ c.places.list c.push.new.list c.places.at c.places.invariant.0 _ c.places.invariant.1
+          (small_at c.places.at _ (omega arith) (record { from_q = rw e c.point-point.ensures.from_q; to_q = rw e c.point-point.ensures.to_q; from_c = c.point-point.ensures.from_c; to_c = c.point-point.ensures.to_c }))
+          c.push.ensures.list c.push.ensures.others c.push.ensures.spare,
+    )
 
 pub returns-clause-made : goal.returns-clause-made
 returns-clause-made c = filled_made _ _ _ _ _ c.places.invariant.1
