@@ -1,3 +1,4 @@
 pub mod Lengths
 pub mod TurnLaws
 pub mod OperationLaws
+pub mod BranchLaws

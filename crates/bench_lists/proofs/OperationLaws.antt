@@ -120,7 +120,7 @@ applied_sized m n s t list bag e h = subst (λ (k : ℕ). IsApplied k s t list b
 -- a list that was made stays while another one is made
 pub record IsSecond (s t : Block) (list other : NamedList) : Type 0 where
   pub made : IsMade t list
-  pub same : size t list ≡ size s list
+  pub items : items_of t list ≡ items_of s list
   pub differ : Differ (name list) (name other)
 
 pub second : (s t : Block) (list other : NamedList) → IsMade s list → length t.links ≤ none → KeepsOthers s [] t (name other ∷ []) → IsSecond s t list other
@@ -129,7 +129,7 @@ second s t list other made few keeps =
     let e : items_of t list ≡ items_of s list = held_items t list.ends.first list.ends.last (items_of s list) there in
     record {
       made = (held_named t list.ends.first list.ends.last (items_of s list) there, subst AreSmall (sym e) made.1);
-      same = ap length e;
+      items = e;
       differ = fresh_differs s t [] (name other ∷ []) list.ends.first list.ends.last (items_of s list) keeps made.0 (λ some m. m) (name other) (inl refl);
     }
 

@@ -12,18 +12,16 @@ use Rattle.bench_lists.specs.Turns.{IsSmall, AreSmall, IsMade, IsFull}
 use Rattle.bench_lists.proofs.Lengths.{small_append}
 use Rattle.cand_pool.proofs.CallLaws.{keeps_none}
 
--- how far a list is made: it has n candidates
-pub record IsFilling (s t : Block) (list : NamedList) (n : ℕ) : Type 0 where
-  pub xs : Candidates
+-- how far a list is made: it has these n candidates
+pub record IsFilling (s t : Block) (list : NamedList) (n : ℕ) (xs : Candidates) : Type 0 where
   pub held : Holds t list xs
   pub small : AreSmall xs
   pub long : length xs ≡ n
   pub others : KeepsOthers s [] t (name list ∷ [])
   pub free : spare s ≡ spare t + n
 
-pub filling_start : (s t : Block) (list : NamedList) → t ≡ s → Holds t list [] → IsFilling s t list 0
+pub filling_start : (s t : Block) (list : NamedList) → t ≡ s → Holds t list [] → IsFilling s t list 0 []
 filling_start s t list same h = record {
-  xs = [];
   held = h;
   small = tt;
   long = refl;
@@ -31,22 +29,21 @@ filling_start s t list same h = record {
   free = let e : spare t ≡ spare s = ap spare same in omega (arith, e);
 }
 
-pub filling_more : (s t u : Block) (list list' : NamedList) (n : ℕ) (x : Candidate) → IsFilling s t list n → IsSmall x → ((xs : Candidates) → Holds t list xs → Holds u list' (xs ++ x ∷ []))
-    → KeepsOthers t (name list ∷ []) u (name list' ∷ []) → spare t ≡ suc (spare u) → IsFilling s u list' (n + 1)
-filling_more s t u list list' n x f small pushed others free = record {
-  xs = f.xs ++ x ∷ [];
-  held = pushed f.xs f.held;
-  small = small_append f.xs x f.small small;
-  long = let long = f.long in omega (arith, long, length-append f.xs (x ∷ []));
+pub filling_more : (s t u : Block) (list list' : NamedList) (n : ℕ) (xs : Candidates) (x : Candidate) → IsFilling s t list n xs → IsSmall x → ((ys : Candidates) → Holds t list ys → Holds u list' (ys ++ x ∷ []))
+    → KeepsOthers t (name list ∷ []) u (name list' ∷ []) → spare t ≡ suc (spare u) → IsFilling s u list' (n + 1) (xs ++ x ∷ [])
+filling_more s t u list list' n xs x f small pushed others free = record {
+  held = pushed xs f.held;
+  small = small_append xs x f.small small;
+  long = let long = f.long in omega (arith, long, length-append xs (x ∷ []));
   others = keeps_then s t u [] (name list ∷ []) (name list ∷ []) (name list' ∷ []) (name list' ∷ []) f.others others (λ k m. m) (λ k m. inl m);
   free = let before = f.free in omega (arith, before, free);
 }
 
-pub filled_made : (s t : Block) (list : NamedList) (n : ℕ) → IsFilling s t list n → IsMade t list
-filled_made s t list n f = (held_named t list.ends.first list.ends.last f.xs f.held, subst AreSmall (sym (held_items t list.ends.first list.ends.last f.xs f.held)) f.small)
+pub filled_made : (s t : Block) (list : NamedList) (n : ℕ) (xs : Candidates) → IsFilling s t list n xs → IsMade t list
+filled_made s t list n xs f = (held_named t list.ends.first list.ends.last xs f.held, subst AreSmall (sym (held_items t list.ends.first list.ends.last xs f.held)) f.small)
 
-pub filled_long : (s t : Block) (list : NamedList) (n : ℕ) → IsFilling s t list n → length (items_of t list) ≡ n
-filled_long s t list n f = ap length (held_items t list.ends.first list.ends.last f.xs f.held) ∙ f.long
+pub filled_long : (s t : Block) (list : NamedList) (n : ℕ) (xs : Candidates) → IsFilling s t list n xs → length (items_of t list) ≡ n
+filled_long s t list n xs f = ap length (held_items t list.ends.first list.ends.last xs f.held) ∙ f.long
 
 -- how far a bag is emptied: n tags were taken
 pub record IsEmptying (s t : Block) (bag : Bag) (size n : ℕ) : Type 0 where

@@ -1,1 +1,3 @@
 pub mod Turns
+pub mod Branches
+pub mod Additions

@@ -168,7 +168,7 @@ pub struct Sum {
 }
 
 /// Sums up a list.
-fn sum_up<L: Ledger>(pool: &Pool, list: &List, steps: &mut Steps<L>) -> u64
+pub fn sum_up<L: Ledger>(pool: &Pool, list: &List, steps: &mut Steps<L>) -> u64
     requires { IsLive pool.now list.now }
 {
     let mut sum = 0u64;

@@ -2,27 +2,27 @@
 
 ghost use Rattle.std.specs.Prelude.{◌≤◌, ◌^◌, IfSome};
 
-use crate::operation::Operation;
 use crate::random::MOST;
+use crate::task::Task;
 
 /// What is to be timed: rounds of turns with lists of this size, in slots one beside the other or scattered.
 #[derive(Clone, Copy)]
 pub struct Plan {
-    pub operation: Operation,
+    pub task: Task,
     pub size: u32,
     pub scattered: bool,
     pub rounds: u32,
 }
 
 impl Plan {
-    /// Reads the words OPERATION SIZE ORDER ROUNDS.
+    /// Reads the words TASK SIZE ORDER ROUNDS.
     pub fn read(words: &[String]) -> Option<Plan>
         ensures { IfSome result (λ plan. plan.size ≤ 10 ^ 6) }
     {
-        let [operation, size, order, rounds] = words else {
+        let [task, size, order, rounds] = words else {
             return None;
         };
-        let operation = Operation::named(operation.as_str())?;
+        let task = Task::named(task.as_str())?;
         let scattered = match order.as_str() {
             "fresh" => false,
             "scattered" => true,
@@ -34,7 +34,7 @@ impl Plan {
             return None;
         }
         Some(Plan {
-            operation,
+            task,
             size,
             scattered,
             rounds,

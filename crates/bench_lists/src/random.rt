@@ -1,9 +1,12 @@
 //! Candidates at random, the same on each run.
 
-ghost use Rattle.std.specs.Prelude.{◌≤◌, ◌<◌, ◌^◌, pos, ◌≤ℤ◌};
+ghost use Rattle.std.specs.Prelude.{◌≤◌, ◌<◌, ◌+◌, ◌*◌, ◌^◌, pos, ◌≤ℤ◌, ◌<ℤ◌};
 
 /// How many candidates a list may have here.
 pub const MOST: u32 = 1_000_000;
+
+/// The most that the time of a list gains from one candidate to the next, but for what is drawn.
+pub const MOST_GAIN: u64 = 1 << 18;
 
 /// What was drawn so far.
 #[derive(Drop)]
@@ -15,6 +18,13 @@ pub struct Random {
 #[derive(Clone, Copy)]
 pub struct Point {
     pub q: i128,
+    pub c: u64,
+}
+
+/// The numbers of a candidate above others.
+#[derive(Clone, Copy)]
+pub struct Top {
+    pub q: u64,
     pub c: u64,
 }
 
@@ -36,10 +46,10 @@ impl Random {
 
     /// The candidate at this place of a list, in which q and c rise strictly.
     pub fn point(&mut self, at: u32) -> Point
-        requires { at < 10 ^ 6 }
-        ensures low { pos 0 ≤ℤ result.q }
-        ensures high { result.q ≤ℤ pos (10 ^ 12) }
-        ensures load { result.c ≤ 10 ^ 10 }
+        ensures from_q { pos (16384 * at) ≤ℤ result.q }
+        ensures to_q { result.q <ℤ pos (16384 * at + 16384) }
+        ensures from_c { 256 * at ≤ result.c }
+        ensures to_c { result.c < 256 * at + 256 }
     {
         let bits = self.draw();
         let (step, noise) = (bits & 255, bits >> 8 & 4095);
@@ -47,6 +57,23 @@ impl Random {
         Point {
             q: i128::from(at * 16_384 + step * 48 + noise),
             c: at * 256 + step,
+        }
+    }
+
+    /// The candidate after this one, where q and c rise strictly and q gains this much and some more.
+    pub fn above(&mut self, top: Top, gain: u64) -> Top
+        requires gain { gain ≤ 2 ^ 18 }
+        requires early { top.q ≤ 2 ^ 40 }
+        requires light { top.c ≤ 2 ^ 40 }
+        ensures from_q { top.q < result.q }
+        ensures to_q { result.q ≤ top.q + 2 ^ 19 }
+        ensures from_c { top.c < result.c }
+        ensures to_c { result.c ≤ top.c + 256 }
+    {
+        let bits = self.draw();
+        Top {
+            q: top.q + 1 + gain + (bits >> 8 & 1023),
+            c: top.c + 128 + (bits & 127),
         }
     }
 }

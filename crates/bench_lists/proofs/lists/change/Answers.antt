@@ -1,4 +1,4 @@
-use Rattle.std.proofs.Common.{arith}
+use Rattle.std.proofs.Common.{length, ap, arith}
 use Rattle.bench_lists.proofs.OperationLaws.{second, applied_sized}
 use Rattle.bench_lists.proofs.lists.change.Goals as goal
 
@@ -13,4 +13,4 @@ apply-bag-requires-clause-differ g c =
 pub returns-clause-applied : goal.returns-clause-applied
 returns-clause-applied g c =
     let two = second _ _ c.fill-list.result c.fill-other.result c.fill-list.ensures.made c.fill-other.ensures.made.0.few c.fill-other.ensures.others in
-    (c.fill-other.new.pool, applied_sized _ _ _ _ c.apply-bag.new.list c.apply-bag.result (let same = two.same in let one = c.fill-list.ensures.size in let other = c.fill-other.ensures.size in omega (arith, same, one, other)) c.apply-bag.ensures)
+    (c.fill-other.new.pool, applied_sized _ _ _ _ c.apply-bag.new.list c.apply-bag.result (let same = ap length two.items in let one = c.fill-list.ensures.size in let other = c.fill-other.ensures.size in omega (arith, same, one, other)) c.apply-bag.ensures)

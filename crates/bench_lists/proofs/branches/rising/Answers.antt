@@ -1,0 +1,36 @@
+use Rattle.std.proofs.Common.{[], ◌+◌, ◌∙◌, arith, rules, refl, to_z-of_z}
+use Rattle.std.specs.Int.{w128}
+use Rattle.cand_pool.proofs.PublicLaws.{held_named}
+use Rattle.bench_lists.proofs.TurnLaws.{filled_long}
+use Rattle.bench_lists.proofs.BranchLaws.{floor, at_between, rising_start, rising_more, rising_ready}
+use Rattle.bench_lists.proofs.branches.rising.Goals as goal
+
+pub places-init : goal.places-init
+places-init c = ([], rising_start _ _ c.none-list.result (floor 0) c.none-list.ensures.same c.none-list.ensures.list)
+
+pub push-requires-clause-live : goal.push-requires-clause-live
+push-requires-clause-live c = held_named _ _ _ _ c.places.invariant.1.filling.held
+
+pub push-requires-clause-room : goal.push-requires-clause-room
+push-requires-clause-room c = let free = c.places.invariant.1.filling.free in omega (arith, free)
+
+pub places-preserved : goal.places-preserved
+places-preserved c =
+    let e = to_z-of_z {w = w128} {z = c.point-point.result.q} (search rules) in (
+      _,
+      rising_more _ _ _ c.places.list c.push.new.list c.places.at (floor c.places.at) (floor (c.places.at + 1)) c.places.invariant.0 _ c.places.invariant.1
+          (at_between c.places.at _ (omega arith) (record { from_q = rw e c.point-point.ensures.from_q; to_q = rw e c.point-point.ensures.to_q; from_c = c.point-point.ensures.from_c; to_c = c.point-point.ensures.to_c }) refl)
+          c.push.ensures.list c.push.ensures.others c.push.ensures.spare,
+    )
+
+pub returns-clause-ready : goal.returns-clause-ready
+returns-clause-ready c = rising_ready _ _ _ _ _ _ c.places.invariant.1
+
+pub returns-clause-size : goal.returns-clause-size
+returns-clause-size c = filled_long _ _ c.places.list c.places.at _ c.places.invariant.1.filling ∙ omega arith
+
+pub returns-clause-others : goal.returns-clause-others
+returns-clause-others c = c.places.invariant.1.filling.others
+
+pub returns-clause-spare : goal.returns-clause-spare
+returns-clause-spare c = let free = c.places.invariant.1.filling.free in omega (arith, free)

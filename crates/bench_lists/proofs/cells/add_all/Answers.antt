@@ -1,0 +1,27 @@
+use Rattle.std.proofs.Common.{[], ap, arith, length}
+use Rattle.bench_lists.proofs.Lengths.{small_modest}
+use Rattle.bench_lists.proofs.BranchLaws.{stays_beside, all_live, all_uncut, made_held}
+use Rattle.bench_lists.proofs.cells.add_all.Goals as goal
+
+pub add_cells-requires-clause-modest : goal.add_cells-requires-clause-modest
+add_cells-requires-clause-modest g c = small_modest _ c.bent-from.ensures.ready.made.1
+
+pub add_cells-requires-clause-live : goal.add_cells-requires-clause-live
+add_cells-requires-clause-live g c = all_live c.args.arena.now _ c.bent-from.ensures.ready.bare
+
+pub add_cells-requires-clause-bare : goal.add_cells-requires-clause-bare
+add_cells-requires-clause-bare g c = all_uncut c.args.arena.now 0 _ c.bent-from.ensures.ready.bare
+
+pub returns-clause-added : goal.returns-clause-added
+returns-clause-added g c =
+    let two = stays_beside c.bent-from.new.pool c.add_cells.new.pool c.bent-from.result c.in_ok-made.made c.bent-from.ensures.ready c.in_ok-made.ensures.list c.in_ok-made.ensures.others in
+    record { ready = two.ready; live = c.in_ok-made.ensures.list; held = made_held _ _ [] _ tt c.in_ok-made.ensures.uses; differ = two.differ }
+
+pub returns-clause-spare : goal.returns-clause-spare
+returns-clause-spare g c =
+    let two = stays_beside c.bent-from.new.pool c.add_cells.new.pool c.bent-from.result c.in_ok-made.made c.bent-from.ensures.ready c.in_ok-made.ensures.list c.in_ok-made.ensures.others in
+    let same = ap length two.same in
+    let size = c.bent-from.ensures.size in
+    let one = c.bent-from.ensures.spare in
+    let other = c.in_ok-made.ensures.spare in
+    omega (arith, same, size, one, other)
