@@ -69,7 +69,8 @@ pub bare_placed : (p : Problem) (cells : List (Option ℕ)) → HasNoCell cells 
 bare_placed p cells bare = λ v b e. absurd (let clash : None ≡ Some b = sym (bare v) ∙ e in cc)
 
 -- there is one such placement
-pub one_bare : (p : Problem) (cells : List (Option ℕ)) (x : ℤ) → length cells ≡ length p.tree.nodes → HasNoCell cells → (IsGoodWith p cells x → ⊥) → NoneIsBare p x
+pub one_bare : (p : Problem) (cells : List (Option ℕ)) (x : ℤ) → length cells ≡ length p.tree.nodes → HasNoCell cells
+    → (IsGoodWith p cells x → ⊥) → NoneIsBare p x
 one_bare p cells x long bare never = λ others (others_bare, good).
     let same : others ≡ cells
     = ext_get_or None others cells (good.good.placement.one_each ∙ sym long) (λ i i_n. others_bare i ∙ sym (bare i)) in
@@ -118,7 +119,8 @@ module _ (p : Problem) (arena : Arena) (xs : Candidates) (slack : ℤ) (sol : �
 
   -- a placement of these cells is best
   pub placed_best : (cells : List (Option ℕ)) → length cells ≡ length p.tree.nodes
-      → ((v : ℕ) → slice_index_or cells v None ≡ cells_of (made_of arena) sol v) → NoneIsBare p slack → IsFound p (record { slack = slack; placement = record { cells = cells } })
+      → ((v : ℕ) → slice_index_or cells v None ≡ cells_of (made_of arena) sol v) → NoneIsBare p slack
+      → IsFound p (record { slack = slack; placement = record { cells = cells } })
   placed_best cells long are none_bare =
       let same : cells_by p (cells_of (made_of arena) sol) ≡ cells
       = ext_get_or None (cells_by p (cells_of (made_of arena) sol)) cells (by_length ∙ sym long)

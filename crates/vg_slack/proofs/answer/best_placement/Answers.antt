@@ -57,7 +57,8 @@ returns g c =
     let fits : SFits w128 c.in-Some.choice.slack = search rules in
     let bare = subst (λ (o : Option Placement). MatchOption o (NoneIsBare c.args.p.now (to_z w128 (of_z w128 c.in-Some.choice.slack)))
     (λ (at : Placement). IsBare c.args.p.now (to_z w128 (of_z w128 c.in-Some.choice.slack)) at.cells)) c.in_default-2.is c.in_ok-placement.ensures in
-    subst (λ (x : ℤ). IsFound c.args.p.now (record { slack = x; placement = c.in_ok-placement-2.placement })) (sym (to_z-of_z w128 c.in-Some.choice.slack fits))
+    subst (λ (x : ℤ). IsFound c.args.p.now (record { slack = x; placement = c.in_ok-placement-2.placement }))
+    (sym (to_z-of_z w128 c.in-Some.choice.slack fits))
     (placed_best c.args.p.now c.args.arena.now g.xs c.in-Some.choice.slack c.in-Some.choice.sol.0 exact solved is c.in_ok-placement-2.placement.cells
     (c.in_ok-placement-2.ensures.room ∙ c.len.ensures) c.in_ok-placement-2.ensures.cells
     (subst (λ (x : ℤ). NoneIsBare c.args.p.now x) (to_z-of_z w128 c.in-Some.choice.slack fits) bare))
