@@ -1,1 +1,3 @@
 pub mod Climbs
+pub mod Roots
+pub mod Bests

@@ -1,4 +1,8 @@
 //! The best placement of repeaters on a net.
 #![tactic(auto)]
 
+mod answer;
 mod climb;
+mod root;
+
+pub use answer::Best;

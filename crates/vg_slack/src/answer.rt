@@ -1,0 +1,85 @@
+//! The best placement of a net, by the candidate of the root that was chosen.
+
+ghost use Rattle.std.specs.Prelude.{◌≡◌, ◌≤◌, false, length, IfOk, MatchBool, MatchOption};
+ghost use Rattle.elmore.specs.Legal.{IsPlaced};
+ghost use Rattle.elmore.specs.Pairs.{IsPairAt, IsUndominated};
+ghost use Rattle.elmore.specs.Placements.{IsPlacement};
+ghost use Rattle.elmore.specs.Room.{room_of};
+ghost use Rattle.sol_arena.specs.Arenas.{slots_of, made_of};
+ghost use Rattle.cand_laws.specs.Solutions.{IsSolutionOf};
+ghost use Rattle.cand_pool.specs.Candidates.{Candidates};
+ghost use Rattle.cand_uses.specs.Pairs.{pairs_of};
+ghost use Rattle.cand_uses.specs.Uses.{HoldsFor};
+ghost use Rattle.cand_turns.specs.Solved.{AreSolved};
+ghost use Rattle.vg_slack.specs.Roots.{IsChoice};
+ghost use Rattle.vg_slack.specs.Bests.{IsGoodWith, IsBare, NoneIsBare, IsAnswer};
+
+use crate::root::Choice;
+use elmore::{Placement, Problem, Scratch, first_illegal, first_wrong, slack};
+use sol_arena::Arena;
+use std::alloc::Global;
+use vg_num::Memory;
+
+/// A best placement of a problem, and its slack (zs).
+#[derive(Drop)]
+pub struct Best {
+    pub slack: i128,
+    pub placement: Placement,
+}
+
+/// Whether a placement is good and has this slack (zs). The scratch has room for the nodes of the net.
+fn is_good_with(p: &Problem, at: &Placement, most: i128, scratch: &mut Scratch) -> bool
+    requires placement { IsPlacement p.now at.now.cells }
+    requires placed { IsPlaced p.now at.now.cells }
+    requires room { length p.now.tree.nodes ≤ room_of scratch.old }
+    ensures { MatchBool result (IsGoodWith p.now at.now.cells most) (IsGoodWith p.now at.now.cells most → ⊥) }
+{
+    if first_illegal(p, at, scratch).is_some() {
+        return false;
+    }
+    if first_wrong(p, at, scratch).is_some() {
+        return false;
+    }
+    let own = slack(p, at, scratch);
+    own == most
+}
+
+/// The placement without a cell, where it is good and has this slack (zs). Answers `Memory` where there is no room.
+fn bare_with(alloc: Global, p: &Problem, most: i128) -> Result<Option<Placement>, Memory>
+    ensures { IfOk result (λ at. MatchOption at (NoneIsBare p.now most) (λ at. IsBare p.now most at.cells)) }
+{
+    let n = p.tree.nodes.len();
+    let placement = Placement::empty(alloc, n)?;
+    let mut scratch = Scratch::new(alloc, n)?;
+    if is_good_with(p, &placement, most, &mut scratch) {
+        return Ok(Some(placement));
+    }
+    Ok(None)
+}
+
+/// The best placement that the candidates of the root come to, where this one of them was chosen: the one without a cell
+/// where it is best, and else that of the candidate's solution. `None`: no placement is good. Answers `Memory` where there is
+/// no room.
+pub(crate) fn best_placement(
+    alloc: Global,
+    arena: &Arena,
+    p: &Problem,
+    choice: Option<Choice>,
+) -> Result<Option<Best>, Memory>
+    ghost xs: { Candidates }
+    requires exact { IsUndominated (IsPairAt p.now 0 false) (pairs_of xs) }
+    requires solved { AreSolved (IsSolutionOf p.now 0 false) (made_of arena.now) xs }
+    requires uses { HoldsFor (slots_of arena.now) xs }
+    requires choice { IsChoice p.now xs choice }
+    ensures { IfOk result (IsAnswer p.now) }
+{
+    let Some(choice) = choice else {
+        return Ok(None);
+    };
+    let slack = choice.slack;
+    if let Some(placement) = bare_with(alloc, p, slack)? {
+        return Ok(Some(Best { slack, placement }));
+    }
+    let placement = arena.places(alloc, choice.sol, p.tree.nodes.len())?;
+    Ok(Some(Best { slack, placement }))
+}
