@@ -13,7 +13,10 @@ use Rattle.elmore.specs.Trees.{parent_of}
 use Rattle.elmore.specs.declared.problem.Problem.{Problem}
 use Rattle.sol_arena.specs.declared.arena.Arena.{Arena}
 use Rattle.sol_arena.specs.declared.slot.Made.{Made}
-use Rattle.sol_arena.specs.Arenas.{made_of}
+use Rattle.sol_arena.specs.Arenas.{slots_of, made_of}
+use Rattle.sol_arena.specs.Reach.{IsRestored}
+use Rattle.sol_arena.specs.Uses.{held_of}
+use Rattle.sol_arena.proofs.ReachLemmas.{restored}
 use Rattle.cand_laws.specs.Candidates.{fork_of}
 use Rattle.cand_laws.specs.Merging.{live_from, own_from}
 use Rattle.cand_laws.specs.Solutions.{IsOpenSolutionOf}
@@ -25,6 +28,7 @@ use Rattle.cand_pool.specs.Pools.{Block, IsLive}
 use Rattle.cand_pool.specs.declared.ends.List.{List as NamedList}
 use Rattle.cand_pool.proofs.PoolMoves.{keeps_itself}
 use Rattle.cand_uses.specs.Pairs.{pairs_of}
+use Rattle.cand_uses.specs.Uses.{HoldsBeside}
 use Rattle.cand_uses.proofs.ExchangeLemmas.{no_exchange}
 use Rattle.cand_turns.specs.declared.branch.Branch.{Branch}
 use Rattle.cand_turns.specs.declared.part.Part.{Part}
@@ -231,3 +235,16 @@ turn_itself at lists held = record {
   held = held;
   swap = record { uses = no_exchange at.slots (all_of at.pool lists); others = keeps_itself at.pool (names lists); spare = omega arith };
 }
+
+-- one part alone
+pub one_part : (parts rest : List Part) (last : Part) → parts ≡ rest ++ last ∷ [] → length parts ≡ 1 → all_lists parts ≡ lists_in last
+one_part parts [] last are one = ap (λ (xs : List Part). all_lists xs) are ∙ append-nil (lists_in last)
+one_part parts (x ∷ rest) last are one = absurd (omega (arith, one, ap (λ (xs : List Part). length xs) are, length-append rest (last ∷ [])))
+
+-- where no list was given and none is left, the arena is as it was
+pub swap_restores : (old new : Arena) (s t : Block) → IsSwap (search s old) [] (search t new) [] → IsRestored (slots_of old) (slots_of new)
+swap_restores old new s t swap =
+    restored old new (λ u some. omega (arith, swap.uses.held (held_of (slots_of old)) beside u some)) (swap.uses.frame (held_of (slots_of old)) beside)
+  where
+    beside : HoldsBeside (slots_of old) [] (held_of (slots_of old))
+    beside u some = omega arith

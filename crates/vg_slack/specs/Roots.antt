@@ -1,10 +1,16 @@
 -- What the driver makes of the candidates of the root.
-use Rattle.std.specs.Prelude.{◌≡◌, ℕ, ℤ, Option, MatchOption}
+use Rattle.std.specs.Prelude.{◌≡◌, ℕ, ℤ, Option, MatchOption, false}
 use Rattle.std.specs.List.{Contains}
+use Rattle.elmore.specs.Pairs.{IsPairAt, IsUndominated}
 use Rattle.elmore.specs.declared.problem.Problem.{Problem}
+use Rattle.sol_arena.specs.declared.arena.Arena.{Arena}
+use Rattle.sol_arena.specs.Arenas.{slots_of, made_of}
 use Rattle.cand_laws.specs.Candidates.{Drives, DrivesNone, IsBoundedBy, root_value}
+use Rattle.cand_laws.specs.Solutions.{IsSolutionOf}
 use Rattle.cand_pool.specs.Candidates.{Candidate, Candidates}
 use Rattle.cand_uses.specs.Pairs.{pair_of, pairs_of}
+use Rattle.cand_uses.specs.Uses.{HoldsFor}
+use Rattle.cand_turns.specs.Solved.{AreSolved}
 use Rattle.vg_slack.specs.declared.root.Choice.{Choice}
 
 -- a candidate with this solution leaves this slack; of all whose load the driver may charge, none leaves more
@@ -20,3 +26,11 @@ pub record IsChosen (p : Problem) (xs : Candidates) (slack : ℤ) (sol : ℕ) : 
 abbrev pub IsChoice : Problem → Candidates → Option Choice → Type 0
 IsChoice p xs choice =
     MatchOption choice (DrivesNone p (Contains (pairs_of xs))) (λ (choice : Choice). IsChosen p xs choice.slack choice.sol.0)
+
+-- this was chosen of the candidates of the root: all undominated pairs there, each with a solution in use that comes to it
+pub record IsRootChoice (p : Problem) (arena : Arena) (choice : Option Choice) : Type 0 where
+  pub candidates : Candidates
+  pub exact : IsUndominated (IsPairAt p 0 false) (pairs_of candidates)
+  pub solved : AreSolved (IsSolutionOf p 0 false) (made_of arena) candidates
+  pub uses : HoldsFor (slots_of arena) candidates
+  pub chosen : IsChoice p candidates choice

@@ -1,17 +1,10 @@
 //! The best placement of a net, by the candidate of the root that was chosen.
 
-ghost use Rattle.std.specs.Prelude.{◌≡◌, ◌≤◌, false, length, IfOk, MatchBool, MatchOption};
+ghost use Rattle.std.specs.Prelude.{◌≡◌, ◌≤◌, length, IfOk, MatchBool, MatchOption};
 ghost use Rattle.elmore.specs.Legal.{IsPlaced};
-ghost use Rattle.elmore.specs.Pairs.{IsPairAt, IsUndominated};
 ghost use Rattle.elmore.specs.Placements.{IsPlacement};
 ghost use Rattle.elmore.specs.Room.{room_of};
-ghost use Rattle.sol_arena.specs.Arenas.{slots_of, made_of};
-ghost use Rattle.cand_laws.specs.Solutions.{IsSolutionOf};
-ghost use Rattle.cand_pool.specs.Candidates.{Candidates};
-ghost use Rattle.cand_uses.specs.Pairs.{pairs_of};
-ghost use Rattle.cand_uses.specs.Uses.{HoldsFor};
-ghost use Rattle.cand_turns.specs.Solved.{AreSolved};
-ghost use Rattle.vg_slack.specs.Roots.{IsChoice};
+ghost use Rattle.vg_slack.specs.Roots.{IsRootChoice};
 ghost use Rattle.vg_slack.specs.Bests.{IsGoodWith, IsBare, NoneIsBare, IsAnswer};
 
 use crate::root::Choice;
@@ -66,11 +59,7 @@ pub(crate) fn best_placement(
     p: &Problem,
     choice: Option<Choice>,
 ) -> Result<Option<Best>, Memory>
-    ghost xs: { Candidates }
-    requires exact { IsUndominated (IsPairAt p.now 0 false) (pairs_of xs) }
-    requires solved { AreSolved (IsSolutionOf p.now 0 false) (made_of arena.now) xs }
-    requires uses { HoldsFor (slots_of arena.now) xs }
-    requires choice { IsChoice p.now xs choice }
+    requires root { IsRootChoice p.now arena.now choice }
     ensures { IfOk result (IsAnswer p.now) }
 {
     let Some(choice) = choice else {

@@ -26,7 +26,12 @@ fn parent_of(p: &Problem, node: usize) -> usize
 }
 
 /// The parts of all nodes, to which no child came in yet. Answers `Memory` where there is no room.
-fn start(pool: &mut Pool, arena: &Arena, p: &Problem, parts: &mut Vec<Part>) -> Result<(), Memory>
+pub(crate) fn start(
+    pool: &mut Pool,
+    arena: &Arena,
+    p: &Problem,
+    parts: &mut Vec<Part>,
+) -> Result<(), Memory>
     requires none { parts.old.items ≡ [] }
     ensures all { OnOk result (length parts.new.items ≡ length p.now.tree.nodes) }
     ensures turn { OnOk result ((slots : Slots) → IsTurn (at_slots pool.old slots) [] (at_slots pool.new slots) (all_lists parts.new.items)) }
@@ -79,7 +84,7 @@ fn turn<L: Ledger>(
 }
 
 /// All nodes but the root come in, each to its parent, from the last to the first. Answers `Memory` where there is no room.
-fn climb<L: Ledger>(
+pub(crate) fn climb<L: Ledger>(
     pool: &mut Pool,
     arena: &mut Arena,
     p: &Problem,
@@ -102,7 +107,7 @@ fn climb<L: Ledger>(
 }
 
 /// Gives up the lists of all parts, with the uses of their solutions.
-fn give_up(pool: &mut Pool, arena: &mut Arena, parts: &mut Vec<Part>)
+pub(crate) fn give_up(pool: &mut Pool, arena: &mut Arena, parts: &mut Vec<Part>)
     requires held { AreHeld (search pool.old arena.old) (all_lists parts.old.items) }
     ensures swap { IsSwap (search pool.old arena.old) (all_lists parts.old.items) (search pool.new arena.new) [] }
 {

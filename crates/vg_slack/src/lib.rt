@@ -4,5 +4,6 @@
 mod answer;
 mod climb;
 mod root;
+mod search;
 
 pub use answer::Best;
