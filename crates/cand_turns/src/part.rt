@@ -1,10 +1,11 @@
 //! The part of a node, to which its children come in.
 
 ghost use Rattle.std.specs.Prelude.{◌≡◌, ◌+◌, ◌<◌, ◌≤◌, ◌^◌, Bool, true, false, [], ◌++◌, length, IfOk, MatchResult};
-ghost use Rattle.elmore.specs.Problems.{is_live, sink_of};
+ghost use Rattle.elmore.specs.Problems.{is_live, is_sink, sink_of};
 ghost use Rattle.elmore.specs.Trees.{parent_of, capacitance};
 ghost use Rattle.elmore.specs.Wire.{downstream_in};
 ghost use Rattle.sol_arena.specs.Arenas.{made_of};
+ghost use Rattle.sol_arena.specs.Uses.{one_if};
 ghost use Rattle.cand_pool.specs.Pools.{spare};
 ghost use Rattle.cand_turns.specs.Swaps.{Slots, AreHeld, IsSwap, IsTurn, search, at_slots};
 ghost use Rattle.cand_turns.specs.Branches.{classes_in, lists_of};
@@ -50,7 +51,7 @@ impl Part {
         requires room { 0 < spare pool.old }
         ensures part { IsPart p.now (length p.now.tree.nodes) node (made_of arena.now) pool.new result }
         ensures turn { (slots : Slots) → IsTurn (at_slots pool.old slots) [] (at_slots pool.new slots) (lists_in result) }
-        ensures few { (odd : Bool) → size_in pool.new result odd ≤ 1 }
+        ensures few { (odd : Bool) → size_in pool.new result odd ≤ one_if (is_sink p.now.sinks node) }
     {
         let c = capacitance_of(p, node);
         match sink_at(p, node) {

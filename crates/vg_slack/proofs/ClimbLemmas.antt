@@ -1,5 +1,5 @@
 -- The last node that has not come in comes in to its parent.
-use Rattle.std.proofs.Common.{◌≡◌, ℕ, ◌+◌, ◌<◌, ◌≤◌, true, List, [], ◌∷◌, ◌++◌, length, set, get_or, refl, sym, ap, ◌∙◌, subst, arith}
+use Rattle.std.proofs.Common.{◌≡◌, ℕ, ◌+◌, ◌<◌, ◌≤◌, Bool, true, List, [], ◌∷◌, ◌++◌, length, set, get_or, refl, sym, ap, ◌∙◌, subst, arith}
 use Rattle.std.proofs.lemmas.List.{append-nil, length-append, length-set, get_or_default, set-set}
 use Rattle.std.proofs.lemmas.List.Sorted.{IsPermutation-sym, IsPermutation-append_comm}
 use Rattle.elmore.specs.Pairs.{IsPairAt}
@@ -9,6 +9,7 @@ use Rattle.elmore.specs.declared.problem.Problem.{Problem}
 use Rattle.sol_arena.specs.declared.arena.Arena.{Arena}
 use Rattle.sol_arena.specs.declared.slot.Made.{Made}
 use Rattle.sol_arena.specs.Arenas.{made_of}
+use Rattle.cand_laws.proofs.ChildLemmas.{IsChild}
 use Rattle.cand_laws.proofs.TurnLemmas.{part_is_live}
 use Rattle.cand_pool.specs.Pools.{Block}
 use Rattle.cand_uses.specs.Pairs.{pairs_of}
@@ -17,9 +18,11 @@ use Rattle.cand_turns.specs.declared.part.Part.{Part}
 use Rattle.cand_turns.specs.declared.part.Part.TheVariants.{Dead, Live}
 use Rattle.cand_turns.specs.Swaps.{Search, Lists, search, AreHeld, IsSwap, IsTurn}
 use Rattle.cand_turns.specs.Branches.{classes_in}
-use Rattle.cand_turns.specs.Parts.{lists_in, IsPart}
+use Rattle.cand_turns.specs.Parts.{lists_in, size_in, IsPart}
 use Rattle.cand_turns.proofs.SwapLemmas.{order_held, front_held}
+use Rattle.vg_slack.specs.Bounds.{most_at, IsFew, AreFew}
 use Rattle.vg_slack.specs.Climbs.{all_lists, part_at, AreParts}
+use Rattle.vg_slack.proofs.BoundLemmas.{few_beside, few_after, rest_few, last_few, taken_few}
 use Rattle.vg_slack.proofs.PartsLemmas.{all_more, with_more, of_parts, beside_at, given_up, place_turn, more_turn}
 use Rattle.vg_slack.proofs.PartsLemmas.{parts_beside, parts_after, rest_parts, last_part}
 
@@ -172,6 +175,54 @@ module _ {p : Problem} {items rest : List Part} {last upper : Part} {i v : ℕ} 
   dead_parts arena s t gone x none held turn parts part =
       taken_parts arena arena s t (lists_in last) gone x (all_held (search s arena) held)
       (subst (λ (ls : Lists). IsTurn (search s arena) ls (search t arena) (lists_in x)) (sym (alone none)) turn) parts part
+
+  -- HOW LONG THE LISTS ARE
+  pub few_of_rest : (s : Block) → AreFew p (length items) s items → AreFew p (i + 1) s rest
+  few_of_rest s few =
+      subst (λ (k : ℕ). AreFew p k s rest) count
+      (rest_few p (length items) s rest last (subst (λ (xs : List Part). AreFew p (length items) s xs) at.all_are few))
+
+  pub few_of_last : (s : Block) → AreFew p (length items) s items → IsFew p (i + 1) i s last
+  few_of_last s few =
+      subst (λ (k : ℕ). IsFew p k i s last) count
+      (subst (λ (k : ℕ). IsFew p (length items) k s last) (sym at.node)
+      (last_few p (length items) s rest last (subst (λ (xs : List Part). AreFew p (length items) s xs) at.all_are few)))
+
+  few_of_upper : (s : Block) → AreFew p (i + 1) s rest → IsFew p (i + 1) v s upper
+  few_of_upper s few = subst (λ (x : Part). IsFew p (i + 1) v s x) (sym at.upper_is) (few v in_rest)
+
+  is_child : IsChild p.tree.nodes v i
+  is_child = record { parent = sym at.parent; other = λ e. omega (arith, at.less, e); node = at.within }
+
+  -- the rest stays while the last branch is closed
+  pub closed_rest_few : (old new : Search) (made : Lists) → AreHeld old (all_lists items) → IsTurn old (lists_in last) new made
+      → AreFew p (length items) old.pool items → AreFew p (i + 1) new.pool rest
+  closed_rest_few old new made held turn few =
+      few_beside p (i + 1) old new rest (lists_in last) made (all_held old held) turn (few_of_rest old.pool few)
+
+  -- the last part came in to the upper one, with so many candidates
+  pub taken_rest_few : (old new : Search) (more : Lists) (gone x : Part) (added : Bool → ℕ) → AreHeld old (all_lists rest ++ more)
+      → IsTurn old (lists_in upper ++ more) new (lists_in x) → AreFew p (i + 1) old.pool rest → ((odd : Bool) → added odd ≤ most_at p i)
+      → ((odd : Bool) → size_in new.pool x odd ≤ size_in old.pool upper odd + added odd)
+      → AreFew p (length (set (set rest v gone) v x)) new.pool (set (set rest v gone) v x)
+  taken_rest_few old new more gone x added held turn few added_few is =
+      let turn' : IsTurn old (lists_in (part_at rest v) ++ more) new (lists_in x)
+      = subst (λ (y : Part). IsTurn old (lists_in y ++ more) new (lists_in x)) at.upper_is turn in
+      let after : AreFew p i new.pool (set rest v x)
+      = few_after p i v old new rest more x at.within at.parent in_rest held turn' few
+      (taken_few p i v old.pool new.pool upper x added is_child (few_of_upper old.pool few) added_few is) in
+      let left : length (set rest v x) ≡ i = length-set rest v x ∙ sym at.node in
+      subst (λ (xs : List Part). AreFew p (length xs) new.pool xs) (sym (set-set rest v gone x))
+      (subst (λ (k : ℕ). AreFew p k new.pool (set rest v x)) (sym left) after)
+
+  -- a last part that is dead has no candidate
+  pub dead_rest_few : (old new : Search) (gone x : Part) → lists_in last ≡ [] → AreHeld old (all_lists items)
+      → IsTurn old (lists_in upper) new (lists_in x) → AreFew p (i + 1) old.pool rest
+      → ((odd : Bool) → size_in new.pool x odd ≡ size_in old.pool upper odd)
+      → AreFew p (length (set (set rest v gone) v x)) new.pool (set (set rest v gone) v x)
+  dead_rest_few old new gone x none held turn few same =
+      taken_rest_few old new (lists_in last) gone x (λ _. 0) (all_held old held)
+      (subst (λ (ls : Lists). IsTurn old ls new (lists_in x)) (sym (alone none)) turn) few (λ odd. omega arith) (λ odd. omega (arith, same odd))
 
 -- the last node is live where its part is
 pub last_is_live : (p : Problem) (i : ℕ) (ms : List Made) (s : Block) (branch : Branch) → i < length p.tree.nodes → IsPart p (i + 1) i ms s (Live branch)

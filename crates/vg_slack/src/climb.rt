@@ -5,6 +5,7 @@ ghost use Rattle.elmore.specs.Trees.{parent_of};
 ghost use Rattle.sol_arena.specs.Arenas.{made_of};
 ghost use Rattle.cand_turns.specs.Swaps.{Slots, AreHeld, IsSwap, IsTurn, search, at_slots};
 ghost use Rattle.cand_turns.specs.Tooled.{AreToolsOf};
+ghost use Rattle.vg_slack.specs.Bounds.{AreFew};
 ghost use Rattle.vg_slack.specs.Climbs.{all_lists, AreParts};
 
 use cand_pool::{Pool, Steps};
@@ -36,6 +37,7 @@ pub(crate) fn start(
     ensures all { OnOk result (length parts.new.items ≡ length p.now.tree.nodes) }
     ensures turn { OnOk result ((slots : Slots) → IsTurn (at_slots pool.old slots) [] (at_slots pool.new slots) (all_lists parts.new.items)) }
     ensures parts { OnOk result (AreParts p.now (length p.now.tree.nodes) (made_of arena.now) pool.new parts.new.items) }
+    ensures few { OnOk result (AreFew p.now (length p.now.tree.nodes) pool.new parts.new.items) }
 {
     'nodes: for node in 0..p.tree.nodes.len() {
         pool.reserve(1)?;
@@ -59,10 +61,12 @@ fn turn<L: Ledger>(
     requires tools { AreToolsOf p.now tools.old }
     requires held { AreHeld (search pool.old arena.old) (all_lists parts.old.items) }
     requires parts { AreParts p.now (length parts.old.items) (made_of arena.old) pool.old parts.old.items }
+    requires few { AreFew p.now (length parts.old.items) pool.old parts.old.items }
     ensures tools { AreToolsOf p.now tools.new }
     ensures turn { IsTurn (search pool.old arena.old) (all_lists parts.old.items) (search pool.new arena.new) (all_lists parts.new.items) }
     ensures fewer { OnOk result (length parts.new.items + 1 ≡ length parts.old.items) }
     ensures parts { OnOk result (AreParts p.now (length parts.new.items) (made_of arena.new) pool.new parts.new.items) }
+    ensures few { OnOk result (AreFew p.now (length parts.new.items) pool.new parts.new.items) }
 {
     let Some(part) = parts.pop() else {
         unreachable!()
@@ -96,9 +100,11 @@ pub(crate) fn climb<L: Ledger>(
     requires tools { AreToolsOf p.now tools.old }
     requires held { AreHeld (search pool.old arena.old) (all_lists parts.old.items) }
     requires parts { AreParts p.now (length parts.old.items) (made_of arena.old) pool.old parts.old.items }
+    requires few { AreFew p.now (length parts.old.items) pool.old parts.old.items }
     ensures turn { IsTurn (search pool.old arena.old) (all_lists parts.old.items) (search pool.new arena.new) (all_lists parts.new.items) }
     ensures root { OnOk result (length parts.new.items ≡ 1) }
     ensures parts { OnOk result (AreParts p.now 1 (made_of arena.new) pool.new parts.new.items) }
+    ensures few { OnOk result (AreFew p.now 1 pool.new parts.new.items) }
 {
     'nodes: while 1 < parts.len() {
         turn(pool, arena, p, parts, tools, steps)?;

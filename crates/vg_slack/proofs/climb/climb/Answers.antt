@@ -2,6 +2,7 @@ use Rattle.std.proofs.Common.{◌≡◌, length, subst, arith}
 use Rattle.sol_arena.specs.Arenas.{made_of}
 use Rattle.cand_turns.specs.Swaps.{search}
 use Rattle.cand_turns.proofs.SwapLemmas.{turn_then}
+use Rattle.vg_slack.specs.Bounds.{AreFew}
 use Rattle.vg_slack.specs.Climbs.{all_lists, AreParts}
 use Rattle.vg_slack.proofs.PartsLemmas.{turn_itself}
 use Rattle.vg_slack.proofs.climb.climb.Goals as goal
@@ -13,6 +14,7 @@ nodes-init g c = record {
   tools = c.requires.tools;
   turn = turn_itself (search c.args.pool.now c.args.arena.now) (all_lists c.args.parts.now.items) c.requires.held;
   parts = c.requires.parts;
+  few = c.requires.few;
 }
 
 pub nodes-preserved : goal.nodes-preserved
@@ -23,6 +25,7 @@ nodes-preserved g c =
       tools = c.in_ok-turn.ensures.tools;
       turn = turn_then (search c.args.pool.now c.args.arena.now) (search c.nodes.pool c.nodes.arena) (search c.turn.new.pool c.turn.new.arena) _ _ _ c.nodes.invariant.turn c.in_ok-turn.ensures.turn;
       parts = c.in_ok-turn.ensures.parts;
+      few = c.in_ok-turn.ensures.few;
     }
 
 pub returns-in_err-turn-clause-turn : goal.returns-in_err-turn-clause-turn
@@ -39,3 +42,8 @@ pub returns-clause-parts : goal.returns-clause-parts
 returns-clause-parts g c =
     let one : length c.nodes.parts.items ≡ 1 = omega (arith, c.nodes.invariant.some, c.nodes-test, c.len.ensures) in
     subst (λ n. AreParts c.args.p.now n (made_of c.nodes.arena) c.nodes.pool c.nodes.parts.items) one c.nodes.invariant.parts
+
+pub returns-clause-few : goal.returns-clause-few
+returns-clause-few g c =
+    let one : length c.nodes.parts.items ≡ 1 = omega (arith, c.nodes.invariant.some, c.nodes-test, c.len.ensures) in
+    subst (λ n. AreFew c.args.p.now n c.nodes.pool c.nodes.parts.items) one c.nodes.invariant.few

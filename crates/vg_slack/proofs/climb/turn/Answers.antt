@@ -1,12 +1,14 @@
-use Rattle.std.proofs.Common.{◌++◌, refl, arith}
+use Rattle.std.proofs.Common.{◌++◌, length, refl, arith}
 use Rattle.sol_arena.specs.Arenas.{slots_of, made_of}
 use Rattle.cand_laws.proofs.TurnLemmas.{part_is_dead, part_load}
 use Rattle.cand_turns.specs.Swaps.{search}
-use Rattle.cand_turns.specs.Branches.{lists_of}
+use Rattle.cand_turns.specs.Branches.{lists_of, classes_in}
 use Rattle.cand_turns.proofs.SwapLemmas.{turn_then}
 use Rattle.vg_slack.specs.Climbs.{all_lists}
 use Rattle.vg_slack.proofs.ClimbLemmas.{at_last, at_end, last_held, upper_held, upper_alone, parts_of_rest, part_of_last, part_of_upper, last_is_live}
 use Rattle.vg_slack.proofs.ClimbLemmas.{closed_turn, lost_turn, closed_parts, taken_turn, taken_parts, upper_lost, dead_turn, dead_parts}
+use Rattle.vg_slack.proofs.ClimbLemmas.{few_of_rest, few_of_last, closed_rest_few, taken_rest_few, dead_rest_few}
+use Rattle.vg_slack.proofs.BoundLemmas.{closed_few}
 use Rattle.vg_slack.proofs.climb.turn.Goals as goal
 
 pub take_dead-requires-clause-dead : goal.take_dead-requires-clause-dead
@@ -141,3 +143,30 @@ returns-in_ok-parts-in-Live-clause-parts g c =
     (closed_parts at c.args.arena.now c.close.new.arena c.args.pool.now c.close.new.pool (lists_of c.in_ok-branch-in-Live.branch) c.requires.held
     c.in_ok-branch-in-Live.ensures.turn c.requires.parts)
     c.in_ok-parts-in-Live.ensures.part
+
+pub returns-in-Dead-clause-few : goal.returns-in-Dead-clause-few
+returns-in-Dead-clause-few g c =
+    let at = at_last c.args.p.now c.len-node.result c.in-Some.ensures.items c.in-Dead.is
+    (omega (arith, c.len-node.ensures, c.pop.new.self.ok.0)) c.requires.nodes
+    c.parent_of-parent.ensures.parent c.parent_of-parent.ensures.less c.replace-upper.ensures.value c.index_mut.ensures.value in
+    dead_rest_few at (search c.args.pool.now c.args.arena.now) (search c.take_dead.new.pool c.args.arena.now)
+    c.replace-upper.new.dest c.take_dead.result refl c.requires.held
+    (c.take_dead.ensures.turn (slots_of c.args.arena.now) (upper_alone at (search c.args.pool.now c.args.arena.now) refl c.requires.held))
+    (few_of_rest at c.args.pool.now c.requires.few) c.take_dead.ensures.same
+
+pub returns-in_ok-parts-in-Live-clause-few : goal.returns-in_ok-parts-in-Live-clause-few
+returns-in_ok-parts-in-Live-clause-few g c =
+    let at = at_last c.args.p.now c.len-node.result c.in-Some.ensures.items c.in-Live.is
+    (omega (arith, c.len-node.ensures, c.pop.new.self.ok.0)) c.requires.nodes
+    c.parent_of-parent.ensures.parent c.parent_of-parent.ensures.less c.replace-upper-in-Live.ensures.value c.index_mut-in-Live.ensures.value in
+    let old = search c.args.pool.now c.args.arena.now in
+    let middle = search c.close.new.pool c.close.new.arena in
+    let branch = c.in_ok-branch-in-Live.branch in
+    let closed = closed_turn at old middle (lists_of branch) c.requires.held c.in_ok-branch-in-Live.ensures.turn in
+    taken_rest_few at middle (search c.take_live.new.pool c.take_live.new.arena) (lists_of branch)
+    c.replace-upper-in-Live.new.dest c.in_ok-parts-in-Live.field-0 (λ odd. length (classes_in c.close.new.pool branch odd)) closed.held
+    c.in_ok-parts-in-Live.ensures.turn
+    (closed_rest_few at old middle (lists_of branch) c.requires.held c.in_ok-branch-in-Live.ensures.turn c.requires.few)
+    (closed_few c.args.p.now c.len-node.result c.args.pool.now c.close.new.pool c.in-Live.branch branch at.within
+    (few_of_last at c.args.pool.now c.requires.few) c.in_ok-branch-in-Live.ensures.few)
+    c.in_ok-parts-in-Live.ensures.few
