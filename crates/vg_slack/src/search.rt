@@ -6,6 +6,7 @@ ghost use Rattle.sol_arena.specs.Reach.{IsRestored};
 ghost use Rattle.cand_turns.specs.Swaps.{AreHeld, IsSwap, search};
 ghost use Rattle.cand_turns.specs.Parts.{lists_in, IsPart};
 ghost use Rattle.cand_turns.specs.Tooled.{AreToolsOf};
+ghost use Rattle.vg_slack.specs.Bounds.{AreFew};
 ghost use Rattle.vg_slack.specs.Climbs.{all_lists, AreParts};
 ghost use Rattle.vg_slack.specs.Bests.{IsAnswer};
 
@@ -58,6 +59,7 @@ fn answer_of_parts<L: Ledger>(
     requires tools { AreToolsOf p.now tools.old }
     requires held { AreHeld (search pool.old arena.old) (all_lists parts.old.items) }
     requires parts { AreParts p.now (length parts.old.items) (made_of arena.old) pool.old parts.old.items }
+    requires few { AreFew p.now (length parts.old.items) pool.old parts.old.items }
     ensures answer { IfOk result (IsAnswer p.now) }
     ensures swap { IsSwap (search pool.old arena.old) (all_lists parts.old.items) (search pool.new arena.new) [] }
 {
