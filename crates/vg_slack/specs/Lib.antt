@@ -1,3 +1,4 @@
 pub mod Climbs
+pub mod Kept
 pub mod Roots
 pub mod Bests

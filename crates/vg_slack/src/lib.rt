@@ -3,6 +3,8 @@
 
 mod answer;
 mod climb;
+mod lists;
 mod root;
 
 pub use answer::Best;
+pub use lists::{Lists, NodeLists};
