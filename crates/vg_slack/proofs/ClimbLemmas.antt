@@ -1,5 +1,5 @@
 -- The last node that has not come in comes in to its parent.
-use Rattle.std.proofs.Common.{◌≡◌, ℕ, ◌+◌, ◌<◌, ◌≤◌, Bool, true, List, [], ◌∷◌, ◌++◌, length, set, get_or, refl, sym, ap, ◌∙◌, subst, arith}
+use Rattle.std.proofs.Common.{◌≡◌, ℕ, ◌+◌, ◌<◌, ◌≤◌, Bool, true, false, List, [], ◌∷◌, ◌++◌, length, set, get_or, refl, sym, ap, ◌∙◌, subst, arith}
 use Rattle.std.proofs.lemmas.List.{append-nil, length-append, length-set, get_or_default, set-set}
 use Rattle.std.proofs.lemmas.List.Sorted.{IsPermutation-sym, IsPermutation-append_comm}
 use Rattle.elmore.specs.Pairs.{IsPairAt}
@@ -11,14 +11,15 @@ use Rattle.sol_arena.specs.declared.slot.Made.{Made}
 use Rattle.sol_arena.specs.Arenas.{made_of}
 use Rattle.cand_laws.proofs.ChildLemmas.{IsChild}
 use Rattle.cand_laws.proofs.TurnLemmas.{part_is_live}
-use Rattle.cand_pool.specs.Pools.{Block}
+use Rattle.cand_pool.specs.Pools.{Block, IsLive}
 use Rattle.cand_uses.specs.Pairs.{pairs_of}
 use Rattle.cand_turns.specs.declared.branch.Branch.{Branch}
 use Rattle.cand_turns.specs.declared.part.Part.{Part}
 use Rattle.cand_turns.specs.declared.part.Part.TheVariants.{Dead, Live}
 use Rattle.cand_turns.specs.Swaps.{Search, Lists, search, AreHeld, IsSwap, IsTurn}
-use Rattle.cand_turns.specs.Branches.{classes_in}
+use Rattle.cand_turns.specs.Branches.{classes_in, list_of, lists_of}
 use Rattle.cand_turns.specs.Parts.{lists_in, size_in, IsPart}
+use Rattle.cand_turns.proofs.BranchLemmas.{two_held}
 use Rattle.cand_turns.proofs.SwapLemmas.{order_held, front_held}
 use Rattle.vg_slack.specs.Bounds.{most_at, IsFew, AreFew}
 use Rattle.vg_slack.specs.Climbs.{all_lists, part_at, AreParts}
@@ -228,3 +229,8 @@ module _ {p : Problem} {items rest : List Part} {last upper : Part} {i v : ℕ} 
 pub last_is_live : (p : Problem) (i : ℕ) (ms : List Made) (s : Block) (branch : Branch) → i < length p.tree.nodes → IsPart p (i + 1) i ms s (Live branch)
     → is_live p.tree.nodes p.sinks i ≡ true
 last_is_live p i ms s branch i_n part = part_is_live p (IsPairAt p) i (λ odd. pairs_of (classes_in s branch odd)) i_n part.part
+
+-- both lists of a branch are live
+pub branch_live : (at : Search) (branch : Branch) → AreHeld at (lists_of branch) → (odd : Bool) → IsLive at.pool (list_of branch odd)
+branch_live at branch held true = (two_held at branch.even branch.odd held).two
+branch_live at branch held false = (two_held at branch.even branch.odd held).one

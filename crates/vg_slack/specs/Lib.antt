@@ -2,3 +2,4 @@ pub mod Climbs
 pub mod Bounds
 pub mod Roots
 pub mod Bests
+pub mod Kept

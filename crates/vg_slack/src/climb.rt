@@ -1,15 +1,21 @@
 //! The way from the last node of a net to its root.
 
-ghost use Rattle.std.specs.Prelude.{◌≡◌, ◌+◌, ◌-◌, ◌*◌, ◌<◌, ◌≤◌, [], length, OnOk};
+ghost use Rattle.std.specs.Prelude.{◌≡◌, ◌+◌, ◌<◌, ◌≤◌, Bool, true, [], length, OnOk, IfOk, MatchResult};
+ghost use Rattle.elmore.specs.Problems.{is_live};
 ghost use Rattle.elmore.specs.Trees.{parent_of};
 ghost use Rattle.sol_arena.specs.Arenas.{made_of};
 ghost use Rattle.cand_turns.specs.Swaps.{Slots, AreHeld, IsSwap, IsTurn, search, at_slots};
-ghost use Rattle.cand_turns.specs.Tooled.{AreToolsOf};
-ghost use Rattle.vg_slack.specs.Bounds.{AreFew};
+ghost use Rattle.cand_turns.specs.declared.part.Part.TheVariants.{Live};
+ghost use Rattle.cand_turns.specs.Branches.{classes_in, lists_of};
+ghost use Rattle.cand_turns.specs.Solved.{IsOpenAt, IsClosedAt};
+ghost use Rattle.cand_turns.specs.Tooled.{AreToolsOf, added_at};
+ghost use Rattle.vg_slack.specs.Bounds.{IsFew, AreFew};
+ghost use Rattle.vg_slack.specs.Kept.{AreKept};
 ghost use Rattle.vg_slack.specs.Climbs.{all_lists, AreParts};
 
+use crate::lists::Lists;
 use cand_pool::{Pool, Steps};
-use cand_turns::{Part, Tools};
+use cand_turns::{Branch, Part, Tools};
 use elmore::Problem;
 use sol_arena::Arena;
 use std::mem;
@@ -45,6 +51,43 @@ pub(crate) fn start(
         parts.push(part)?;
     }
     Ok(())
+}
+
+/// The candidates of a node to which all its children came in, with and without a cell there. They are kept, where lists are
+/// kept at all. Answers `Memory` when out of memory; the branch is given up then.
+pub(crate) fn close<L: Ledger>(
+    branch: Branch,
+    pool: &mut Pool,
+    arena: &mut Arena,
+    p: &Problem,
+    node: usize,
+    tools: &mut Tools,
+    lists: &mut Lists,
+    steps: &mut Steps<L>,
+) -> Result<Branch, Memory>
+    requires node { node < length p.now.tree.nodes }
+    requires live { is_live p.now.tree.nodes p.now.sinks node ≡ true }
+    requires tools { AreToolsOf p.now tools.old }
+    requires held { AreHeld (search pool.old arena.old) (lists_of branch) }
+    requires open { IsOpenAt p.now (node + 1) node (made_of arena.old) (classes_in pool.old branch) }
+    requires most { IsFew p.now (node + 1) node pool.old (Live branch) }
+    requires ahead { AreKept p.now (node + 1) lists.old }
+    ensures tools { AreToolsOf p.now tools.new }
+    ensures turn { MatchResult result
+        (λ closed. IsTurn (search pool.old arena.old) (lists_of branch) (search pool.new arena.new) (lists_of closed))
+        (λ _. IsSwap (search pool.old arena.old) (lists_of branch) (search pool.new arena.new) []) }
+    ensures closed { IfOk result (λ closed. IsClosedAt p.now node (made_of arena.new) (classes_in pool.new closed)) }
+    ensures few { IfOk result (λ closed. (odd : Bool)
+        → length (classes_in pool.new closed odd) ≤ length (classes_in pool.old branch odd) + added_at p.now node) }
+    ensures nodes { length lists.new.nodes.items ≡ length lists.old.nodes.items }
+    ensures kept { IfOk result (λ _. AreKept p.now node lists.new) }
+{
+    let branch = branch.close(pool, arena, p, node, tools, steps)?;
+    if let Err(memory) = lists.keep(pool, &branch, node, steps) {
+        branch.give_up(pool, arena);
+        return Err(memory);
+    }
+    Ok(branch)
 }
 
 /// The last node of those that have not come in comes in to its parent. Answers `Memory` where there is no room.

@@ -3,7 +3,9 @@
 
 mod answer;
 mod climb;
+mod lists;
 mod root;
 mod search;
 
 pub use answer::Best;
+pub use lists::{Lists, NodeLists};

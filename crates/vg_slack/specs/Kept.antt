@@ -1,0 +1,36 @@
+-- The lists that a search keeps of the nodes of a net.
+use Rattle.std.specs.Prelude.{◌≡◌, ℕ, ◌≤◌, ◌<◌, Bool, false, cond, List, [], length, map, get_or}
+use Rattle.elmore.specs.Pairs.{IsPairAt, IsUndominated}
+use Rattle.elmore.specs.Problems.{is_live}
+use Rattle.elmore.specs.declared.pair.Pair.{Pair}
+use Rattle.elmore.specs.declared.problem.Problem.{Problem}
+use Rattle.cand_laws.specs.Candidates.{IsLive}
+use Rattle.vg_slack.specs.Bounds.{most_at}
+use Rattle.vg_slack.specs.declared.lists.NodeLists.{NodeLists}
+use Rattle.vg_slack.specs.declared.lists.Lists.{Lists}
+
+-- the list of each class
+abbrev pub Classes : Type 0
+Classes = Bool → List Pair
+
+abbrev pub AreEmpty : Classes → Type 0
+AreEmpty lists = (odd : Bool) → lists odd ≡ []
+
+abbrev pub kept_in : NodeLists → Classes
+kept_in kept odd = cond odd kept.odd.items kept.even.items
+
+-- those of node v; empty where no lists are kept
+abbrev pub lists_at : Lists → ℕ → Classes
+lists_at lists v = get_or (map kept_in lists.nodes.items) v (λ odd. [])
+
+-- of a node with a sink at or below it all undominated pairs, and of another none; in each class at most one pair for each sink at
+-- or below it, and one for each repeater at each place there
+pub record IsKeptAt (p : Problem) (v : ℕ) (lists : Classes) : Type 0 where
+  pub live : IsLive p v → (odd : Bool) → IsUndominated (IsPairAt p v odd) (lists odd)
+  pub dead : is_live p.tree.nodes p.sinks v ≡ false → AreEmpty lists
+  pub few : (odd : Bool) → length (lists odd) ≤ most_at p v
+
+-- of each node, as far as lists of it are kept: from number i on those of the node, and below i none yet
+pub record AreKept (p : Problem) (i : ℕ) (lists : Lists) : Type 0 where
+  pub done : (v : ℕ) → v < length lists.nodes.items → i ≤ v → IsKeptAt p v (lists_at lists v)
+  pub ahead : (v : ℕ) → v < i → AreEmpty (lists_at lists v)
