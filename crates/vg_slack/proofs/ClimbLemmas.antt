@@ -22,6 +22,8 @@ use Rattle.cand_turns.specs.Parts.{lists_in, size_in, IsPart}
 use Rattle.cand_turns.proofs.BranchLemmas.{two_held}
 use Rattle.cand_turns.proofs.SwapLemmas.{order_held, front_held}
 use Rattle.vg_slack.specs.Bounds.{most_at, IsFew, AreFew}
+use Rattle.vg_slack.specs.declared.lists.Lists.{Lists as KeptLists}
+use Rattle.vg_slack.specs.Kept.{AreKept}
 use Rattle.vg_slack.specs.Climbs.{all_lists, part_at, AreParts}
 use Rattle.vg_slack.proofs.BoundLemmas.{few_beside, few_after, rest_few, last_few, taken_few}
 use Rattle.vg_slack.proofs.PartsLemmas.{all_more, with_more, of_parts, beside_at, given_up, place_turn, more_turn}
@@ -176,6 +178,14 @@ module _ {p : Problem} {items rest : List Part} {last upper : Part} {i v : ℕ} 
   dead_parts arena s t gone x none held turn parts part =
       taken_parts arena arena s t (lists_in last) gone x (all_held (search s arena) held)
       (subst (λ (ls : Lists). IsTurn (search s arena) ls (search t arena) (lists_in x)) (sym (alone none)) turn) parts part
+
+  -- WHAT IS KEPT
+  pub kept_ahead : (lists : KeptLists) → AreKept p (length items) lists → AreKept p (i + 1) lists
+  kept_ahead lists kept = subst (λ (k : ℕ). AreKept p k lists) count kept
+
+  pub kept_after : (gone x : Part) (lists : KeptLists) → AreKept p i lists → AreKept p (length (set (set rest v gone) v x)) lists
+  kept_after gone x lists kept =
+      subst (λ (k : ℕ). AreKept p k lists) (at.node ∙ sym (length-set (set rest v gone) v x ∙ length-set rest v gone)) kept
 
   -- HOW LONG THE LISTS ARE
   pub few_of_rest : (s : Block) → AreFew p (length items) s items → AreFew p (i + 1) s rest

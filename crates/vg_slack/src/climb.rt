@@ -97,6 +97,7 @@ fn turn<L: Ledger>(
     p: &Problem,
     parts: &mut Vec<Part>,
     tools: &mut Tools,
+    lists: &mut Lists,
     steps: &mut Steps<L>,
 ) -> Result<(), Memory>
     requires more { 1 < length parts.old.items }
@@ -105,11 +106,14 @@ fn turn<L: Ledger>(
     requires held { AreHeld (search pool.old arena.old) (all_lists parts.old.items) }
     requires parts { AreParts p.now (length parts.old.items) (made_of arena.old) pool.old parts.old.items }
     requires few { AreFew p.now (length parts.old.items) pool.old parts.old.items }
+    requires ahead { AreKept p.now (length parts.old.items) lists.old }
     ensures tools { AreToolsOf p.now tools.new }
     ensures turn { IsTurn (search pool.old arena.old) (all_lists parts.old.items) (search pool.new arena.new) (all_lists parts.new.items) }
     ensures fewer { OnOk result (length parts.new.items + 1 ≡ length parts.old.items) }
     ensures parts { OnOk result (AreParts p.now (length parts.new.items) (made_of arena.new) pool.new parts.new.items) }
     ensures few { OnOk result (AreFew p.now (length parts.new.items) pool.new parts.new.items) }
+    ensures nodes { length lists.new.nodes.items ≡ length lists.old.nodes.items }
+    ensures kept { OnOk result (AreKept p.now (length parts.new.items) lists.new) }
 {
     let Some(part) = parts.pop() else {
         unreachable!()
@@ -122,7 +126,7 @@ fn turn<L: Ledger>(
             parts[parent] = upper.take_dead(pool, p, node, c, steps);
         }
         Part::Live(branch) => {
-            let branch = branch.close(pool, arena, p, node, tools, steps)?;
+            let branch = close(branch, pool, arena, p, node, tools, lists, steps)?;
             let upper = mem::replace(&mut parts[parent], Part::Dead(0));
             parts[parent] = upper.take_live(pool, arena, p, node, branch, steps)?;
         }
@@ -137,6 +141,7 @@ pub(crate) fn climb<L: Ledger>(
     p: &Problem,
     parts: &mut Vec<Part>,
     tools: &mut Tools,
+    lists: &mut Lists,
     steps: &mut Steps<L>,
 ) -> Result<(), Memory>
     requires nodes { length parts.old.items ≡ length p.now.tree.nodes }
@@ -144,13 +149,17 @@ pub(crate) fn climb<L: Ledger>(
     requires held { AreHeld (search pool.old arena.old) (all_lists parts.old.items) }
     requires parts { AreParts p.now (length parts.old.items) (made_of arena.old) pool.old parts.old.items }
     requires few { AreFew p.now (length parts.old.items) pool.old parts.old.items }
+    requires ahead { AreKept p.now (length p.now.tree.nodes) lists.old }
+    ensures tools { AreToolsOf p.now tools.new }
     ensures turn { IsTurn (search pool.old arena.old) (all_lists parts.old.items) (search pool.new arena.new) (all_lists parts.new.items) }
     ensures root { OnOk result (length parts.new.items ≡ 1) }
     ensures parts { OnOk result (AreParts p.now 1 (made_of arena.new) pool.new parts.new.items) }
     ensures few { OnOk result (AreFew p.now 1 pool.new parts.new.items) }
+    ensures nodes { length lists.new.nodes.items ≡ length lists.old.nodes.items }
+    ensures kept { OnOk result (AreKept p.now 1 lists.new) }
 {
     'nodes: while 1 < parts.len() {
-        turn(pool, arena, p, parts, tools, steps)?;
+        turn(pool, arena, p, parts, tools, lists, steps)?;
     }
     Ok(())
 }

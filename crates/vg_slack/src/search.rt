@@ -6,12 +6,14 @@ ghost use Rattle.sol_arena.specs.Reach.{IsRestored};
 ghost use Rattle.cand_turns.specs.Swaps.{AreHeld, IsSwap, search};
 ghost use Rattle.cand_turns.specs.Parts.{lists_in, IsPart};
 ghost use Rattle.cand_turns.specs.Tooled.{AreToolsOf};
-ghost use Rattle.vg_slack.specs.Bounds.{AreFew};
+ghost use Rattle.vg_slack.specs.Bounds.{IsFew, AreFew};
 ghost use Rattle.vg_slack.specs.Climbs.{all_lists, AreParts};
 ghost use Rattle.vg_slack.specs.Bests.{IsAnswer};
+ghost use Rattle.vg_slack.specs.Kept.{AreKept};
 
 use crate::answer::{Best, best_placement};
-use crate::climb::{climb, give_up, start};
+use crate::climb::{climb, close, give_up, start};
+use crate::lists::Lists;
 use crate::root::best_candidate;
 use cand_pool::{Pool, Steps};
 use cand_turns::{Part, Tools};
@@ -29,16 +31,24 @@ fn answer_at_root<L: Ledger>(
     arena: &mut Arena,
     p: &Problem,
     part: Part,
+    tools: &mut Tools,
+    lists: &mut Lists,
     steps: &mut Steps<L>,
 ) -> Result<Option<Best>, Memory>
+    requires tools { AreToolsOf p.now tools.old }
     requires held { AreHeld (search pool.old arena.old) (lists_in part) }
     requires part { IsPart p.now 1 0 (made_of arena.old) pool.old part }
+    requires few { IsFew p.now 1 0 pool.old part }
+    requires ahead { AreKept p.now 1 lists.old }
     ensures answer { IfOk result (IsAnswer p.now) }
     ensures swap { IsSwap (search pool.old arena.old) (lists_in part) (search pool.new arena.new) [] }
+    ensures nodes { length lists.new.nodes.items ≡ length lists.old.nodes.items }
+    ensures kept { IfOk result (λ _. AreKept p.now 0 lists.new) }
 {
     let Part::Live(branch) = part else {
         unreachable!()
     };
+    let branch = close(branch, pool, arena, p, 0, tools, lists, steps)?;
     let choice = best_candidate(pool, p, &branch.even, steps);
     let found = best_placement(alloc, arena, p, choice);
     branch.give_up(pool, arena);
@@ -53,6 +63,7 @@ fn answer_of_parts<L: Ledger>(
     p: &Problem,
     parts: &mut Vec<Part>,
     tools: &mut Tools,
+    lists: &mut Lists,
     steps: &mut Steps<L>,
 ) -> Result<Option<Best>, Memory>
     requires nodes { length parts.old.items ≡ length p.now.tree.nodes }
@@ -60,17 +71,20 @@ fn answer_of_parts<L: Ledger>(
     requires held { AreHeld (search pool.old arena.old) (all_lists parts.old.items) }
     requires parts { AreParts p.now (length parts.old.items) (made_of arena.old) pool.old parts.old.items }
     requires few { AreFew p.now (length parts.old.items) pool.old parts.old.items }
+    requires ahead { AreKept p.now (length p.now.tree.nodes) lists.old }
     ensures answer { IfOk result (IsAnswer p.now) }
     ensures swap { IsSwap (search pool.old arena.old) (all_lists parts.old.items) (search pool.new arena.new) [] }
+    ensures nodes { length lists.new.nodes.items ≡ length lists.old.nodes.items }
+    ensures kept { IfOk result (λ _. AreKept p.now 0 lists.new) }
 {
-    if let Err(memory) = climb(pool, arena, p, parts, tools, steps) {
+    if let Err(memory) = climb(pool, arena, p, parts, tools, lists, steps) {
         give_up(pool, arena, parts);
         return Err(memory);
     }
     let Some(root) = parts.pop() else {
         unreachable!()
     };
-    answer_at_root(alloc, pool, arena, p, root, steps)
+    answer_at_root(alloc, pool, arena, p, root, tools, lists, steps)
 }
 
 /// A best placement of a problem, or none, by a search whose solutions stand in a lent arena. Answers `Memory` when out of
@@ -79,14 +93,20 @@ fn answer_in<L: Ledger>(
     alloc: Global,
     p: &Problem,
     arena: &mut Arena,
+    lists: &mut Lists,
     steps: &mut Steps<L>,
 ) -> Result<Option<Best>, Memory>
+    requires ahead { AreKept p.now (length p.now.tree.nodes) lists.old }
     ensures answer { IfOk result (IsAnswer p.now) }
     ensures restored { IsRestored (slots_of arena.old) (slots_of arena.new) }
+    ensures nodes { length lists.new.nodes.items ≡ length lists.old.nodes.items }
+    ensures kept { IfOk result (λ _. AreKept p.now 0 lists.new) }
 {
     let mut pool = Pool::new(alloc);
     let mut parts = Vec::new(alloc);
     let mut tools = Tools::new(alloc, p, 0)?;
     start(&mut pool, arena, p, &mut parts)?;
-    answer_of_parts(alloc, &mut pool, arena, p, &mut parts, &mut tools, steps)
+    answer_of_parts(
+        alloc, &mut pool, arena, p, &mut parts, &mut tools, lists, steps,
+    )
 }

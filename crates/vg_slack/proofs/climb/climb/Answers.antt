@@ -1,4 +1,4 @@
-use Rattle.std.proofs.Common.{◌≡◌, length, subst, arith}
+use Rattle.std.proofs.Common.{◌≡◌, length, refl, ◌∙◌, subst, arith}
 use Rattle.sol_arena.specs.Arenas.{made_of}
 use Rattle.cand_turns.specs.Swaps.{search}
 use Rattle.cand_turns.proofs.SwapLemmas.{turn_then}
@@ -13,6 +13,8 @@ nodes-init g c = record {
   most = omega (arith, c.requires.nodes);
   tools = c.requires.tools;
   turn = turn_itself (search c.args.pool.now c.args.arena.now) (all_lists c.args.parts.now.items) c.requires.held;
+  nodes = refl;
+  kept = rw c.requires.nodes c.requires.ahead;
   parts = c.requires.parts;
   few = c.requires.few;
 }
@@ -24,6 +26,8 @@ nodes-preserved g c =
       most = omega (arith, c.in_ok-turn.ensures.fewer, c.nodes.invariant.most);
       tools = c.in_ok-turn.ensures.tools;
       turn = turn_then (search c.args.pool.now c.args.arena.now) (search c.nodes.pool c.nodes.arena) (search c.turn.new.pool c.turn.new.arena) _ _ _ c.nodes.invariant.turn c.in_ok-turn.ensures.turn;
+      nodes = c.in_ok-turn.ensures.nodes ∙ c.nodes.invariant.nodes;
+      kept = c.in_ok-turn.ensures.kept;
       parts = c.in_ok-turn.ensures.parts;
       few = c.in_ok-turn.ensures.few;
     }

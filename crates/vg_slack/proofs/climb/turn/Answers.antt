@@ -9,6 +9,8 @@ use Rattle.vg_slack.proofs.ClimbLemmas.{at_last, at_end, last_held, upper_held, 
 use Rattle.vg_slack.proofs.ClimbLemmas.{closed_turn, lost_turn, closed_parts, taken_turn, taken_parts, upper_lost, dead_turn, dead_parts}
 use Rattle.vg_slack.proofs.ClimbLemmas.{few_of_rest, few_of_last, closed_rest_few, taken_rest_few, dead_rest_few}
 use Rattle.vg_slack.proofs.BoundLemmas.{closed_few}
+use Rattle.vg_slack.proofs.ClimbLemmas.{kept_ahead, kept_after}
+use Rattle.vg_slack.proofs.KeptLemmas.{dead_kept}
 use Rattle.vg_slack.proofs.climb.turn.Goals as goal
 
 pub take_dead-requires-clause-dead : goal.take_dead-requires-clause-dead
@@ -170,3 +172,25 @@ returns-in_ok-parts-in-Live-clause-few g c =
     (closed_few c.args.p.now c.len-node.result c.args.pool.now c.close.new.pool c.in-Live.branch branch at.within
     (few_of_last at c.args.pool.now c.requires.few) c.in_ok-branch-in-Live.ensures.few)
     c.in_ok-parts-in-Live.ensures.few
+
+pub close-requires-clause-live : goal.close-requires-clause-live
+close-requires-clause-live g c =
+    let at = at_end c.args.p.now c.len-node.result c.in-Some.ensures.items c.in-Live.is
+    (omega (arith, c.len-node.ensures, c.pop.new.self.ok.0)) c.requires.nodes c.parent_of-parent.ensures.parent c.parent_of-parent.ensures.less in
+    last_is_live c.args.p.now c.len-node.result (made_of c.args.arena.now) c.args.pool.now c.in-Live.branch at.within
+    (part_of_last at (made_of c.args.arena.now) c.args.pool.now c.requires.parts)
+
+pub close-requires-clause-most : goal.close-requires-clause-most
+close-requires-clause-most g c =
+    let at = at_end c.args.p.now c.len-node.result c.in-Some.ensures.items c.in-Live.is
+    (omega (arith, c.len-node.ensures, c.pop.new.self.ok.0)) c.requires.nodes c.parent_of-parent.ensures.parent c.parent_of-parent.ensures.less in
+    few_of_last at c.args.pool.now c.requires.few
+
+pub returns-in-Dead-clause-kept : goal.returns-in-Dead-clause-kept
+returns-in-Dead-clause-kept g c =
+    let at = at_last c.args.p.now c.len-node.result c.in-Some.ensures.items c.in-Dead.is
+    (omega (arith, c.len-node.ensures, c.pop.new.self.ok.0)) c.requires.nodes
+    c.parent_of-parent.ensures.parent c.parent_of-parent.ensures.less c.replace-upper.ensures.value c.index_mut.ensures.value in
+    kept_after at c.replace-upper.new.dest c.take_dead.result c.args.lists.now
+    (dead_kept c.args.p.now c.len-node.result c.args.lists.now (kept_ahead at c.args.lists.now c.requires.ahead)
+    (part_is_dead c.args.p.now c.len-node.result c.in-Dead.c at.within (part_of_last at (made_of c.args.arena.now) c.args.pool.now c.requires.parts)))

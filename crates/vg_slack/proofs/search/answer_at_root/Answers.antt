@@ -1,14 +1,17 @@
-use Rattle.std.proofs.Common.{◌≡◌, true, false, sym, ◌∙◌, subst}
+use Rattle.std.proofs.Common.{[], ◌≡◌, true, false, sym, ◌∙◌, subst}
 use Rattle.sol_arena.specs.Arenas.{made_of}
 use Rattle.cand_laws.proofs.CoverLemmas.{root_live}
 use Rattle.cand_laws.proofs.TurnLemmas.{part_is_dead}
 use Rattle.cand_pool.specs.Pools.{items_of}
-use Rattle.cand_turns.specs.Swaps.{search, AreHeld}
-use Rattle.cand_turns.specs.Branches.{classes_in}
+use Rattle.cand_turns.specs.Swaps.{search, AreHeld, IsSwap}
+use Rattle.cand_turns.specs.Branches.{classes_in, lists_of}
 use Rattle.cand_turns.specs.Parts.{lists_in, IsPart}
 use Rattle.cand_turns.proofs.BranchLemmas.{two_held}
 use Rattle.cand_turns.proofs.CellLemmas.{bare_closed}
 use Rattle.cand_turns.proofs.WireLemmas.{small_modest, closed_small}
+use Rattle.cand_turns.proofs.SwapLemmas.{swap_then}
+use Rattle.vg_slack.specs.Bounds.{IsFew}
+use Rattle.vg_slack.proofs.ClimbLemmas.{branch_live}
 use Rattle.vg_slack.proofs.search.answer_at_root.Goals as goal
 
 pub unreachable-requires : goal.unreachable-requires
@@ -17,26 +20,34 @@ unreachable-requires g c =
     let part = subst (IsPart p 1 0 (made_of c.args.arena.now) c.args.pool.now) c.in_default.is c.requires.part in
     absurd (let clash : true ≡ false = sym (root_live p) ∙ part_is_dead p 0 c.in_default.field-0 p.tree.a_tree.some_node part in cc)
 
+pub close-requires-clause-live : goal.close-requires-clause-live
+close-requires-clause-live g c = root_live c.args.p.now
+
+pub close-requires-clause-most : goal.close-requires-clause-most
+close-requires-clause-most g c = subst (IsFew c.args.p.now 1 0 c.args.pool.now) c.in-Live.is c.requires.few
+
+pub best_candidate-choice-requires-clause-live : goal.best_candidate-choice-requires-clause-live
+best_candidate-choice-requires-clause-live g c =
+    branch_live (search c.close.new.pool c.close.new.arena) c.in_ok-branch.branch c.in_ok-branch.ensures.turn.held false
+
 pub best_candidate-choice-requires-clause-modest : goal.best_candidate-choice-requires-clause-modest
 best_candidate-choice-requires-clause-modest g c =
-    let p = c.args.p.now in
-    let part = subst (IsPart p 1 0 (made_of c.args.arena.now) c.args.pool.now) c.in-Live.is c.requires.part in
-    let closed = bare_closed p 0 (made_of c.args.arena.now) (classes_in c.args.pool.now c.in-Live.branch) p.tree.a_tree.some_node p.places_are.root part in
-    small_modest (items_of c.args.pool.now c.in-Live.branch.even) (closed_small p 0 false (items_of c.args.pool.now c.in-Live.branch.even) (closed.exact false))
+    small_modest (items_of c.close.new.pool c.in_ok-branch.branch.even)
+    (closed_small c.args.p.now 0 false (items_of c.close.new.pool c.in_ok-branch.branch.even) (c.in_ok-branch.ensures.closed.exact false))
 
 pub best_placement-found-requires : goal.best_placement-found-requires
-best_placement-found-requires g c =
-    let p = c.args.p.now in
-    let part = subst (IsPart p 1 0 (made_of c.args.arena.now) c.args.pool.now) c.in-Live.is c.requires.part in
-    let closed = bare_closed p 0 (made_of c.args.arena.now) (classes_in c.args.pool.now c.in-Live.branch) p.tree.a_tree.some_node p.places_are.root part in
-    let two = two_held (search c.args.pool.now c.args.arena.now) c.in-Live.branch.even c.in-Live.branch.odd
-    (subst (λ part. AreHeld (search c.args.pool.now c.args.arena.now) (lists_in part)) c.in-Live.is c.requires.held) in
-    record {
-      root = record {
-        candidates = items_of c.args.pool.now c.in-Live.branch.even;
-        exact = closed.exact false;
-        solved = closed.solved false;
-        uses = two.first;
-        chosen = c.best_candidate-choice.ensures.choice;
-      };
-    }
+best_placement-found-requires g c = record {
+  root = record {
+    candidates = items_of c.close.new.pool c.in_ok-branch.branch.even;
+    exact = c.in_ok-branch.ensures.closed.exact false;
+    solved = c.in_ok-branch.ensures.closed.solved false;
+    uses = (two_held (search c.close.new.pool c.close.new.arena) c.in_ok-branch.branch.even c.in_ok-branch.branch.odd c.in_ok-branch.ensures.turn.held).first;
+    chosen = c.best_candidate-choice.ensures.choice;
+  };
+}
+
+pub returns-clause-swap : goal.returns-clause-swap
+returns-clause-swap g c =
+    subst (λ part. IsSwap (search c.args.pool.now c.args.arena.now) (lists_in part) (search c.give_up.new.pool c.give_up.new.arena) []) (sym c.in-Live.is)
+    (swap_then (search c.args.pool.now c.args.arena.now) (search c.close.new.pool c.close.new.arena) (search c.give_up.new.pool c.give_up.new.arena)
+    (lists_of c.in-Live.branch) (lists_of c.in_ok-branch.branch) [] c.in_ok-branch.ensures.turn.swap c.give_up.ensures.swap)
