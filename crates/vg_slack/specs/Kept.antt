@@ -1,5 +1,5 @@
 -- The lists that a search keeps of the nodes of a net.
-use Rattle.std.specs.Prelude.{◌≡◌, ℕ, ◌≤◌, ◌<◌, Bool, false, cond, List, [], length, map, get_or}
+use Rattle.std.specs.Prelude.{◌≡◌, ℕ, ◌≤◌, ◌<◌, Bool, true, false, cond, List, [], length, map, get_or}
 use Rattle.elmore.specs.Pairs.{IsPairAt, IsUndominated}
 use Rattle.elmore.specs.Problems.{is_live}
 use Rattle.elmore.specs.declared.pair.Pair.{Pair}
@@ -34,3 +34,8 @@ pub record IsKeptAt (p : Problem) (v : ℕ) (lists : Classes) : Type 0 where
 pub record AreKept (p : Problem) (i : ℕ) (lists : Lists) : Type 0 where
   pub done : (v : ℕ) → v < length lists.nodes.items → i ≤ v → IsKeptAt p v (lists_at lists v)
   pub ahead : (v : ℕ) → v < i → AreEmpty (lists_at lists v)
+
+-- those of all nodes are kept, or none
+abbrev pub AreListsOf : Problem → Bool → Lists → Type 0
+AreListsOf p true lists = (length lists.nodes.items ≡ length p.tree.nodes) × ((v : ℕ) → v < length p.tree.nodes → IsKeptAt p v (lists_at lists v))
+AreListsOf p false lists = lists.nodes.items ≡ []

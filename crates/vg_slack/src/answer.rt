@@ -7,6 +7,7 @@ ghost use Rattle.elmore.specs.Room.{room_of};
 ghost use Rattle.vg_slack.specs.Roots.{IsRootChoice};
 ghost use Rattle.vg_slack.specs.Bests.{IsGoodWith, IsBare, NoneIsBare, IsAnswer};
 
+use crate::lists::Lists;
 use crate::root::Choice;
 use elmore::{Placement, Problem, Scratch, first_illegal, first_wrong, slack};
 use sol_arena::Arena;
@@ -18,6 +19,13 @@ use vg_num::Memory;
 pub struct Best {
     pub slack: i128,
     pub placement: Placement,
+}
+
+/// What a search found: a best placement, or none where none is good, and the lists that it kept.
+#[derive(Drop)]
+pub struct Answer {
+    pub found: Option<Best>,
+    pub lists: Lists,
 }
 
 /// Whether a placement is good and has this slack (zs). The scratch has room for the nodes of the net.

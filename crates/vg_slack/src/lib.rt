@@ -7,5 +7,6 @@ mod lists;
 mod root;
 mod search;
 
-pub use answer::Best;
+pub use answer::{Answer, Best};
 pub use lists::{Lists, NodeLists};
+pub use search::{best, best_in};

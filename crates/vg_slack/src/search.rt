@@ -9,9 +9,9 @@ ghost use Rattle.cand_turns.specs.Tooled.{AreToolsOf};
 ghost use Rattle.vg_slack.specs.Bounds.{IsFew, AreFew};
 ghost use Rattle.vg_slack.specs.Climbs.{all_lists, AreParts};
 ghost use Rattle.vg_slack.specs.Bests.{IsAnswer};
-ghost use Rattle.vg_slack.specs.Kept.{AreKept};
+ghost use Rattle.vg_slack.specs.Kept.{AreKept, AreListsOf};
 
-use crate::answer::{Best, best_placement};
+use crate::answer::{Answer, Best, best_placement};
 use crate::climb::{climb, close, give_up, start};
 use crate::lists::Lists;
 use crate::root::best_candidate;
@@ -109,4 +109,39 @@ fn answer_in<L: Ledger>(
     answer_of_parts(
         alloc, &mut pool, arena, p, &mut parts, &mut tools, lists, steps,
     )
+}
+
+/// A best placement of a problem (van Ginneken 1990; Lillis, Cheng and Lin 1996), or none where no placement is good. With
+/// `keep`, the undominated candidates of each node come with it. The solutions of the search stand in the lent arena, which
+/// afterwards is as before. Answers `Memory` when out of memory.
+pub fn best_in<L: Ledger>(
+    alloc: Global,
+    p: &Problem,
+    keep: bool,
+    arena: &mut Arena,
+    steps: &mut Steps<L>,
+) -> Result<Answer, Memory>
+    ensures found { IfOk result (λ answer. IsAnswer p.now answer.found) }
+    ensures lists { IfOk result (λ answer. AreListsOf p.now keep answer.lists) }
+    ensures restored { IsRestored (slots_of arena.old) (slots_of arena.new) }
+{
+    let nodes = if keep { p.tree.nodes.len() } else { 0 };
+    let mut lists = Lists::new(alloc, nodes)?;
+    let found = answer_in(alloc, p, arena, &mut lists, steps)?;
+    Ok(Answer { found, lists })
+}
+
+/// A best placement of a problem, or none where no placement is good. With `keep`, the undominated candidates of each node come
+/// with it. Answers `Memory` when out of memory.
+pub fn best<L: Ledger>(
+    alloc: Global,
+    p: &Problem,
+    keep: bool,
+    steps: &mut Steps<L>,
+) -> Result<Answer, Memory>
+    ensures found { IfOk result (λ answer. IsAnswer p.now answer.found) }
+    ensures lists { IfOk result (λ answer. AreListsOf p.now keep answer.lists) }
+{
+    let mut arena = Arena::new(alloc);
+    best_in(alloc, p, keep, &mut arena, steps)
 }

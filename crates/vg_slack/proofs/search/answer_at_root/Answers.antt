@@ -3,11 +3,10 @@ use Rattle.sol_arena.specs.Arenas.{made_of}
 use Rattle.cand_laws.proofs.CoverLemmas.{root_live}
 use Rattle.cand_laws.proofs.TurnLemmas.{part_is_dead}
 use Rattle.cand_pool.specs.Pools.{items_of}
-use Rattle.cand_turns.specs.Swaps.{search, AreHeld, IsSwap}
-use Rattle.cand_turns.specs.Branches.{classes_in, lists_of}
+use Rattle.cand_turns.specs.Swaps.{search, IsSwap}
+use Rattle.cand_turns.specs.Branches.{lists_of}
 use Rattle.cand_turns.specs.Parts.{lists_in, IsPart}
 use Rattle.cand_turns.proofs.BranchLemmas.{two_held}
-use Rattle.cand_turns.proofs.CellLemmas.{bare_closed}
 use Rattle.cand_turns.proofs.WireLemmas.{small_modest, closed_small}
 use Rattle.cand_turns.proofs.SwapLemmas.{swap_then}
 use Rattle.vg_slack.specs.Bounds.{IsFew}
