@@ -4,7 +4,7 @@ use Rattle.std.specs.Prelude.{◌-ℤ◌}
 use Rattle.std.specs.List.{Contains}
 use Rattle.std.proofs.lemmas.Bool.{cases_lt, cases_eq}
 use Rattle.std.proofs.lemmas.Int.{ints}
-use Rattle.std.proofs.lemmas.List.{get_or-map, length-map, get_or-set_same, get_or-set_other}
+use Rattle.std.proofs.lemmas.List.{get_or-map, length-map, length-set, get_or-set_same, get_or-set_other}
 use Rattle.std.proofs.lemmas.List.Elements.{Contains-get_or}
 use Rattle.elmore.specs.Legal.{IsWithin}
 use Rattle.elmore.specs.declared.pair.Pair.{Pair}
@@ -19,7 +19,7 @@ use Rattle.vg_convex.specs.Hulls.{value, Rise, IsGreatest}
 use Rattle.vg_convex.specs.Places.{row, IsHullOf, AreWithin}
 use Rattle.elmore.specs.Allowances.{Allows}
 use Rattle.elmore.specs.declared.allowed.Allowed.{Allowed}
-use Rattle.vg_convex.specs.Answers.{IsBestOf, IsAnswer, found_at}
+use Rattle.vg_convex.specs.Answers.{IsBestOf, IsAnswer, found_at, IsRow}
 use Rattle.vg_convex.specs.declared.work.Found.{Found}
 use Rattle.vg_convex.proofs.Numbers.{nth}
 use Rattle.vg_convex.proofs.Stacks.{hull_size}
@@ -53,10 +53,20 @@ none_found s xs n stack rep h cut empty y y_in within =
     let (i, low, e) = numbered xs y y_in in
     none_past xs n rep.limit h.rise cut.past i (omega (arith, none)) low (subst (λ (p : Pair). IsWithin rep.limit p.c) (sym e) within)
 
+pub none_fits : (xs : Candidates) (rep : Rep) → length xs ≡ 0 → NoneFits rep (pairs_of xs)
+none_fits xs rep empty y y_in within = let (i, low, e) = numbered xs y y_in in absurd (omega (arith, low, empty))
+
+-- where there is no limit, each candidate is within it
+pub all_within : (xs : Candidates) (rep : Rep) → rep.limit ≡ None → AreWithin rep.limit xs (length xs)
+all_within xs rep free = record {
+  within = λ i low. subst (λ limit. IsWithin limit (row xs i).c) (sym free) tt;
+  past = λ low. absurd (omega (arith, low));
+}
+
 -- the greatest worth of those within the limit gives the greatest time
-pub best_found : (s : Block) (xs : Candidates) (n : ℕ) (stack : List Cand) (rep : Rep) (i : ℕ) (found : Found) → IsHullOf s xs n stack → AreWithin rep.limit xs n
+pub best_found : (xs : Candidates) (n : ℕ) (rep : Rep) (i : ℕ) (found : Found) → Rise (row xs) (length xs) → AreWithin rep.limit xs n → i < length xs
     → IsGreatest (row xs) n rep.r i → found.tag ≡ (nth xs i).tag → found.time ≡ (nth xs i).q -ℤ pos (rep.k + rep.r * (nth xs i).c) → IsBestOf rep xs found
-best_found s xs n stack rep i found h cut best tag time = record {
+best_found xs n rep i found rise cut i_low best tag time = record {
   from = nth xs i;
   among = Contains-get_or xs i (record { q = pos 0; c = 0; tag = 0 }) i_low;
   tag = tag;
@@ -70,14 +80,11 @@ best_found s xs n stack rep i found h cut best tag time = record {
           | inl seen ↦
               let more : value rep.r (row xs j) ≤ℤ value rep.r (row xs i) = best.most j seen in
               subst (λ (p : Pair). (with_cell (Some rep) p).q ≤ℤ found.time) e (omega (arith, ints, more, time))
-          | inr past ↦ absurd (none_past xs n rep.limit h.rise cut.past j past low j_in)
+          | inr past ↦ absurd (none_past xs n rep.limit rise cut.past j past low j_in)
         ];
   };
 }
   where
-    i_low : i < length xs
-    i_low = omega (arith, best.inside, h.few)
-
     made : record { q = found.time; c = rep.cin } ≡ with_cell (Some rep) (pair_of (nth xs i))
     made = ap (λ q. record { q = q; c = rep.cin }) time
 
@@ -98,7 +105,7 @@ written_same old new b found e low = ap (λ l. found_at l b) e ∙ get_or-set_sa
 written_other : (old new : List (Option Found)) (b : ℕ) (found : Option Found) → new ≡ set old b found → (k : ℕ) → (k ≡ b → ⊥) → found_at new k ≡ found_at old k
 written_other old new b found e k differ = ap (λ l. found_at l k) e ∙ get_or-set_other old b k found None differ
 
-pub written_none : (allowed : Allowed) (reps : List Rep) (xs : Candidates) (b : ℕ) (found : Option Found) (old new : List (Option Found)) → IsAnswer allowed reps xs b found
+written_none : (allowed : Allowed) (reps : List Rep) (xs : Candidates) (b : ℕ) (found : Option Found) (old new : List (Option Found)) → IsAnswer allowed reps xs b found
     → new ≡ set old b found → b < length old → ((k : ℕ) → (Allows allowed k → ⊥) → found_at old k ≡ None) → (k : ℕ) → (Allows allowed k → ⊥) → found_at new k ≡ None
 written_none allowed reps xs b found old new is e low none k not_so = elim (cases_eq k b) [
   | inl same ↦
@@ -107,18 +114,31 @@ written_none allowed reps xs b found old new is e low none k not_so = elim (case
   | inr differ ↦ written_other old new b found e k differ ∙ none k not_so
 ]
 
+pub written_row : (allowed : Allowed) (reps : List Rep) (xs : Candidates) (b : ℕ) (found : Option Found) (old new : List (Option Found)) → IsAnswer allowed reps xs b found
+    → new ≡ set old b found → b < length old → IsRow allowed reps old → IsRow allowed reps new
+written_row allowed reps xs b found old new is e low before = record {
+  room = omega (arith, ap length e ∙ length-set old b found, before.room);
+  none = written_none allowed reps xs b found old new is e low before.none;
+}
+
+-- an answer that stood stands
+pub kept_answer : (allowed : Allowed) (reps : List Rep) (xs : Candidates) (b : ℕ) (found : Option Found) (old new : List (Option Found)) → IsAnswer allowed reps xs b found
+    → new ≡ set old b found → b < length old → (k : ℕ) → IsAnswer allowed reps xs k (found_at old k) → IsAnswer allowed reps xs k (found_at new k)
+kept_answer allowed reps xs b found old new is e low k before = elim (cases_eq k b) [
+  | inl same ↦
+      subst (λ m. IsAnswer allowed reps xs m (found_at new m)) (sym same)
+      (subst (IsAnswer allowed reps xs b) (sym (written_same old new b found e low)) is)
+  | inr differ ↦ subst (IsAnswer allowed reps xs k) (sym (written_other old new b found e k differ)) before
+]
+
 pub written_answer : (allowed : Allowed) (reps : List Rep) (xs : Candidates) (order : List ℕ) (i : ℕ) (found : Option Found) (old new : List (Option Found))
     → IsAnswer allowed reps xs (slice_index order i) found → new ≡ set old (slice_index order i) found → slice_index order i < length old
     → ((j : ℕ) → j < i → IsAnswer allowed reps xs (slice_index order j) (found_at old (slice_index order j)))
     → (j : ℕ) → j < i + 1 → IsAnswer allowed reps xs (slice_index order j) (found_at new (slice_index order j))
-written_answer allowed reps xs order i found old new is e low before j j_low = elim (cases_eq (slice_index order j) (slice_index order i)) [
-  | inl same ↦
-      subst (λ m. IsAnswer allowed reps xs m (found_at new m)) (sym same)
+written_answer allowed reps xs order i found old new is e low before j j_low = elim (cases_lt j i) [
+  | inl less ↦ kept_answer allowed reps xs (slice_index order i) found old new is e low (slice_index order j) (before j less)
+  | inr more ↦
+      let at : j ≡ i = omega arith in
+      subst (λ m. IsAnswer allowed reps xs (slice_index order m) (found_at new (slice_index order m))) (sym at)
       (subst (IsAnswer allowed reps xs (slice_index order i)) (sym (written_same old new (slice_index order i) found e low)) is)
-  | inr differ ↦
-      let less : j < i = elim (cases_lt j i) [
-        | inl less ↦ less
-        | inr more ↦ let at : j ≡ i = omega arith in absurd (differ (ap (λ m. slice_index order m) at))
-      ] in
-      subst (IsAnswer allowed reps xs (slice_index order j)) (sym (written_other old new (slice_index order i) found e (slice_index order j) differ)) (before j less)
 ]

@@ -4,9 +4,11 @@ pub mod Peaks
 pub mod Halves
 pub mod Numbers
 pub mod Places
+pub mod Fronts
 pub mod Walks
 pub mod Finds
 pub mod Ranks
+pub mod Shelves
 pub mod Results
 pub mod Adds
 pub mod Sweeps

@@ -124,7 +124,7 @@ pushed s xs n stack h left c after few at ready bends after_is = record {
     ]
 
 -- a stack that is not empty is a hull
-some_hull : (s : Block) (xs : Candidates) (n : ℕ) (stack : List Cand) (h : IsHullOf s xs n stack) → 0 < length stack → 0 < n
+pub some_hull : (s : Block) (xs : Candidates) (n : ℕ) (stack : List Cand) (h : IsHullOf s xs n stack) → 0 < length stack → 0 < n
 some_hull s xs n stack h some = elim (cases_lt 0 n) [
   | inl on ↦ on
   | inr off ↦ let e : n ≡ 0 = omega arith in absurd (omega (arith, h.hull.none e, some))

@@ -2,7 +2,7 @@
 use Rattle.std.specs.Prelude.{MatchOption}
 use Rattle.std.proofs.lemmas.Bool.{cases_lt}
 use Rattle.std.proofs.lemmas.List.{drop_more}
-use Rattle.std.proofs.Common.{◌≡◌, ℕ, ◌+◌, ◌*◌, ◌^◌, ◌<◌, ◌≤◌, List, [], ◌∷◌, length, get_or, slice_index, drop, sym, ap, ◌∙◌, subst, arith, inl, inr, Option, Some, None, pos}
+use Rattle.std.proofs.Common.{◌≡◌, ℕ, ◌+◌, ◌*◌, ◌^◌, ◌<◌, ◌≤◌, List, [], ◌∷◌, length, get_or, slice_index, drop, refl, sym, ap, ◌∙◌, subst, arith, inl, inr, Option, Some, None, pos}
 use Rattle.elmore.specs.Cells.{rep_at}
 use Rattle.elmore.specs.Legal.{IsWithin}
 use Rattle.elmore.specs.declared.rep.Rep.{Rep}
@@ -117,18 +117,28 @@ walk_begins s xs stack next rise modest empty first = record {
     none : length stack ≡ 0
     none = ap (λ (l : List Cand). length l) empty
 
+-- with no limit the walk goes to the end of the list
+pub whole_hull : (s : Block) (xs : Candidates) (n : ℕ) (stack : List Cand) (next : Option Cand) → (f : IsFurther s xs None n stack next) → IsOver None xs f.seen
+    → IsHullOf s xs (length xs) stack
+whole_hull s xs n stack next f over =
+    let all : f.seen ≡ length xs = elim (cases_lt f.seen (length xs)) [
+      | inl low ↦ absurd (over low tt)
+      | inr end ↦ omega (arith, end, f.walk.hull.few)
+    ] in
+    subst (λ m. IsHullOf s xs m stack) all f.walk.hull
+
 -- nothing came on
 abbrev pub no_further : (s : Block) (xs : Candidates) (limit : Option ℕ) (n : ℕ) (stack : List Cand) (next : Option Cand) → IsWalk s xs n stack next
     → IsFurther s xs limit n stack next
 no_further s xs limit n stack next w = record { seen = n; more = omega arith; within = λ i low high. absurd (omega (arith, low, high)); walk = w }
 
 pub find_begins : (s : Block) (xs : Candidates) (reps : List Rep) (order : List ℕ) (stack : List Cand) (next : Option Cand) (before : ℕ)
-    → stack ≡ [] → IsWalk s xs 0 stack next → IsFinding s xs reps order 0 stack next before before
-find_begins s xs reps order stack next before empty w = record {
+    → IsWalk s xs 0 stack next → IsFinding s xs reps order 0 stack next before before
+find_begins s xs reps order stack next before w = record {
   seen = 0;
   walk = w;
   within = λ j k first low high. absurd (omega (arith, high));
-  cost = λ d less. omega (arith, ap (λ (l : List Cand). length l) empty);
+  cost = λ d less. omega (arith, w.hull.hull.none refl);
 }
 
 -- one repeater more is done

@@ -41,6 +41,15 @@ IsAnswer allowed reps xs b found =
 abbrev pub found_at : List (Option Found) → ℕ → Option Found
 found_at found b = slice_index_or found b None
 
+-- a row has a place for the result of each repeater, which is empty where the repeater is not allowed
+pub record IsRow (allowed : Allowed) (reps : List Rep) (found : List (Option Found)) : Type 0 where
+  pub room : length reps ≤ length found
+  pub none : (b : ℕ) → (Allows allowed b → ⊥) → found_at found b ≡ None
+
+-- the row has the result of each repeater of an order
+abbrev pub AreAnswered : Allowed → List Rep → Candidates → List ℕ → List (Option Found) → Type 0
+AreAnswered allowed reps xs order found = (b : ℕ) → Contains order b → IsAnswer allowed reps xs b (found_at found b)
+
 -- a result that stands in the row of its repeater, which is of the order
 pub record IsResultOf (reps : List Rep) (found : List (Option Found)) (order : List ℕ) (made : Made) : Type 0 where
   pub among : Contains order made.rep

@@ -1,12 +1,12 @@
 -- The hull of the candidates of a list, on a stack of their places in a pool.
-use Rattle.std.specs.Prelude.{◌≡◌, ℕ, ◌<◌, ◌≤◌, List, [], length, drop, slice_index_or, pos, Option, MatchOption}
+use Rattle.std.specs.Prelude.{◌≡◌, ℕ, ◌-◌, ◌<◌, ◌≤◌, ◌≤ℤ◌, List, [], length, drop, slice_index_or, pos, Option, MatchOption}
 use Rattle.elmore.specs.Legal.{IsWithin}
 use Rattle.cand_pool.specs.Candidates.{Candidates, AreModest}
 use Rattle.cand_pool.specs.Pools.{Block, IsPlace}
 use Rattle.cand_pool.specs.declared.ends.Cand.{Cand}
 use Rattle.elmore.specs.declared.pair.Pair.{Pair}
 use Rattle.cand_uses.specs.Pairs.{pair_of}
-use Rattle.vg_convex.specs.Hulls.{Rise, IsHullSoFar}
+use Rattle.vg_convex.specs.Hulls.{value, Rise, IsHullSoFar}
 
 -- the pairs of a list, by their numbers
 abbrev pub row : Candidates → ℕ → Pair
@@ -49,3 +49,13 @@ IsOver limit xs n = n < length xs → IsWithin limit (row xs n).c → ⊥
 pub record AreWithin (limit : Option ℕ) (xs : Candidates) (n : ℕ) : Type 0 where
   pub within : (i : ℕ) → i < n → IsWithin limit (row xs i).c
   pub past : IsOver limit xs n
+
+-- the stack has the first places of the hull of all candidates; above a resistance the place that came after them is worth
+-- no more than the last of them
+pub record IsFrontOf (s : Block) (xs : Candidates) (r : ℕ) (stack : List Cand) : Type 0 where
+  pub whole : List Cand
+  pub hull : IsHullOf s xs (length xs) whole
+  pub some : 0 < length whole → 0 < length stack
+  pub few : length stack ≤ length whole
+  pub front : (j : ℕ) (d : Cand) → j < length stack → slice_index_or stack j d ≡ slice_index_or whole j d
+  pub falls : length stack < length whole → value r (row xs (hull.numbers (length stack))) ≤ℤ value r (row xs (hull.numbers (length stack - 1)))

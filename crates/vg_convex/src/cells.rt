@@ -111,7 +111,7 @@ pub fn add_cells<L: Ledger>(
         → steps.new ≤ steps.old + 3 * length (items_of pool.old from.now) + length shelf.now.by_input.items * (d + 2) }
 {
     work.clear(reps.len())?;
-    find_all(pool, from, reps, &shelf.by_limit, allowed, work, steps)?;
+    find_all(pool, from, reps, shelf, allowed, work, steps)?;
     sweep(reps, &shelf.by_input, &work.found, &mut work.kept)?;
     let list = list_of(pool, arena, node, &work.kept)?;
     Ok(list)

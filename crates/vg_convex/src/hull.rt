@@ -3,7 +3,7 @@
 ghost use Rattle.std.specs.Prelude.{◌≡◌, ℕ, suc, ◌+◌, ◌^◌, ◌<◌, ◌≤◌, ◌<ℤ◌, ◌≤ℤ◌, length, MatchBool, OnOk};
 ghost use Rattle.cand_pool.specs.Candidates.{Candidates, AreModest};
 ghost use Rattle.vg_convex.specs.Hulls.{value, IsGreatest};
-ghost use Rattle.vg_convex.specs.Places.{row, IsNumber, IsHullOf};
+ghost use Rattle.vg_convex.specs.Places.{row, IsNumber, IsHullOf, IsFrontOf};
 
 use cand_pool::{Cand, Pool, Steps};
 use std::cmp::Ordering;
@@ -73,4 +73,31 @@ pub(crate) fn greatest_on<L: Ledger>(
         }
     }
     stack[low]
+}
+
+/// The candidate of a whole list's hull that is worth the most above a resistance, found from the end: the last ones that are
+/// worth no more than the one before them come off. They serve no greater resistance either, since the less a candidate's load
+/// is, the less worth it loses there.
+pub(crate) fn greatest_at_end<L: Ledger>(
+    pool: &Pool,
+    stack: &mut Vec<Cand>,
+    r: u64,
+    steps: &mut Steps<L>,
+) -> Cand
+    ghost xs: { Candidates }
+    requires front { (least : ℕ) × (least ≤ r) × IsFrontOf pool.now xs least stack.old.items }
+    requires some { 0 < length stack.old.items }
+    ensures front { IsFrontOf pool.now xs r stack.new.items }
+    ensures greatest { (i : ℕ) × IsNumber pool.now xs result i × IsGreatest (row xs) (length xs) r i }
+    ensures cost { steps.new + length stack.new.items ≤ steps.old + length stack.old.items + 1 }
+{
+    let mut left = stack.len();
+    'pops: while left >= 2 {
+        if is_less(pool, stack[left - 2], stack[left - 1], r, steps) {
+            break;
+        }
+        left -= 1;
+    }
+    stack.truncate(left);
+    stack[left - 1]
 }

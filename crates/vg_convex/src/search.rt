@@ -1,19 +1,21 @@
 //! The greatest time of each repeater of a shelf.
 
-ghost use Rattle.std.specs.Prelude.{◌≡◌, ◌↔◌, ℕ, ◌+◌, ◌*◌, ◌^◌, ◌<◌, ◌≤◌, ◌≤ℤ◌, ◌-ℤ◌, pos, negsuc, [], set, length, IsTrue, IfOk, OnOk, OnErr, Option, None};
-ghost use Rattle.std.specs.List.{All, Contains};
+ghost use Rattle.std.specs.Prelude.{◌≡◌, ◌↔◌, ℕ, suc, ◌+◌, ◌*◌, ◌^◌, ◌<◌, ◌≤◌, ◌≤ℤ◌, ◌-ℤ◌, pos, negsuc, [], set, length};
+ghost use Rattle.std.specs.Prelude.{IsTrue, false, IfOk, OnOk, OnErr, Option, None};
+ghost use Rattle.std.specs.List.{All};
 ghost use Rattle.elmore.specs.Allowances.{Allows};
 ghost use Rattle.elmore.specs.Cells.{rep_at};
 ghost use Rattle.elmore.specs.Legal.{IsWithin};
 ghost use Rattle.cand_pool.specs.Candidates.{Candidates, AreModest};
 ghost use Rattle.cand_pool.specs.Pools.{Holds};
-ghost use Rattle.vg_convex.specs.Hulls.{Rise};
-ghost use Rattle.vg_convex.specs.Places.{row, IsHullOf, IsWalk, IsFurther, IsOver, AreWithin};
-ghost use Rattle.vg_convex.specs.Answers.{IsFoundFor, IsAnswer, found_at};
-ghost use Rattle.vg_convex.specs.Orders.{AreByLimit, AreRising};
+ghost use Rattle.vg_convex.specs.Hulls.{Rise, IsGreatest};
+ghost use Rattle.vg_convex.specs.Places.{row, IsNumber, IsHullOf, IsWalk, IsFurther, IsOver, AreWithin, IsFrontOf};
+ghost use Rattle.vg_convex.specs.Answers.{IsBestOf, IsFoundFor, IsAnswer, found_at, IsRow, AreAnswered};
+ghost use Rattle.vg_convex.specs.Orders.{has_limit, AreByLimit, AreByResistance, AreRising, IsShelf};
 ghost use Rattle.vg_convex.specs.declared.work.Found.{Found as FoundSpec};
 
-use crate::hull::{greatest_on, put_on};
+use crate::hull::{greatest_at_end, greatest_on, put_on};
+use crate::shelf::Shelf;
 use crate::work::{Found, Work};
 use cand_pool::{Cand, List, Pool, Steps};
 use elmore::{Allowed, Rep};
@@ -55,8 +57,8 @@ fn grow<L: Ledger>(
     ensures grown { IfOk result (λ after. (n : ℕ) → IsWalk pool.now xs n stack.old.items next
         → (f : IsFurther pool.now xs limit n stack.new.items after) × IsOver limit xs f.seen
         × (steps.new + length stack.new.items + 3 * n ≤ steps.old + length stack.old.items + 3 * f.seen + 1)) }
-    ensures cost { OnErr result ((n : ℕ) → IsWalk pool.now xs n stack.old.items next
-        → steps.new + 3 * n ≤ steps.old + length stack.old.items + 3 * length xs) }
+    ensures cost { (n : ℕ) → IsWalk pool.now xs n stack.old.items next
+        → steps.new + length stack.new.items + 3 * n ≤ steps.old + length stack.old.items + 3 * length xs }
 {
     let mut next = next;
     'grow: while let Some(place) = next {
@@ -89,6 +91,20 @@ fn time_before(rep: &Rep, q: i128, load: u64) -> i128
     q - delay_into(rep, load)
 }
 
+/// What a repeater makes of the candidate that gives it the most time.
+fn best_of<L: Ledger>(pool: &Pool, rep: &Rep, place: Cand, steps: &mut Steps<L>) -> Found
+    ghost xs: { Candidates }
+    requires rise { Rise (row xs) (length xs) }
+    requires modest { AreModest xs }
+    requires best { (n : ℕ) × (i : ℕ) × AreWithin rep.now.limit xs n × IsNumber pool.now xs place i × IsGreatest (row xs) n rep.now.r i }
+    ensures best { IsBestOf rep.now xs result }
+    ensures step { steps.new ≡ suc steps.old }
+{
+    let (q, c, tag) = pool.tell(place, steps);
+    let time = time_before(rep, q, c);
+    Found { time, tag }
+}
+
 /// The greatest time of one repeater, where the hull is that of the candidates within its limit.
 fn find<L: Ledger>(pool: &Pool, rep: &Rep, stack: &[Cand], steps: &mut Steps<L>) -> Option<Found>
     ghost xs: { Candidates }
@@ -100,9 +116,7 @@ fn find<L: Ledger>(pool: &Pool, rep: &Rep, stack: &[Cand], steps: &mut Steps<L>)
         return None;
     }
     let place = greatest_on(pool, stack, rep.r, steps);
-    let (q, c, tag) = pool.tell(place, steps);
-    let time = time_before(rep, q, c);
-    Some(Found { time, tag })
+    Some(best_of(pool, rep, place, steps))
 }
 
 /// Goes on along a list as far as a repeater's limit allows, and puts its greatest time into the row of results; nothing is
@@ -141,13 +155,120 @@ fn find_next<L: Ledger>(
     Ok(after)
 }
 
-/// The greatest time of each repeater of an order by limit that is allowed, in its place of the row. Answers `Memory`
-/// where there is no room.
+/// The greatest time of each repeater of an order by limit that is allowed, in its place of the row. Answers the place of the
+/// candidate that comes next, or `Memory` where there is no room.
+fn find_limited<L: Ledger>(
+    pool: &Pool,
+    first: Option<Cand>,
+    reps: &[Rep],
+    order: &[u32],
+    allowed: &Allowed,
+    work: &mut Work,
+    steps: &mut Steps<L>,
+) -> Result<Option<Cand>, Memory>
+    ghost xs: { Candidates }
+    requires walk { IsWalk pool.now xs 0 work.old.stack.items first }
+    requires row { IsRow allowed.now reps.now work.old.found.items }
+    requires named { All (λ b. b < length reps.now) order.now }
+    requires by_limit { AreByLimit reps.now order.now }
+    requires rising { AreRising allowed.now }
+    ensures walk { IfOk result (λ next. (n : ℕ) × IsWalk pool.now xs n work.new.stack.items next
+        × ((d : ℕ) → length xs < 2 ^ d → steps.new + length work.new.stack.items ≤ steps.old + 3 * n + length order.now * (d + 2))) }
+    ensures row { OnOk result (IsRow allowed.now reps.now work.new.found.items) }
+    ensures found { OnOk result (AreAnswered allowed.now reps.now xs order.now work.new.found.items) }
+    ensures cost { (d : ℕ) → length xs < 2 ^ d → steps.new ≤ steps.old + 3 * length xs + length order.now * (d + 2) }
+{
+    let mut next = first;
+    'reps: for number in order {
+        next = find_next(pool, reps, *number, allowed, work, next, steps)?;
+    }
+    Ok(next)
+}
+
+/// The greatest time of one repeater without a limit, where the hull is that of all candidates, less those at its end that
+/// serve no repeater with so much resistance.
+fn find_at_end<L: Ledger>(
+    pool: &Pool,
+    rep: &Rep,
+    stack: &mut Vec<Cand>,
+    steps: &mut Steps<L>,
+) -> Option<Found>
+    ghost xs: { Candidates }
+    requires front { (least : ℕ) × (least ≤ rep.now.r) × IsFrontOf pool.now xs least stack.old.items }
+    requires free { rep.now.limit ≡ None }
+    ensures found { IsFoundFor rep.now xs result }
+    ensures front { IsFrontOf pool.now xs rep.now.r stack.new.items }
+    ensures cost { steps.new + length stack.new.items ≤ steps.old + length stack.old.items + 2 }
+{
+    if stack.is_empty() {
+        return None;
+    }
+    let place = greatest_at_end(pool, stack, rep.r, steps);
+    Some(best_of(pool, rep, place, steps))
+}
+
+/// Puts the greatest time of a repeater without a limit into the row of results; nothing is done for a repeater that is not
+/// allowed.
+fn find_free<L: Ledger>(
+    pool: &Pool,
+    reps: &[Rep],
+    number: u32,
+    allowed: &Allowed,
+    work: &mut Work,
+    steps: &mut Steps<L>,
+)
+    ghost xs: { Candidates }
+    requires front { (least : ℕ) × (least ≤ (rep_at reps.now number).r) × IsFrontOf pool.now xs least work.old.stack.items }
+    requires free { has_limit reps.now number ≡ false }
+    requires named { number < length reps.now }
+    requires row { IsRow allowed.now reps.now work.old.found.items }
+    requires rising { AreRising allowed.now }
+    ensures front { IsFrontOf pool.now xs (rep_at reps.now number).r work.new.stack.items }
+    ensures found { (found : Option FoundSpec) × IsAnswer allowed.now reps.now xs number found
+        × (work.new.found.items ≡ set work.old.found.items number found) }
+    ensures cost { steps.new + length work.new.stack.items ≤ steps.old + length work.old.stack.items + 2 }
+{
+    if is_allowed(allowed, number) {
+        let rep = &reps[number as usize];
+        work.found[number as usize] = find_at_end(pool, rep, &mut work.stack, steps);
+    }
+}
+
+/// The greatest time of each repeater of an order by resistance that is allowed, in its place of the row, where the hull is
+/// that of all candidates. None of these repeaters has a limit.
+fn find_each_free<L: Ledger>(
+    pool: &Pool,
+    reps: &[Rep],
+    order: &[u32],
+    allowed: &Allowed,
+    work: &mut Work,
+    steps: &mut Steps<L>,
+)
+    ghost xs: { Candidates }
+    requires hull { IsHullOf pool.now xs (length xs) work.old.stack.items }
+    requires row { IsRow allowed.now reps.now work.old.found.items }
+    requires named { All (λ b. b < length reps.now) order.now }
+    requires free { All (λ b. has_limit reps.now b ≡ false) order.now }
+    requires by_resistance { AreByResistance reps.now order.now }
+    requires rising { AreRising allowed.now }
+    ensures row { IsRow allowed.now reps.now work.new.found.items }
+    ensures found { AreAnswered allowed.now reps.now xs order.now work.new.found.items }
+    ensures others { (b : ℕ) → IsAnswer allowed.now reps.now xs b (found_at work.old.found.items b)
+        → IsAnswer allowed.now reps.now xs b (found_at work.new.found.items b) }
+    ensures cost { steps.new ≤ steps.old + length work.old.stack.items + 2 * length order.now }
+{
+    'reps: for number in order {
+        find_free(pool, reps, *number, allowed, work, steps);
+    }
+}
+
+/// The greatest time of each repeater of a shelf that is allowed, in its place of the row: of those with a limit while the
+/// hull grows, and then of those without one on the hull of the whole list. Answers `Memory` where there is no room.
 pub(crate) fn find_all<L: Ledger>(
     pool: &Pool,
     from: &List,
     reps: &[Rep],
-    order: &[u32],
+    shelf: &Shelf,
     allowed: &Allowed,
     work: &mut Work,
     steps: &mut Steps<L>,
@@ -157,18 +278,19 @@ pub(crate) fn find_all<L: Ledger>(
     requires rise { Rise (row xs) (length xs) }
     requires modest { AreModest xs }
     requires stack { work.old.stack.items ≡ [] }
-    requires rows { length reps.now ≤ length work.old.found.items }
-    requires none { (b : ℕ) → found_at work.old.found.items b ≡ None }
-    requires named { All (λ b. b < length reps.now) order.now }
-    requires by_limit { AreByLimit reps.now order.now }
+    requires row { IsRow allowed.now reps.now work.old.found.items }
+    requires shelf { IsShelf reps.now shelf.now }
     requires rising { AreRising allowed.now }
     ensures rows { OnOk result (length reps.now ≤ length work.new.found.items) }
-    ensures found { OnOk result ((b : ℕ) → Contains order.now b → IsAnswer allowed.now reps.now xs b (found_at work.new.found.items b)) }
-    ensures cost { (d : ℕ) → length xs < 2 ^ d → steps.new ≤ steps.old + 3 * length xs + length order.now * (d + 2) }
+    ensures found { OnOk result (AreAnswered allowed.now reps.now xs shelf.now.by_input.items work.new.found.items) }
+    ensures cost { (d : ℕ) → length xs < 2 ^ d → steps.new ≤ steps.old + 3 * length xs + length shelf.now.by_input.items * (d + 2) }
 {
-    let mut next = pool.first(from);
-    'reps: for number in order {
-        next = find_next(pool, reps, *number, allowed, work, next, steps)?;
+    let first = pool.first(from);
+    let next = find_limited(pool, first, reps, &shelf.limited, allowed, work, steps)?;
+    if shelf.free.is_empty() {
+        return Ok(());
     }
+    grow(pool, None, &mut work.stack, next, steps)?;
+    find_each_free(pool, reps, &shelf.free, allowed, work, steps);
     Ok(())
 }

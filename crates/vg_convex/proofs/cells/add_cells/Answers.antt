@@ -1,8 +1,6 @@
-use Rattle.std.proofs.Common.{◌≡◌, ℕ, ◌+◌, ◌*◌, ◌<◌, ◌≤◌, List, [], length, None, sym, ap, ◌∙◌, subst, arith}
+use Rattle.std.proofs.Common.{◌≡◌, [], length, None, sym, ap, ◌∙◌, subst, arith}
 use Rattle.std.specs.List.{All}
-use Rattle.std.proofs.lemmas.List.Sorted.{All-permutation, length_permutation}
 use Rattle.elmore.specs.Pairs.{IsUndominated}
-use Rattle.elmore.specs.declared.rep.Rep.{Rep}
 use Rattle.sol_arena.specs.Arenas.{slots_of, made_of}
 use Rattle.sol_arena.specs.Meanings.{cells_of}
 use Rattle.sol_arena.specs.Slots.{IsLive as IsLiveSolution}
@@ -13,106 +11,60 @@ use Rattle.cand_uses.specs.Pairs.{pairs_of}
 use Rattle.cand_uses.specs.Uses.{IsExchange}
 use Rattle.vg_convex.specs.Answers.{made_pairs, AreSwept}
 use Rattle.vg_convex.specs.Lists.{IsMade, IsWithCell}
-use Rattle.vg_convex.specs.declared.shelf.Shelf.{Shelf}
 use Rattle.vg_convex.proofs.Adds.{added_exchange, zip_length}
-use Rattle.vg_convex.proofs.Results.{AreFound, IsAttainedBy, tags_of, made_undominated, pairs_same, all_attained, none_attained, swept_as, found_as}
-use Rattle.vg_convex.specs.Orders.{AreByInput, AreByLimit, IsShelf}
+use Rattle.vg_convex.proofs.Results.{IsAttainedBy, tags_of, made_undominated, pairs_same, all_attained, none_attained, swept_as}
+use Rattle.vg_convex.specs.Orders.{AreByInput}
 use Rattle.vg_convex.proofs.Numbers.{rise_of}
 use Rattle.vg_convex.proofs.cells.add_cells.Given.{Over}
 use Rattle.vg_convex.proofs.cells.add_cells.Goals as goal
 
 pub find_all-requires : goal.find_all-requires
-find_all-requires g c κs within =
-    let shelf = c.requires.shelf in (
-      within,
+find_all-requires g c κs within = (
+  within,
+  (
+    c.requires.from,
+    (
+      rise_of (items_of c.args.pool.now c.args.from.now) c.requires.rising,
       (
-        c.requires.from,
+        c.requires.modest,
         (
-          rise_of (items_of c.args.pool.now c.args.from.now) c.requires.rising,
+          c.in_ok-clear.ensures.stack,
           (
-            c.requires.modest,
-            (
-              c.in_ok-clear.ensures.stack,
-              (
-                omega (arith, c.in_ok-clear.ensures.rows),
-                (
-                  c.in_ok-clear.ensures.found,
-                  (
-                    subst (All (λ b. b < length c.args.reps.now)) (sym c.deref.ensures.value) (All-permutation (λ b. b < length c.args.reps.now) c.args.shelf.now.by_input.items c.args.shelf.now.by_limit.items shelf.same shelf.named),
-                    (subst (AreByLimit c.args.reps.now) (sym c.deref.ensures.value) shelf.by_limit, c.requires.allowed),
-                  ),
-                ),
-              ),
-            ),
+            record { room = omega (arith, c.in_ok-clear.ensures.rows); none = λ b _. c.in_ok-clear.ensures.found b },
+            (c.requires.shelf, c.requires.allowed),
           ),
         ),
       ),
-    )
+    ),
+  ),
+)
 
 pub sweep-requires-clause-rows : goal.sweep-requires-clause-rows
 sweep-requires-clause-rows g c =
-    omega (arith, ap length c.deref-3.ensures.value, c.in_ok-find_all.ensures.rows)
+    omega (arith, ap length c.deref-2.ensures.value, c.in_ok-find_all.ensures.rows)
 
 pub sweep-requires-clause-by_input : goal.sweep-requires-clause-by_input
-sweep-requires-clause-by_input g c = subst (AreByInput c.args.reps.now) (sym c.deref-2.ensures.value) c.requires.shelf.by_input
+sweep-requires-clause-by_input g c = subst (AreByInput c.args.reps.now) (sym c.deref.ensures.value) c.requires.shelf.by_input
 
-found_before : (g : Over) → (c : goal.After-deref-4 g)
-    → AreFound c.args.reps.now c.args.shelf.now c.args.allowed.now (items_of c.args.pool.now c.args.from.now) c.find_all.new.work.found.items
-found_before g c =
-    found_as c.args.reps.now c.args.shelf.now c.args.allowed.now (items_of c.args.pool.now c.args.from.now) c.find_all.new.work.found.items c.deref.result.now
-    c.deref.ensures.value c.in_ok-find_all.ensures.found
-
-swept_before : (g : Over) → (c : goal.After-deref-4 g) → AreSwept c.args.reps.now c.find_all.new.work.found.items c.args.shelf.now.by_input.items c.deref-4.result.now
+swept_before : (g : Over) → (c : goal.After-deref-3 g) → AreSwept c.args.reps.now c.find_all.new.work.found.items c.args.shelf.now.by_input.items c.deref-3.result.now
 swept_before g c =
-    swept_as c.args.reps.now c.deref-3.result.now c.find_all.new.work.found.items c.deref-2.result.now c.args.shelf.now.by_input.items c.sweep.new.kept.items c.deref-4.result.now
-    c.deref-3.ensures.value c.deref-2.ensures.value c.deref-4.ensures.value c.in_ok-sweep.ensures
+    swept_as c.args.reps.now c.deref-2.result.now c.find_all.new.work.found.items c.deref.result.now c.args.shelf.now.by_input.items c.sweep.new.kept.items c.deref-3.result.now
+    c.deref-2.ensures.value c.deref.ensures.value c.deref-3.ensures.value c.in_ok-sweep.ensures
 
 pub list_of-requires-clause-live : goal.list_of-requires-clause-live
 list_of-requires-clause-live g c =
     tags_of (IsLiveSolution (made_of c.args.arena.now)) c.args.reps.now c.args.shelf.now c.args.allowed.now (items_of c.args.pool.now c.args.from.now)
-    c.find_all.new.work.found.items c.deref-4.result.now c.requires.shelf (found_before g c) (swept_before g c).results c.requires.live
+    c.find_all.new.work.found.items c.deref-3.result.now c.in_ok-find_all.ensures.found (swept_before g c).results c.requires.live
 
 pub list_of-requires-clause-bare : goal.list_of-requires-clause-bare
 list_of-requires-clause-bare g c =
     tags_of (λ s. cells_of (made_of c.args.arena.now) s c.args.node ≡ None) c.args.reps.now c.args.shelf.now c.args.allowed.now (items_of c.args.pool.now c.args.from.now)
-    c.find_all.new.work.found.items c.deref-4.result.now c.requires.shelf (found_before g c) (swept_before g c).results c.requires.bare
+    c.find_all.new.work.found.items c.deref-3.result.now c.in_ok-find_all.ensures.found (swept_before g c).results c.requires.bare
 
--- the steps of the search, by the length of the shelf
-by_length : (reps : List Rep) (shelf : Shelf) (order : List ℕ) (steps before d : ℕ) → IsShelf reps shelf → order ≡ shelf.by_limit.items
-    → steps ≤ before + length order * (d + 2) → steps ≤ before + length shelf.by_input.items * (d + 2)
-by_length reps shelf order steps before d is e cost =
-    subst (λ n. steps ≤ before + n * (d + 2)) (ap length e ∙ length_permutation shelf.by_input.items shelf.by_limit.items is.same) cost
-
-pub returns-in_err-find_all-clause-steps : goal.returns-in_err-find_all-clause-steps
-returns-in_err-find_all-clause-steps g c = λ d less.
-    by_length c.args.reps.now c.args.shelf.now c.deref.result.now c.find_all.new.steps (c.args.steps.now + 3 * length (items_of c.args.pool.now c.args.from.now)) d
-    c.requires.shelf c.deref.ensures.value (c.in_err-find_all.ensures.cost d less)
-
-pub returns-in_err-sweep-clause-steps : goal.returns-in_err-sweep-clause-steps
-returns-in_err-sweep-clause-steps g c = λ d less.
-    by_length c.args.reps.now c.args.shelf.now c.deref.result.now c.find_all.new.steps (c.args.steps.now + 3 * length (items_of c.args.pool.now c.args.from.now)) d
-    c.requires.shelf c.deref.ensures.value (c.in_ok-find_all.ensures.cost d less)
-
-pub returns-in_err-list-clause-steps : goal.returns-in_err-list-clause-steps
-returns-in_err-list-clause-steps g c = λ d less.
-    by_length c.args.reps.now c.args.shelf.now c.deref.result.now c.find_all.new.steps (c.args.steps.now + 3 * length (items_of c.args.pool.now c.args.from.now)) d
-    c.requires.shelf c.deref.ensures.value (c.in_ok-find_all.ensures.cost d less)
-
-pub returns-clause-steps : goal.returns-clause-steps
-returns-clause-steps g c = λ d less.
-    by_length c.args.reps.now c.args.shelf.now c.deref.result.now c.find_all.new.steps (c.args.steps.now + 3 * length (items_of c.args.pool.now c.args.from.now)) d
-    c.requires.shelf c.deref.ensures.value (c.in_ok-find_all.ensures.cost d less)
-
-found_after : (g : Over) → (c : goal.In_ok-list g)
-    → AreFound c.args.reps.now c.args.shelf.now c.args.allowed.now (items_of c.args.pool.now c.args.from.now) c.find_all.new.work.found.items
-found_after g c =
-    found_as c.args.reps.now c.args.shelf.now c.args.allowed.now (items_of c.args.pool.now c.args.from.now) c.find_all.new.work.found.items c.deref.result.now
-    c.deref.ensures.value c.in_ok-find_all.ensures.found
-
-swept_after : (g : Over) → (c : goal.In_ok-list g) → AreSwept c.args.reps.now c.find_all.new.work.found.items c.args.shelf.now.by_input.items c.deref-4.result.now
+swept_after : (g : Over) → (c : goal.In_ok-list g) → AreSwept c.args.reps.now c.find_all.new.work.found.items c.args.shelf.now.by_input.items c.deref-3.result.now
 swept_after g c =
-    swept_as c.args.reps.now c.deref-3.result.now c.find_all.new.work.found.items c.deref-2.result.now c.args.shelf.now.by_input.items c.sweep.new.kept.items c.deref-4.result.now
-    c.deref-3.ensures.value c.deref-2.ensures.value c.deref-4.ensures.value c.in_ok-sweep.ensures
+    swept_as c.args.reps.now c.deref-2.result.now c.find_all.new.work.found.items c.deref.result.now c.args.shelf.now.by_input.items c.sweep.new.kept.items c.deref-3.result.now
+    c.deref-2.ensures.value c.deref.ensures.value c.deref-3.ensures.value c.in_ok-sweep.ensures
 
 -- the candidates of the answer
 answer : (g : Over) → (c : goal.In_ok-list g) → items_of c.list_of.new.pool c.in_ok-list.list ≡ c.in_ok-list.ensures.added.0
@@ -131,16 +83,16 @@ returns-clause-undominated g c =
     let xs : Candidates = items_of c.args.pool.now c.args.from.now in
     subst (λ l. IsUndominated (IsMade c.args.reps.now c.args.shelf.now c.args.allowed.now xs) (pairs_of l)) (sym (answer g c))
     (subst (IsUndominated (IsMade c.args.reps.now c.args.shelf.now c.args.allowed.now xs))
-    (pairs_same (made_of c.args.arena.now) (made_of c.list_of.new.arena) c.args.node c.deref-4.result.now zs cells)
-    (made_undominated c.args.reps.now c.args.shelf.now c.args.allowed.now xs c.find_all.new.work.found.items (made_pairs c.deref-4.result.now) c.requires.shelf
-    (found_after g c) (swept_after g c).undominated))
+    (pairs_same (made_of c.args.arena.now) (made_of c.list_of.new.arena) c.args.node c.deref-3.result.now zs cells)
+    (made_undominated c.args.reps.now c.args.shelf.now c.args.allowed.now xs c.find_all.new.work.found.items (made_pairs c.deref-3.result.now)
+    c.in_ok-find_all.ensures.found (swept_after g c).undominated))
 
 attained : (g : Over) → (c : goal.In_ok-list g) → All (IsAttainedBy c.args.reps.now c.args.shelf.now c.args.allowed.now (items_of c.args.pool.now c.args.from.now)
     (made_of c.args.arena.now) (made_of c.list_of.new.arena) c.args.node) c.in_ok-list.ensures.added.0
 attained g c =
     let (zs, added, cells) = c.in_ok-list.ensures.added in
     all_attained c.args.reps.now c.args.shelf.now c.args.allowed.now (items_of c.args.pool.now c.args.from.now) c.find_all.new.work.found.items
-    (made_of c.args.arena.now) (made_of c.list_of.new.arena) c.args.node c.deref-4.result.now zs c.requires.shelf (found_after g c) (swept_after g c).results cells
+    (made_of c.args.arena.now) (made_of c.list_of.new.arena) c.args.node c.deref-3.result.now zs c.in_ok-find_all.ensures.found (swept_after g c).results cells
 
 pub returns-clause-attained : goal.returns-clause-attained
 returns-clause-attained g c =
@@ -159,7 +111,7 @@ returns-clause-few g c =
     omega (
       arith,
       ap (λ (l : Candidates). length l) (answer g c),
-      zip_length (IsWithCell (made_of c.args.arena.now) (made_of c.list_of.new.arena) c.args.node) c.deref-4.result.now zs cells,
+      zip_length (IsWithCell (made_of c.args.arena.now) (made_of c.list_of.new.arena) c.args.node) c.deref-3.result.now zs cells,
       (swept_after g c).few,
     )
 

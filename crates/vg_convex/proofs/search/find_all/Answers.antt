@@ -1,52 +1,87 @@
-use Rattle.std.proofs.Common.{◌≡◌, ◌<◌, length, get_or, slice_index, refl, ap, ◌∙◌, subst, arith}
-use Rattle.std.proofs.lemmas.List.{get_or_default, length-set}
-use Rattle.vg_convex.specs.Answers.{IsAnswer, found_at}
-use Rattle.vg_convex.proofs.Walks.{walk_begins, find_begins, find_more}
-use Rattle.vg_convex.proofs.Finds.{written_none, written_answer}
+use Rattle.std.proofs.Common.{◌≡◌, ℕ, ◌+◌, ◌*◌, ◌<◌, false, List, length, vec_len, refl, sym, subst, arith, inl, inr, All}
+use Rattle.std.specs.List.{Contains}
+use Rattle.std.proofs.lemmas.Bool.{eqb-true}
+use Rattle.vg_convex.specs.Orders.{has_limit, AreByLimit, AreByResistance}
+use Rattle.vg_convex.proofs.Shelves.{limited_named, free_named, part_of, steps_of_parts}
+use Rattle.vg_convex.proofs.Walks.{walk_begins, whole_hull}
 use Rattle.vg_convex.proofs.search.find_all.Goals as goal
 
-pub reps-init : goal.reps-init
-reps-init g c =
-    let (_, (list, (rise, (modest, (empty, (rows, (none, _))))))) = c.requires in
-    let w = walk_begins c.args.pool.now g.xs c.args.work.now.stack.items c.first-next.result rise modest empty (c.first-next.ensures g.xs list) in
-    record {
-      walk = find_begins c.args.pool.now g.xs c.args.reps.now c.args.order.now c.args.work.now.stack.items c.first-next.result c.args.steps.now empty w;
-      rows = rows;
-      none = λ b no. none b;
-      answers = λ i low. absurd (omega (arith, low));
-    }
-
-pub find_next-requires : goal.find_next-requires
-find_next-requires g c κs within =
-    let (_, (list, (rise, (modest, (empty, (rows, (none, (named, (by_limit, rising))))))))) = c.requires in
-    let f = c.reps.invariant.walk in
-    let low = named c.reps.number-index 0 c.reps-test.true in (
+pub find_limited-requires : goal.find_limited-requires
+find_limited-requires g c κs within =
+    let (_, (list, (rise, (modest, (empty, (row, (shelf, rising))))))) = c.requires in (
       within,
       (
-        (f.seen, f.walk, λ i i_low. f.within c.reps.number-index i (omega arith) c.reps-test.true i_low),
-        (low, (omega (arith, low, c.reps.invariant.rows), (c.reps.invariant.none (get_or c.args.order.now c.reps.number-index 0), rising))),
+        walk_begins c.args.pool.now g.xs c.args.work.now.stack.items c.first-first.result rise modest empty (c.first-first.ensures g.xs list),
+        (
+          row,
+          (
+            subst (All (λ b. b < length c.args.reps.now)) (sym c.deref.ensures.value) (limited_named c.args.reps.now c.args.shelf.now shelf),
+            (subst (AreByLimit c.args.reps.now) (sym c.deref.ensures.value) shelf.by_limit, rising),
+          ),
+        ),
       ),
     )
 
-pub reps-preserved : goal.reps-preserved
-reps-preserved g c =
-    let (_, (list, (rise, (modest, (empty, (rows, (none, (named, (by_limit, rising))))))))) = c.requires in
-    let f = c.reps.invariant.walk in
-    let (far, cost) = c.in_ok-next.ensures.walk f.seen f.walk in
-    let (found, is, e) = c.in_ok-next.ensures.found in
-    let low : get_or c.args.order.now c.reps.number-index 0 < length c.reps.work.found.items = omega (arith, named c.reps.number-index 0 c.reps-test.true, c.reps.invariant.rows) in
-    record {
-      walk = find_more c.args.pool.now g.xs c.args.reps.now c.args.order.now c.reps.number-index (get_or c.args.order.now c.reps.number-index 0) c.reps.work.stack.items
-          c.find_next.new.work.stack.items c.reps.next c.in_ok-next.next c.args.steps.now c.reps.steps c.find_next.new.steps by_limit c.reps-test.true refl f far cost;
-      rows = omega (arith, ap length e ∙ length-set c.reps.work.found.items (get_or c.args.order.now c.reps.number-index 0) found, c.reps.invariant.rows);
-      none = written_none c.args.allowed.now c.args.reps.now g.xs (get_or c.args.order.now c.reps.number-index 0) found c.reps.work.found.items c.find_next.new.work.found.items
-          is e low c.reps.invariant.none;
-      answers = written_answer c.args.allowed.now c.args.reps.now g.xs c.args.order.now c.reps.number-index found c.reps.work.found.items c.find_next.new.work.found.items
-          is e low c.reps.invariant.answers;
-    }
+pub returns-in_err-next-clause-cost : goal.returns-in_err-next-clause-cost
+returns-in_err-next-clause-cost g c = λ d less.
+    let (_, (list, (rise, (modest, (empty, (row, (shelf, rising))))))) = c.requires in
+    steps_of_parts c.args.reps.now c.args.shelf.now c.deref.result.now c.args.shelf.now.free.items c.find_limited.new.steps (c.args.steps.now + 3 * length g.xs) d shelf
+    c.deref.ensures.value refl (omega (arith, c.in_err-next.ensures.cost d less))
+
+pub returns-then-is_empty-clause-found : goal.returns-then-is_empty-clause-found
+returns-then-is_empty-clause-found g c = λ b b_in.
+    let (_, (list, (rise, (modest, (empty, (row, (shelf, rising))))))) = c.requires in
+    let none : vec_len c.args.shelf.now.free ≡ 0 = eqb-true (vec_len c.args.shelf.now.free) 0 (sym c.if-is_empty.ensures) in
+    elim (part_of c.args.reps.now c.args.shelf.now b shelf b_in) [
+      | inl one ↦ c.in_ok-next.ensures.found b (subst (λ (l : List ℕ). Contains l b) (sym c.deref.ensures.value) one)
+      | inr two ↦ absurd (omega (arith, two.1, none, c.args.shelf.now.free.ok.0))
+    ]
+
+pub returns-then-is_empty-clause-cost : goal.returns-then-is_empty-clause-cost
+returns-then-is_empty-clause-cost g c = λ d less.
+    let (_, (list, (rise, (modest, (empty, (row, (shelf, rising))))))) = c.requires in
+    steps_of_parts c.args.reps.now c.args.shelf.now c.deref.result.now c.args.shelf.now.free.items c.find_limited.new.steps (c.args.steps.now + 3 * length g.xs) d shelf
+    c.deref.ensures.value refl (omega (arith, c.in_ok-next.ensures.cost d less))
+
+pub returns-in_err-grow-clause-cost : goal.returns-in_err-grow-clause-cost
+returns-in_err-grow-clause-cost g c = λ d less.
+    let (_, (list, (rise, (modest, (empty, (row, (shelf, rising))))))) = c.requires in
+    let (n, walk, cost) = c.in_ok-next.ensures.walk in
+    steps_of_parts c.args.reps.now c.args.shelf.now c.deref.result.now c.args.shelf.now.free.items c.grow.new.steps (c.args.steps.now + 3 * length g.xs) d shelf
+    c.deref.ensures.value refl (omega (arith, cost d less, c.in_err-grow.ensures.cost n walk))
+
+pub find_each_free-requires : goal.find_each_free-requires
+find_each_free-requires g c κs within =
+    let (_, (list, (rise, (modest, (empty, (row, (shelf, rising))))))) = c.requires in
+    let (n, walk, _) = c.in_ok-next.ensures.walk in
+    let (far, over, _) = c.in_ok-grow.ensures.grown n walk in (
+      within,
+      (
+        whole_hull c.args.pool.now g.xs n c.grow.new.stack.items c.in_ok-grow.field-0 far over,
+        (
+          c.in_ok-next.ensures.row,
+          (
+            subst (All (λ b. b < length c.args.reps.now)) (sym c.deref-2.ensures.value) (free_named c.args.reps.now c.args.shelf.now shelf),
+            (
+              subst (All (λ b. has_limit c.args.reps.now b ≡ false)) (sym c.deref-2.ensures.value) shelf.free,
+              (subst (AreByResistance c.args.reps.now) (sym c.deref-2.ensures.value) shelf.by_resistance, rising),
+            ),
+          ),
+        ),
+      ),
+    )
 
 pub returns-clause-found : goal.returns-clause-found
-returns-clause-found g c = λ b (k, low, e).
-    let at : slice_index c.args.order.now k ≡ b = get_or_default c.args.order.now k 0 b low ∙ e in
-    let end : k < c.reps.number-index = omega (arith, low, c.reps-test.false, c.reps.auto.number-index-end) in
-    subst (λ m. IsAnswer c.args.allowed.now c.args.reps.now g.xs m (found_at c.reps.work.found.items m)) at (c.reps.invariant.answers k end)
+returns-clause-found g c = λ b b_in.
+    let (_, (list, (rise, (modest, (empty, (row, (shelf, rising))))))) = c.requires in
+    elim (part_of c.args.reps.now c.args.shelf.now b shelf b_in) [
+      | inl one ↦ c.find_each_free.ensures.others b (c.in_ok-next.ensures.found b (subst (λ (l : List ℕ). Contains l b) (sym c.deref.ensures.value) one))
+      | inr two ↦ c.find_each_free.ensures.found b (subst (λ (l : List ℕ). Contains l b) (sym c.deref-2.ensures.value) two)
+    ]
+
+pub returns-clause-cost : goal.returns-clause-cost
+returns-clause-cost g c = λ d less.
+    let (_, (list, (rise, (modest, (empty, (row, (shelf, rising))))))) = c.requires in
+    let (n, walk, cost) = c.in_ok-next.ensures.walk in
+    steps_of_parts c.args.reps.now c.args.shelf.now c.deref.result.now c.deref-2.result.now c.find_each_free.new.steps (c.args.steps.now + 3 * length g.xs) d shelf
+    c.deref.ensures.value c.deref-2.ensures.value (omega (arith, cost d less, c.in_ok-grow.ensures.cost n walk, c.find_each_free.ensures.cost))

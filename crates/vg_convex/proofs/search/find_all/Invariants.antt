@@ -1,16 +1,10 @@
-use Rattle.std.proofs.Common.{◌≡◌, ℕ, ◌<◌, ◌≤◌, length, slice_index, None}
-use Rattle.elmore.specs.Allowances.{Allows}
-use Rattle.vg_convex.specs.Answers.{IsAnswer, found_at}
-use Rattle.vg_convex.proofs.Walks.{IsFinding}
 use Rattle.vg_convex.proofs.search.find_all.Given as goal
 
-abbrev pub ghost-find_next : goal.ghost-find_next
-ghost-find_next g a = g.xs
+abbrev pub ghost-find_limited : goal.ghost-find_limited
+ghost-find_limited g a = g.xs
 
-abbrev pub invariant-reps : goal.invariant-reps
-invariant-reps g l = record {
-  walk : IsFinding l.pool g.xs l.reps l.order l.number-index l.work.stack.items l.next l.fn.steps l.steps;
-  rows : length l.reps ≤ length l.work.found.items;
-  none : (b : ℕ) → (Allows l.allowed b → ⊥) → found_at l.work.found.items b ≡ None;
-  answers : (i : ℕ) → i < l.number-index → IsAnswer l.allowed l.reps g.xs (slice_index l.order i) (found_at l.work.found.items (slice_index l.order i));
-}
+abbrev pub ghost-grow : goal.ghost-grow
+ghost-grow g a = g.xs
+
+abbrev pub ghost-find_each_free : goal.ghost-find_each_free
+ghost-find_each_free g a = g.xs
