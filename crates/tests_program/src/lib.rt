@@ -2,6 +2,10 @@
 #![tactic(auto)]
 
 #[cfg(test)]
+mod best;
+#[cfg(test)]
+mod changes;
+#[cfg(test)]
 mod design;
 #[cfg(test)]
 mod program;

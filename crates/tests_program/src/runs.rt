@@ -11,7 +11,7 @@ pub(crate) type Ending<'a> = (u8, &'a str, &'a str);
 
 /// How a run ends with this status, where only one of the outputs is not empty.
 pub(crate) fn ending(status: u8, text: &str) -> Ending<'_> {
-    if status == 0 || status == 2 {
+    if status < 3 {
         (status, text, "")
     } else {
         (status, "", text)

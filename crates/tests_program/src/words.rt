@@ -15,7 +15,7 @@ type Request = (
     Option<&'static str>,
 );
 
-static REQUESTS: [Request; 5] = [
+static REQUESTS: [Request; 6] = [
     ("--mode wire --spef a --net n", Mode::Wire, None, None, None),
     ("--net=n --spef=a --mode=wire", Mode::Wire, None, None, None),
     (
@@ -31,6 +31,13 @@ static REQUESTS: [Request; 5] = [
         Some("l"),
         Some("-v"),
         Some("-c"),
+    ),
+    (
+        "--mode best --spef a --lib l --verilog v --cons c --net n",
+        Mode::Best,
+        Some("l"),
+        Some("v"),
+        Some("c"),
     ),
     (
         "--lib=--cons --mode=time --verilog=--lib=l --cons==c --spef=a --net n",
@@ -86,7 +93,7 @@ static FAULTY: [(&str, WordFault); 29] = [
     ("~", WordFault::Unread),
     ("--help", WordFault::Unread),
     ("--spef a", WordFault::Missing(Opt::Mode)),
-    ("--mode best", WordFault::BadValue(Opt::Mode)),
+    ("--mode first", WordFault::BadValue(Opt::Mode)),
     ("--mode ~ --spef a --net n", WordFault::BadValue(Opt::Mode)),
     ("--mode wire --cons c", WordFault::Missing(Opt::Spef)),
     ("--mode wire --spef a", WordFault::Missing(Opt::Net)),

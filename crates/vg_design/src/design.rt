@@ -8,7 +8,7 @@ ghost use Rattle.vg_design.specs.Parts.{reps_of};
 ghost use Rattle.vg_design.specs.Designs.{net_names};
 ghost use Rattle.vg_design.specs.Steps.{IsPin};
 
-use lib_linear::Library;
+use lib_linear::{Library, Repeater, repeaters};
 use spef_file::{SpefIndex, SpefText};
 use std::alloc::Global;
 use std::marker::Model;
@@ -98,6 +98,13 @@ impl Design {
         ensures { slice_get (net_names self.now.spef) at ≡ Some result.now }
     {
         self.index.sections.name(at)
+    }
+
+    /// The repeaters of the library, in the order in which problems number them. It takes no memory.
+    pub fn repeaters(&self) -> &[Repeater]
+        ensures { result.now ≡ self.now.library.repeaters }
+    {
+        repeaters(&self.library)
     }
 
     /// The constraints.

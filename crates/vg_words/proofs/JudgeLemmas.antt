@@ -11,7 +11,7 @@ use Rattle.vg_words.specs.Request.{Setting, Sets, Values, values_in, value_of, I
 use Rattle.vg_words.specs.declared.option.Opt.{Opt}
 use Rattle.vg_words.specs.declared.option.Opt.TheVariants.{Mode, Spef, Lib, Verilog, Cons, Net}
 use Rattle.vg_words.specs.declared.ask.Mode.{Mode as ModeSpec}
-use Rattle.vg_words.specs.declared.ask.Mode.TheVariants.{Wire, Time}
+use Rattle.vg_words.specs.declared.ask.Mode.TheVariants.{Wire, Time, Best}
 use Rattle.vg_words.specs.declared.ask.WordFault.{WordFault}
 use Rattle.vg_words.specs.declared.ask.WordFault.TheVariants.{Unread, Missing, Excluded, BadValue, Equal, Memory}
 
@@ -87,15 +87,21 @@ requested_values values ask m s l v c n Verilog = v
 requested_values values ask m s l v c n Cons = c
 requested_values values ask m s l v c n Net = n
 
+-- a text that is the name of one mode, or else names another
+named_or : (text : List ℕ) (own mode : ModeSpec) (rest : Option ModeSpec) → (if bytes_eq text (mode_name own) then Some own else rest) ≡ Some mode
+    → (rest ≡ Some mode → text ≡ mode_name mode) → text ≡ mode_name mode
+named_or text own mode rest e later =
+    elim (bytes_eq text (mode_name own)) as (λ t. bytes_eq text (mode_name own) ≡ t → (if t then Some own else rest) ≡ Some mode → text ≡ mode_name mode) [
+      | true ↦ λ is same. (bytes_eq-Decides text (mode_name own)).0 is ∙ ap mode_name (some_mode own mode same)
+      | false ↦ λ _ same. later same
+    ] refl e
+
 -- a text that names a mode is its name
 mode_named : (text : List ℕ) (mode : ModeSpec) → mode_of text ≡ Some mode → text ≡ mode_name mode
-mode_named text mode e = elim (bytes_eq text (codes "wire")) as (λ t. bytes_eq text (codes "wire") ≡ t → (if t then Some Wire else (if bytes_eq text (codes "time") then Some Time else None)) ≡ Some mode → text ≡ mode_name mode) [
-  | true ↦ λ is same. (bytes_eq-Decides text (codes "wire")).0 is ∙ ap mode_name (some_mode Wire mode same)
-  | false ↦ λ no. elim (bytes_eq text (codes "time")) as (λ t. bytes_eq text (codes "time") ≡ t → (if t then Some Time else None) ≡ Some mode → text ≡ mode_name mode) [
-    | true ↦ λ is same. (bytes_eq-Decides text (codes "time")).0 is ∙ ap mode_name (some_mode Time mode same)
-    | false ↦ λ _ none. absurd (cc)
-  ] refl
-] refl e
+mode_named text mode e =
+    let after_time : Option ModeSpec = if bytes_eq text (codes "best") then Some Best else None in
+    let after_wire : Option ModeSpec = if bytes_eq text (codes "time") then Some Time else after_time in
+    named_or text Wire mode after_wire e (λ e. named_or text Time mode after_time e (λ e. named_or text Best mode None e (λ none. absurd (cc))))
 
 mode_given : (name : Option (List ℕ)) (mode : ModeSpec) → HasMode name mode → name ≡ Some (mode_name mode)
 mode_given None mode h = absurd h
@@ -120,6 +126,7 @@ wanted words (Err fault) h = subst (λ f. ReadsWords (Err f) words) (sym h) tt
 named_mode : (mode : ModeSpec) → mode_of (mode_name mode) ≡ Some mode
 named_mode Wire = refl
 named_mode Time = refl
+named_mode Best = refl
 
 one_mode : (a b : ModeSpec) → mode_name a ≡ mode_name b → a ≡ b
 one_mode a b e = some_mode a b (sym (named_mode a) ∙ ap mode_of e ∙ named_mode b)

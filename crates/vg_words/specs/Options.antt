@@ -4,7 +4,7 @@ use Rattle.std.specs.Str.{bytes_eq}
 use Rattle.vg_words.specs.declared.option.Opt.{Opt}
 use Rattle.vg_words.specs.declared.option.Opt.TheVariants.{Mode, Spef, Lib, Verilog, Cons, Net}
 use Rattle.vg_words.specs.declared.ask.Mode.{Mode as ModeSpec}
-use Rattle.vg_words.specs.declared.ask.Mode.TheVariants.{Wire, Time}
+use Rattle.vg_words.specs.declared.ask.Mode.TheVariants.{Wire, Time, Best}
 
 abbrev pub name_of : Opt → List ℕ
 name_of Mode = codes "--mode"
@@ -45,16 +45,21 @@ file_options = Spef ∷ Lib ∷ Verilog ∷ Cons ∷ []
 
 -- the mode that a text names
 abbrev pub mode_of : List ℕ → Option ModeSpec
-mode_of text = if bytes_eq text (codes "wire") then Some Wire else (if bytes_eq text (codes "time") then Some Time else None)
+mode_of text =
+    if bytes_eq text (codes "wire") then Some Wire
+    else (if bytes_eq text (codes "time") then Some Time
+    else (if bytes_eq text (codes "best") then Some Best else None))
 
 abbrev pub mode_name : ModeSpec → List ℕ
 mode_name Wire = codes "wire"
 mode_name Time = codes "time"
+mode_name Best = codes "best"
 
 -- the options that a mode asks for
 abbrev pub required : ModeSpec → List Opt
 required Wire = Spef ∷ Net ∷ []
 required Time = Spef ∷ Lib ∷ Verilog ∷ Cons ∷ Net ∷ []
+required Best = Spef ∷ Lib ∷ Verilog ∷ Cons ∷ Net ∷ []
 
 -- those that it may be given; it has no use for others
 abbrev pub allowed : ModeSpec → List Opt

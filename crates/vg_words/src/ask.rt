@@ -14,11 +14,13 @@ pub enum Mode {
     Wire,
     /// Prints the slack of one net without repeaters, and whether its sinks have their wanted polarity.
     Time,
+    /// Prints a best placement of repeaters on one net, and its slack.
+    Best,
 }
 
 const WIRE_OPTIONS: [Opt; 2] = [Opt::Spef, Opt::Net];
 
-const TIME_OPTIONS: [Opt; 5] = [Opt::Spef, Opt::Lib, Opt::Verilog, Opt::Cons, Opt::Net];
+const DESIGN_OPTIONS: [Opt; 5] = [Opt::Spef, Opt::Lib, Opt::Verilog, Opt::Cons, Opt::Net];
 
 impl Mode {
     /// The options that the mode asks for.
@@ -27,7 +29,7 @@ impl Mode {
     {
         match self {
             Mode::Wire => &WIRE_OPTIONS,
-            Mode::Time => &TIME_OPTIONS,
+            Mode::Time | Mode::Best => &DESIGN_OPTIONS,
         }
     }
 
@@ -35,11 +37,7 @@ impl Mode {
     pub(crate) fn allows(self, option: Opt) -> bool
         ensures { result ≡ list_any (is_same option) (allowed self) }
     {
-        option == Opt::Mode
-            || self
-                .required_options()
-                .iter()
-                .any(|other| option.is_same(*other))
+        option == Opt::Mode || option.is_among(self.required_options())
     }
 
     /// The mode's name in the words.
@@ -49,6 +47,7 @@ impl Mode {
         match self {
             Mode::Wire => "wire",
             Mode::Time => "time",
+            Mode::Best => "best",
         }
     }
 }

@@ -20,6 +20,8 @@ fn mode_of(name: &str) -> Option<Mode>
         Some(Mode::Wire)
     } else if name == "time" {
         Some(Mode::Time)
+    } else if name == "best" {
+        Some(Mode::Best)
     } else {
         None
     }
@@ -183,8 +185,8 @@ fn ask_of(alloc: Global, mode: Mode, given: &Given<'_>) -> Result<Ask, Memory>
 /// Reads the words of the command line, without the program's own name.
 ///
 /// Each option is `--name value` or `--name=value`, in any order, at most once; a value that stands in a word of its
-/// own does not begin with `-`. Mode `wire` asks for `--spef` and `--net`, mode `time` for `--lib`, `--verilog` and `--cons` too. The faults
-/// come in the order of `WordFault`, and of one kind the first option in the order of `Opt`. Answers `Memory` where
+/// own does not begin with `-`. Mode `wire` asks for `--spef` and `--net`, modes `time` and `best` for `--lib`,
+/// `--verilog` and `--cons` too. The faults come in the order of `WordFault`, and of one kind the first option in the order of `Opt`. Answers `Memory` where
 /// there is no room.
 pub fn read_words(alloc: Global, words: &[String]) -> Result<Ask, WordFault>
     ensures { ReadsWords result (texts words.now) }

@@ -1,4 +1,5 @@
 ghost use Rattle.std.specs.Prelude.{◌≡◌};
+ghost use Rattle.std.specs.List.{list_any};
 ghost use Rattle.vg_words.specs.Options.{name_of, option_of, is_same};
 
 /// An option of the command line. Refusals name the first in this order.
@@ -44,6 +45,13 @@ impl Opt {
             Opt::Cons => "--cons",
             Opt::Net => "--net",
         }
+    }
+
+    /// Whether it is one of some options.
+    pub(crate) fn is_among(self, options: &[Opt]) -> bool
+        ensures { result ≡ list_any (is_same self) options.now }
+    {
+        options.iter().any(|other| self.is_same(*other))
     }
 
     /// Whether both are one option.

@@ -1,5 +1,5 @@
 -- Answers that refuse a net, and faults that are handed on.
-use Rattle.std.proofs.Common.{◌≡◌, ℕ, List, [], inl, inr, sym, subst, Result, Ok, Err}
+use Rattle.std.proofs.Common.{◌≡◌, ℕ, List, [], inl, inr, refl, sym, subst, Result, Ok, Err}
 use Rattle.std.specs.Result.{IsErrAnd}
 use Rattle.vg_design.specs.Designs.{Design}
 use Rattle.vg_design.specs.Refusals.{IsFirstRefusal}
@@ -8,22 +8,44 @@ use Rattle.vg_inputs.specs.declared.design_fault.DesignFault.{DesignFault}
 use Rattle.vg_inputs.specs.declared.design_fault.DesignFault.TheVariants.{Spef as SpefFaulty, Lib as LibFaulty, Ver as VerFaulty, Cons as ConsFaulty, Memory as NoRoom}
 use Rattle.vg_wire.specs.Nets.{IsRefusalOf}
 use Rattle.vg_wire.specs.declared.refusal.Refusal.{Refusal}
-use Rattle.vg_words.specs.declared.ask.Mode.TheVariants.{Wire, Time}
-use Rattle.vginsert_top.specs.Answer.{AnswersFor, IsNoDesign, IsRefusedWith, Tells, texts_by, texts_of}
+use Rattle.vg_design.specs.Nets.{IsNetProblem}
+use Rattle.vg_design.specs.declared.net_problem.NetProblem.{NetProblem}
+use Rattle.vg_words.specs.declared.ask.Mode.{Mode}
+use Rattle.vg_words.specs.declared.ask.Mode.TheVariants.{Wire, Time, Best}
+use Rattle.vginsert_top.specs.Answer.{AnswersFor, IsAnswerFor, IsAnswerWith, IsNoDesign, IsRefusedWith, Tells, texts_by, texts_of}
+use Rattle.vginsert_top.specs.Best.{IsBestText}
+use Rattle.vginsert_top.specs.Results.{IsDesignRefusal}
 use Rattle.vginsert_top.specs.Reports.{refusal_line}
 use Rattle.vginsert_top.specs.declared.answer.Answer.{Answer}
-use Rattle.vginsert_top.specs.declared.answer.Answer.TheVariants.{Report, Refused}
+use Rattle.vginsert_top.specs.declared.answer.AnswerKind.{AnswerKind}
+use Rattle.vginsert_top.specs.declared.answer.AnswerKind.TheVariants.{Report, NoneGood, Refusal as Refused}
+use Rattle.vginsert_top.specs.declared.input.Input.{Input}
 use Rattle.vginsert_top.specs.declared.answer.NoAnswer.{NoAnswer}
 use Rattle.vginsert_top.specs.declared.answer.NoAnswer.TheVariants.{Faulty, Memory}
 
-pub refused_answer : (file name : List ℕ) (refusal : Refusal) (answer : Answer) → IsRefusalOf file name refusal → IsRefusedWith (refusal_line name refusal) answer → AnswersFor Wire (texts_of file [] [] []) name (Ok answer)
-refused_answer file name refusal (Refused text) of is = record { refusal = refusal; refused = of; text_is = is }
-refused_answer file name refusal (Report text) of is = absurd is
+-- an answer of this kind with this text
+pub answer_with : (kind : AnswerKind) (mode : Mode) (texts : Input → List ℕ) (name text : List ℕ) (answer : Answer) → IsAnswerFor kind mode texts name text → IsAnswerWith kind text answer
+    → AnswersFor mode texts name (Ok answer)
+answer_with kind mode texts name text answer is with =
+    subst (λ (k : AnswerKind). IsAnswerFor k mode texts name answer.text.items) (sym with.kind_is)
+    (subst (λ (t : List ℕ). IsAnswerFor kind mode texts name t) (sym with.text_is) is)
 
-pub untimed_answer : (texts : Texts) (name : List ℕ) (design : Design) (refusal : Refusal) (answer : Answer) → IsDesign texts design → IsFirstRefusal design name refusal
-    → IsRefusedWith (refusal_line name refusal) answer → AnswersFor Time (texts_by texts) name (Ok answer)
-untimed_answer texts name design refusal (Refused text) is_design of is = record { design = design; design_of = is_design; refusal = refusal; refused = of; text_is = is }
-untimed_answer texts name design refusal (Report text) is_design of is = absurd is
+pub refused_answer : (file name : List ℕ) (refusal : Refusal) (answer : Answer) → IsRefusalOf file name refusal → IsRefusedWith (refusal_line name refusal) answer → AnswersFor Wire (texts_of file [] [] []) name (Ok answer)
+refused_answer file name refusal answer of with =
+    answer_with Refused Wire (texts_of file [] [] []) name (refusal_line name refusal) answer (record { refusal = refusal; refused = of; text_is = refl }) with
+
+-- a net of a design that is refused
+pub refused_in : (texts : Texts) (name : List ℕ) (design : Design) (refusal : Refusal) → IsDesign texts design → IsFirstRefusal design name refusal → IsDesignRefusal texts name (refusal_line name refusal)
+refused_in texts name design refusal is_design of = record { design = design; design_of = is_design; refusal = refusal; refused = of; text_is = refl }
+
+-- what is said of the best placement of a net that has a problem
+pub best_said : (texts : Texts) (name text : List ℕ) (design : Design) (net : NetProblem) (kind : AnswerKind) → IsDesign texts design → IsNetProblem design name net
+    → IsBestText kind design name net text → IsAnswerFor kind Best (texts_by texts) name text
+best_said texts name text design net Report is_design net_of (best, best_of, text_is) =
+    record { design = design; design_of = is_design; net = net; net_of = net_of; best = best; best_of = best_of; text_is = text_is }
+best_said texts name text design net NoneGood is_design net_of (none, text_is) =
+    record { design = design; design_of = is_design; net = net; net_of = net_of; none = none; text_is = text_is }
+best_said texts name text design net Refused is_design net_of said = absurd said
 
 -- the first fault of four texts, told as an answer
 pub told_fault : (texts : Texts) (fault : DesignFault) (answer : NoAnswer) → IsFirstFault texts fault → Tells fault answer → IsNoDesign texts answer
@@ -39,6 +61,10 @@ told_fault texts NoRoom (Faulty input line) first tells = absurd tells
 pub no_design : (texts : Texts) (name : List ℕ) (fault : NoAnswer) → IsNoDesign texts fault → AnswersFor Time (texts_by texts) name (Err fault)
 no_design texts name (Faulty input line) is = is
 no_design texts name Memory is = tt
+
+pub none_of_design : (texts : Texts) (name : List ℕ) (fault : NoAnswer) → IsNoDesign texts fault → AnswersFor Best (texts_by texts) name (Err fault)
+none_of_design texts name (Faulty input line) is = is
+none_of_design texts name Memory is = tt
 
 -- a fault that is handed on
 pub handed : (P : Result Answer NoAnswer → Type 0) (answered : Result Answer NoAnswer) (fault : NoAnswer) → IsErrAnd answered (λ f. f ≡ fault) → P (Err fault) → P answered

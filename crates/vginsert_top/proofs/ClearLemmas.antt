@@ -22,10 +22,11 @@ use Rattle.vg_wire.specs.declared.refusal.Refusal.{Refusal}
 use Rattle.vg_wire.specs.declared.refusal.Refusal.TheVariants.{UnknownNet, Section as Faulty, Reduced, Inductive, Bidirectional, NoDriver, ManyDrivers, Mismatch, Tied, NoDrive, NoLoad, Floating, Loop, NoSink, Unconstrained, TooLarge}
 use Rattle.vg_wire.specs.declared.wire.WireNet.{WireNet}
 use Rattle.vg_words.specs.declared.ask.Mode.TheVariants.{Wire}
-use Rattle.vginsert_top.specs.Answer.{AnswersFor, texts_of}
+use Rattle.vginsert_top.specs.Answer.{AnswersFor, IsAnswerFor, texts_of}
 use Rattle.vginsert_top.specs.Results.{IsSpefFault}
 use Rattle.vginsert_top.specs.declared.answer.Answer.{Answer}
-use Rattle.vginsert_top.specs.declared.answer.Answer.TheVariants.{Report, Refused}
+use Rattle.vginsert_top.specs.declared.answer.AnswerKind.{AnswerKind}
+use Rattle.vginsert_top.specs.declared.answer.AnswerKind.TheVariants.{Report, NoneGood, Refusal as Refused}
 use Rattle.vginsert_top.specs.declared.answer.NoAnswer.{NoAnswer}
 use Rattle.vginsert_top.specs.declared.answer.NoAnswer.TheVariants.{Faulty as FaultyInput, Memory}
 
@@ -85,9 +86,13 @@ module _ (raw clear : List ℕ) (same : without_comments Spef clear ≡ without_
   spef_same line h = record { fault = h.fault; found = fault_of_file_same h.fault h.found; text_is = h.text_is }
 
   -- an answer of the one is an answer of the other
+  wire_kind : (lib verilog cons name text : List ℕ) (kind : AnswerKind) → IsAnswerFor kind Wire (texts_of clear [] [] []) name text → IsAnswerFor kind Wire (texts_of raw lib verilog cons) name text
+  wire_kind lib verilog cons name text Report h = record { wire = h.wire; wire_of = wire_same name h.wire h.wire_of; text_is = h.text_is }
+  wire_kind lib verilog cons name text NoneGood h = h
+  wire_kind lib verilog cons name text Refused h = record { refusal = h.refusal; refused = refusal_same name h.refusal h.refused; text_is = h.text_is }
+
   pub wire_answers : (lib verilog cons name : List ℕ) (result : Result Answer NoAnswer) → AnswersFor Wire (texts_of clear [] [] []) name result → AnswersFor Wire (texts_of raw lib verilog cons) name result
-  wire_answers lib verilog cons name (Ok (Report text)) h = record { wire = h.wire; wire_of = wire_same name h.wire h.wire_of; text_is = h.text_is }
-  wire_answers lib verilog cons name (Ok (Refused text)) h = record { refusal = h.refusal; refused = refusal_same name h.refusal h.refused; text_is = h.text_is }
+  wire_answers lib verilog cons name (Ok answer) h = wire_kind lib verilog cons name answer.text.items answer.kind h
   wire_answers lib verilog cons name (Err (FaultyInput input line)) (inl (is, fault)) = inl (is, spef_same line fault)
   wire_answers lib verilog cons name (Err (FaultyInput input line)) (inr (good, none)) = absurd none
   wire_answers lib verilog cons name (Err Memory) h = tt

@@ -6,15 +6,16 @@ use Rattle.vg_inputs.specs.Designs.{Texts}
 use Rattle.vg_inputs.specs.declared.design_fault.DesignFault.{DesignFault}
 use Rattle.vg_inputs.specs.declared.design_fault.DesignFault.TheVariants.{Spef as SpefFaulty, Lib as LibFaulty, Ver as VerFaulty, Cons as ConsFaulty, Memory as NoRoom}
 use Rattle.vg_words.specs.declared.ask.Mode.{Mode}
-use Rattle.vg_words.specs.declared.ask.Mode.TheVariants.{Wire, Time}
+use Rattle.vg_words.specs.declared.ask.Mode.TheVariants.{Wire, Time, Best}
 use Rattle.vginsert_top.specs.Inputs.{inputs, IsFirstFault}
 use Rattle.vginsert_top.specs.Faults.{cons_fault, lib_fault, spef_fault, ver_fault}
-use Rattle.vginsert_top.specs.Results.{IsDelays, IsRefusal, IsTimes, IsTimeRefusal, IsSpefFault}
+use Rattle.vginsert_top.specs.Results.{IsBestReport, IsDelays, IsDesignRefusal, IsNoneReport, IsRefusal, IsTimes, IsSpefFault}
 use Rattle.vginsert_top.specs.declared.input.Input.{Input}
 use Rattle.vginsert_top.specs.declared.input.Input.TheVariants.{Spef, Lib, Verilog, Cons}
 use Rattle.vginsert_top.specs.declared.input.Texts.{Texts as TextsRead}
 use Rattle.vginsert_top.specs.declared.answer.Answer.{Answer}
-use Rattle.vginsert_top.specs.declared.answer.Answer.TheVariants.{Report, Refused}
+use Rattle.vginsert_top.specs.declared.answer.AnswerKind.{AnswerKind}
+use Rattle.vginsert_top.specs.declared.answer.AnswerKind.TheVariants.{Report, NoneGood, Refusal}
 use Rattle.vginsert_top.specs.declared.answer.NoAnswer.{NoAnswer}
 use Rattle.vginsert_top.specs.declared.answer.NoAnswer.TheVariants.{Faulty, Memory}
 
@@ -26,16 +27,29 @@ design_texts texts = record { spef = texts Spef; lib = texts Lib; verilog = text
 abbrev pub IsReportFor : Mode → (Input → List ℕ) → List ℕ → List ℕ → Type 0
 IsReportFor Wire texts net text = IsDelays (texts Spef) net text
 IsReportFor Time texts net text = IsTimes (design_texts texts) net text
+IsReportFor Best texts net text = IsBestReport (design_texts texts) net text
+
+-- the text says that no placement is good, which mode `best` alone may say
+abbrev pub IsNoneFor : Mode → (Input → List ℕ) → List ℕ → List ℕ → Type 0
+IsNoneFor Wire texts net text = ⊥
+IsNoneFor Time texts net text = ⊥
+IsNoneFor Best texts net text = IsNoneReport (design_texts texts) net text
 
 -- the text refuses the net
 abbrev pub IsRefusalFor : Mode → (Input → List ℕ) → List ℕ → List ℕ → Type 0
 IsRefusalFor Wire texts net text = IsRefusal (texts Spef) net text
-IsRefusalFor Time texts net text = IsTimeRefusal (design_texts texts) net text
+IsRefusalFor Time texts net text = IsDesignRefusal (design_texts texts) net text
+IsRefusalFor Best texts net text = IsDesignRefusal (design_texts texts) net text
 
--- what judging the texts of a mode may answer: the report, why the net is refused, the first fault, or out of memory
+-- the text is an answer of this kind
+abbrev pub IsAnswerFor : AnswerKind → Mode → (Input → List ℕ) → List ℕ → List ℕ → Type 0
+IsAnswerFor Report mode texts net text = IsReportFor mode texts net text
+IsAnswerFor NoneGood mode texts net text = IsNoneFor mode texts net text
+IsAnswerFor Refusal mode texts net text = IsRefusalFor mode texts net text
+
+-- what judging the texts of a mode may answer: an answer, the first fault, or out of memory
 abbrev pub AnswersFor : Mode → (Input → List ℕ) → List ℕ → Result Answer NoAnswer → Type 0
-AnswersFor mode texts net (Ok (Report text)) = IsReportFor mode texts net text.items
-AnswersFor mode texts net (Ok (Refused text)) = IsRefusalFor mode texts net text.items
+AnswersFor mode texts net (Ok answer) = IsAnswerFor answer.kind mode texts net answer.text.items
 AnswersFor mode texts net (Err (Faulty input line)) = IsFirstFault texts (inputs mode) line input
 AnswersFor mode texts net (Err Memory) = Unit {0}
 
@@ -53,10 +67,13 @@ texts_by texts = texts_of texts.spef texts.lib texts.verilog texts.cons
 abbrev pub texts_in : TextsRead → Input → List ℕ
 texts_in texts = texts_of texts.spef.items texts.lib.items texts.verilog.items texts.cons.items
 
--- the answer refuses with this text
+-- the answer is of this kind, with this text
+pub record IsAnswerWith (kind : AnswerKind) (text : List ℕ) (answer : Answer) : Type 0 where
+  pub kind_is : answer.kind ≡ kind
+  pub text_is : answer.text.items ≡ text
+
 abbrev pub IsRefusedWith : List ℕ → Answer → Type 0
-IsRefusedWith wanted (Refused text) = text.items ≡ wanted
-IsRefusedWith wanted (Report text) = ⊥
+IsRefusedWith text answer = IsAnswerWith Refusal text answer
 
 -- what indexing a text may answer
 abbrev pub Indexes : Result SpefIndex NoAnswer → List ℕ → Type 0

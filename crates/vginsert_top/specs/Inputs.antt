@@ -7,7 +7,7 @@ use Rattle.vg_cons.specs.Faults.{IsFaultless}
 use Rattle.vg_words.specs.Request.{text_for}
 use Rattle.vg_words.specs.declared.ask.Ask.{Ask}
 use Rattle.vg_words.specs.declared.ask.Mode.{Mode}
-use Rattle.vg_words.specs.declared.ask.Mode.TheVariants.{Wire, Time}
+use Rattle.vg_words.specs.declared.ask.Mode.TheVariants.{Wire, Time, Best}
 use Rattle.vg_words.specs.declared.option.Opt.{Opt}
 use Rattle.vg_words.specs.declared.option.Opt.TheVariants.{Spef as SpefOption, Lib as LibOption, Verilog as VerilogOption, Cons as ConsOption}
 use Rattle.vg_inputs.specs.Designs.{IsSpef, IsLib, IsModule}
@@ -17,10 +17,15 @@ use Rattle.vginsert_top.specs.declared.input.Input.TheVariants.{Spef, Lib, Veril
 use Rattle.vginsert_top.specs.declared.input.Flaw.{Flaw}
 use Rattle.vginsert_top.specs.declared.input.Flaw.TheVariants.{Failed, TooLong, Faulty}
 
+-- the files of a design
+abbrev pub design_inputs : List Input
+design_inputs = Spef ∷ Lib ∷ Verilog ∷ Cons ∷ []
+
 -- the inputs of a mode, in the order in which they are read and judged
 abbrev pub inputs : Mode → List Input
 inputs Wire = Spef ∷ []
-inputs Time = Spef ∷ Lib ∷ Verilog ∷ Cons ∷ []
+inputs Time = design_inputs
+inputs Best = design_inputs
 
 -- the option that names an input
 abbrev pub option_of : Input → Opt

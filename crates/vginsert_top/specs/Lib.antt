@@ -4,4 +4,5 @@ pub mod Results
 pub mod Inputs
 pub mod Answer
 pub mod Run
+pub mod Best
 pub mod Outcomes

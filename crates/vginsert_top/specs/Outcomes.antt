@@ -9,11 +9,11 @@ use Rattle.vg_words.specs.declared.ask.Ask.{Ask}
 use Rattle.vg_words.specs.declared.ask.WordFault.{WordFault}
 use Rattle.vg_words.specs.declared.ask.WordFault.TheVariants.{Unread, Missing, Excluded, BadValue, Equal, Memory as NoRoom}
 use Rattle.vginsert_top.specs.Inputs.{Change, name_of, IsFlawed}
-use Rattle.vginsert_top.specs.Run.{PrintsReport, PrintsRefusal, Says, flaw_line, flaw_status}
+use Rattle.vginsert_top.specs.Run.{Prints, PrintsSome, Says, flaw_line, flaw_status, status_for}
 use Rattle.vginsert_top.specs.declared.input.Input.{Input}
 use Rattle.vginsert_top.specs.declared.input.Flaw.TheVariants.{Failed, TooLong}
 use Rattle.vginsert_top.specs.declared.outcome.Outcome.{Outcome}
-use Rattle.vginsert_top.specs.declared.outcome.Outcome.TheVariants.{Done, Refused, Flawed, WriteFault, Memory}
+use Rattle.vginsert_top.specs.declared.outcome.Outcome.TheVariants.{Printed, Flawed, WriteFault, Memory}
 
 -- how printing ends
 abbrev pub IsPrinted : Change OutState → List ℕ → Outcome → Outcome → Type 0
@@ -29,18 +29,14 @@ IsUnread ask files (input, ReadMemory) = Unit {0}
 
 -- what an outcome says of the files and of standard output
 abbrev pub Ends : Ask → Change FilesState → Change OutState → Outcome → Type 0
-Ends ask files out Done = PrintsReport files.0 (Gains out.0 out.1) ask
-Ends ask files out Refused = PrintsRefusal files.0 (Gains out.0 out.1) ask
+Ends ask files out (Printed kind) = Prints kind files.0 (Gains out.0 out.1) ask
 Ends ask files out (Flawed input flaw) = IsFlawed ask files input flaw × (out.1.written ≡ out.0.written)
-Ends ask files out WriteFault =
-    Rose out.0.faults out.1.faults
-    × (PrintsReport files.0 (GainsPrefix out.0 out.1) ask ⊎ PrintsRefusal files.0 (GainsPrefix out.0 out.1) ask)
+Ends ask files out WriteFault = Rose out.0.faults out.1.faults × PrintsSome files.0 (GainsPrefix out.0 out.1) ask
 Ends ask files out Memory = out.1.written ≡ out.0.written
 
 -- its status
 abbrev pub status_of : Outcome → ℕ
-status_of Done = 0
-status_of Refused = 2
+status_of (Printed kind) = status_for kind
 status_of (Flawed input flaw) = flaw_status flaw
 status_of WriteFault = 6
 status_of Memory = 7
@@ -60,8 +56,7 @@ in_five front name middle kind back = front ++ (name ++ (middle ++ (kind ++ (bac
 
 -- what standard error gained for an outcome
 abbrev pub Tells : Ask → Change OutState → Outcome → Type 0
-Tells ask err Done = err.1.written ≡ err.0.written
-Tells ask err Refused = err.1.written ≡ err.0.written
+Tells ask err (Printed kind) = err.1.written ≡ err.0.written
 Tells ask err (Flawed input flaw) = Says err.0 err.1 (flaw_line (name_of ask input) flaw)
 Tells ask err WriteFault = Says err.0 err.1 (codes "vginsert: write failed: standard output\n")
 Tells ask err Memory = Says err.0 err.1 (codes "vginsert: out of memory\n")

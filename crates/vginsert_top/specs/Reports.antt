@@ -1,11 +1,15 @@
 -- The lines of reports.
-use Rattle.std.specs.Prelude.{ℕ, ◌==◌, ℤ, pos, List, ◌∷◌, ◌++◌, length, codes, decimal, if◌then◌else◌, Option, Some, None}
+use Rattle.std.specs.Prelude.{ℕ, ◌==◌, ℤ, pos, List, [], ◌∷◌, ◌++◌, length, filter, slice_index_or, codes, decimal, if◌then◌else◌, Option, Some, None, is_some}
 use Rattle.std.specs.Fmt.{signed_decimal}
-use Rattle.std.specs.List.{flat_map}
+use Rattle.std.specs.List.{flat_map, range_with_len}
+use Rattle.elmore.specs.Placements.{cost_of}
 use Rattle.vg_scan.specs.declared.name.NodeName.{NodeName}
 use Rattle.vg_wire.specs.declared.refusal.Refusal.{Refusal}
 use Rattle.vg_wire.specs.declared.refusal.Refusal.TheVariants.{UnknownNet, Section, Reduced, Inductive, Bidirectional, NoDriver, ManyDrivers, Mismatch, Tied, NoDrive, NoLoad, Floating, Loop, NoSink, Unconstrained, TooLarge}
+use Rattle.vg_design.specs.Nets.{name_at}
+use Rattle.vg_design.specs.declared.net_problem.NetProblem.{NetProblem}
 use Rattle.vg_design.specs.declared.time.Timed.{Timed}
+use Rattle.vg_slack.specs.declared.answer.Best.{Best}
 use Rattle.vg_wire.specs.declared.wire.WireNet.{WireNet}
 use Rattle.vg_wire.specs.Refusals.{number_of}
 use Rattle.vginsert_top.specs.Faults.{net_fault}
@@ -38,6 +42,41 @@ slack_before name slack rest = codes "net " ++ (name ++ (codes " slack " ++ (sig
 -- `net NAME slack S polarity right`, or `net NAME slack S polarity wrong NODE`
 abbrev pub slack_line : List ℕ → Timed → List ℕ
 slack_line name timed = slack_before name timed.slack (polarity_text timed.wrong ++ codes "\n")
+
+-- `net NAME slack S cost K cells M`, with S in zs and K in thousandths
+abbrev pub best_line : List ℕ → ℤ → ℕ → ℕ → List ℕ
+best_line name slack cost count =
+    codes "net " ++ (name ++ (codes " slack " ++ (signed_decimal slack ++ (codes " cost " ++ (decimal cost ++ (codes " cells " ++ (decimal count ++ codes "\n")))))))
+
+-- `at NODE CELL`
+abbrev pub at_line : NodeName → List ℕ → List ℕ
+at_line node cell = codes "at " ++ (printed_node node ++ (codes " " ++ (cell ++ codes "\n")))
+
+-- the line of a node that has a cell of these, by its number; of another node none
+abbrev pub cell_line : List (List ℕ) → NodeName → Option ℕ → List ℕ
+cell_line cells node None = []
+cell_line cells node (Some b) = at_line node (slice_index_or cells b [])
+
+-- that of the node v of a placement
+abbrev pub node_line : List (List ℕ) → List NodeName → List (Option ℕ) → ℕ → List ℕ
+node_line cells names placed v = cell_line cells (name_at names v) (slice_index_or placed v None)
+
+-- those of all nodes, in tree order
+abbrev pub cell_lines : List (List ℕ) → List NodeName → List (Option ℕ) → List ℕ
+cell_lines cells names placed = flat_map (node_line cells names placed) (range_with_len 0 (length placed))
+
+-- how many nodes have a cell
+abbrev pub cell_count : List (Option ℕ) → ℕ
+cell_count placed = length (filter is_some placed)
+
+-- the slack (zs), the cost (thousandths) and the cells of a placement of repeaters with these cells
+abbrev pub best_report : List ℕ → List (List ℕ) → NetProblem → Best → List ℕ
+best_report name cells net best =
+    best_line name best.slack (cost_of net.problem best.placement.cells) (cell_count best.placement.cells) ++ cell_lines cells net.names best.placement.cells
+
+-- `net NAME none`
+abbrev pub none_line : List ℕ → List ℕ
+none_line name = codes "net " ++ (name ++ codes " none\n")
 
 -- the kind of a refusal, and what it tells
 abbrev pub refusal_kind : Refusal → List ℕ

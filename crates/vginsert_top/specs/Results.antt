@@ -10,7 +10,7 @@ use Rattle.vg_cons.specs.Lines.{lines_of as cons_lines}
 use Rattle.vg_cons.specs.Faults.{IsFaultIn}
 use Rattle.vg_cons.specs.declared.fault.ConsKind.{ConsKind}
 use Rattle.vg_design.specs.Designs.{Design}
-use Rattle.vg_design.specs.Nets.{IsTimedOf}
+use Rattle.vg_design.specs.Nets.{IsNetProblem, IsTimedOf}
 use Rattle.vg_design.specs.Refusals.{IsFirstRefusal}
 use Rattle.vg_design.specs.declared.time.Timed.{Timed}
 use Rattle.vg_inputs.specs.Designs.{Texts, IsDesign}
@@ -20,7 +20,11 @@ use Rattle.vg_wire.specs.Wires.{IsWireOf}
 use Rattle.vg_wire.specs.declared.refusal.Refusal.{Refusal}
 use Rattle.vg_wire.specs.declared.wire.WireNet.{WireNet}
 use Rattle.vginsert_top.specs.Faults.{cons_fault, lib_fault, spef_fault, ver_fault}
-use Rattle.vginsert_top.specs.Reports.{wire_report, slack_line, refusal_line}
+use Rattle.vg_design.specs.Parts.{cells_of}
+use Rattle.vg_design.specs.declared.net_problem.NetProblem.{NetProblem}
+use Rattle.vg_slack.specs.Bests.{HasNoGood, IsFound}
+use Rattle.vg_slack.specs.declared.answer.Best.{Best}
+use Rattle.vginsert_top.specs.Reports.{best_report, none_line, wire_report, slack_line, refusal_line}
 
 -- the net of this name has wire delays, and the text is their report
 pub record IsDelays (file name text : List ℕ) : Type 0 where
@@ -66,8 +70,28 @@ pub record IsTimes (texts : Texts) (name text : List ℕ) : Type 0 where
   pub timed_of : IsTimedOf design name timed
   pub text_is : text ≡ slack_line name timed
 
+-- the four texts are a design, its net of this name has a best placement, without a cell where one without a cell is best, and
+-- the text reports it
+pub record IsBestReport (texts : Texts) (name text : List ℕ) : Type 0 where
+  pub design : Design
+  pub design_of : IsDesign texts design
+  pub net : NetProblem
+  pub net_of : IsNetProblem design name net
+  pub best : Best
+  pub best_of : IsFound net.problem best
+  pub text_is : text ≡ best_report name (cells_of design.library.repeaters) net best
+
+-- no placement of it is good, and the text says so
+pub record IsNoneReport (texts : Texts) (name text : List ℕ) : Type 0 where
+  pub design : Design
+  pub design_of : IsDesign texts design
+  pub net : NetProblem
+  pub net_of : IsNetProblem design name net
+  pub none : HasNoGood net.problem
+  pub text_is : text ≡ none_line name
+
 -- it is refused, and the text says why
-pub record IsTimeRefusal (texts : Texts) (name text : List ℕ) : Type 0 where
+pub record IsDesignRefusal (texts : Texts) (name text : List ℕ) : Type 0 where
   pub design : Design
   pub design_of : IsDesign texts design
   pub refusal : Refusal

@@ -1,5 +1,5 @@
 -- What a run of the program promises.
-use Rattle.std.specs.Prelude.{◌≡◌, ◌≢◌, ◌⊎◌, ℕ, List, [], ◌∷◌, ◌++◌, ◌==◌, Bool, codes, Some}
+use Rattle.std.specs.Prelude.{◌≡◌, ◌≢◌, ◌⊎◌, ℕ, ◌<◌, List, [], ◌∷◌, ◌++◌, ◌==◌, Bool, codes, Some}
 use Rattle.std.specs.List.{All, list_any}
 use Rattle.vg_store.specs.Causes.{Rose}
 use Rattle.vg_store.specs.Reading.{FilesState}
@@ -10,7 +10,9 @@ use Rattle.vg_words.specs.declared.ask.Ask.{Ask}
 use Rattle.vg_words.specs.declared.ask.WordFault.{WordFault}
 use Rattle.vg_words.specs.declared.ask.WordFault.TheVariants.{Unread, Missing, Excluded, BadValue, Equal, Memory as NoRoom}
 use Rattle.vg_words.specs.declared.option.Opt.TheVariants.{Net}
-use Rattle.vginsert_top.specs.Answer.{IsReportFor, IsRefusalFor}
+use Rattle.vginsert_top.specs.Answer.{IsAnswerFor}
+use Rattle.vginsert_top.specs.declared.answer.AnswerKind.{AnswerKind}
+use Rattle.vginsert_top.specs.declared.answer.AnswerKind.TheVariants.{Report, NoneGood, Refusal}
 use Rattle.vginsert_top.specs.Inputs.{inputs, name_of, told, Change, IsShort, AreRead, IsFirstFault, IsFlawed}
 use Rattle.vginsert_top.specs.declared.input.Input.{Input}
 use Rattle.vginsert_top.specs.declared.input.Flaw.{Flaw}
@@ -53,18 +55,19 @@ refused_line (BadValue option) = codes "vginsert: words refused: bad value " ++ 
 refused_line (Equal one other) = codes "vginsert: words refused: equal names " ++ (option_name one ++ (codes " " ++ (option_name other ++ codes "\n")))
 refused_line NoRoom = codes "vginsert: out of memory\n"
 
--- of the texts that were read an output gained the report
-abbrev pub PrintsReport : FilesState → (List ℕ → Type 0) → Ask → Type 0
-PrintsReport files Gained ask =
-    (texts : Input → List ℕ) × AreRead files ask texts × ((text : List ℕ) × IsReportFor ask.mode texts (text_for ask Net) text × Gained text)
+-- of the texts that were read an output gained an answer of this kind
+abbrev pub Prints : AnswerKind → FilesState → (List ℕ → Type 0) → Ask → Type 0
+Prints kind files Gained ask =
+    (texts : Input → List ℕ) × AreRead files ask texts × ((text : List ℕ) × IsAnswerFor kind ask.mode texts (text_for ask Net) text × Gained text)
 
--- or the refusal
-abbrev pub PrintsRefusal : FilesState → (List ℕ → Type 0) → Ask → Type 0
-PrintsRefusal files Gained ask =
-    (texts : Input → List ℕ) × AreRead files ask texts × ((text : List ℕ) × IsRefusalFor ask.mode texts (text_for ask Net) text × Gained text)
+abbrev pub PrintsSome : FilesState → (List ℕ → Type 0) → Ask → Type 0
+PrintsSome files Gained ask = (kind : AnswerKind) × Prints kind files Gained ask
 
-abbrev pub PrintsEither : FilesState → (List ℕ → Type 0) → Ask → Type 0
-PrintsEither files Gained ask = PrintsReport files Gained ask ⊎ PrintsRefusal files Gained ask
+-- the status where an answer of a kind was printed
+abbrev pub status_for : AnswerKind → ℕ
+status_for Report = 0
+status_for NoneGood = 1
+status_for Refusal = 2
 
 -- an input has the first flaw, its flaw gives this status, and a line tells it
 abbrev pub TellsFlaw : ℕ → Change FilesState → (List ℕ → Type 0) → Ask → Type 0
@@ -91,8 +94,7 @@ AreShort ask texts = All (λ input. IsShort (texts input)) (inputs ask.mode)
 pub record IsStatusFor (ask : Ask) (texts : Input → List ℕ) (status : ℕ) : Type 0 where
   pub too_long : (AreShort ask texts → ⊥) → status ≡ 4
   pub faulty : AreShort ask texts → (line : List ℕ) (input : Input) → IsFirstFault texts (inputs ask.mode) line input → status ≡ 4
-  pub report : AreShort ask texts → (text : List ℕ) → IsReportFor ask.mode texts (text_for ask Net) text → status ≡ 0
-  pub refusal : AreShort ask texts → (text : List ℕ) → IsRefusalFor ask.mode texts (text_for ask Net) text → status ≡ 2
+  pub answer : AreShort ask texts → (kind : AnswerKind) (text : List ℕ) → IsAnswerFor kind ask.mode texts (text_for ask Net) text → status ≡ status_for kind
 
 -- where nothing failed, the status is exactly the one that the files and the request ask for
 abbrev pub IsExact : List (List ℕ) → FilesState → ℕ → Type 0
@@ -102,7 +104,7 @@ IsExact words files status =
 
 -- a run ends with one of these
 abbrev pub is_status : ℕ → Bool
-is_status status = list_any (λ s. s == status) (0 ∷ 2 ∷ 3 ∷ 4 ∷ 5 ∷ 6 ∷ 7 ∷ [])
+is_status status = list_any (λ s. s == status) (0 ∷ 1 ∷ 2 ∷ 3 ∷ 4 ∷ 5 ∷ 6 ∷ 7 ∷ [])
 
 -- after these nothing was printed
 abbrev pub prints_nothing : ℕ → Bool
@@ -110,6 +112,6 @@ prints_nothing status = list_any (λ s. s == status) (3 ∷ 4 ∷ 5 ∷ 7 ∷ []
 
 -- the fixed lines of standard error, and that it stays as it is after a printed answer
 pub record ErrorLine (status : ℕ) (Said : List ℕ → Type 0) (Same : Type 0) : Type 0 where
-  pub printed : (status ≡ 0) ⊎ (status ≡ 2) → Same
+  pub printed : status < 3 → Same
   pub write_failed : status ≡ 6 → Said (codes "vginsert: write failed: standard output\n")
   pub memory : status ≡ 7 → Said (codes "vginsert: out of memory\n")

@@ -4,6 +4,7 @@ ghost use Rattle.std.specs.Prelude.{◌≡◌, ◌≤◌, ◌^◌, length, IfOk,
 ghost use Rattle.vg_inputs.specs.Designs.{IsDesign};
 ghost use Rattle.vg_inputs.specs.Steps.{texts_of};
 ghost use Rattle.vginsert_top.specs.Answer.{IsNoDesign, IsRefusedWith, Indexes, Tells};
+ghost use Rattle.vginsert_top.specs.Run.{status_for};
 ghost use Rattle.vginsert_top.specs.Reports.{refused_line};
 ghost use Rattle.vginsert_top.specs.declared.answer.NoAnswer.TheVariants.{Memory as out_of_memory};
 
@@ -16,13 +17,35 @@ use vg_design::Design;
 use vg_inputs::{DesignFault, Inputs, read_design};
 use vg_num::{Memory, Row};
 
+/// What an answer is.
+#[derive(Clone, Copy, Debug, PartialEq, Eq)]
+pub enum AnswerKind {
+    /// What was asked for.
+    Report,
+    /// That no placement of repeaters is good.
+    NoneGood,
+    /// Why the net is refused.
+    Refusal,
+}
+
+impl AnswerKind {
+    /// The status of the program where the answer was printed.
+    pub fn status(self) -> u8
+        ensures { result ≡ status_for self }
+    {
+        match self {
+            AnswerKind::Report => 0,
+            AnswerKind::NoneGood => 1,
+            AnswerKind::Refusal => 2,
+        }
+    }
+}
+
 /// What is said of a net, as text.
 #[derive(Drop)]
-pub enum Answer {
-    /// What was asked for.
-    Report(Vec<u8>),
-    /// Why it is refused.
-    Refused(Vec<u8>),
+pub struct Answer {
+    pub kind: AnswerKind,
+    pub text: Vec<u8>,
 }
 
 /// Why nothing is said of a net.
@@ -48,7 +71,10 @@ pub fn refuse_with(alloc: Global, name: &[u8], number: u8, kind: &[u8]) -> Resul
 {
     let mut text = Vec::new(alloc);
     print_refused(name, number, kind, &mut text)?;
-    Ok(Answer::Refused(text))
+    Ok(Answer {
+        kind: AnswerKind::Refusal,
+        text,
+    })
 }
 
 /// The index of a SPEF file, or the text of its fault.

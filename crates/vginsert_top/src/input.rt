@@ -44,7 +44,7 @@ pub struct Texts {
 
 const WIRE_INPUTS: [Input; 1] = [Input::Spef];
 
-const TIME_INPUTS: [Input; 4] = [Input::Spef, Input::Lib, Input::Verilog, Input::Cons];
+const DESIGN_INPUTS: [Input; 4] = [Input::Spef, Input::Lib, Input::Verilog, Input::Cons];
 
 impl Input {
     /// The option that names the input.
@@ -66,7 +66,7 @@ fn inputs(mode: Mode) -> &'static [Input]
 {
     match mode {
         Mode::Wire => &WIRE_INPUTS,
-        Mode::Time => &TIME_INPUTS,
+        Mode::Time | Mode::Best => &DESIGN_INPUTS,
     }
 }
 

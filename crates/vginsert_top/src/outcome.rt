@@ -1,15 +1,14 @@
 ghost use Rattle.std.specs.Prelude.{◌≡◌};
 ghost use Rattle.vginsert_top.specs.Outcomes.{status_of};
 
+use crate::answer::AnswerKind;
 use crate::input::{Flaw, Input};
 
 /// How a request ended.
 #[derive(Drop)]
 pub enum Outcome {
-    /// The report was printed.
-    Done,
-    /// A refusal was printed.
-    Refused,
+    /// An answer was printed.
+    Printed(AnswerKind),
     /// An input has a flaw; those before it have none.
     Flawed(Input, Flaw),
     /// Writing standard output failed.
@@ -24,8 +23,7 @@ impl Outcome {
         ensures { result ≡ status_of self.now }
     {
         match self {
-            Outcome::Done => 0,
-            Outcome::Refused => 2,
+            Outcome::Printed(kind) => kind.status(),
             Outcome::Flawed(_, Flaw::TooLong | Flaw::Faulty(_)) => 4,
             Outcome::Flawed(_, Flaw::Failed) => 5,
             Outcome::WriteFault => 6,

@@ -6,13 +6,15 @@ ghost use Rattle.vg_words.specs.Request.{texts, IsRequest};
 ghost use Rattle.vg_words.specs.declared.ask.Ask.{Ask as Request};
 ghost use Rattle.vginsert_top.specs.Answer.{AnswersFor, texts_in, texts_of};
 ghost use Rattle.vg_words.specs.declared.ask.Mode.{Mode as ModeSpec};
+ghost use Rattle.vginsert_top.specs.declared.answer.AnswerKind.{AnswerKind as Kind};
 ghost use Rattle.vginsert_top.specs.declared.input.Input.{Input};
 ghost use Rattle.vginsert_top.specs.Inputs.{IsShort, inputs};
 ghost use Rattle.std.specs.List.{All};
 ghost use Rattle.vginsert_top.specs.Outcomes.{Ends, IsPrinted, IsStatusOf, fault_status};
-ghost use Rattle.vginsert_top.specs.Run.{AreRefused, EndsFlawed, ErrorLine, ForRequest, IsExact, PrintsEither, PrintsRefusal, PrintsReport, Says, is_status, prints_nothing};
+ghost use Rattle.vginsert_top.specs.Run.{AreRefused, EndsFlawed, ErrorLine, ForRequest, IsExact, Prints, PrintsSome, Says, is_status, prints_nothing};
 
 use crate::answer::{Answer, NoAnswer};
+use crate::best::best_for;
 use crate::input::{Flaw, Texts, read_inputs};
 use crate::outcome::Outcome;
 use crate::tell::{tell, tell_words};
@@ -44,18 +46,16 @@ fn answer(alloc: Global, mode: Mode, texts: Texts, net: &[u8]) -> Result<Answer,
         verilog,
         cons,
     } = texts;
+    let inputs = Inputs {
+        spef,
+        lib,
+        verilog,
+        cons,
+    };
     match mode {
-        Mode::Wire => wire_in(alloc, spef, net),
-        Mode::Time => time_for(
-            alloc,
-            Inputs {
-                spef,
-                lib,
-                verilog,
-                cons,
-            },
-            net,
-        ),
+        Mode::Wire => wire_in(alloc, inputs.spef, net),
+        Mode::Time => time_for(alloc, inputs, net),
+        Mode::Best => best_for(alloc, inputs, net),
     }
 }
 
@@ -81,8 +81,7 @@ fn execute<F: Files, O: Out>(alloc: Global, ask: &Ask, files: &mut F, out: &mut 
         Err((_, ReadAll::Memory)) => return Outcome::Memory,
     };
     match answer(alloc, ask.mode, texts, ask.text(Opt::Net).as_bytes()) {
-        Ok(Answer::Report(text)) => print(out, &text, Outcome::Done),
-        Ok(Answer::Refused(text)) => print(out, &text, Outcome::Refused),
+        Ok(answer) => print(out, &answer.text, Outcome::Printed(answer.kind)),
         Err(NoAnswer::Faulty(input, line)) => Outcome::Flawed(input, Flaw::Faulty(line)),
         Err(NoAnswer::Memory) => Outcome::Memory,
     }
@@ -121,7 +120,8 @@ fn run_request<F: Files, O: Out, E: Out>(
 ///
 /// | status | comes |
 /// |---|---|
-/// | 0 | the answer was printed |
+/// | 0 | the report was printed |
+/// | 1 | mode `best`: that no placement of repeaters on the net is good was printed |
 /// | 2 | a refusal of the net was printed |
 /// | 3 | the words are no request |
 /// | 4 | an input is not in its form, or has more than 2^28 bytes |
@@ -137,15 +137,16 @@ pub fn run<F: Files, O: Out, E: Out>(
     out: &mut O,
     err: &mut E,
 ) -> u8
-    ensures done { result ≡ 0 → ForRequest (texts words.now) (PrintsReport (F.state files.old) (Gains (O.state out.old) (O.state out.new))) }
-    ensures refused { result ≡ 2 → ForRequest (texts words.now) (PrintsRefusal (F.state files.old) (Gains (O.state out.old) (O.state out.new))) }
+    ensures done { result ≡ 0 → ForRequest (texts words.now) (Prints Kind.Report (F.state files.old) (Gains (O.state out.old) (O.state out.new))) }
+    ensures none_good { result ≡ 1 → ForRequest (texts words.now) (Prints Kind.NoneGood (F.state files.old) (Gains (O.state out.old) (O.state out.new))) }
+    ensures refused { result ≡ 2 → ForRequest (texts words.now) (Prints Kind.Refusal (F.state files.old) (Gains (O.state out.old) (O.state out.new))) }
     ensures unread { result ≡ 3 → (request : Request) → IsRequest (texts words.now) request → ⊥ }
     ensures no_request { ((request : Request) → IsRequest (texts words.now) request → ⊥) → (result ≡ 3) ⊎ (result ≡ 7) }
     ensures unread_line { result ≡ 3 → AreRefused (texts words.now) (Says (E.state err.old) (E.state err.new)) }
     ensures unreadable { result ≡ 4 → EndsFlawed 4 (texts words.now) (F.state files.old, F.state files.new) (E.state err.old, E.state err.new) }
     ensures read_fault { result ≡ 5 → EndsFlawed 5 (texts words.now) (F.state files.old, F.state files.new) (E.state err.old, E.state err.new) }
     ensures read_cause { result ≡ 5 → Rose (F.state files.old).read_faults (F.state files.new).read_faults }
-    ensures write_fault { result ≡ 6 → ForRequest (texts words.now) (PrintsEither (F.state files.old) (GainsPrefix (O.state out.old) (O.state out.new))) }
+    ensures write_fault { result ≡ 6 → ForRequest (texts words.now) (PrintsSome (F.state files.old) (GainsPrefix (O.state out.old) (O.state out.new))) }
     ensures write_cause { result ≡ 6 → Rose (O.state out.old).faults (O.state out.new).faults }
     ensures statuses { IsTrue (is_status result) }
     ensures nothing_printed { IsTrue (prints_nothing result) → (O.state out.new).written ≡ (O.state out.old).written }

@@ -1,7 +1,7 @@
 //! The lines of reports.
-ghost use Rattle.std.specs.Prelude.{◌≡◌, ◌++◌, OnOk, codes};
+ghost use Rattle.std.specs.Prelude.{◌≡◌, ◌++◌, OnOk, codes, decimal};
 ghost use Rattle.std.specs.Fmt.{signed_decimal};
-ghost use Rattle.vginsert_top.specs.Reports.{printed_node, refused_line, sink_line, slack_before};
+ghost use Rattle.vginsert_top.specs.Reports.{at_line, best_line, none_line, printed_node, refused_line, sink_line, slack_before};
 
 use vg_num::{Memory, print_signed};
 use vg_scan::NodeName;
@@ -80,6 +80,55 @@ fn print_value(name: &[u8], slack: i128, to: &mut Vec<u8>) -> Result<(), Memory>
     push(name, to)?;
     push(b" slack ", to)?;
     print_signed(slack, to)?;
+    Ok(())
+}
+
+/// Appends ` cost K cells M` and the line's end, with K in thousandths.
+fn print_cost(cost: u64, count: usize, to: &mut Vec<u8>) -> Result<(), Memory>
+    ensures { OnOk result (to.new.items ≡ to.old.items ++ (codes " cost " ++ (decimal cost ++ (codes " cells " ++ (decimal count ++ codes "\n"))))) }
+{
+    push(b" cost ", to)?;
+    print_signed(i128::from(cost), to)?;
+    push(b" cells ", to)?;
+    print_signed(count as i128, to)?;
+    push(b"\n", to)?;
+    Ok(())
+}
+
+/// Appends `net NAME slack S cost K cells M`, with S in zeptoseconds and K in thousandths.
+pub fn print_best(
+    name: &[u8],
+    slack: i128,
+    cost: u64,
+    count: usize,
+    to: &mut Vec<u8>,
+) -> Result<(), Memory>
+    ensures { OnOk result (to.new.items ≡ to.old.items ++ best_line name.now slack cost count) }
+{
+    print_value(name, slack, to)?;
+    print_cost(cost, count, to)?;
+    Ok(())
+}
+
+/// Appends `at NODE CELL`, with the owner and the leaf of the node.
+pub fn print_at(owner: &[u8], leaf: &[u8], cell: &[u8], to: &mut Vec<u8>) -> Result<(), Memory>
+    ensures { OnOk result (to.new.items ≡ to.old.items ++ at_line (record { owner = owner.now; leaf = leaf.now }) cell.now) }
+{
+    push(b"at ", to)?;
+    print_parts(owner, leaf, to)?;
+    push(b" ", to)?;
+    push(cell, to)?;
+    push(b"\n", to)?;
+    Ok(())
+}
+
+/// Appends `net NAME none`.
+pub fn print_none(name: &[u8], to: &mut Vec<u8>) -> Result<(), Memory>
+    ensures { OnOk result (to.new.items ≡ to.old.items ++ none_line name.now) }
+{
+    push(b"net ", to)?;
+    push(name, to)?;
+    push(b" none\n", to)?;
     Ok(())
 }
 

@@ -73,7 +73,7 @@ pub fn tell<E: Out>(err: &mut E, ask: &Ask, outcome: &Outcome)
     ensures { Tells ask.now (E.state err.old, E.state err.new) outcome.now }
 {
     match outcome {
-        Outcome::Done | Outcome::Refused => {}
+        Outcome::Printed(_) => {}
         Outcome::Flawed(input, flaw) => tell_flaw(err, ask.text(input.option()), flaw),
         Outcome::WriteFault => say_line(err, b"vginsert: write failed: standard output\n"),
         Outcome::Memory => say_line(err, b"vginsert: out of memory\n"),

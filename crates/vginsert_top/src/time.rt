@@ -5,7 +5,7 @@ ghost use Rattle.vginsert_top.specs.Answer.{AnswersFor, texts_by};
 ghost use Rattle.vg_inputs.specs.Steps.{texts_of};
 ghost use Rattle.vg_words.specs.declared.ask.Mode.{Mode};
 
-use crate::answer::{Answer, NoAnswer, design_of};
+use crate::answer::{Answer, AnswerKind, NoAnswer, design_of};
 use crate::report::{print_node, print_slack};
 use crate::wire::refuse;
 use std::alloc::Global;
@@ -42,7 +42,10 @@ pub fn time_for(alloc: Global, inputs: Inputs, name: &[u8]) -> Result<Answer, No
     let design = design_of(alloc, inputs)?;
     let net = Name::from_bytes(alloc, name)?;
     match time_net(alloc, &design, &net) {
-        Ok(timed) => Ok(Answer::Report(report_slack(alloc, name, &timed)?)),
+        Ok(timed) => Ok(Answer {
+            kind: AnswerKind::Report,
+            text: report_slack(alloc, name, &timed)?,
+        }),
         Err(Refused::Net(refusal)) => Ok(refuse(alloc, name, &refusal)?),
         Err(Refused::Memory) => Err(NoAnswer::Memory),
     }

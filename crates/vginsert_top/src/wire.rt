@@ -6,7 +6,7 @@ ghost use Rattle.vg_words.specs.declared.ask.Mode.{Mode};
 ghost use Rattle.vginsert_top.specs.Answer.{AnswersFor, IsRefusedWith, texts_of};
 ghost use Rattle.vginsert_top.specs.Reports.{sink_line, wire_report, refusal_kind, refusal_line};
 
-use crate::answer::{Answer, NoAnswer, index_of, refuse_with};
+use crate::answer::{Answer, AnswerKind, NoAnswer, index_of, refuse_with};
 use crate::faults::print_net_fault;
 use crate::report::{print_node, print_sink, print_total, push};
 use spef_file::SpefText;
@@ -90,7 +90,10 @@ pub fn wire_for(alloc: Global, file: &SpefText, name: &[u8]) -> Result<Answer, N
     let index = index_of(alloc, file)?;
     let net = Name::from_bytes(alloc, name)?;
     match wire_net(alloc, file, &index, &net) {
-        Ok(wire) => Ok(Answer::Report(report_wire(alloc, name, &wire)?)),
+        Ok(wire) => Ok(Answer {
+            kind: AnswerKind::Report,
+            text: report_wire(alloc, name, &wire)?,
+        }),
         Err(Refused::Net(refusal)) => Ok(refuse(alloc, name, &refusal)?),
         Err(Refused::Memory) => Err(NoAnswer::Memory),
     }

@@ -1,13 +1,17 @@
 use Rattle.std.proofs.Common.{arith, inl, inr, ◌∙◌}
 use Rattle.vg_words.specs.Request.{texts}
-use Rattle.vginsert_top.proofs.RunLemmas.{run_done, run_refused, run_not_three, run_unreadable, run_read_fault, run_write_fault, run_exact, fault_two, fault_exact}
+use Rattle.vginsert_top.proofs.RunLemmas.{run_printed, run_not_three, run_unreadable, run_read_fault, run_write_fault, run_exact, fault_two, fault_exact}
+use Rattle.vginsert_top.specs.declared.answer.AnswerKind.TheVariants.{Report, NoneGood, Refusal}
 use Rattle.vginsert_top.proofs.program.run.Goals as goal
 
 pub returns-in-Ok-clause-done : goal.returns-in-Ok-clause-done
-returns-in-Ok-clause-done g c = λ e. (c.in-Ok.ask, c.in-Ok.ensures, run_done c.run_request.ensures.ends e)
+returns-in-Ok-clause-done g c = λ e. (c.in-Ok.ask, c.in-Ok.ensures, run_printed c.run_request.ensures.ends Report e)
 
 pub returns-in-Ok-clause-refused : goal.returns-in-Ok-clause-refused
-returns-in-Ok-clause-refused g c = λ e. (c.in-Ok.ask, c.in-Ok.ensures, run_refused c.run_request.ensures.ends e)
+returns-in-Ok-clause-refused g c = λ e. (c.in-Ok.ask, c.in-Ok.ensures, run_printed c.run_request.ensures.ends Refusal e)
+
+pub returns-in-Ok-clause-none_good : goal.returns-in-Ok-clause-none_good
+returns-in-Ok-clause-none_good g c = λ e. (c.in-Ok.ask, c.in-Ok.ensures, run_printed c.run_request.ensures.ends NoneGood e)
 
 pub returns-in-Ok-clause-unread : goal.returns-in-Ok-clause-unread
 returns-in-Ok-clause-unread g c = λ e. absurd (run_not_three c.run_request.ensures.ends e)

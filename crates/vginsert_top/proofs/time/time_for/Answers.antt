@@ -3,7 +3,9 @@ use Rattle.vg_design.specs.Refusals.{IsFirstRefusal}
 use Rattle.vg_inputs.specs.Steps.{texts_of}
 use Rattle.vg_words.specs.declared.ask.Mode.TheVariants.{Time}
 use Rattle.vginsert_top.specs.Answer.{AnswersFor, texts_by}
-use Rattle.vginsert_top.proofs.AnswerLemmas.{untimed_answer, no_design, handed}
+use Rattle.vginsert_top.specs.Reports.{refusal_line}
+use Rattle.vginsert_top.specs.declared.answer.AnswerKind.TheVariants.{Refusal as Refused}
+use Rattle.vginsert_top.proofs.AnswerLemmas.{answer_with, refused_in, no_design, handed}
 use Rattle.vginsert_top.proofs.time.time_for.Goals as goal
 
 pub returns-in_err-design : goal.returns-in_err-design
@@ -17,4 +19,6 @@ returns-in-Err-Net c =
     let refusal = c.in-Err-Net.refusal in
     let refused = rw c.in-Err-Net.field-0-is at c.in-Err-Net.ensures.refused in
     let is = subst (λ (name : List ℕ). IsFirstRefusal c.in_ok-design.design name refusal) c.in_ok-net.ensures refused in
-    untimed_answer (texts_of c.args.inputs) c.args.name.now c.in_ok-design.design refusal c.in_ok-refuse-in-Err-Net.field-0 c.in_ok-design.ensures.design is c.in_ok-refuse-in-Err-Net.ensures
+    let texts = texts_of c.args.inputs in
+    answer_with Refused Time (texts_by texts) c.args.name.now (refusal_line c.args.name.now refusal) c.in_ok-refuse-in-Err-Net.field-0
+    (refused_in texts c.args.name.now c.in_ok-design.design refusal c.in_ok-design.ensures.design is) c.in_ok-refuse-in-Err-Net.ensures
