@@ -9,10 +9,12 @@
 | `rows` | `--mode time` | nets of 65,536 nodes, with 131,072 and 1,000,000 rows of constraints |
 | `netlist` | `--mode time` | a small net, with netlists of wires, of escaped names, of bits and of undeclared nets |
 | `library` | `--mode time` | a small net, with libraries of mixed cells, of deep and of wide groups, and of tables |
+| `best` | `--mode best` | chains, random trees and fans of 1,024 to 65,536 nodes, with 2, 16, 64 and 256 repeaters |
 
 The sizes are those of the SPEF files in modes `design` and `time` (1, 16, 64 and 256 MB if none is given), of the netlists
 (256 MB) and of the libraries (64 MB). With `--beside OTHER` each row but those of `rows` and `library` also tells the seconds
-and the memory of another program with the same arguments, run right after. Seconds are the least of five runs of the whole
+and the memory of another program with the same arguments, run right after; in mode `best` the other one is also told where to
+write the changed files. Seconds are the least of five runs of the whole
 process, peak memory is what GNU time tells, 1 MB is 2^20 bytes.
 """
 import argparse
@@ -171,6 +173,24 @@ def run_library(programs, *sizes):
             row(mb(bytes_of_file), part, f"{seconds:.2f}", mb(peak), f"{peak / bytes_of_file:.2f}")
 
 
+def run_best(programs, *sizes):
+    head("net", "nodes", "repeaters", "printed cells", *titles(programs))
+    files = ["--spef", "net.spef", "--lib", "made.lib", "--verilog", "net.v", "--cons", "net.cons"]
+    words = ["--mode", "best", *files, "--net", "n"]
+    written = ["--out-spef", "out.spef", "--out-verilog", "out.v"]
+    for nodes in sizes or ["1024", "8192", "65536"]:
+        for shape in ["chain", "tree", "fan"]:
+            for part, path in [("spef", "net.spef"), ("netlist", "net.v"), ("constraints", "net.cons")]:
+                make("best_net.py", [nodes, shape, part], path)
+            for repeaters in ["2", "16", "64", "256"]:
+                make("repeaters.py", [repeaters], "made.lib")
+                runs = [measure_good([program, *words, *more]) for program, more in zip(programs, [[], written])]
+                if any(run[0] != runs[0][0] for run in runs):
+                    print("run.py: the programs print different reports", file=sys.stderr)
+                cells = [cell for _, seconds, peak in runs for cell in (f"{seconds:.3f}", mb(peak))]
+                row(shape, f"{int(nodes):,}", repeaters, f"{runs[0][0].count(b'at '):,}", *cells)
+
+
 MODES = {
     "wire": run_wire,
     "design": run_design,
@@ -178,6 +198,7 @@ MODES = {
     "rows": run_rows,
     "netlist": run_netlist,
     "library": run_library,
+    "best": run_best,
 }
 
 
