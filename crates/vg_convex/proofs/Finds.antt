@@ -43,15 +43,20 @@ none_past xs m limit rise past i from low is = elim (cases_lt m i) [
   | inr same ↦ let at : i ≡ m = omega arith in past (omega arith) (subst (λ k. IsWithin limit (row xs k).c) at is)
 ]
 
+-- no candidate is within the limit where the first one is not
+pub none_from : (xs : Candidates) (rep : Rep) → Rise (row xs) (length xs) → AreWithin rep.limit xs 0 → NoneFits rep (pairs_of xs)
+none_from xs rep rise cut y y_in within =
+    let (i, low, e) = numbered xs y y_in in
+    none_past xs 0 rep.limit rise cut.past i (omega arith) low (subst (λ (p : Pair). IsWithin rep.limit p.c) (sym e) within)
+
 -- no candidate is within the limit where none came on
 pub none_found : (s : Block) (xs : Candidates) (n : ℕ) (stack : List Cand) (rep : Rep) → IsHullOf s xs n stack → AreWithin rep.limit xs n → length stack ≡ 0 → NoneFits rep (pairs_of xs)
-none_found s xs n stack rep h cut empty y y_in within =
+none_found s xs n stack rep h cut empty =
     let none : n ≡ 0 = elim (cases_lt 0 n) [
       | inl on ↦ let some = (h.hull.some on).chain.some in absurd (omega (arith, some, empty))
       | inr off ↦ omega arith
     ] in
-    let (i, low, e) = numbered xs y y_in in
-    none_past xs n rep.limit h.rise cut.past i (omega (arith, none)) low (subst (λ (p : Pair). IsWithin rep.limit p.c) (sym e) within)
+    none_from xs rep h.rise (subst (AreWithin rep.limit xs) none cut)
 
 pub none_fits : (xs : Candidates) (rep : Rep) → length xs ≡ 0 → NoneFits rep (pairs_of xs)
 none_fits xs rep empty y y_in within = let (i, low, e) = numbered xs y y_in in absurd (omega (arith, low, empty))
@@ -98,6 +103,11 @@ stack_size s xs n stack h = omega (arith, hull_size (row xs) n h.numbers (length
 row_none : (allowed : Allowed) (reps : List Rep) (xs : Candidates) (b : ℕ) (found : Option Found) → IsAnswer allowed reps xs b found → (Allows allowed b → ⊥) → found ≡ None
 row_none allowed reps xs b None is not_so = refl
 row_none allowed reps xs b (Some best) is not_so = absurd (not_so is.0)
+
+-- nothing is the answer of a repeater that is not allowed
+pub none_allowed : (allowed : Allowed) (reps : List Rep) (xs : Candidates) (found : List (Option Found)) (b : ℕ) → IsRow allowed reps found → (Allows allowed b → ⊥)
+    → IsAnswer allowed reps xs b (found_at found b)
+none_allowed allowed reps xs found b row not_so = subst (IsAnswer allowed reps xs b) (sym (row.none b not_so)) (λ may. absurd (not_so may))
 
 written_same : (old new : List (Option Found)) (b : ℕ) (found : Option Found) → new ≡ set old b found → b < length old → found_at new b ≡ found
 written_same old new b found e low = ap (λ l. found_at l b) e ∙ get_or-set_same old b found None low

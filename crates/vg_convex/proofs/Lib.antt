@@ -7,6 +7,7 @@ pub mod Places
 pub mod Fronts
 pub mod Walks
 pub mod Finds
+pub mod Scans
 pub mod Ranks
 pub mod Shelves
 pub mod Results

@@ -12,9 +12,13 @@ ghost use Rattle.cand_pool.specs.Candidates.{Candidate, Candidates, AreModest};
 ghost use Rattle.cand_pool.specs.Pools.{spare, Holds, IsLive, items_of, KeepsOthers, name};
 ghost use Rattle.cand_uses.specs.Pairs.{pairs_of};
 ghost use Rattle.cand_uses.specs.Uses.{IsExchange};
+ghost use Rattle.vg_convex.specs.Answers.{IsRow, AreAnswered};
+ghost use Rattle.vg_convex.specs.Hulls.{Rise};
 ghost use Rattle.vg_convex.specs.Orders.{AreRising, IsShelf};
+ghost use Rattle.vg_convex.specs.Places.{row};
 ghost use Rattle.vg_convex.specs.Lists.{MayStand, IsMade, IsAttained, IsCell, KeepsSolutions, AreAdded, AreWithCells};
 
+use crate::scan::scan_all;
 use crate::search::find_all;
 use crate::shelf::Shelf;
 use crate::sweep::sweep;
@@ -25,6 +29,39 @@ use elmore::{Allowed, Rep};
 use sol_arena::{Arena, Sol};
 use std::sync::ledger::Ledger;
 use vg_num::Memory;
+
+/// At most so many repeaters of a shelf are each tried on each candidate: that takes less time than to build the hull.
+const FEW: usize = 3;
+
+/// The greatest time of each repeater of a shelf that is allowed, in its place of the row. Answers `Memory` where there is no
+/// room.
+fn find_each<L: Ledger>(
+    pool: &Pool,
+    from: &List,
+    reps: &[Rep],
+    shelf: &Shelf,
+    allowed: &Allowed,
+    work: &mut Work,
+    steps: &mut Steps<L>,
+) -> Result<(), Memory>
+    ghost xs: { Candidates }
+    requires list { Holds pool.now from.now xs }
+    requires rise { Rise (row xs) (length xs) }
+    requires modest { AreModest xs }
+    requires stack { work.old.stack.items ≡ [] }
+    requires row { IsRow allowed.now reps.now work.old.found.items }
+    requires shelf { IsShelf reps.now shelf.now }
+    requires rising { AreRising allowed.now }
+    ensures rows { OnOk result (length reps.now ≤ length work.new.found.items) }
+    ensures found { OnOk result (AreAnswered allowed.now reps.now xs shelf.now.by_input.items work.new.found.items) }
+    ensures cost { (d : ℕ) → length xs < 2 ^ d → steps.new ≤ steps.old + 3 * length xs + length shelf.now.by_input.items * (d + 2) }
+{
+    if shelf.len() > FEW {
+        return find_all(pool, from, reps, shelf, allowed, work, steps);
+    }
+    scan_all(pool, from, reps, &shelf.by_input, allowed, work, steps);
+    Ok(())
+}
 
 /// Puts results on a list, each with its cell. Answers `Memory` where there is no room; then some are on the list.
 fn put_all(
@@ -72,10 +109,10 @@ fn list_of(pool: &mut Pool, arena: &mut Arena, node: u32, results: &[Made]) -> R
 }
 
 /// What the repeaters of a shelf make of a list at a node that allows some of them: each drives the candidate within its
-/// limit that gives it the most time, found on the upper convex hull of the list (Li and Shi 2005). The answer has the
-/// undominated ones of these pairs, each with the repeater's cell added to the solution of the candidate that it drives.
-/// It is a new list; `from` stays. The work is room, and keeps nothing. Answers `Memory` where there is no room; then
-/// lists, spare slots and solutions are as before.
+/// limit that gives it the most time. A few repeaters are tried on each candidate (van Ginneken 1990); more find it on the
+/// upper convex hull of the list (Li and Shi 2005). The answer has the undominated ones of these pairs, each with the
+/// repeater's cell added to the solution of the candidate that it drives. It is a new list; `from` stays. The work is room,
+/// and keeps nothing. Answers `Memory` where there is no room; then lists, spare slots and solutions are as before.
 pub fn add_cells<L: Ledger>(
     pool: &mut Pool,
     arena: &mut Arena,
@@ -111,7 +148,7 @@ pub fn add_cells<L: Ledger>(
         → steps.new ≤ steps.old + 3 * length (items_of pool.old from.now) + length shelf.now.by_input.items * (d + 2) }
 {
     work.clear(reps.len())?;
-    find_all(pool, from, reps, shelf, allowed, work, steps)?;
+    find_each(pool, from, reps, shelf, allowed, work, steps)?;
     sweep(reps, &shelf.by_input, &work.found, &mut work.kept)?;
     let list = list_of(pool, arena, node, &work.kept)?;
     Ok(list)

@@ -1,10 +1,13 @@
-//! Repeaters at a node, each of which drives the candidate that gives it the most time, found on the upper convex hull of
-//! the candidates (Li and Shi 2005).
+//! Repeaters at a node, each of which drives the candidate that gives it the most time. A few repeaters are tried on each
+//! candidate (van Ginneken 1990); where there are more, each finds its candidate on the upper convex hull of them all (Li and
+//! Shi 2005).
 #![tactic(auto)]
 
 mod cells;
+mod drive;
 mod hull;
 mod laws;
+mod scan;
 mod search;
 mod shelf;
 mod sweep;

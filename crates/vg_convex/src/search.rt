@@ -1,7 +1,6 @@
-//! The greatest time of each repeater of a shelf.
+//! The greatest time of each repeater of a shelf, on the upper convex hull of the candidates (Li and Shi 2005).
 
-ghost use Rattle.std.specs.Prelude.{◌≡◌, ◌↔◌, ℕ, suc, ◌+◌, ◌*◌, ◌^◌, ◌<◌, ◌≤◌, ◌≤ℤ◌, ◌-ℤ◌, pos, negsuc, [], set, length};
-ghost use Rattle.std.specs.Prelude.{IsTrue, false, IfOk, OnOk, OnErr, Option, None};
+ghost use Rattle.std.specs.Prelude.{◌≡◌, ℕ, suc, ◌+◌, ◌*◌, ◌^◌, ◌<◌, ◌≤◌, [], set, length, false, IfOk, OnOk, OnErr, Option, None};
 ghost use Rattle.std.specs.List.{All};
 ghost use Rattle.elmore.specs.Allowances.{Allows};
 ghost use Rattle.elmore.specs.Cells.{rep_at};
@@ -14,6 +13,7 @@ ghost use Rattle.vg_convex.specs.Answers.{IsBestOf, IsFoundFor, IsAnswer, found_
 ghost use Rattle.vg_convex.specs.Orders.{has_limit, AreByLimit, AreByResistance, AreRising, IsShelf};
 ghost use Rattle.vg_convex.specs.declared.work.Found.{Found as FoundSpec};
 
+use crate::drive::{allows_any, is_allowed, is_within, time_before};
 use crate::hull::{greatest_at_end, greatest_on, put_on};
 use crate::shelf::Shelf;
 use crate::work::{Found, Work};
@@ -21,27 +21,6 @@ use cand_pool::{Cand, List, Pool, Steps};
 use elmore::{Allowed, Rep};
 use std::sync::ledger::Ledger;
 use vg_num::Memory;
-
-/// Whether a load is within a limit, if there is one.
-fn is_within(limit: Option<u64>, load: u64) -> bool
-    ensures { IsTrue result ↔ IsWithin limit load }
-{
-    match limit {
-        Some(most) => load <= most,
-        None => true,
-    }
-}
-
-/// Whether a node allows a repeater, by its number.
-fn is_allowed(allowed: &Allowed, rep: u32) -> bool
-    requires rising { AreRising allowed.now }
-    ensures { IsTrue result ↔ Allows allowed.now rep }
-{
-    match allowed {
-        Allowed::All => true,
-        Allowed::Only(numbers) => numbers.as_slice().binary_search(&rep).is_ok(),
-    }
-}
 
 /// Puts the further candidates that are within a limit on the hull, and answers the place of the first that is not.
 /// Answers `Memory` where there is no room.
@@ -70,25 +49,6 @@ fn grow<L: Ledger>(
         next = pool.next(place);
     }
     Ok(next)
-}
-
-/// The delay of a repeater into a load.
-fn delay_into(rep: &Rep, load: u64) -> i128
-    requires { load ≤ 10 ^ 11 }
-    ensures value { result ≡ pos (rep.now.k + rep.now.r * load) }
-    ensures small { rep.now.k + rep.now.r * load ≤ 2 ^ 64 + 2 ^ 64 * 10 ^ 11 }
-{
-    i128::from(rep.k) + i128::from(rep.r) * i128::from(load)
-}
-
-/// The time before a repeater that drives a load.
-fn time_before(rep: &Rep, q: i128, load: u64) -> i128
-    requires low { negsuc (10 ^ 25) ≤ℤ q }
-    requires high { q ≤ℤ pos (10 ^ 25) }
-    requires load { load ≤ 10 ^ 11 }
-    ensures { result ≡ q -ℤ pos (rep.now.k + rep.now.r * load) }
-{
-    q - delay_into(rep, load)
 }
 
 /// What a repeater makes of the candidate that gives it the most time.
@@ -263,7 +223,8 @@ fn find_each_free<L: Ledger>(
 }
 
 /// The greatest time of each repeater of a shelf that is allowed, in its place of the row: of those with a limit while the
-/// hull grows, and then of those without one on the hull of the whole list. Answers `Memory` where there is no room.
+/// hull grows, and then of those without one on the hull of the whole list, which is found where one of them is allowed.
+/// Answers `Memory` where there is no room.
 pub(crate) fn find_all<L: Ledger>(
     pool: &Pool,
     from: &List,
@@ -287,7 +248,7 @@ pub(crate) fn find_all<L: Ledger>(
 {
     let first = pool.first(from);
     let next = find_limited(pool, first, reps, &shelf.limited, allowed, work, steps)?;
-    if shelf.free.is_empty() {
+    if !allows_any(allowed, &shelf.free) {
         return Ok(());
     }
     grow(pool, None, &mut work.stack, next, steps)?;

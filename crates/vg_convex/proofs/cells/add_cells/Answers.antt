@@ -18,8 +18,8 @@ use Rattle.vg_convex.proofs.Numbers.{rise_of}
 use Rattle.vg_convex.proofs.cells.add_cells.Given.{Over}
 use Rattle.vg_convex.proofs.cells.add_cells.Goals as goal
 
-pub find_all-requires : goal.find_all-requires
-find_all-requires g c κs within = (
+pub find_each-requires : goal.find_each-requires
+find_each-requires g c κs within = (
   within,
   (
     c.requires.from,
@@ -41,29 +41,29 @@ find_all-requires g c κs within = (
 
 pub sweep-requires-clause-rows : goal.sweep-requires-clause-rows
 sweep-requires-clause-rows g c =
-    omega (arith, ap length c.deref-2.ensures.value, c.in_ok-find_all.ensures.rows)
+    omega (arith, ap length c.deref-2.ensures.value, c.in_ok-find_each.ensures.rows)
 
 pub sweep-requires-clause-by_input : goal.sweep-requires-clause-by_input
 sweep-requires-clause-by_input g c = subst (AreByInput c.args.reps.now) (sym c.deref.ensures.value) c.requires.shelf.by_input
 
-swept_before : (g : Over) → (c : goal.After-deref-3 g) → AreSwept c.args.reps.now c.find_all.new.work.found.items c.args.shelf.now.by_input.items c.deref-3.result.now
+swept_before : (g : Over) → (c : goal.After-deref-3 g) → AreSwept c.args.reps.now c.find_each.new.work.found.items c.args.shelf.now.by_input.items c.deref-3.result.now
 swept_before g c =
-    swept_as c.args.reps.now c.deref-2.result.now c.find_all.new.work.found.items c.deref.result.now c.args.shelf.now.by_input.items c.sweep.new.kept.items c.deref-3.result.now
+    swept_as c.args.reps.now c.deref-2.result.now c.find_each.new.work.found.items c.deref.result.now c.args.shelf.now.by_input.items c.sweep.new.kept.items c.deref-3.result.now
     c.deref-2.ensures.value c.deref.ensures.value c.deref-3.ensures.value c.in_ok-sweep.ensures
 
 pub list_of-requires-clause-live : goal.list_of-requires-clause-live
 list_of-requires-clause-live g c =
     tags_of (IsLiveSolution (made_of c.args.arena.now)) c.args.reps.now c.args.shelf.now c.args.allowed.now (items_of c.args.pool.now c.args.from.now)
-    c.find_all.new.work.found.items c.deref-3.result.now c.in_ok-find_all.ensures.found (swept_before g c).results c.requires.live
+    c.find_each.new.work.found.items c.deref-3.result.now c.in_ok-find_each.ensures.found (swept_before g c).results c.requires.live
 
 pub list_of-requires-clause-bare : goal.list_of-requires-clause-bare
 list_of-requires-clause-bare g c =
     tags_of (λ s. cells_of (made_of c.args.arena.now) s c.args.node ≡ None) c.args.reps.now c.args.shelf.now c.args.allowed.now (items_of c.args.pool.now c.args.from.now)
-    c.find_all.new.work.found.items c.deref-3.result.now c.in_ok-find_all.ensures.found (swept_before g c).results c.requires.bare
+    c.find_each.new.work.found.items c.deref-3.result.now c.in_ok-find_each.ensures.found (swept_before g c).results c.requires.bare
 
-swept_after : (g : Over) → (c : goal.In_ok-list g) → AreSwept c.args.reps.now c.find_all.new.work.found.items c.args.shelf.now.by_input.items c.deref-3.result.now
+swept_after : (g : Over) → (c : goal.In_ok-list g) → AreSwept c.args.reps.now c.find_each.new.work.found.items c.args.shelf.now.by_input.items c.deref-3.result.now
 swept_after g c =
-    swept_as c.args.reps.now c.deref-2.result.now c.find_all.new.work.found.items c.deref.result.now c.args.shelf.now.by_input.items c.sweep.new.kept.items c.deref-3.result.now
+    swept_as c.args.reps.now c.deref-2.result.now c.find_each.new.work.found.items c.deref.result.now c.args.shelf.now.by_input.items c.sweep.new.kept.items c.deref-3.result.now
     c.deref-2.ensures.value c.deref.ensures.value c.deref-3.ensures.value c.in_ok-sweep.ensures
 
 -- the candidates of the answer
@@ -84,15 +84,15 @@ returns-clause-undominated g c =
     subst (λ l. IsUndominated (IsMade c.args.reps.now c.args.shelf.now c.args.allowed.now xs) (pairs_of l)) (sym (answer g c))
     (subst (IsUndominated (IsMade c.args.reps.now c.args.shelf.now c.args.allowed.now xs))
     (pairs_same (made_of c.args.arena.now) (made_of c.list_of.new.arena) c.args.node c.deref-3.result.now zs cells)
-    (made_undominated c.args.reps.now c.args.shelf.now c.args.allowed.now xs c.find_all.new.work.found.items (made_pairs c.deref-3.result.now)
-    c.in_ok-find_all.ensures.found (swept_after g c).undominated))
+    (made_undominated c.args.reps.now c.args.shelf.now c.args.allowed.now xs c.find_each.new.work.found.items (made_pairs c.deref-3.result.now)
+    c.in_ok-find_each.ensures.found (swept_after g c).undominated))
 
 attained : (g : Over) → (c : goal.In_ok-list g) → All (IsAttainedBy c.args.reps.now c.args.shelf.now c.args.allowed.now (items_of c.args.pool.now c.args.from.now)
     (made_of c.args.arena.now) (made_of c.list_of.new.arena) c.args.node) c.in_ok-list.ensures.added.0
 attained g c =
     let (zs, added, cells) = c.in_ok-list.ensures.added in
-    all_attained c.args.reps.now c.args.shelf.now c.args.allowed.now (items_of c.args.pool.now c.args.from.now) c.find_all.new.work.found.items
-    (made_of c.args.arena.now) (made_of c.list_of.new.arena) c.args.node c.deref-3.result.now zs c.in_ok-find_all.ensures.found (swept_after g c).results cells
+    all_attained c.args.reps.now c.args.shelf.now c.args.allowed.now (items_of c.args.pool.now c.args.from.now) c.find_each.new.work.found.items
+    (made_of c.args.arena.now) (made_of c.list_of.new.arena) c.args.node c.deref-3.result.now zs c.in_ok-find_each.ensures.found (swept_after g c).results cells
 
 pub returns-clause-attained : goal.returns-clause-attained
 returns-clause-attained g c =

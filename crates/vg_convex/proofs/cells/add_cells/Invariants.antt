@@ -1,5 +1,5 @@
 use Rattle.cand_pool.specs.Pools.{items_of}
 use Rattle.vg_convex.proofs.cells.add_cells.Given as goal
 
-abbrev pub ghost-find_all : goal.ghost-find_all
-ghost-find_all g a = items_of a.pool.now a.from.now
+abbrev pub ghost-find_each : goal.ghost-find_each
+ghost-find_each g a = items_of a.pool.now a.from.now

@@ -1,7 +1,9 @@
-use Rattle.std.proofs.Common.{◌≡◌, ℕ, ◌+◌, ◌*◌, ◌<◌, false, List, length, vec_len, refl, sym, subst, arith, inl, inr, All}
+use Rattle.std.proofs.Common.{◌≡◌, ℕ, ◌+◌, ◌*◌, ◌<◌, false, List, length, refl, sym, subst, arith, inl, inr, All}
 use Rattle.std.specs.List.{Contains}
-use Rattle.std.proofs.lemmas.Bool.{eqb-true}
+use Rattle.std.proofs.lemmas.List.Elements.{All-contains}
+use Rattle.elmore.specs.Allowances.{Allows}
 use Rattle.vg_convex.specs.Orders.{has_limit, AreByLimit, AreByResistance}
+use Rattle.vg_convex.proofs.Finds.{none_allowed}
 use Rattle.vg_convex.proofs.Shelves.{limited_named, free_named, part_of, steps_of_parts}
 use Rattle.vg_convex.proofs.Walks.{walk_begins, whole_hull}
 use Rattle.vg_convex.proofs.search.find_all.Goals as goal
@@ -28,17 +30,19 @@ returns-in_err-next-clause-cost g c = λ d less.
     steps_of_parts c.args.reps.now c.args.shelf.now c.deref.result.now c.args.shelf.now.free.items c.find_limited.new.steps (c.args.steps.now + 3 * length g.xs) d shelf
     c.deref.ensures.value refl (omega (arith, c.in_err-next.ensures.cost d less))
 
-pub returns-then-is_empty-clause-found : goal.returns-then-is_empty-clause-found
-returns-then-is_empty-clause-found g c = λ b b_in.
+pub returns-then-not-allows_any-clause-found : goal.returns-then-not-allows_any-clause-found
+returns-then-not-allows_any-clause-found g c = λ b b_in.
     let (_, (list, (rise, (modest, (empty, (row, (shelf, rising))))))) = c.requires in
-    let none : vec_len c.args.shelf.now.free ≡ 0 = eqb-true (vec_len c.args.shelf.now.free) 0 (sym c.if-is_empty.ensures) in
     elim (part_of c.args.reps.now c.args.shelf.now b shelf b_in) [
       | inl one ↦ c.in_ok-next.ensures.found b (subst (λ (l : List ℕ). Contains l b) (sym c.deref.ensures.value) one)
-      | inr two ↦ absurd (omega (arith, two.1, none, c.args.shelf.now.free.ok.0))
+      | inr two ↦
+          none_allowed c.args.allowed.now c.args.reps.now g.xs c.find_limited.new.work.found.items b c.in_ok-next.ensures.row
+          (All-contains (λ k. Allows c.args.allowed.now k → ⊥) c.deref-2.result.now b c.if-not-allows_any.ensures
+          (subst (λ (l : List ℕ). Contains l b) (sym c.deref-2.ensures.value) two))
     ]
 
-pub returns-then-is_empty-clause-cost : goal.returns-then-is_empty-clause-cost
-returns-then-is_empty-clause-cost g c = λ d less.
+pub returns-then-not-allows_any-clause-cost : goal.returns-then-not-allows_any-clause-cost
+returns-then-not-allows_any-clause-cost g c = λ d less.
     let (_, (list, (rise, (modest, (empty, (row, (shelf, rising))))))) = c.requires in
     steps_of_parts c.args.reps.now c.args.shelf.now c.deref.result.now c.args.shelf.now.free.items c.find_limited.new.steps (c.args.steps.now + 3 * length g.xs) d shelf
     c.deref.ensures.value refl (omega (arith, c.in_ok-next.ensures.cost d less))
@@ -61,10 +65,10 @@ find_each_free-requires g c κs within =
         (
           c.in_ok-next.ensures.row,
           (
-            subst (All (λ b. b < length c.args.reps.now)) (sym c.deref-2.ensures.value) (free_named c.args.reps.now c.args.shelf.now shelf),
+            subst (All (λ b. b < length c.args.reps.now)) (sym c.deref-3.ensures.value) (free_named c.args.reps.now c.args.shelf.now shelf),
             (
-              subst (All (λ b. has_limit c.args.reps.now b ≡ false)) (sym c.deref-2.ensures.value) shelf.free,
-              (subst (AreByResistance c.args.reps.now) (sym c.deref-2.ensures.value) shelf.by_resistance, rising),
+              subst (All (λ b. has_limit c.args.reps.now b ≡ false)) (sym c.deref-3.ensures.value) shelf.free,
+              (subst (AreByResistance c.args.reps.now) (sym c.deref-3.ensures.value) shelf.by_resistance, rising),
             ),
           ),
         ),
@@ -76,12 +80,12 @@ returns-clause-found g c = λ b b_in.
     let (_, (list, (rise, (modest, (empty, (row, (shelf, rising))))))) = c.requires in
     elim (part_of c.args.reps.now c.args.shelf.now b shelf b_in) [
       | inl one ↦ c.find_each_free.ensures.others b (c.in_ok-next.ensures.found b (subst (λ (l : List ℕ). Contains l b) (sym c.deref.ensures.value) one))
-      | inr two ↦ c.find_each_free.ensures.found b (subst (λ (l : List ℕ). Contains l b) (sym c.deref-2.ensures.value) two)
+      | inr two ↦ c.find_each_free.ensures.found b (subst (λ (l : List ℕ). Contains l b) (sym c.deref-3.ensures.value) two)
     ]
 
 pub returns-clause-cost : goal.returns-clause-cost
 returns-clause-cost g c = λ d less.
     let (_, (list, (rise, (modest, (empty, (row, (shelf, rising))))))) = c.requires in
     let (n, walk, cost) = c.in_ok-next.ensures.walk in
-    steps_of_parts c.args.reps.now c.args.shelf.now c.deref.result.now c.deref-2.result.now c.find_each_free.new.steps (c.args.steps.now + 3 * length g.xs) d shelf
-    c.deref.ensures.value c.deref-2.ensures.value (omega (arith, cost d less, c.in_ok-grow.ensures.cost n walk, c.find_each_free.ensures.cost))
+    steps_of_parts c.args.reps.now c.args.shelf.now c.deref.result.now c.deref-3.result.now c.find_each_free.new.steps (c.args.steps.now + 3 * length g.xs) d shelf
+    c.deref.ensures.value c.deref-3.ensures.value (omega (arith, cost d less, c.in_ok-grow.ensures.cost n walk, c.find_each_free.ensures.cost))

@@ -8,7 +8,7 @@ use Rattle.std.proofs.lemmas.List.Sorted.{searched}
 use Rattle.elmore.specs.Allowances.{Allows}
 use Rattle.elmore.specs.declared.allowed.Allowed.{Allowed}
 use Rattle.vg_convex.specs.Orders.{AreRising}
-use Rattle.vg_convex.proofs.search.is_allowed.Goals as goal
+use Rattle.vg_convex.proofs.drive.is_allowed.Goals as goal
 
 no_less : (numbers : List ℕ) → AllPairs (λ a b. a < b) numbers → (i j : ℕ) → i ≤ j → j < length numbers → get_or numbers i 0 ≤ get_or numbers j 0
 no_less numbers rising i j i_j low = elim (cases_lt i j) [
