@@ -1,0 +1,17 @@
+pub mod EmbeddingLemmas
+pub mod PieceLemmas
+pub mod PieceLoadLemmas
+pub mod PieceDelayLemmas
+pub mod BarePieceLemmas
+pub mod SomeTreeLemmas
+pub mod BuiltPieceLemmas
+pub mod RenumberedLemmas
+pub mod BreadthLemmas
+pub mod FilterMapLemmas
+pub mod ProblemLemmas
+pub mod OneWalkLemmas
+pub mod CutWalkLemmas
+pub mod CutTimeLemmas
+pub mod CutClimbLemmas
+pub mod PieceSinkLemmas
+pub mod Example
