@@ -1,0 +1,72 @@
+//! Laws of texts that are written. Their functions do nothing: each one's contract is the law, which a proof may cite.
+
+ghost use Rattle.vg_written.specs.Splices.{CutsKeepComments, SectionsSplice};
+ghost use Rattle.vg_written.specs.TextLaws.{CapsAgain, LinesAgain, NamesAreQuiet, NodesAgain, NodesAreQuiet, NumbersAgain, RessAgain, WordsAgain};
+
+/// Let each of some words have a byte, and no blank and no newline. Then a line of them, with one blank between, has these
+/// words.
+pub fn words_again()
+    ensures { WordsAgain }
+{}
+
+/// Let lines have no newline, and no carriage return at their end. Then a text of them, each with its newline, has these
+/// lines, and after them those of whatever text follows.
+pub fn lines_again()
+    ensures { LinesAgain }
+{}
+
+/// Let the owner in a node's name not be empty. Then the name, printed by a file's delimiters, is read by this file as the
+/// name again, be the node a port, a pin or inside a net.
+pub fn nodes_again()
+    ensures { NodesAgain }
+{}
+
+/// A printed name stays as it is where comments are made blank, and whatever text follows has the comments that it has
+/// alone.
+pub fn names_are_quiet()
+    ensures { NamesAreQuiet }
+{}
+
+/// The printed name of a node stays as it is where comments are made blank, also where the delimiter is `/`, and whatever
+/// text follows has the comments that it has alone.
+pub fn nodes_are_quiet()
+    ensures { NodesAreQuiet }
+{}
+
+/// Let a number be at most 10^15, and be printed as a decimal with so many places. Then what is printed is a word, and is
+/// read as the number where values have so many places. It stays as it is where comments are made blank, and whatever text
+/// follows has the comments that it has alone.
+pub fn numbers_again()
+    ensures { NumbersAgain }
+{}
+
+/// Let the owner in a node's name not be empty, and let the name have no blank and no newline. Let a file's unit give its
+/// capacitances so many decimal places, not fewer than none, and let a capacitance of at most 10^15 aF be printed with
+/// these. Then the line of a number below 10^64, the printed name and the printed capacitance says just this in the file: a
+/// capacitor from this node to the ground, with this capacitance.
+pub fn caps_again()
+    ensures { CapsAgain }
+{}
+
+/// Let the owners in the names of two nodes not be empty, and let the names have no blank and no newline. Let a file's unit
+/// give its resistances so many decimal places, not fewer than none, and let a resistance of at most 10^15 mΩ be printed
+/// with these. Then the line of a number below 10^64, the printed names and the printed resistance says just this in the
+/// file: a resistor between these nodes, with this resistance.
+pub fn ress_again()
+    ensures { RessAgain }
+{}
+
+/// Let the first word of a line begin at a place in a text without its comments. Then the text may be cut there: what
+/// stands before the place has the comments that it had, and whatever text is put behind it those that it has alone; and
+/// what stands from the place on has alone the comments that it had.
+pub fn cuts_keep_comments()
+    ensures { CutsKeepComments }
+{}
+
+/// Let a section of a text begin with the first word of a line, and end with `*END` that is the first word of a line too,
+/// both in the text without its comments. Replace it by a text that stays as it is where comments are made blank, and
+/// behind which any text has the comments that it has alone. Then what stands before the section and what stands behind it
+/// have the comments that they had.
+pub fn sections_splice()
+    ensures { SectionsSplice }
+{}
