@@ -4,4 +4,6 @@ pub mod FrontLemmas
 pub mod QuietLemmas
 pub mod SpliceLemmas
 pub mod NumberLemmas
+pub mod NoteLemmas
+pub mod LineLemmas
 pub mod Example

@@ -24,7 +24,7 @@ use Rattle.vg_written.proofs.WordLemmas.{both_true, split_last, words_again}
 use Rattle.vg_written.proofs.NodeLemmas.{node_again}
 use Rattle.vg_written.proofs.QuietLemmas.{quiet_none, quiet_both, quiet_byte}
 
-abbrev is_numeric : ℕ → Bool
+abbrev pub is_numeric : ℕ → Bool
 is_numeric b = is_digit b || (b == 46)
 
 digits_numeric : (xs : List ℕ) → list_all is_digit xs ≡ true → list_all is_numeric xs ≡ true
@@ -34,11 +34,11 @@ digits_numeric (x ∷ xs) e =
     rw (first, digits_numeric xs rest) refl
 
 -- a text of digits, with or without a point
-record IsNumber (text : List ℕ) : Type 0 where
+pub record IsNumber (text : List ℕ) : Type 0 where
   pub some : 0 < length text
   pub all : list_all is_numeric text ≡ true
 
-decimal_number : (n : ℕ) → n < 10 ^ 64 → IsNumber (decimal n)
+pub decimal_number : (n : ℕ) → n < 10 ^ 64 → IsNumber (decimal n)
 decimal_number n h =
     let w = decimal_writes n h in
     record { some = w.some; all = digits_numeric (decimal n) w.all }
@@ -87,7 +87,7 @@ number_word text is = record { some = is.some; solid = AllPass-from_list_all is_
 numeric_quiet : (b : ℕ) → is_numeric b ≡ true → IsQuiet (b ∷ [])
 numeric_quiet b e = quiet_byte b (λ h. grind (arith, nat_tests)) (λ h. grind (arith, nat_tests)) (λ h. grind (arith, nat_tests))
 
-quiet_all : (text : List ℕ) → list_all is_numeric text ≡ true → IsQuiet text
+pub quiet_all : (text : List ℕ) → list_all is_numeric text ≡ true → IsQuiet text
 quiet_all [] e = quiet_none
 quiet_all (b ∷ bs) e =
     let (first, rest) = both_true (is_numeric b) (list_all is_numeric bs) e in
@@ -133,7 +133,7 @@ node_word chars owner (b ∷ leaf) some solid = record {
       ) refl);
 }
 
-printed_word : (chars : Chars) (node : NodeName) → IsNodePrintable node → IsWord (printed_node chars node)
+pub printed_word : (chars : Chars) (node : NodeName) → IsNodePrintable node → IsWord (printed_node chars node)
 printed_word chars node printable = node_word chars node.owner node.leaf printable.owner (list_all-from_AllPass is_solid node.leaf printable.leaf)
 
 -- THE LINES

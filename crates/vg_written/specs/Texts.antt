@@ -1,5 +1,5 @@
 -- Texts of lines of words, as they are written.
-use Rattle.std.specs.Prelude.{◌≡◌, ℕ, ◌==◌, ◌-◌, not, false, List, [], ◌∷◌, ◌++◌, length, slice_index}
+use Rattle.std.specs.Prelude.{◌≡◌, ℕ, ◌==◌, ◌-◌, not, false, List, [], ◌∷◌, ◌++◌, length, slice_index, codes}
 use Rattle.std.specs.List.{flat_map, AllPass}
 use Rattle.vg_scan.specs.declared.chars.Chars.{Chars}
 use Rattle.vg_scan.specs.declared.name.NodeName.{NodeName}
@@ -7,6 +7,10 @@ use Rattle.vg_scan.specs.declared.comments.Comments.TheVariants.{Spef}
 use Rattle.vg_scan.specs.Lines.{is_newline}
 use Rattle.vg_scan.specs.Comments.{without_comments}
 use Rattle.vg_scan.specs.Printed.{printed, is_solid, IsPrintable}
+use Rattle.spef_net.specs.declared.net.ConnKind.{ConnKind}
+use Rattle.spef_net.specs.declared.net.ConnKind.TheVariants.{Pin, Port}
+use Rattle.spef_net.specs.declared.net.Direction.{Direction}
+use Rattle.spef_net.specs.declared.net.Direction.TheVariants.{In, Out, Both}
 
 -- words with one blank between
 abbrev pub spaced : List (List ℕ) → List ℕ
@@ -46,3 +50,29 @@ IsQuiet text = (rest : List ℕ) → without_comments Spef (text ++ rest) ≡ te
 pub record IsNodePrintable (node : NodeName) : Type 0 where
   pub owner : IsPrintable node.owner
   pub leaf : AllPass is_solid node.leaf
+
+-- the first word of a connection's line, and the word of its direction
+abbrev pub conn_tag : ConnKind → List ℕ
+conn_tag Pin = codes "*I"
+conn_tag Port = codes "*P"
+
+abbrev pub direction_word : Direction → List ℕ
+direction_word In = codes "I"
+direction_word Out = codes "O"
+direction_word Both = codes "B"
+
+-- a line with a note behind it, after one blank, or alone where the note is empty
+abbrev pub noted : List ℕ → List ℕ → List ℕ
+noted line [] = line
+noted line (b ∷ note) = line ++ 32 ∷ b ∷ note
+
+-- the line of a connection, and that of a node inside the net
+abbrev pub conn_text : Chars → ConnKind → Direction → NodeName → List ℕ → List ℕ
+conn_text chars kind direction node note = noted (spaced (conn_tag kind ∷ printed_node chars node ∷ direction_word direction ∷ [])) note
+
+abbrev pub star_text : Chars → NodeName → List ℕ → List ℕ
+star_text chars node note = noted (spaced (codes "*N" ∷ printed_node chars node ∷ [])) note
+
+-- a line that is quiet, with its newline
+abbrev pub IsQuietLine : List ℕ → Type 0
+IsQuietLine line = IsQuiet (ended line)

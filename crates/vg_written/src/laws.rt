@@ -1,7 +1,8 @@
 //! Laws of texts that are written. Their functions do nothing: each one's contract is the law, which a proof may cite.
 
 ghost use Rattle.vg_written.specs.Splices.{CutsKeepComments, SectionsSplice};
-ghost use Rattle.vg_written.specs.TextLaws.{CapsAgain, LinesAgain, NamesAreQuiet, NodesAgain, NodesAreQuiet, NumbersAgain, RessAgain, WordsAgain};
+ghost use Rattle.vg_written.specs.TextLaws.{CapsAgain, ConnsAgain, LinesAgain, LinesAreQuiet, NamesAreQuiet, NodesAgain, NodesAreQuiet};
+ghost use Rattle.vg_written.specs.TextLaws.{NotesAgain, NumbersAgain, RessAgain, StarsAgain, WordsAgain};
 
 /// Let each of some words have a byte, and no blank and no newline. Then a line of them, with one blank between, has these
 /// words.
@@ -54,6 +55,38 @@ pub fn caps_again()
 /// file: a resistor between these nodes, with this resistance.
 pub fn ress_again()
     ensures { RessAgain }
+{}
+
+/// Let a note be on one line, and have no blank and no carriage return at its ends. Let it stand after one blank behind a
+/// line of words, each of which has a byte, and no blank and no newline; or let the line end with its words, where the note
+/// is empty. Then what is read behind so many words is the note.
+pub fn notes_again()
+    ensures { NotesAgain }
+{}
+
+/// Let the owner in a node's name not be empty, and let the name have no blank and no newline. Let the name have a leaf
+/// where the connection is at a pin, and none where it is at a port. Let a note be on one line, and have no blank and no
+/// carriage return at its ends. Then the line of `*I` or `*P`, the printed name, `I`, `O` or `B`, and the note if there is
+/// one, says just this in the part for connections: a connection of this kind and this direction at this node, with this
+/// note.
+pub fn conns_again()
+    ensures { ConnsAgain }
+{}
+
+/// Let the owner in a node's name not be empty, and let the name have no blank and no newline. Let a note be on one line,
+/// and have no blank and no carriage return at its ends. Then the line of `*N`, the printed name, and the note if there is
+/// one, says just this in the part for connections: this node is inside the net, with this note.
+pub fn stars_again()
+    ensures { StarsAgain }
+{}
+
+/// Let a number be below 10^64, and values be at most 10^15. Then the lines of a capacitor to the ground and of a resistor
+/// stay as they are, with their newlines, where comments are made blank, and whatever text follows has the comments that it
+/// has alone. Where this holds of a note with a newline behind it, it holds of the line of a connection or of a node inside
+/// the net with this note. Where it holds of a text, it holds of the text as a line, and where it holds of each of some
+/// lines, it holds of the text of them.
+pub fn lines_are_quiet()
+    ensures { LinesAreQuiet }
 {}
 
 /// Let the first word of a line begin at a place in a text without its comments. Then the text may be cut there: what
