@@ -6,9 +6,8 @@ use std::alloc::Global;
 use std::test::Fail;
 use vg_names::Names;
 use vg_scan::{
-    Chars, Comments, Name, NameFault, Span, Words, index_of, inner_name, line_of, next_line,
-    next_word, node_name, port_name, print_spef_name, skip_comments, spef_name, split_node,
-    text_at,
+    Chars, Comments, NameFault, Span, Words, index_of, inner_name, line_of, next_line, next_word,
+    node_name, port_name, print_spef_name, skip_comments, spef_name, split_node, text_at,
 };
 
 const CHARS: Chars = Chars {
@@ -200,9 +199,8 @@ fn comments(rt: HostRuntime) -> Result<(), Fail> {
 fn prints(alloc: Global, name: &[u8], text: &[u8]) -> Result<bool, Fail>
     requires { IsPrintable name.now }
 {
-    let name = Name::from_bytes(alloc, name)?;
     let mut printed = Vec::new(alloc);
-    print_spef_name(&name, &CHARS, &mut printed)?;
+    print_spef_name(name, &CHARS, &mut printed)?;
     Ok(printed.as_slice() == text)
 }
 

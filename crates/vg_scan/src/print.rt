@@ -4,7 +4,6 @@ ghost use Rattle.std.specs.Prelude.{◌≡◌, ◌++◌, length, take, OnOk, OnE
 ghost use Rattle.vg_scan.specs.Printed.{is_own, printed, printed_byte, IsPrintable};
 
 use crate::chars::Chars;
-use crate::name::Name;
 use vg_num::Memory;
 
 /// Whether a byte stands for itself whatever the header says.
@@ -31,11 +30,11 @@ fn print_byte(byte: u8, chars: &Chars, to: &mut Vec<u8>) -> Result<(), Memory>
 }
 
 /// Prints the bytes of a name one after another.
-fn print_bytes(name: &Name, chars: &Chars, to: &mut Vec<u8>) -> Result<(), Memory>
+fn print_bytes(name: &[u8], chars: &Chars, to: &mut Vec<u8>) -> Result<(), Memory>
     ensures printed { OnOk result (to.new.items ≡ to.old.items ++ printed chars.now name.now) }
     ensures begun { OnErr result (take (length to.old.items) to.new.items ≡ to.old.items) }
 {
-    'byte: for byte in name.as_bytes() {
+    'byte: for byte in name {
         print_byte(*byte, chars, to)?;
     }
     Ok(())
@@ -44,7 +43,7 @@ fn print_bytes(name: &Name, chars: &Chars, to: &mut Vec<u8>) -> Result<(), Memor
 /// Prints a text whose canonical name is this name (IEEE Std 1481).
 ///
 /// Answers `Memory` where there is no room, and then `to` is as before.
-pub fn print_spef_name(name: &Name, chars: &Chars, to: &mut Vec<u8>) -> Result<(), Memory>
+pub fn print_spef_name(name: &[u8], chars: &Chars, to: &mut Vec<u8>) -> Result<(), Memory>
     requires { IsPrintable name.now }
     ensures printed { OnOk result (to.new.items ≡ to.old.items ++ printed chars.now name.now) }
     ensures unchanged { OnErr result (to.new.items ≡ to.old.items) }
