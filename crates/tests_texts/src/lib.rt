@@ -25,3 +25,5 @@ mod store;
 mod texts;
 #[cfg(test)]
 mod verilog;
+#[cfg(test)]
+mod written;

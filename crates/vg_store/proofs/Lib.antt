@@ -1,2 +1,4 @@
+mod FileLemmas
+mod MapLemmas
 mod NumberLemmas
 mod PieceLemmas

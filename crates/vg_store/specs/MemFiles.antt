@@ -1,26 +1,21 @@
 -- What files in memory hold.
-use Rattle.std.specs.Prelude.{ℕ, Bool, List, [], drop, slice_get, string_bytes, String, Option, Some, None, option_map, unwrap_or}
-use Rattle.std.specs.declared.alloc.Global.{Global}
-use Rattle.indexmap.specs.IndexMap.{IndexMap, get_by_text, keys}
-use Rattle.vg_store.specs.Reading.{FilesState, read_file}
+use Rattle.std.specs.Prelude.{ℕ, Bool, List, [], drop, Option, option_map, unwrap_or}
+use Rattle.vg_store.specs.Contents.{bytes_of, named, room_at}
+use Rattle.vg_store.specs.Reading.{read_file}
+use Rattle.vg_store.specs.States.{FilesState}
 use Rattle.vg_store.specs.declared.mem_files.MemFiles.{MemFiles}
 
 -- the bytes of the file of this name
 abbrev pub held : MemFiles → List ℕ → Option (List ℕ)
-held files name = get_by_text files.files name
-
--- the name of the file of this number, if there is a number
-abbrev pub named : {X S : Type 0} → IndexMap (String Global) X S → Option ℕ → Option (List ℕ)
-named files None = None
-named files (Some n) = option_map string_bytes (slice_get (keys files) n)
+held files name = bytes_of files.files name
 
 -- the name of the file that was opened last
 abbrev pub source_of : MemFiles → Option (List ℕ)
 source_of files = named files.files files.source
 
--- the name of the file at which the last fault came
-abbrev pub blame_of : MemFiles → Option (List ℕ)
-blame_of files = named files.files files.blamed
+-- the name of the file at which the last read fault came
+abbrev pub read_blame_of : MemFiles → Option (List ℕ)
+read_blame_of files = named files.files files.read_faults.blamed
 
 -- how many bytes were taken since the last open
 abbrev pub taken_of : MemFiles → ℕ
@@ -30,7 +25,23 @@ taken_of files = files.place
 abbrev pub is_reading : MemFiles → Bool
 is_reading files = files.reading
 
--- the most bytes that one call takes
+-- the name of the file that was created last
+abbrev pub target_of : MemFiles → Option (List ℕ)
+target_of files = named files.files files.target
+
+-- the name of the file at which the last write fault came
+abbrev pub write_blame_of : MemFiles → Option (List ℕ)
+write_blame_of files = named files.files files.write_faults.blamed
+
+-- whether a file is being written
+abbrev pub is_writing : MemFiles → Bool
+is_writing files = files.writing
+
+-- how many more bytes fit in the memory that the file that was created last has
+abbrev pub room_of : MemFiles → ℕ
+room_of files = unwrap_or (option_map (room_at files.files) files.target) 0
+
+-- the most bytes that one call moves
 abbrev pub chunk_of : MemFiles → ℕ
 chunk_of files = files.chunk
 
@@ -42,19 +53,27 @@ calls_of files = files.calls.made
 abbrev pub fails_of : MemFiles → List ℕ
 fails_of files = files.calls.fails.items
 
--- how many calls failed
-abbrev pub faults_of : MemFiles → ℕ
-faults_of files = files.calls.faults
+-- how many calls that read failed
+abbrev pub read_faults_of : MemFiles → ℕ
+read_faults_of files = files.read_faults.count
+
+-- how many calls that write failed
+abbrev pub write_faults_of : MemFiles → ℕ
+write_faults_of files = files.write_faults.count
 
 -- what contracts see of them as files
 abbrev pub state_of : MemFiles → FilesState
 state_of files = record {
   holds = held files;
-  read_faults = faults_of files;
-  read_blame = blame_of files;
+  read_faults = read_faults_of files;
+  read_blame = read_blame_of files;
   source = source_of files;
   taken = taken_of files;
   reading = is_reading files;
+  write_faults = write_faults_of files;
+  write_blame = write_blame_of files;
+  target = target_of files;
+  writing = is_writing files;
 }
 
 -- what was not taken yet of the file that is read

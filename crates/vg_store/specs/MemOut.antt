@@ -25,7 +25,7 @@ fails_of out = out.calls.fails.items
 
 -- how many calls failed
 abbrev pub faults_of : MemOut → ℕ
-faults_of out = out.calls.faults
+faults_of out = out.faults
 
 -- what contracts see of it as an output
 abbrev pub state_of : MemOut → OutState

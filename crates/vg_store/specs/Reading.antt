@@ -1,24 +1,8 @@
 -- Files that are read, by name.
-use Rattle.std.specs.Prelude.{◌≡◌, ◌↔◌, ℕ, ◌+◌, ◌^◌, ◌<◌, ◌≤◌, List, length, take, drop, Bool, true, Option, Some, None, IfSome, IsSome}
+use Rattle.std.specs.Prelude.{◌≡◌, ◌↔◌, ℕ, ◌+◌, ◌^◌, ◌<◌, ◌≤◌, List, length, take, drop, true, Option, Some, IfSome, IsSome}
 use Rattle.vg_store.specs.Causes.{Rose}
-
--- what contracts see of files: the bytes of each by its name, where they are told; how often reading failed, and the file
--- at which it failed last; the file that was opened last, how many of its bytes were taken, and whether it is open
-pub record FilesState : Type 0 where
-  pub holds : List ℕ → Option (List ℕ)
-  pub read_faults : ℕ
-  pub read_blame : Option (List ℕ)
-  pub source : Option (List ℕ)
-  pub taken : ℕ
-  pub reading : Bool
-
--- files of which neither names nor bytes are told
-abbrev pub untold : ℕ → ℕ → Bool → FilesState
-untold faults taken reading = record { holds = λ _. None; read_faults = faults; read_blame = None; source = None; taken = taken; reading = reading }
-
-abbrev pub file_named : (List ℕ → Option (List ℕ)) → Option (List ℕ) → Option (List ℕ)
-file_named holds None = None
-file_named holds (Some name) = holds name
+pub use Rattle.vg_store.specs.States.{FilesState}
+use Rattle.vg_store.specs.States.{file_named}
 
 -- the bytes of the file that is read, where its name and they are told
 abbrev pub read_file : FilesState → Option (List ℕ)

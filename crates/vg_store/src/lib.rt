@@ -3,6 +3,7 @@
 #![tactic(auto)]
 
 mod calls;
+mod contents;
 mod files;
 mod mem_files;
 mod mem_out;
@@ -10,6 +11,7 @@ mod output;
 mod read;
 mod real_files;
 mod real_out;
+mod write;
 
 pub use files::{Failed, Files};
 pub use mem_files::MemFiles;
@@ -18,3 +20,4 @@ pub use output::{Out, put_all};
 pub use read::{ReadAll, read_all};
 pub use real_files::RealFiles;
 pub use real_out::RealOut;
+pub use write::write_file;

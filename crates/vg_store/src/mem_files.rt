@@ -1,51 +1,61 @@
 //! Files in memory.
-ghost use Rattle.std.specs.Prelude.{◌≡◌, ◌≢◌, ◌↔◌, ◌⊎◌, ℕ, ◌+◌, ◌-◌, ◌^◌, ◌<◌, ◌≤◌, min, List, length, take, [], Bool, true, false, Option, Some, None, Contains, MatchOption, IfOk, IfSome, IsErr, IsSome, OnOk, OnErr};
+ghost use Rattle.std.specs.Prelude.{◌≡◌, ◌≢◌, ◌↔◌, ◌⊎◌, ℕ, ◌+◌, ◌-◌, ◌^◌, ◌<◌, ◌≤◌, min, List, length, take, [], Bool, true, false, is_some, Option, Some, None, Contains, MatchOption, IfOk, IfSome, IsErr, IsSome, OnOk, OnErr};
 ghost use Rattle.indexmap.specs.IndexMap.{index_map_len};
 ghost use Rattle.vg_store.specs.Causes.{HasCause};
 ghost use Rattle.vg_store.specs.Reading.{Begins, IsNextPiece, read_file};
+ghost use Rattle.vg_store.specs.States.{KeepsReading, KeepsWriting};
+ghost use Rattle.vg_store.specs.Writing.{BeginsWriting, FileGains, FileGainsPrefix, StaysOrEmpty};
 
-use crate::calls::Calls;
+use crate::calls::{Calls, Faults};
+use crate::contents::{append_at, put_empty};
 use crate::files::{Failed, Files};
 use indexmap::IndexMap;
 use std::alloc::Global;
-use vg_num::{Memory, Row};
+use vg_num::Memory;
 
-/// Files in memory, which tell all that they hold. Calls of given numbers fail, and a call takes no more bytes than
+/// Files in memory, which tell all that they hold. Calls of given numbers fail, and a call moves no more bytes than
 /// a given number.
 ///
-/// The files are numbered in the order in which they were added. The file that is read and the one that is to blame are
-/// kept by their numbers, so that no call of `Files` takes memory.
+/// The files are numbered in the order in which they were added or created. The files that are read, written and to blame
+/// are kept by their numbers, so that no call but `create` of a new file and `put` takes memory.
 #[derive(Drop)]
 pub struct MemFiles {
     alloc: Global,
-    files: IndexMap<String, Row<u8>>,
+    files: IndexMap<String, Vec<u8>>,
     chunk: usize,
     calls: Calls,
     source: Option<usize>,
     place: usize,
     reading: bool,
-    blamed: Option<usize>,
-    ghost takes_some: { 1 ≤ chunk },
+    read_faults: Faults,
+    target: Option<usize>,
+    writing: bool,
+    write_faults: Faults,
+    ghost moves_some: { 1 ≤ chunk },
     ghost source_stands: { (n : ℕ) → source ≡ Some n → n < index_map_len files },
-    ghost blamed_stands: { (n : ℕ) → blamed ≡ Some n → n < index_map_len files },
+    ghost read_blamed_stands: { (n : ℕ) → read_faults.blamed ≡ Some n → n < index_map_len files },
+    ghost target_stands: { (n : ℕ) → target ≡ Some n → n < index_map_len files },
+    ghost write_blamed_stands: { (n : ℕ) → write_faults.blamed ≡ Some n → n < index_map_len files },
+    ghost writes_one: { writing ≡ true → is_some target ≡ true },
 }
 
 impl MemFiles {
-    ghost use Rattle.vg_store.specs.MemFiles.{held, left_of, taken_of, is_reading, source_of, blame_of, chunk_of, calls_of, fails_of, faults_of};
+    ghost use Rattle.vg_store.specs.MemFiles.{state_of, held, left_of, is_reading, is_writing, chunk_of, calls_of, fails_of, read_faults_of, write_faults_of};
 
-    /// No files. A call of `next` takes at most `chunk` bytes. Each call of `open` and `next` has a number, from 0
-    /// on, and those whose number stands in `fails` fail. The count of calls stands still at `u64::MAX`, and so does
-    /// the count of faults.
+    /// No files. A call of `next` or `put` moves at most `chunk` bytes. Each call of `Files` has a number, from 0 on,
+    /// and those whose number stands in `fails` fail. The count of calls stands still at `u64::MAX`, and so do the
+    /// counts of faults.
     ///
     /// `Memory`: there was no room for the numbers.
     pub fn new(alloc: Global, chunk: usize, fails: &[u64]) -> Result<MemFiles, Memory>
         requires { 1 ≤ chunk }
         ensures empty { IfOk result (λ files. (name : List ℕ) → held files name ≡ None) }
-        ensures shut { IfOk result (λ files. is_reading files ≡ false) }
+        ensures shut { IfOk result (λ files. (is_reading files ≡ false) × (is_writing files ≡ false)) }
         ensures chunk { IfOk result (λ files. chunk_of files ≡ chunk) }
         ensures fails { IfOk result (λ files. fails_of files ≡ fails.now) }
         ensures calls { IfOk result (λ files. calls_of files ≡ 0) }
-        ensures faults { IfOk result (λ files. faults_of files ≡ 0) }
+        ensures read_faults { IfOk result (λ files. read_faults_of files ≡ 0) }
+        ensures write_faults { IfOk result (λ files. write_faults_of files ≡ 0) }
     {
         Ok(MemFiles {
             alloc,
@@ -55,7 +65,10 @@ impl MemFiles {
             source: None,
             place: 0,
             reading: false,
-            blamed: None,
+            read_faults: Faults::new(),
+            target: None,
+            writing: false,
+            write_faults: Faults::new(),
         })
     }
 
@@ -66,17 +79,15 @@ impl MemFiles {
         ensures added { OnOk result (held self.new name.now ≡ Some bytes.now) }
         ensures others { (other : List ℕ) → other ≢ name.now → held self.new other ≡ held self.old other }
         ensures failed { OnErr result ((file : List ℕ) → held self.new file ≡ held self.old file) }
-        ensures same_place { (source_of self.new ≡ source_of self.old) × (taken_of self.new ≡ taken_of self.old) }
-        ensures same_reading { is_reading self.new ≡ is_reading self.old }
-        ensures same_blame { blame_of self.new ≡ blame_of self.old }
+        ensures reading { KeepsReading (state_of self.old) (state_of self.new) }
+        ensures writing { KeepsWriting (state_of self.old) (state_of self.new) }
         ensures same_chunk { chunk_of self.new ≡ chunk_of self.old }
         ensures same_fails { fails_of self.new ≡ fails_of self.old }
         ensures same_calls { calls_of self.new ≡ calls_of self.old }
-        ensures same_faults { faults_of self.new ≡ faults_of self.old }
     {
-        let row = Row::from_vec(bytes.to_vec(self.alloc)?);
+        let bytes = bytes.to_vec(self.alloc)?;
         let name = String::from_str(self.alloc, name)?;
-        self.files.insert(name, row)?;
+        self.files.insert(name, bytes)?;
         Ok(())
     }
 
@@ -85,7 +96,7 @@ impl MemFiles {
         ensures { MatchOption result (held self.now name.now ≡ None) (λ bytes. held self.now name.now ≡ Some bytes.now) }
     {
         match self.files.get(name) {
-            Some(row) => Some(row.as_slice()),
+            Some(file) => Some(file.as_slice()),
             None => None,
         }
     }
@@ -97,16 +108,16 @@ impl MemFiles {
         let Some(source) = self.source else {
             return &[];
         };
-        let Some((_, row)) = self.files.get_index(source) else {
+        let Some((_, file)) = self.files.get_index(source) else {
             return &[];
         };
-        let bytes = row.as_slice();
+        let bytes = file.as_slice();
         &bytes[self.place.min(bytes.len())..]
     }
 }
 
 impl Files for MemFiles {
-    ghost use Rattle.vg_store.specs.MemFiles.{state_of, held, left_of, taken_of, is_reading, source_of, blame_of, chunk_of, calls_of, fails_of, faults_of};
+    ghost use Rattle.vg_store.specs.MemFiles.{state_of, held, left_of, taken_of, is_reading, source_of, read_blame_of, target_of, is_writing, write_blame_of, room_of, chunk_of, calls_of, fails_of, read_faults_of, write_faults_of};
 
     ghost state = { λ files. state_of files };
 
@@ -116,24 +127,24 @@ impl Files for MemFiles {
         ensures begun { OnOk result (Begins name.now (state_of self.new)) }
         ensures shut { OnErr result (is_reading self.new ≡ false) }
         ensures kept { (file : List ℕ) → held self.new file ≡ held self.old file }
-        ensures cause { HasCause (faults_of self.old) (faults_of self.new) result }
-        ensures blamed { OnErr result (IfSome (blame_of self.new) (λ blamed. blamed ≡ name.now)) }
-        ensures same_blame { OnOk result (blame_of self.new ≡ blame_of self.old) }
+        ensures cause { HasCause (read_faults_of self.old) (read_faults_of self.new) result }
+        ensures blamed { OnErr result (IfSome (read_blame_of self.new) (λ blamed. blamed ≡ name.now)) }
+        ensures same_blame { OnOk result (read_blame_of self.new ≡ read_blame_of self.old) }
+        ensures writing { KeepsWriting (state_of self.old) (state_of self.new) }
 
         ensures told { OnOk result (source_of self.new ≡ Some name.now) }
         ensures failed { IsErr result ↔ (Contains (fails_of self.old) (calls_of self.old) ⊎ (held self.old name.now ≡ None)) }
-        ensures told_blame { OnErr result (IsSome (held self.old name.now) → blame_of self.new ≡ Some name.now) }
+        ensures told_blame { OnErr result (IsSome (held self.old name.now) → read_blame_of self.new ≡ Some name.now) }
         ensures counted { calls_of self.new ≡ min (calls_of self.old + 1) (2 ^ 64 - 1) }
-        ensures ok_faults { OnOk result (faults_of self.new ≡ faults_of self.old) }
-        ensures err_faults { OnErr result (faults_of self.new ≡ min (faults_of self.old + 1) (2 ^ 64 - 1)) }
+        ensures ok_faults { OnOk result (read_faults_of self.new ≡ read_faults_of self.old) }
+        ensures err_faults { OnErr result (read_faults_of self.new ≡ min (read_faults_of self.old + 1) (2 ^ 64 - 1)) }
         ensures same_fails { fails_of self.new ≡ fails_of self.old }
         ensures same_chunk { chunk_of self.new ≡ chunk_of self.old }
     {
         self.reading = false;
         let number = self.files.get_index_of(name);
         if self.calls.count_call() || number.is_none() {
-            self.calls.count_fault();
-            self.blamed = number;
+            self.read_faults.add(number);
             return Err(Failed);
         }
         self.source = number;
@@ -154,22 +165,22 @@ impl Files for MemFiles {
         ensures still_open { is_reading self.new ≡ true }
         ensures same_source { source_of self.new ≡ source_of self.old }
         ensures kept { (file : List ℕ) → held self.new file ≡ held self.old file }
-        ensures cause { HasCause (faults_of self.old) (faults_of self.new) result }
-        ensures blamed { OnErr result (IfSome (blame_of self.new) (λ blamed. source_of self.old ≡ Some blamed)) }
-        ensures same_blame { OnOk result (blame_of self.new ≡ blame_of self.old) }
+        ensures cause { HasCause (read_faults_of self.old) (read_faults_of self.new) result }
+        ensures blamed { OnErr result (IfSome (read_blame_of self.new) (λ blamed. source_of self.old ≡ Some blamed)) }
+        ensures same_blame { OnOk result (read_blame_of self.new ≡ read_blame_of self.old) }
+        ensures writing { KeepsWriting (state_of self.old) (state_of self.new) }
 
         ensures listed { IsErr result ↔ Contains (fails_of self.old) (calls_of self.old) }
         ensures moved { IfOk result (λ count. count ≡ min (min (chunk_of self.old) (length buf.old)) (length (left_of self.old))) }
         ensures untouched { OnErr result (buf.new ≡ buf.old) }
         ensures counted { calls_of self.new ≡ min (calls_of self.old + 1) (2 ^ 64 - 1) }
-        ensures ok_faults { OnOk result (faults_of self.new ≡ faults_of self.old) }
-        ensures err_faults { OnErr result (faults_of self.new ≡ min (faults_of self.old + 1) (2 ^ 64 - 1)) }
+        ensures ok_faults { OnOk result (read_faults_of self.new ≡ read_faults_of self.old) }
+        ensures err_faults { OnErr result (read_faults_of self.new ≡ min (read_faults_of self.old + 1) (2 ^ 64 - 1)) }
         ensures same_fails { fails_of self.new ≡ fails_of self.old }
         ensures same_chunk { chunk_of self.new ≡ chunk_of self.old }
     {
         if self.calls.count_call() {
-            self.calls.count_fault();
-            self.blamed = self.source;
+            self.read_faults.add(self.source);
             return Err(Failed);
         }
         let rest = self.rest();
@@ -177,5 +188,113 @@ impl Files for MemFiles {
         buf[..count].copy_from_slice(&rest[..count]);
         self.place += count;
         Ok(count)
+    }
+
+    /// Puts an empty file there, in place of one of that name, and begins to write it. It fails where the call's number
+    /// stands in the list, and when there is no memory for a new file. Then the files are as before, and a name that no
+    /// file has is not told as the one to blame.
+    fn create(&mut self, name: &str) -> Result<(), Failed>
+        ensures begun { OnOk result (BeginsWriting name.now (state_of self.new)) }
+        ensures shut { OnErr result (is_writing self.new ≡ false) }
+        ensures stays { OnErr result (StaysOrEmpty (held self.old name.now) (held self.new name.now)) }
+        ensures others { (other : List ℕ) → other ≢ name.now → held self.new other ≡ held self.old other }
+        ensures cause { HasCause (write_faults_of self.old) (write_faults_of self.new) result }
+        ensures blamed { OnErr result (IfSome (write_blame_of self.new) (λ blamed. blamed ≡ name.now)) }
+        ensures same_blame { OnOk result (write_blame_of self.new ≡ write_blame_of self.old) }
+        ensures reading { KeepsReading (state_of self.old) (state_of self.new) }
+
+        ensures empty { OnOk result (held self.new name.now ≡ Some []) }
+        ensures told { OnOk result (target_of self.new ≡ Some name.now) }
+        ensures kept { OnErr result ((file : List ℕ) → held self.new file ≡ held self.old file) }
+        ensures same_target { OnErr result (target_of self.new ≡ target_of self.old) }
+        ensures listed { Contains (fails_of self.old) (calls_of self.old) → IsErr result }
+        ensures failed { OnErr result (Contains (fails_of self.old) (calls_of self.old) ⊎ (held self.old name.now ≡ None)) }
+        ensures told_blame { OnErr result (IsSome (held self.old name.now) → write_blame_of self.new ≡ Some name.now) }
+        ensures counted { calls_of self.new ≡ min (calls_of self.old + 1) (2 ^ 64 - 1) }
+        ensures ok_faults { OnOk result (write_faults_of self.new ≡ write_faults_of self.old) }
+        ensures err_faults { OnErr result (write_faults_of self.new ≡ min (write_faults_of self.old + 1) (2 ^ 64 - 1)) }
+        ensures same_fails { fails_of self.new ≡ fails_of self.old }
+        ensures same_chunk { chunk_of self.new ≡ chunk_of self.old }
+    {
+        self.writing = false;
+        let number = self.files.get_index_of(name);
+        if self.calls.count_call() {
+            self.write_faults.add(number);
+            return Err(Failed);
+        }
+        let Ok(target) = put_empty(self.alloc, &mut self.files, name) else {
+            self.write_faults.add(number);
+            return Err(Failed);
+        };
+        self.target = Some(target);
+        self.writing = true;
+        Ok(())
+    }
+
+    /// Appends the first bytes of a piece: as many as the chunk and the piece allow. It fails where the call's number
+    /// stands in the list, and when out of memory. Then nothing is appended.
+    fn put(&mut self, bytes: &[u8]) -> Result<usize, Failed>
+        requires is_created { is_writing self.old ≡ true }
+        ensures bound { IfOk result (λ count. (count ≤ length bytes.now) × (0 < length bytes.now → 0 < count)) }
+        ensures gained { IfOk result (λ count. FileGains (state_of self.old) (state_of self.new) (take count bytes.now)) }
+        ensures prefix { OnErr result (FileGainsPrefix (state_of self.old) (state_of self.new) bytes.now) }
+        ensures still_writing { is_writing self.new ≡ true }
+        ensures same_target { target_of self.new ≡ target_of self.old }
+        ensures cause { HasCause (write_faults_of self.old) (write_faults_of self.new) result }
+        ensures blamed { OnErr result (IfSome (write_blame_of self.new) (λ blamed. target_of self.old ≡ Some blamed)) }
+        ensures same_blame { OnOk result (write_blame_of self.new ≡ write_blame_of self.old) }
+        ensures reading { KeepsReading (state_of self.old) (state_of self.new) }
+
+        ensures moved { IfOk result (λ count. count ≡ min (chunk_of self.old) (length bytes.now)) }
+        ensures kept { OnErr result ((file : List ℕ) → held self.new file ≡ held self.old file) }
+        ensures listed { Contains (fails_of self.old) (calls_of self.old) → IsErr result }
+        ensures failed { OnErr result (Contains (fails_of self.old) (calls_of self.old) ⊎ (room_of self.old < min (chunk_of self.old) (length bytes.now))) }
+        ensures told_blame { OnErr result (write_blame_of self.new ≡ target_of self.old) }
+        ensures counted { calls_of self.new ≡ min (calls_of self.old + 1) (2 ^ 64 - 1) }
+        ensures ok_faults { OnOk result (write_faults_of self.new ≡ write_faults_of self.old) }
+        ensures err_faults { OnErr result (write_faults_of self.new ≡ min (write_faults_of self.old + 1) (2 ^ 64 - 1)) }
+        ensures same_fails { fails_of self.new ≡ fails_of self.old }
+        ensures same_chunk { chunk_of self.new ≡ chunk_of self.old }
+    {
+        let Some(target) = self.target else {
+            unreachable!();
+        };
+        let count = self.chunk.min(bytes.len());
+        if self.calls.count_call() {
+            self.write_faults.add(self.target);
+            return Err(Failed);
+        }
+        let Ok(()) = append_at(&mut self.files, target, &bytes[..count]) else {
+            self.write_faults.add(self.target);
+            return Err(Failed);
+        };
+        Ok(count)
+    }
+
+    /// Ends the writing. It fails exactly where the call's number stands in the list.
+    fn finish(&mut self) -> Result<(), Failed>
+        requires is_created { is_writing self.old ≡ true }
+        ensures ended { is_writing self.new ≡ false }
+        ensures same_target { target_of self.new ≡ target_of self.old }
+        ensures kept { (file : List ℕ) → held self.new file ≡ held self.old file }
+        ensures cause { HasCause (write_faults_of self.old) (write_faults_of self.new) result }
+        ensures blamed { OnErr result (IfSome (write_blame_of self.new) (λ blamed. target_of self.old ≡ Some blamed)) }
+        ensures same_blame { OnOk result (write_blame_of self.new ≡ write_blame_of self.old) }
+        ensures reading { KeepsReading (state_of self.old) (state_of self.new) }
+
+        ensures listed { IsErr result ↔ Contains (fails_of self.old) (calls_of self.old) }
+        ensures told_blame { OnErr result (write_blame_of self.new ≡ target_of self.old) }
+        ensures counted { calls_of self.new ≡ min (calls_of self.old + 1) (2 ^ 64 - 1) }
+        ensures ok_faults { OnOk result (write_faults_of self.new ≡ write_faults_of self.old) }
+        ensures err_faults { OnErr result (write_faults_of self.new ≡ min (write_faults_of self.old + 1) (2 ^ 64 - 1)) }
+        ensures same_fails { fails_of self.new ≡ fails_of self.old }
+        ensures same_chunk { chunk_of self.new ≡ chunk_of self.old }
+    {
+        self.writing = false;
+        if self.calls.count_call() {
+            self.write_faults.add(self.target);
+            return Err(Failed);
+        }
+        Ok(())
     }
 }

@@ -16,6 +16,7 @@ pub struct MemOut {
     bytes: Vec<u8>,
     chunk: usize,
     calls: Calls,
+    faults: u64,
     ghost takes_some: { 1 ≤ chunk },
 }
 
@@ -39,6 +40,7 @@ impl MemOut {
             bytes: Vec::new(alloc),
             chunk,
             calls: Calls::new(alloc, fails)?,
+            faults: 0,
         })
     }
 
@@ -76,7 +78,7 @@ impl Out for MemOut {
     {
         let count = self.chunk.min(bytes.len());
         if self.calls.count_call() || self.bytes.extend_from_slice(&bytes[..count]).is_err() {
-            self.calls.count_fault();
+            self.faults = self.faults.saturating_add(1);
             return Err(Failed);
         }
         Ok(count)

@@ -1,6 +1,7 @@
 //! A file as a whole.
 ghost use Rattle.std.specs.Prelude.{◌≡◌, ℕ, ◌+◌, ◌^◌, ◌<◌, ◌≤◌, List, length, Some, IfOk, OnOk, IfSome, IsErrOf, vec_len, []};
 ghost use Rattle.vg_store.specs.Reading.{FailsOnOpenFile, HasRead, IsTooLong, ReadFaultAt, read_file};
+ghost use Rattle.vg_store.specs.States.{KeepsWriting};
 ghost use Rattle.vg_store.specs.declared.read.ReadAll.TheVariants.{Failed, Memory};
 
 use crate::files::{Failed, Files};
@@ -63,6 +64,7 @@ fn take_piece<F: Files>(
     ensures same_source { (F.state files.new).source ≡ (F.state files.old).source }
     ensures same_file { read_file (F.state files.new) ≡ read_file (F.state files.old) }
     ensures kept { (file : List ℕ) → (F.state files.new).holds file ≡ (F.state files.old).holds file }
+    ensures writing { KeepsWriting (F.state files.old) (F.state files.new) }
 {
     let room = buf.len().min(MOST_BYTES + 1 - bytes.len());
     let piece = &mut buf[..room];
@@ -81,6 +83,7 @@ fn take_pieces<F: Files>(alloc: Global, files: &mut F, buf: &mut [u8]) -> Result
     ensures failed { IsErrOf result ReadAll.Failed → FailsOnOpenFile (F.state files.old) (F.state files.new) }
     ensures never_falls { (F.state files.old).read_faults ≤ (F.state files.new).read_faults }
     ensures kept { (file : List ℕ) → (F.state files.new).holds file ≡ (F.state files.old).holds file }
+    ensures writing { KeepsWriting (F.state files.old) (F.state files.new) }
 {
     let mut bytes = Vec::new(alloc);
     'pieces: while bytes.len() <= MOST_BYTES {
@@ -112,6 +115,7 @@ pub fn read_all<F: Files>(alloc: Global, files: &mut F, name: &str) -> Result<Ve
     ensures failed { IsErrOf result ReadAll.Failed → ReadFaultAt (F.state files.old) (F.state files.new) (λ blamed. blamed ≡ name.now) }
     ensures never_falls { (F.state files.old).read_faults ≤ (F.state files.new).read_faults }
     ensures kept { (file : List ℕ) → (F.state files.new).holds file ≡ (F.state files.old).holds file }
+    ensures writing { KeepsWriting (F.state files.old) (F.state files.new) }
 {
     files.open(name)?;
     let mut buf = make_buffer(alloc)?;

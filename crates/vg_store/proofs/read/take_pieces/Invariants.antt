@@ -1,5 +1,6 @@
 use Rattle.std.proofs.Common.{◌≡◌, ◌+◌, ◌-◌, ◌^◌, ◌≤◌, ℕ, List, vec_len}
 use Rattle.vg_store.specs.Reading.{HasRead, read_file}
+use Rattle.vg_store.specs.States.{KeepsWriting}
 use Rattle.vg_store.proofs.read.take_pieces.Given as goal
 
 abbrev pub invariant-pieces : goal.invariant-pieces
@@ -10,6 +11,7 @@ invariant-pieces g l = record {
   same_file : read_file (g.F.Files.state l.files) ≡ read_file (g.F.Files.state l.fn.files);
   later : (g.F.Files.state l.fn.files).read_faults ≤ (g.F.Files.state l.files).read_faults;
   kept : (file : List ℕ) → (g.F.Files.state l.files).holds file ≡ (g.F.Files.state l.fn.files).holds file;
+  writing : KeepsWriting (g.F.Files.state l.fn.files) (g.F.Files.state l.files);
 }
 
 abbrev pub decreases-pieces : goal.decreases-pieces

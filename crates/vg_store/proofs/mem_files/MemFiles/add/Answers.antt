@@ -7,10 +7,19 @@ use Rattle.vg_store.proofs.mem_files.MemFiles.add.Goals as goal
 pub returns-clause-others : goal.returns-clause-others
 returns-clause-others c = λ other differs. grind (arith, text_keys)
 
-pub returns-clause-same_place : goal.returns-clause-same_place
-returns-clause-same_place c =
-    (name_stays string_eq c.args.self.now.files c.insert.new.self c.in_ok-name.name c.from_vec-row.result c.args.self.now.source c.in_ok-insert.ensures.entries c.args.self.now.source_stands, refl)
+pub returns-clause-reading : goal.returns-clause-reading
+returns-clause-reading c = record {
+  same_faults = refl;
+  same_blame = name_stays string_eq c.args.self.now.files c.insert.new.self c.in_ok-name.name c.in_ok-bytes.bytes c.args.self.now.read_faults.blamed c.in_ok-insert.ensures.entries c.args.self.now.read_blamed_stands;
+  same_source = name_stays string_eq c.args.self.now.files c.insert.new.self c.in_ok-name.name c.in_ok-bytes.bytes c.args.self.now.source c.in_ok-insert.ensures.entries c.args.self.now.source_stands;
+  same_taken = refl;
+  same_reading = refl;
+}
 
-pub returns-clause-same_blame : goal.returns-clause-same_blame
-returns-clause-same_blame c =
-    name_stays string_eq c.args.self.now.files c.insert.new.self c.in_ok-name.name c.from_vec-row.result c.args.self.now.blamed c.in_ok-insert.ensures.entries c.args.self.now.blamed_stands
+pub returns-clause-writing : goal.returns-clause-writing
+returns-clause-writing c = record {
+  same_faults = refl;
+  same_blame = name_stays string_eq c.args.self.now.files c.insert.new.self c.in_ok-name.name c.in_ok-bytes.bytes c.args.self.now.write_faults.blamed c.in_ok-insert.ensures.entries c.args.self.now.write_blamed_stands;
+  same_target = name_stays string_eq c.args.self.now.files c.insert.new.self c.in_ok-name.name c.in_ok-bytes.bytes c.args.self.now.target c.in_ok-insert.ensures.entries c.args.self.now.target_stands;
+  same_writing = refl;
+}

@@ -1,14 +1,14 @@
-use Rattle.std.proofs.Common.{◌≡◌, ◌∙◌, ap, rules, refl, true}
+use Rattle.std.proofs.Common.{◌≡◌, ◌∙◌, ap, rules, refl, sym, true}
 use Rattle.std.specs.Prelude.{is_some}
-use Rattle.vg_store.proofs.NumberLemmas.{name_is, name_if}
+use Rattle.vg_store.proofs.NumberLemmas.{name_is, name_if, some_items}
 use Rattle.vg_store.proofs.mem_files.MemFilesFiles.open.Goals as goal
 
 pub returns-then-count_call-clause-blamed : goal.returns-then-count_call-clause-blamed
-returns-then-count_call-clause-blamed c = name_if c.args.self.now.files c.args.name.now c.get_index_of-number.result c.get_index_of-number.ensures.index
+returns-then-count_call-clause-blamed c = name_if c.args.self.now.files c.args.name.now c.add.new.self.blamed (c.add.ensures.blamed ∙ c.get_index_of-number.ensures.index)
 
 pub returns-then-count_call-clause-told_blame : goal.returns-then-count_call-clause-told_blame
 returns-then-count_call-clause-told_blame c = λ held.
-    name_is c.args.self.now.files c.args.name.now c.get_index_of-number.result c.get_index_of-number.ensures.index (c.get_index_of-number.ensures.found ∙ held)
+    name_is c.args.self.now.files c.args.name.now c.add.new.self.blamed (c.add.ensures.blamed ∙ c.get_index_of-number.ensures.index) (ap is_some c.add.ensures.blamed ∙ c.get_index_of-number.ensures.found ∙ sym (some_items c.args.self.now.files c.args.name.now) ∙ held)
 
 pub returns-clause-begun : goal.returns-clause-begun
 returns-clause-begun c =

@@ -1,0 +1,100 @@
+//! Files that are written: what no clause says of them.
+ghost use Rattle.std.specs.Prelude.{◌≤◌};
+
+use std::alloc::Global;
+use std::test::Fail;
+use vg_store::{Files, MemFiles, RealFiles, read_all, write_file};
+
+const OLD: &[u8] = b"old";
+
+const NEW: &[u8] = b"newer";
+
+const OTHER: &[u8] = b"other";
+
+fn made_files(alloc: Global, chunk: usize, fails: &[u64]) -> Result<MemFiles, Fail>
+    requires { 1 ≤ chunk }
+{
+    let mut files = MemFiles::new(alloc, chunk, fails)?;
+    files.add("other", OTHER)?;
+    files.add("old", OLD)?;
+    Ok(files)
+}
+
+/// Whether the new bytes are written, by this chunk and where these calls fail, and what the file then holds. The other
+/// file has to stay, and a call that fails is not to keep the next write from what it does.
+fn leaves(
+    alloc: Global,
+    chunk: usize,
+    fails: &[u64],
+    name: &str,
+    written: bool,
+    held: Option<&[u8]>,
+) -> Result<bool, Fail>
+    requires { 1 ≤ chunk }
+{
+    let mut files = made_files(alloc, chunk, fails)?;
+    let first = write_file(&mut files, name, NEW).is_ok() == written
+        && files.get(name) == held
+        && files.get("other") == Some(OTHER);
+    let again = write_file(&mut files, name, OLD).is_ok() && files.get(name) == Some(OLD);
+    Ok(first && again)
+}
+
+// By chunks of 2 the new bytes take five calls: `create`, three of `put`, and `finish`.
+#[test]
+fn writes_whole_files_and_first_pieces(rt: HostRuntime) -> Result<(), Fail> {
+    let alloc = rt.alloc();
+    assert!(rt; leaves(alloc, 64, &[], "old", true, Some(NEW))?);
+    assert!(rt; leaves(alloc, 2, &[], "old", true, Some(NEW))?);
+    assert!(rt; leaves(alloc, 2, &[], "fresh", true, Some(NEW))?);
+    assert!(rt; leaves(alloc, 2, &[0], "old", false, Some(OLD))?);
+    assert!(rt; leaves(alloc, 2, &[0], "fresh", false, None)?);
+    assert!(rt; leaves(alloc, 2, &[1], "old", false, Some(b""))?);
+    assert!(rt; leaves(alloc, 2, &[2], "old", false, Some(b"ne"))?);
+    assert!(rt; leaves(alloc, 2, &[3], "fresh", false, Some(b"newe"))?);
+    assert!(rt; leaves(alloc, 2, &[4], "old", false, Some(NEW))?);
+    Ok(())
+}
+
+/// Reads a file while it is written.
+fn reads_on(alloc: Global) -> Result<bool, Fail> {
+    let mut files = made_files(alloc, 2, &[])?;
+    let mut buf = [0u8; 4];
+    files.open("old")?;
+    files.create("old")?;
+    let before = files.next(&mut buf)?;
+    let empty = files.put(b"")?;
+    let put = files.put(NEW)?;
+    let after = files.next(&mut buf)?;
+    Ok(before == 0 && empty == 0 && put == 2 && after == 2 && buf == *b"ne\0\0")
+}
+
+#[test]
+fn reads_what_is_put(rt: HostRuntime) -> Result<(), Fail> {
+    assert!(rt; reads_on(rt.alloc())?);
+    Ok(())
+}
+
+fn reads_back<F: Files>(alloc: Global, files: &mut F, name: &str, bytes: &[u8]) -> bool {
+    match read_all(alloc, files, name) {
+        Ok(read) => read.as_slice() == bytes,
+        Err(_) => false,
+    }
+}
+
+const WRITTEN: &str = "vg_store_whole.tmp";
+
+// The file stands where the test runs, and is removed again. No file can stand at the other paths, or take the bytes.
+#[test]
+fn writes_the_systems_files(rt: HostRuntime) -> Result<(), Fail> {
+    let mut files = RealFiles::new(&rt);
+    for bytes in [NEW, b"", OTHER] {
+        assert!(rt; write_file(&mut files, WRITTEN, bytes).is_ok());
+        assert!(rt; reads_back(rt.alloc(), &mut files, WRITTEN, bytes));
+    }
+    std::fs::remove_file(&rt, WRITTEN)?;
+    for path in [".", "vg_store_none/whole.tmp", "/dev/full"] {
+        assert!(rt; write_file(&mut files, path, NEW).is_err(), "{path}");
+    }
+    Ok(())
+}

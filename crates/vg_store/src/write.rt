@@ -1,0 +1,44 @@
+//! A file that is written as a whole.
+ghost use Rattle.std.specs.Prelude.{◌≡◌, ◌≢◌, ℕ, ◌<◌, ◌≤◌, List, length, Bool, true, false, Option, Some, IfSome, OnOk, OnErr};
+ghost use Rattle.vg_store.specs.States.{KeepsReading};
+ghost use Rattle.vg_store.specs.Writing.{FileGains, FileGainsPrefix, StaysOrPrefix, WriteFaultAt};
+
+use crate::files::{Failed, Files};
+
+// Appends all of the bytes to the file that is being written, in as many calls of `put` as it takes.
+fn put_pieces<F: Files>(files: &mut F, bytes: &[u8]) -> Result<(), Failed>
+    requires is_created { (F.state files.old).writing ≡ true }
+    ensures all { OnOk result (FileGains (F.state files.old) (F.state files.new) bytes.now) }
+    ensures prefix { OnErr result (FileGainsPrefix (F.state files.old) (F.state files.new) bytes.now) }
+    ensures failed { OnErr result (WriteFaultAt (F.state files.old) (F.state files.new) (λ blamed. (F.state files.old).target ≡ Some blamed)) }
+    ensures never_falls { (F.state files.old).write_faults ≤ (F.state files.new).write_faults }
+    ensures still_writing { (F.state files.new).writing ≡ true }
+    ensures same_target { (F.state files.new).target ≡ (F.state files.old).target }
+    ensures same_blame { OnOk result ((F.state files.new).write_blame ≡ (F.state files.old).write_blame) }
+    ensures reading { KeepsReading (F.state files.old) (F.state files.new) }
+{
+    let mut done = 0;
+    'pieces: while done < bytes.len() {
+        done += files.put(&bytes[done..])?;
+    }
+    Ok(())
+}
+
+/// Writes a file whole: creates it, puts all of the bytes and finishes it. At the first `Failed` it stops and answers
+/// it: the count of write faults rose in this call, at this file, which is as it was or holds a prefix of the bytes.
+/// It takes no memory.
+pub fn write_file<F: Files>(files: &mut F, name: &str, bytes: &[u8]) -> Result<(), Failed>
+    ensures whole { OnOk result (IfSome ((F.state files.new).holds name.now) (λ file. file ≡ bytes.now)) }
+    ensures prefix { OnErr result (StaysOrPrefix ((F.state files.old).holds name.now) ((F.state files.new).holds name.now) bytes.now) }
+    ensures others { (other : List ℕ) → other ≢ name.now → (F.state files.new).holds other ≡ (F.state files.old).holds other }
+    ensures failed { OnErr result (WriteFaultAt (F.state files.old) (F.state files.new) (λ blamed. blamed ≡ name.now)) }
+    ensures never_falls { (F.state files.old).write_faults ≤ (F.state files.new).write_faults }
+    ensures ended { OnOk result ((F.state files.new).writing ≡ false) }
+    ensures same_blame { OnOk result ((F.state files.new).write_blame ≡ (F.state files.old).write_blame) }
+    ensures reading { KeepsReading (F.state files.old) (F.state files.new) }
+{
+    files.create(name)?;
+    put_pieces(files, bytes)?;
+    files.finish()?;
+    Ok(())
+}
