@@ -12,17 +12,14 @@ use Rattle.elmore.specs.declared.rep.Rep.{Rep}
 use Rattle.cand_laws.specs.Candidates.{with_cell}
 use Rattle.cand_laws.specs.Merging.{NoneFits}
 use Rattle.cand_pool.specs.Candidates.{Candidates}
-use Rattle.cand_pool.specs.Pools.{Block}
-use Rattle.cand_pool.specs.declared.ends.Cand.{Cand}
+use Rattle.vg_convex.specs.declared.work.Point.{Point}
 use Rattle.cand_uses.specs.Pairs.{pair_of, pairs_of}
 use Rattle.vg_convex.specs.Hulls.{value, Rise, IsGreatest}
-use Rattle.vg_convex.specs.Places.{row, IsHullOf, AreWithin}
+use Rattle.vg_convex.specs.Places.{candidate_at, row, IsHullOf, AreWithin}
 use Rattle.elmore.specs.Allowances.{Allows}
 use Rattle.elmore.specs.declared.allowed.Allowed.{Allowed}
 use Rattle.vg_convex.specs.Answers.{IsBestOf, IsAnswer, found_at, IsRow}
 use Rattle.vg_convex.specs.declared.work.Found.{Found}
-use Rattle.vg_convex.proofs.Numbers.{nth}
-use Rattle.vg_convex.proofs.Stacks.{hull_size}
 
 -- a pair of a list has a number
 pub numbered : (xs : Candidates) (y : Pair) → Contains (pairs_of xs) y → (i : ℕ) × (i < length xs) × (row xs i ≡ y)
@@ -50,8 +47,8 @@ none_from xs rep rise cut y y_in within =
     none_past xs 0 rep.limit rise cut.past i (omega arith) low (subst (λ (p : Pair). IsWithin rep.limit p.c) (sym e) within)
 
 -- no candidate is within the limit where none came on
-pub none_found : (s : Block) (xs : Candidates) (n : ℕ) (stack : List Cand) (rep : Rep) → IsHullOf s xs n stack → AreWithin rep.limit xs n → length stack ≡ 0 → NoneFits rep (pairs_of xs)
-none_found s xs n stack rep h cut empty =
+pub none_found : (xs : Candidates) (n : ℕ) (stack : List Point) (rep : Rep) → IsHullOf xs n stack → AreWithin rep.limit xs n → length stack ≡ 0 → NoneFits rep (pairs_of xs)
+none_found xs n stack rep h cut empty =
     let none : n ≡ 0 = elim (cases_lt 0 n) [
       | inl on ↦ let some = (h.hull.some on).chain.some in absurd (omega (arith, some, empty))
       | inr off ↦ omega arith
@@ -70,9 +67,9 @@ all_within xs rep free = record {
 
 -- the greatest worth of those within the limit gives the greatest time
 pub best_found : (xs : Candidates) (n : ℕ) (rep : Rep) (i : ℕ) (found : Found) → Rise (row xs) (length xs) → AreWithin rep.limit xs n → i < length xs
-    → IsGreatest (row xs) n rep.r i → found.tag ≡ (nth xs i).tag → found.time ≡ (nth xs i).q -ℤ pos (rep.k + rep.r * (nth xs i).c) → IsBestOf rep xs found
+    → IsGreatest (row xs) n rep.r i → found.tag ≡ (candidate_at xs i).tag → found.time ≡ (candidate_at xs i).q -ℤ pos (rep.k + rep.r * (candidate_at xs i).c) → IsBestOf rep xs found
 best_found xs n rep i found rise cut i_low best tag time = record {
-  from = nth xs i;
+  from = candidate_at xs i;
   among = Contains-get_or xs i (record { q = pos 0; c = 0; tag = 0 }) i_low;
   tag = tag;
   made = record { within = cut.within i best.inside; made = made };
@@ -90,14 +87,11 @@ best_found xs n rep i found rise cut i_low best tag time = record {
   };
 }
   where
-    made : record { q = found.time; c = rep.cin } ≡ with_cell (Some rep) (pair_of (nth xs i))
+    made : record { q = found.time; c = rep.cin } ≡ with_cell (Some rep) (pair_of (candidate_at xs i))
     made = ap (λ q. record { q = q; c = rep.cin }) time
 
     among : Contains (pairs_of xs) (row xs i)
     among = (i, omega (arith, i_low, length-map xs pair_of), get_or-map pair_of xs i (record { q = pos 0; c = 0; tag = 0 }) (row xs i) i_low)
-
-pub stack_size : (s : Block) (xs : Candidates) (n : ℕ) (stack : List Cand) → IsHullOf s xs n stack → length stack ≤ length xs
-stack_size s xs n stack h = omega (arith, hull_size (row xs) n h.numbers (length stack) h.hull, h.few)
 
 -- a row with one answer more
 row_none : (allowed : Allowed) (reps : List Rep) (xs : Candidates) (b : ℕ) (found : Option Found) → IsAnswer allowed reps xs b found → (Allows allowed b → ⊥) → found ≡ None

@@ -1,7 +1,6 @@
 pub mod Lines
 pub mod Stacks
 pub mod Peaks
-pub mod Halves
 pub mod Numbers
 pub mod Places
 pub mod Fronts

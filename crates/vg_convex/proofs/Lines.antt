@@ -52,12 +52,12 @@ later_part g e p s u w some inner outer =
     omega (arith, part, inner)
 
 -- a pair as seen from an earlier one
-pub record Follows (a b : Pair) (s u : ℕ) : Type 0 where
+record Follows (a b : Pair) (s u : ℕ) : Type 0 where
   pub time : b.q -ℤ a.q ≡ pos s
   pub room : b.c ≡ a.c + u
   pub apart : 0 < u
 
-pub follows : (a b : Pair) → IsBelow a b → (s : ℕ) × (u : ℕ) × Follows a b s u
+follows : (a b : Pair) → IsBelow a b → (s : ℕ) × (u : ℕ) × Follows a b s u
 follows a b below =
     let (s, time) = gap a.q b.q below.time in
     (s, b.c - a.c, record { time = time; room = omega (arith, below.room); apart = omega (arith, below.room) })
@@ -75,18 +75,13 @@ sags_as a b c s t u w f g sags =
     let moved : (pos s *ℤ pos w) ≤ℤ (pos t *ℤ pos u) = rw (f.time, g.time, room_of a b s u f, room_of b c t w g) at sags in
     omega (arith, ints, moved)
 
-pub as_sags : (a b c : Pair) (s t u w : ℕ) → Follows a b s u → Follows b c t w → s * w ≤ t * u → Sags a b c
+as_sags : (a b c : Pair) (s t u w : ℕ) → Follows a b s u → Follows b c t w → s * w ≤ t * u → Sags a b c
 as_sags a b c s t u w f g le =
     let moved : (pos s *ℤ pos w) ≤ℤ (pos t *ℤ pos u) = omega (arith, ints, le) in
     rw (f.time, g.time, room_of a b s u f, room_of b c t w g) moved
 
-pub as_bends : (a b c : Pair) (s t u w : ℕ) → Follows a b s u → Follows b c t w → t * u < s * w → Bends a b c
-as_bends a b c s t u w f g less =
-    let moved : (pos t *ℤ pos u) <ℤ (pos s *ℤ pos w) = omega (arith, ints, less) in
-    rw (f.time, g.time, room_of a b s u f, room_of b c t w g) moved
-
 -- of two pairs that follow one another
-pub chained : (a b c : Pair) (s t u w : ℕ) → Follows a b s u → Follows b c t w → Follows a c (s + t) (u + w)
+chained : (a b c : Pair) (s t u w : ℕ) → Follows a b s u → Follows b c t w → Follows a c (s + t) (u + w)
 chained a b c s t u w f g = record {
   time = omega (arith, ints, f.time, g.time);
   room = omega (arith, f.room, g.room);

@@ -11,16 +11,16 @@ use Rattle.cand_pool.specs.Pools.{Block, IsPlace}
 use Rattle.cand_pool.specs.declared.ends.Cand.{Cand}
 use Rattle.vg_convex.specs.Answers.{IsFoundFor}
 use Rattle.vg_convex.specs.Hulls.{value, Rise, IsGreatest}
-use Rattle.vg_convex.specs.Places.{row, IsNext, AreWithin}
+use Rattle.vg_convex.specs.Places.{candidate_at, row, IsNext, AreWithin}
 use Rattle.vg_convex.specs.declared.work.Found.{Found}
-use Rattle.vg_convex.proofs.Numbers.{nth, inside, at_place}
+use Rattle.vg_convex.proofs.Numbers.{inside, at_place}
 use Rattle.vg_convex.proofs.Finds.{none_from, best_found}
 use Rattle.vg_convex.proofs.Walks.{IsAfter}
 
 -- the time before a repeater that drives candidate i, and the candidate's tag
 pub record IsTimeOf (rep : Rep) (xs : Candidates) (i : ℕ) (found : Found) : Type 0 where
-  pub tag : found.tag ≡ (nth xs i).tag
-  pub time : found.time ≡ (nth xs i).q -ℤ pos (rep.k + rep.r * (nth xs i).c)
+  pub tag : found.tag ≡ (candidate_at xs i).tag
+  pub time : found.time ≡ (candidate_at xs i).q -ℤ pos (rep.k + rep.r * (candidate_at xs i).c)
 
 -- what was found among the first n candidates: nothing where there were none
 abbrev pub IsFoundAmong : Rep → Candidates → ℕ → Option Found → Type 0
@@ -93,7 +93,7 @@ among_more xs rep n (Some best) made result (i, most, is) told which = elim whic
 
 -- one candidate more is seen
 pub scan_more : (s : Block) (xs : Candidates) (rep : Rep) (place : Cand) (next : Option Cand) (found : Option Found) (made result : Found) (before steps steps' c : ℕ)
-    → (w : IsScan s xs rep (Some place) found before steps) → c ≡ (nth xs w.seen).c → IsWithin rep.limit c → IsTimeOf rep xs w.seen made
+    → (w : IsScan s xs rep (Some place) found before steps) → c ≡ (candidate_at xs w.seen).c → IsWithin rep.limit c → IsTimeOf rep xs w.seen made
     → IsLater found made result → IsAfter s place next → steps' ≡ steps + 1 → IsScan s xs rep next (Some result) before steps'
 scan_more s xs rep place next found made result before steps steps' c w c_is within told which after step = record {
   seen = w.seen + 1;
@@ -102,7 +102,7 @@ scan_more s xs rep place next found made result before steps steps' c w c_is wit
     | inl old ↦ w.within i old
     | inr new ↦ let e : i ≡ w.seen = omega (arith, low, new) in subst (λ k. IsWithin rep.limit (row xs k).c) (sym e) (subst (λ k. IsWithin rep.limit k) c_is within)
   ];
-  more = after (nth xs w.seen) (drop (w.seen + 1) xs) (at_place s xs place w.seen w.more);
+  more = after (candidate_at xs w.seen) (drop (w.seen + 1) xs) (at_place s xs place w.seen w.more);
   among = among_more xs rep w.seen found made result w.among told which;
   cost = omega (arith, w.cost, step);
 }
@@ -115,7 +115,7 @@ found_for xs rep n (Some best) rise cut few (i, most, is) = best_found xs n rep 
 
 -- the candidate that comes next is over the limit
 pub scan_to : (s : Block) (xs : Candidates) (rep : Rep) (place : Cand) (found : Option Found) (before steps c : ℕ) → Rise (row xs) (length xs)
-    → (w : IsScan s xs rep (Some place) found before steps) → c ≡ (nth xs w.seen).c → (IsWithin rep.limit c → ⊥) → IsFoundFor rep xs found
+    → (w : IsScan s xs rep (Some place) found before steps) → c ≡ (candidate_at xs w.seen).c → (IsWithin rep.limit c → ⊥) → IsFoundFor rep xs found
 scan_to s xs rep place found before steps c rise w c_is over =
     found_for xs rep w.seen found rise
     (record { within = w.within; past = λ low within. over (subst (λ k. IsWithin rep.limit k) (sym c_is) within) }) w.few w.among
@@ -129,5 +129,5 @@ scan_ends s xs rep next found before steps rise e w =
     none_left : w.seen < length xs → ⊥
     none_left low =
         let end : drop w.seen xs ≡ [] = subst (λ (o : Option Cand). IsNext s xs w.seen o) e w.more in
-        let e : [] ≡ nth xs w.seen ∷ drop (w.seen + 1) xs = sym end ∙ drop_more xs w.seen (record { q = pos 0; c = 0; tag = 0 }) low in
+        let e : [] ≡ candidate_at xs w.seen ∷ drop (w.seen + 1) xs = sym end ∙ drop_more xs w.seen (record { q = pos 0; c = 0; tag = 0 }) low in
         absurd (cc)

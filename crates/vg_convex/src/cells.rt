@@ -54,7 +54,8 @@ fn find_each<L: Ledger>(
     requires rising { AreRising allowed.now }
     ensures rows { OnOk result (length reps.now ≤ length work.new.found.items) }
     ensures found { OnOk result (AreAnswered allowed.now reps.now xs shelf.now.by_input.items work.new.found.items) }
-    ensures cost { (d : ℕ) → length xs < 2 ^ d → steps.new ≤ steps.old + 3 * length xs + length shelf.now.by_input.items * (d + 2) }
+    ensures cost { (d : ℕ) → length xs < 2 ^ d
+        → steps.new ≤ steps.old + 3 * length xs + length shelf.now.by_input.items * (d + 2) }
 {
     if shelf.len() > FEW {
         return find_all(pool, from, reps, shelf, allowed, work, steps);
@@ -91,7 +92,8 @@ fn list_of(pool: &mut Pool, arena: &mut Arena, node: u32, results: &[Made]) -> R
     requires room { length results.now ≤ spare pool.old }
     requires live { All (λ result. IsLiveSolution (made_of arena.old) result.tag) results.now }
     requires bare { All (λ result. cells_of (made_of arena.old) result.tag node ≡ None) results.now }
-    ensures added { IfOk result (λ list. (zs : Candidates) × AreAdded pool.old pool.new (slots_of arena.old) (slots_of arena.new) list zs
+    ensures added { IfOk result (λ list. (zs : Candidates)
+        × AreAdded pool.old pool.new (slots_of arena.old) (slots_of arena.new) list zs
         × AreWithCells (made_of arena.old) (made_of arena.new) node results.now zs) }
     ensures others { OnErr result (KeepsOthers pool.old [] pool.new []) }
     ensures spare { OnErr result (spare pool.new ≡ spare pool.old) }
@@ -136,14 +138,17 @@ pub fn add_cells<L: Ledger>(
     ensures undominated { IfOk result (λ list.
         IsUndominated (IsMade reps.now shelf.now allowed.now (items_of pool.old from.now)) (pairs_of (items_of pool.new list))) }
     ensures attained { IfOk result (λ list. All (λ z. (b : ℕ) × (x : Candidate) × MayStand shelf.now allowed.now b
-        × IsAttained reps.now b (items_of pool.old from.now) x z × IsCell (made_of arena.old) (made_of arena.new) node b x.tag z.tag) (items_of pool.new list)) }
+        × IsAttained reps.now b (items_of pool.old from.now) x z
+        × IsCell (made_of arena.old) (made_of arena.new) node b x.tag z.tag) (items_of pool.new list)) }
     ensures empty { items_of pool.old from.now ≡ [] → IfOk result (λ list. items_of pool.new list ≡ []) }
     ensures few { IfOk result (λ list. length (items_of pool.new list) ≤ length shelf.now.by_input.items) }
     ensures uses { IfOk result (λ list. IsExchange (slots_of arena.old) [] (slots_of arena.new) (items_of pool.new list)) }
     ensures solutions { KeepsSolutions (made_of arena.old) (made_of arena.new) }
     ensures restored { OnErr result (IsRestored (slots_of arena.old) (slots_of arena.new)) }
-    ensures others { MatchResult result (λ list. KeepsOthers pool.old [] pool.new (name list ∷ [])) (λ _. KeepsOthers pool.old [] pool.new []) }
-    ensures spare { MatchResult result (λ list. spare pool.old ≡ spare pool.new + length (items_of pool.new list)) (λ _. spare pool.new ≡ spare pool.old) }
+    ensures others { MatchResult result (λ list. KeepsOthers pool.old [] pool.new (name list ∷ []))
+        (λ _. KeepsOthers pool.old [] pool.new []) }
+    ensures spare { MatchResult result (λ list. spare pool.old ≡ spare pool.new + length (items_of pool.new list))
+        (λ _. spare pool.new ≡ spare pool.old) }
     ensures steps { (d : ℕ) → length (items_of pool.old from.now) < 2 ^ d
         → steps.new ≤ steps.old + 3 * length (items_of pool.old from.now) + length shelf.now.by_input.items * (d + 2) }
 {

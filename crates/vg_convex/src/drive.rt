@@ -32,7 +32,8 @@ pub(crate) fn is_allowed(allowed: &Allowed, rep: u32) -> bool
 /// Whether a node allows some repeater of an order.
 pub(crate) fn allows_any(allowed: &Allowed, order: &[u32]) -> bool
     requires rising { AreRising allowed.now }
-    ensures { MatchBool result ((b : ℕ) × Contains order.now b × Allows allowed.now b) (All (λ b. Allows allowed.now b → ⊥) order.now) }
+    ensures { MatchBool result ((b : ℕ) × Contains order.now b × Allows allowed.now b)
+        (All (λ b. Allows allowed.now b → ⊥) order.now) }
 {
     'order: for rep in order {
         if is_allowed(allowed, *rep) {

@@ -1,72 +1,92 @@
-//! The upper hull of the first candidates of a list, on a stack of their places.
+//! The upper hull of the first candidates of a list, on a stack of points.
 
-ghost use Rattle.std.specs.Prelude.{◌≡◌, ℕ, suc, ◌+◌, ◌^◌, ◌<◌, ◌≤◌, ◌<ℤ◌, ◌≤ℤ◌, length, MatchBool, OnOk};
-ghost use Rattle.cand_pool.specs.Candidates.{Candidates, AreModest};
-ghost use Rattle.vg_convex.specs.Hulls.{value, IsGreatest};
-ghost use Rattle.vg_convex.specs.Places.{row, IsNumber, IsHullOf, IsFrontOf};
+ghost use Rattle.std.specs.Prelude.{◌≡◌, ℕ, ◌+◌, ◌*◌, ◌^◌, ◌<◌, ◌≤◌, pos, ◌*ℤ◌, ◌<ℤ◌, ◌≤ℤ◌, int_lt, length, MatchBool, OnOk};
+ghost use Rattle.elmore.specs.Pairs.{IsBelow};
+ghost use Rattle.cand_pool.specs.Candidates.{Candidates, IsModest};
+ghost use Rattle.vg_convex.specs.Hulls.{value, Bends, Sags, IsGreatest};
+ghost use Rattle.vg_convex.specs.Places.{row, told_by, pair_in, IsPointOf, IsHullOf, IsFrontOf};
 
-use cand_pool::{Cand, Pool, Steps};
-use std::cmp::Ordering;
-use std::sync::ledger::Ledger;
+use crate::work::Point;
 use vg_num::Memory;
 
-/// Puts a candidate on the hull of those before it. What then no longer bends comes off (Graham 1972). Answers `Memory`
-/// where there is no room.
-pub(crate) fn put_on<L: Ledger>(
-    pool: &Pool,
-    stack: &mut Vec<Cand>,
-    next: Cand,
-    steps: &mut Steps<L>,
-) -> Result<(), Memory>
+/// Whether the first of two products of a time and a load is the lesser. Where both times have 64 bits, as nearly all have, a
+/// product of two words is enough for each.
+fn is_product_less(a_q: i128, a_c: u64, b_q: i128, b_c: u64) -> bool
+    requires a_late { pos 0 ≤ℤ a_q }
+    requires a_early { a_q ≤ℤ pos (2 * 10 ^ 25 + 1) }
+    requires a_small { a_c ≤ 10 ^ 11 }
+    requires b_late { pos 0 ≤ℤ b_q }
+    requires b_early { b_q ≤ℤ pos (2 * 10 ^ 25 + 1) }
+    requires b_small { b_c ≤ 10 ^ 11 }
+    ensures { result ≡ int_lt (a_q *ℤ pos a_c) (b_q *ℤ pos b_c) }
+{
+    match (u64::try_from(a_q), u64::try_from(b_q)) {
+        (Ok(a), Ok(b)) => u128::from(a) * u128::from(a_c) < u128::from(b) * u128::from(b_c),
+        _ => a_q * i128::from(a_c) < b_q * i128::from(b_c),
+    }
+}
+
+/// Whether the second of three points, which rise, lies strictly above the line from the first to the third.
+fn bends(a: Point, b: Point, c: Point) -> bool
+    requires a { IsModest (told_by a) }
+    requires b { IsModest (told_by b) }
+    requires c { IsModest (told_by c) }
+    requires a_b { IsBelow (pair_in a) (pair_in b) }
+    requires b_c { IsBelow (pair_in b) (pair_in c) }
+    ensures { MatchBool result (Bends (pair_in a) (pair_in b) (pair_in c)) (Sags (pair_in a) (pair_in b) (pair_in c)) }
+{
+    is_product_less(c.q - b.q, b.c - a.c, b.q - a.q, c.c - b.c)
+}
+
+/// Puts a point on the hull of those before it. What then no longer bends comes off (Graham 1972). Answers `Memory` where there
+/// is no room.
+pub(crate) fn put_on(stack: &mut Vec<Point>, point: Point) -> Result<(), Memory>
     ghost xs: { Candidates }
-    requires hull { (n : ℕ) × IsHullOf pool.now xs n stack.old.items × IsNumber pool.now xs next n }
-    ensures hull { OnOk result ((n : ℕ) → IsHullOf pool.now xs n stack.old.items → IsNumber pool.now xs next n → IsHullOf pool.now xs (n + 1) stack.new.items) }
-    ensures cost { steps.new + length stack.new.items ≤ steps.old + length stack.old.items + 2 }
+    requires hull { (n : ℕ) × IsHullOf xs n stack.old.items × IsPointOf xs point n }
+    ensures hull { OnOk result ((n : ℕ) → IsHullOf xs n stack.old.items → IsPointOf xs point n
+        → IsHullOf xs (n + 1) stack.new.items) }
 {
     let mut left = stack.len();
     'pops: while left >= 2 {
-        if pool.bends(stack[left - 2], stack[left - 1], next, steps) {
+        if bends(stack[left - 2], stack[left - 1], point) {
             break;
         }
         left -= 1;
     }
     stack.truncate(left);
-    stack.push(next)?;
+    stack.push(point)?;
     Ok(())
 }
 
-/// Whether the first of two candidates is worth less above a resistance.
-fn is_less<L: Ledger>(pool: &Pool, a: Cand, b: Cand, r: u64, steps: &mut Steps<L>) -> bool
-    ghost xs: { Candidates }
-    requires modest { AreModest xs }
-    requires a { (i : ℕ) × IsNumber pool.now xs a i }
-    requires b { (j : ℕ) × IsNumber pool.now xs b j }
-    ensures order { (i j : ℕ) → IsNumber pool.now xs a i → IsNumber pool.now xs b j
-        → MatchBool result (value r (row xs i) <ℤ value r (row xs j)) (value r (row xs j) ≤ℤ value r (row xs i)) }
-    ensures step { steps.new ≡ suc steps.old }
+/// What a point is worth above a resistance.
+fn worth(point: Point, r: u64) -> i128
+    requires { IsModest (told_by point) }
+    ensures { result ≡ value r (pair_in point) }
 {
-    pool.at_resistance(a, b, r, steps) == Ordering::Less
+    point.q - i128::from(r) * i128::from(point.c)
 }
 
-/// The candidate of a hull that is worth the most above a resistance, found by halves: along a hull the worth rises and
-/// then falls.
-pub(crate) fn greatest_on<L: Ledger>(
-    pool: &Pool,
-    stack: &[Cand],
-    r: u64,
-    steps: &mut Steps<L>,
-) -> Cand
+/// Whether the first of two points is worth less above a resistance.
+fn is_less(a: Point, b: Point, r: u64) -> bool
+    requires a { IsModest (told_by a) }
+    requires b { IsModest (told_by b) }
+    ensures { MatchBool result (value r (pair_in a) <ℤ value r (pair_in b)) (value r (pair_in b) ≤ℤ value r (pair_in a)) }
+{
+    worth(a, r) < worth(b, r)
+}
+
+/// The point of a hull that is worth the most above a resistance, found by halves: along a hull the worth rises and then falls.
+pub(crate) fn greatest_on(stack: &[Point], r: u64) -> Point
     ghost xs: { Candidates }
-    requires hull { (n : ℕ) × IsHullOf pool.now xs n stack.now }
+    requires hull { (n : ℕ) × IsHullOf xs n stack.now }
     requires some { 0 < length stack.now }
-    ensures greatest { (n : ℕ) → IsHullOf pool.now xs n stack.now → (i : ℕ) × IsNumber pool.now xs result i × IsGreatest (row xs) n r i }
-    ensures cost { (d : ℕ) → length stack.now ≤ 2 ^ d → steps.new ≤ steps.old + d }
+    ensures { (n : ℕ) → IsHullOf xs n stack.now → (i : ℕ) × IsPointOf xs result i × IsGreatest (row xs) n r i }
 {
     let mut low = 0;
     let mut high = stack.len() - 1;
     'search: while low < high {
         let middle = low + (high - low) / 2;
-        if is_less(pool, stack[middle], stack[middle + 1], r, steps) {
+        if is_less(stack[middle], stack[middle + 1], r) {
             low = middle + 1;
         } else {
             high = middle;
@@ -75,25 +95,19 @@ pub(crate) fn greatest_on<L: Ledger>(
     stack[low]
 }
 
-/// The candidate of a whole list's hull that is worth the most above a resistance, found from the end: the last ones that are
-/// worth no more than the one before them come off. They serve no greater resistance either, since the less a candidate's load
-/// is, the less worth it loses there.
-pub(crate) fn greatest_at_end<L: Ledger>(
-    pool: &Pool,
-    stack: &mut Vec<Cand>,
-    r: u64,
-    steps: &mut Steps<L>,
-) -> Cand
+/// The point of a whole list's hull that is worth the most above a resistance, found from the end: the last ones that are worth
+/// no more than the one before them come off. They serve no greater resistance either, since the less a candidate's load is,
+/// the less worth it loses there.
+pub(crate) fn greatest_at_end(stack: &mut Vec<Point>, r: u64) -> Point
     ghost xs: { Candidates }
-    requires front { (least : ℕ) × (least ≤ r) × IsFrontOf pool.now xs least stack.old.items }
+    requires front { (least : ℕ) × (least ≤ r) × IsFrontOf xs least stack.old.items }
     requires some { 0 < length stack.old.items }
-    ensures front { IsFrontOf pool.now xs r stack.new.items }
-    ensures greatest { (i : ℕ) × IsNumber pool.now xs result i × IsGreatest (row xs) (length xs) r i }
-    ensures cost { steps.new + length stack.new.items ≤ steps.old + length stack.old.items + 1 }
+    ensures front { IsFrontOf xs r stack.new.items }
+    ensures greatest { (i : ℕ) × IsPointOf xs result i × IsGreatest (row xs) (length xs) r i }
 {
     let mut left = stack.len();
     'pops: while left >= 2 {
-        if is_less(pool, stack[left - 2], stack[left - 1], r, steps) {
+        if is_less(stack[left - 2], stack[left - 1], r) {
             break;
         }
         left -= 1;

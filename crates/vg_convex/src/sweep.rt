@@ -39,7 +39,8 @@ fn keep_found(
     found: Option<Found>,
 ) -> Result<(), Memory>
     ensures { OnOk result (MatchOption found (kept.new.items ≡ kept.old.items)
-        (λ best. IsKept kept.old.items (record { pair = record { q = best.time; c = rep.now.cin }; rep = number; tag = best.tag }) kept.new.items)) }
+        (λ best. IsKept kept.old.items
+        (record { pair = record { q = best.time; c = rep.now.cin }; rep = number; tag = best.tag }) kept.new.items)) }
 {
     if let Some(best) = found {
         let pair = Pair {

@@ -4,10 +4,17 @@ ghost use Rattle.std.specs.Prelude.{◌≡◌, ℕ, IfOk, OnOk, [], length, None
 ghost use Rattle.vg_convex.specs.Answers.{found_at};
 ghost use Rattle.vg_convex.specs.Rooms.{HasRoom};
 
-use cand_pool::Cand;
 use elmore::Pair;
 use std::alloc::Global;
 use vg_num::Memory;
+
+/// A candidate's numbers as the hull needs them: the time, the load and the tag that a pool tells of it.
+#[derive(Clone, Copy)]
+pub(crate) struct Point {
+    pub(crate) q: i128,
+    pub(crate) c: u64,
+    pub(crate) tag: u64,
+}
 
 /// The greatest time that a repeater makes of a list's candidates, and the tag of a candidate of which it makes that.
 #[derive(Clone, Copy)]
@@ -24,11 +31,11 @@ pub(crate) struct Made {
     pub(crate) tag: u64,
 }
 
-/// A stack of candidates' places, and rows of results. One serves all nodes; what stands in it before a call does not
+/// A stack of points, and rows of results. One serves all nodes; what stands in it before a call does not
 /// matter.
 #[derive(Drop)]
 pub struct Work {
-    pub(crate) stack: Vec<Cand>,
+    pub(crate) stack: Vec<Point>,
     pub(crate) found: Vec<Option<Found>>,
     pub(crate) kept: Vec<Made>,
 }

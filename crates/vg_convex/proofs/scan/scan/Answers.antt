@@ -4,7 +4,8 @@ use mir.Val.{SFits}
 use Rattle.std.proofs.lemmas.Bool.{false≢true}
 use Rattle.std.proofs.lemmas.Int.{to_z-of_z}
 use Rattle.cand_pool.specs.declared.ends.Cand.{Cand}
-use Rattle.vg_convex.proofs.Numbers.{nth, inside, at_place, modest_at}
+use Rattle.vg_convex.specs.Places.{candidate_at}
+use Rattle.vg_convex.proofs.Numbers.{inside, at_place, modest_at}
 use Rattle.vg_convex.proofs.Scans.{IsScan, scan_begins, scan_more, scan_to, scan_ends}
 use Rattle.vg_convex.proofs.Walks.{left_from, fewer_left}
 use Rattle.vg_convex.proofs.scan.scan.Goals as goal
@@ -17,7 +18,7 @@ scan-init g c =
 pub time_before-time-requires-clause-low : goal.time_before-time-requires-clause-low
 time_before-time-requires-clause-low g c =
     let at = subst (λ (o : Option Cand). IsScan c.args.pool.now g.xs c.args.rep.now o c.scan.found c.args.steps.now c.scan.steps) c.in-Some.is c.scan.invariant in
-    let told = c.tell-q.ensures.told (nth g.xs at.seen) (drop (at.seen + 1) g.xs) (at_place c.args.pool.now g.xs c.in-Some.place at.seen at.more) in
+    let told = c.tell-q.ensures.told (candidate_at g.xs at.seen) (drop (at.seen + 1) g.xs) (at_place c.args.pool.now g.xs c.in-Some.place at.seen at.more) in
     let (_, (list, (rise, modest))) = c.requires in
     let small = modest_at g.xs at.seen (record { q = pos 0; c = 0; tag = 0 }) modest (inside c.args.pool.now g.xs c.in-Some.place at.seen at.more) in
     let fits : SFits w128 c.tell-q.result.0 = search rules in
@@ -26,7 +27,7 @@ time_before-time-requires-clause-low g c =
 pub time_before-time-requires-clause-high : goal.time_before-time-requires-clause-high
 time_before-time-requires-clause-high g c =
     let at = subst (λ (o : Option Cand). IsScan c.args.pool.now g.xs c.args.rep.now o c.scan.found c.args.steps.now c.scan.steps) c.in-Some.is c.scan.invariant in
-    let told = c.tell-q.ensures.told (nth g.xs at.seen) (drop (at.seen + 1) g.xs) (at_place c.args.pool.now g.xs c.in-Some.place at.seen at.more) in
+    let told = c.tell-q.ensures.told (candidate_at g.xs at.seen) (drop (at.seen + 1) g.xs) (at_place c.args.pool.now g.xs c.in-Some.place at.seen at.more) in
     let (_, (list, (rise, modest))) = c.requires in
     let small = modest_at g.xs at.seen (record { q = pos 0; c = 0; tag = 0 }) modest (inside c.args.pool.now g.xs c.in-Some.place at.seen at.more) in
     let fits : SFits w128 c.tell-q.result.0 = search rules in
@@ -35,7 +36,7 @@ time_before-time-requires-clause-high g c =
 pub time_before-time-requires-clause-load : goal.time_before-time-requires-clause-load
 time_before-time-requires-clause-load g c =
     let at = subst (λ (o : Option Cand). IsScan c.args.pool.now g.xs c.args.rep.now o c.scan.found c.args.steps.now c.scan.steps) c.in-Some.is c.scan.invariant in
-    let told = c.tell-q.ensures.told (nth g.xs at.seen) (drop (at.seen + 1) g.xs) (at_place c.args.pool.now g.xs c.in-Some.place at.seen at.more) in
+    let told = c.tell-q.ensures.told (candidate_at g.xs at.seen) (drop (at.seen + 1) g.xs) (at_place c.args.pool.now g.xs c.in-Some.place at.seen at.more) in
     let (_, (list, (rise, modest))) = c.requires in
     let small = modest_at g.xs at.seen (record { q = pos 0; c = 0; tag = 0 }) modest (inside c.args.pool.now g.xs c.in-Some.place at.seen at.more) in
     rw told.1 small.load
@@ -49,7 +50,7 @@ scan-smaller g c =
 pub scan-preserved : goal.scan-preserved
 scan-preserved g c =
     let at = subst (λ (o : Option Cand). IsScan c.args.pool.now g.xs c.args.rep.now o c.scan.found c.args.steps.now c.scan.steps) c.in-Some.is c.scan.invariant in
-    let told = c.tell-q.ensures.told (nth g.xs at.seen) (drop (at.seen + 1) g.xs) (at_place c.args.pool.now g.xs c.in-Some.place at.seen at.more) in
+    let told = c.tell-q.ensures.told (candidate_at g.xs at.seen) (drop (at.seen + 1) g.xs) (at_place c.args.pool.now g.xs c.in-Some.place at.seen at.more) in
     let fits : SFits w128 c.time_before-time.result = search rules in
     let fits_q : SFits w128 c.tell-q.result.0 = search rules in
     scan_more c.args.pool.now g.xs c.args.rep.now c.in-Some.place c.next-next.result c.scan.found
@@ -64,7 +65,7 @@ pub returns-then-not-is_within-clause-found : goal.returns-then-not-is_within-cl
 returns-then-not-is_within-clause-found g c =
     let (_, (list, (rise, modest))) = c.requires in
     let at = subst (λ (o : Option Cand). IsScan c.args.pool.now g.xs c.args.rep.now o c.scan.found c.args.steps.now c.scan.steps) c.in-Some.is c.scan.invariant in
-    let told = c.tell-q.ensures.told (nth g.xs at.seen) (drop (at.seen + 1) g.xs) (at_place c.args.pool.now g.xs c.in-Some.place at.seen at.more) in
+    let told = c.tell-q.ensures.told (candidate_at g.xs at.seen) (drop (at.seen + 1) g.xs) (at_place c.args.pool.now g.xs c.in-Some.place at.seen at.more) in
     scan_to c.args.pool.now g.xs c.args.rep.now c.in-Some.place c.scan.found c.args.steps.now c.scan.steps c.tell-q.result.1 rise at told.1
     (λ within. false≢true (c.if-not-is_within.ensures.1 within))
 
