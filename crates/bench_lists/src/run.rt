@@ -180,7 +180,7 @@ fn make_rooms(alloc: Global, slots: usize, reps: u32) -> Result<Rooms, Memory>
         pool,
         arena: Arena::new(alloc),
         library: Library::new(alloc, reps)?,
-        work: Work::new(alloc, slots)?,
+        work: Work::new(alloc),
     })
 }
 

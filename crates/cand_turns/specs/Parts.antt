@@ -1,9 +1,10 @@
 -- What is known of a node while the nodes below come in, from the last to the first.
-use Rattle.std.specs.Prelude.{ℕ, Bool, List, [], length}
+use Rattle.std.specs.Prelude.{ℕ, ◌+◌, ◌≤◌, Bool, List, [], length}
 use Rattle.elmore.specs.declared.problem.Problem.{Problem}
 use Rattle.sol_arena.specs.declared.slot.Made.{Made}
 use Rattle.cand_laws.specs.Parts.{IsDeadPart}
 use Rattle.cand_pool.specs.Pools.{Block}
+use Rattle.cand_turns.specs.declared.branch.Branch.{Branch}
 use Rattle.cand_turns.specs.declared.part.Part.{Part}
 use Rattle.cand_turns.specs.declared.part.Part.TheVariants.{Dead, Live}
 use Rattle.cand_turns.specs.Swaps.{Lists}
@@ -19,6 +20,10 @@ lists_in (Live branch) = lists_of branch
 abbrev pub size_in : Block → Part → Bool → ℕ
 size_in s (Dead c) odd = 0
 size_in s (Live branch) odd = length (classes_in s branch odd)
+
+-- with a branch that came in, a part has in each class no more candidates than both had before
+abbrev pub HasNoMore : Block → Part → Branch → Block → Part → Type 0
+HasNoMore s before branch s' after = (odd : Bool) → size_in s' after odd ≤ size_in s before odd + length (classes_in s branch odd)
 
 -- the part of node v, with those of its children from number i on that came in
 abbrev pub IsPart : Problem → ℕ → ℕ → List Made → Block → Part → Type 0

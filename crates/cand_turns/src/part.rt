@@ -10,7 +10,7 @@ ghost use Rattle.cand_pool.specs.Pools.{spare};
 ghost use Rattle.cand_turns.specs.Swaps.{Slots, AreHeld, IsSwap, IsTurn, search, at_slots};
 ghost use Rattle.cand_turns.specs.Branches.{classes_in, lists_of};
 ghost use Rattle.cand_turns.specs.Solved.{IsClosedAt};
-ghost use Rattle.cand_turns.specs.Parts.{lists_in, size_in, IsPart, Solutions};
+ghost use Rattle.cand_turns.specs.Parts.{lists_in, size_in, HasNoMore, IsPart, Solutions};
 
 use crate::branch::Branch;
 use cand_pool::{Pool, Steps};
@@ -81,10 +81,12 @@ impl Part {
         requires part { IsPart p.now (node + 1) (parent_of p.now.tree.nodes node) (made_of arena.old) pool.old self }
         requires closed { IsClosedAt p.now node (made_of arena.old) (classes_in pool.old branch) }
         ensures turn { MatchResult result
-            (λ part. IsTurn (search pool.old arena.old) (lists_in self ++ lists_of branch) (search pool.new arena.new) (lists_in part))
+            (λ part. IsTurn (search pool.old arena.old) (lists_in self ++ lists_of branch)
+            (search pool.new arena.new) (lists_in part))
             (λ _. IsSwap (search pool.old arena.old) (lists_in self ++ lists_of branch) (search pool.new arena.new) []) }
-        ensures part { IfOk result (λ part. IsPart p.now node (parent_of p.now.tree.nodes node) (made_of arena.new) pool.new part) }
-        ensures few { IfOk result (λ part. (odd : Bool) → size_in pool.new part odd ≤ size_in pool.old self odd + length (classes_in pool.old branch odd)) }
+        ensures part { IfOk result (λ part.
+            IsPart p.now node (parent_of p.now.tree.nodes node) (made_of arena.new) pool.new part) }
+        ensures few { IfOk result (λ part. HasNoMore pool.old self branch pool.new part) }
     {
         let mut branch = branch;
         branch.carry(pool, arena, p, node, steps);

@@ -17,18 +17,17 @@ pub struct Tools {
 }
 
 impl Tools {
-    /// The tools of a problem, with room for lists of so many candidates. Answers `Memory` where there is no room.
-    pub fn new(alloc: Global, p: &Problem, room: usize) -> Result<Tools, Memory>
+    /// The tools of a problem. Answers `Memory` where there is no room for its shelves.
+    pub fn new(alloc: Global, p: &Problem) -> Result<Tools, Memory>
         ensures { IfOk result (AreToolsOf p.now) }
     {
         let reps = p.reps.as_slice();
         let buffers = Shelf::new(alloc, reps, false)?;
         let inverters = Shelf::new(alloc, reps, true)?;
-        let work = Work::new(alloc, room)?;
         Ok(Tools {
             buffers,
             inverters,
-            work,
+            work: Work::new(alloc),
         })
     }
 }

@@ -75,7 +75,7 @@ fn added<L: Ledger>(
 {
     let (mut pool, mut arena) = (Pool::new(alloc), Arena::new(alloc));
     let shelf = Shelf::new(alloc, reps, false)?;
-    let mut work = Work::new(alloc, 8)?;
+    let mut work = Work::new(alloc);
     pool.reserve(from.len())?;
     let list = listed(&mut pool, from);
     pool.reserve(shelf.len())?;

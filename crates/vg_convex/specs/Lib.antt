@@ -4,4 +4,3 @@ pub mod Places
 pub mod Answers
 pub mod Orders
 pub mod Lists
-pub mod Rooms

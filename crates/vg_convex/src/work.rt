@@ -1,8 +1,7 @@
 //! Room to work in.
 
-ghost use Rattle.std.specs.Prelude.{◌≡◌, ℕ, IfOk, OnOk, [], length, None};
+ghost use Rattle.std.specs.Prelude.{◌≡◌, ℕ, OnOk, [], length, None};
 ghost use Rattle.vg_convex.specs.Answers.{found_at};
-ghost use Rattle.vg_convex.specs.Rooms.{HasRoom};
 
 use elmore::Pair;
 use std::alloc::Global;
@@ -41,16 +40,13 @@ pub struct Work {
 }
 
 impl Work {
-    /// Room for lists of so many candidates and for so many repeaters; for more it grows as it is used. Answers `Memory`
-    /// where there is no room.
-    pub fn new(alloc: Global, room: usize) -> Result<Work, Memory>
-        ensures { IfOk result (HasRoom room) }
-    {
-        Ok(Work {
-            stack: Vec::with_capacity(alloc, room)?,
-            found: Vec::with_capacity(alloc, room)?,
-            kept: Vec::with_capacity(alloc, room)?,
-        })
+    /// Room that is empty at first, takes no memory yet, and grows as it is used.
+    pub fn new(alloc: Global) -> Work {
+        Work {
+            stack: Vec::new(alloc),
+            found: Vec::new(alloc),
+            kept: Vec::new(alloc),
+        }
     }
 
     /// Empties the stack, and makes a row of so many results, which have found nothing.

@@ -104,7 +104,7 @@ fn answer_in<L: Ledger>(
 {
     let mut pool = Pool::new(alloc);
     let mut parts = Vec::new(alloc);
-    let mut tools = Tools::new(alloc, p, 0)?;
+    let mut tools = Tools::new(alloc, p)?;
     start(&mut pool, arena, p, &mut parts)?;
     answer_of_parts(
         alloc, &mut pool, arena, p, &mut parts, &mut tools, lists, steps,
