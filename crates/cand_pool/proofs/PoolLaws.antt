@@ -67,9 +67,7 @@ pool_relinked s at to free slots pool block whole =
     let e : slots_of (relinked s at to free) free ≡ slots = trail_is (link (set s.links at to)) (length (set s.links at to)) free slots block'.few whole'.chain in (
       record {
         block = block';
-        all_q = subst (λ (k : ℕ). k ≤ length s.qs) (sym same) pool.all_q;
-        all_c = subst (λ (k : ℕ). k ≤ length s.cs) (sym same) pool.all_c;
-        all_tags = subst (λ (k : ℕ). k ≤ length s.tags) (sym same) pool.all_tags;
+        all = subst (λ (k : ℕ). k ≤ length s.candidates) (sym same) pool.all;
         free = subst (λ (l : List ℕ). IsWhole (link (set s.links at to)) (length (set s.links at to)) free l) (sym e) whole';
       },
       e,

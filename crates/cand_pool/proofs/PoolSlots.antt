@@ -1,10 +1,11 @@
 -- A slot is given back or written; the block grows.
-use Rattle.std.proofs.Common.{◌≡◌, ◌≢◌, ℕ, zero, suc, ◌+◌, ◌<◌, ◌≤◌, List, [], ◌∷◌, ◌++◌, length, map, get_or, set, refl, sym, ap, ◌∙◌, subst, arith, inl, inr, length-set, length-append, ℤ, pos}
-use Rattle.std.proofs.lemmas.List.{get_or-set_same, get_or-set_other}
+use Rattle.std.proofs.Common.{◌≡◌, ◌≢◌, ℕ, zero, suc, ◌<◌, ◌≤◌, List, [], ◌∷◌, ◌++◌, length, map, get_or, set, refl, sym, ap, ◌∙◌, subst, arith, inl, inr, length-set, length-append}
+use Rattle.std.proofs.lemmas.List.{get_or-set_same, get_or-set_other, get_or_default}
 use Rattle.std.proofs.Math.ListN.{get_or-append}
 use Rattle.cand_pool.specs.Links.{none, link, IsChain, IsIn, AreLinks, IsWhole, IsRelinked}
 use Rattle.cand_pool.specs.Candidates.{Candidate}
-use Rattle.cand_pool.specs.Pools.{Block, candidate, slots_of, spare, IsHeld, IsPool, KeepsOthers}
+use Rattle.cand_pool.specs.declared.numbers.Numbers.{Numbers}
+use Rattle.cand_pool.specs.Pools.{Block, seen, blank, candidate, slots_of, IsHeld, IsPool, KeepsOthers}
 use Rattle.cand_pool.specs.Moves.{relinked, IsFreed, rewritten, IsWritten, grown, IsGrown}
 use Rattle.cand_pool.proofs.LinkLaws.{apart}
 use Rattle.cand_pool.proofs.MoveLaws.{is_same, cut, IsCut, join, IsJoined}
@@ -83,12 +84,11 @@ map_same f g (x ∷ xs) same =
     cc
 
 -- the slot of a list of one holds another candidate
-pub write : (s : Block) (first last : ℕ) (x : Candidate) (qs : List ℤ) (cs tags : List ℕ) → IsPool s → IsHeld s first last (x ∷ []) → length s.links ≤ length qs → length s.links ≤ length cs → length s.links ≤ length tags
-    → ((i : ℕ) → i ≢ first → candidate (rewritten s qs cs tags) i ≡ candidate s i) → IsWritten s first (rewritten s qs cs tags)
-write s first last x qs cs tags pool h all_q all_c all_tags same =
+pub write : (s : Block) (first last : ℕ) (x : Candidate) (y : Numbers) → IsPool s → IsHeld s first last (x ∷ []) → IsWritten s first (rewritten s (set s.candidates first y))
+write s first last x y pool h =
     let one : IsOne s first x h.slots = one_slot s first last x h in
     record {
-      pool = record { block = pool.block; all_q = all_q; all_c = all_c; all_tags = all_tags; free = pool.free };
+      pool = record { block = pool.block; all = rw (length-set s.candidates first y) pool.all; free = pool.free };
       one = record { few = h.few; slots = first ∷ []; whole = one.whole; ends = λ _. refl; kept = h.kept; shows = refl };
       others = record {
         few = λ few. few;
@@ -98,8 +98,9 @@ write s first last x qs cs tags pool h all_q all_c all_tags same =
           whole = other.whole;
           ends = other.ends;
           kept = other.kept;
-          shows = map_same (candidate (rewritten s qs cs tags)) (candidate s) other.slots
-              (λ y y_in. same y (λ e. apart (link s.links) (length s.links) k first other.slots (first ∷ []) y pool.block other.whole one.whole (λ d. out (inl d)) y_in (inl e))) ∙ other.shows;
+          shows = map_same (candidate (rewritten s (set s.candidates first y))) (candidate s) other.slots
+              (λ i m. ap seen (get_or-set_other s.candidates first i y blank
+              (λ e. apart (link s.links) (length s.links) k first other.slots (first ∷ []) i pool.block other.whole one.whole (λ d. out (inl d)) m (inl e)))) ∙ other.shows;
         };
         fresh = λ k k_last xs other some out. out;
       };
@@ -127,8 +128,15 @@ in_low next n first [] x chain is_in = absurd is_in
 in_low next n first (y ∷ ys) x chain (inl e) = subst (λ (k : ℕ). k < n) (sym e) chain.1
 in_low next n first (y ∷ ys) x chain (inr more) = in_low next n (next y) ys x chain.2 more
 
-pub grow : (s : Block) (q : ℤ) (c tag : ℕ) → IsPool s → length s.links < none → IsGrown s (grown s (q ∷ []) (c ∷ []) (tag ∷ []))
-grow s q c tag pool room =
+-- more candidates behind the others change no slot of the block
+widened : (s : Block) (more : List Numbers) (k : ℕ) (slots : List ℕ) → IsPool s → IsChain (link s.links) (length s.links) k slots → map (candidate (rewritten s (s.candidates ++ more))) slots ≡ map (candidate s) slots
+widened s more k slots pool chain = map_same (candidate (rewritten s (s.candidates ++ more))) (candidate s) slots (λ y y_in.
+    let low : y < length s.links = in_low (link s.links) (length s.links) k slots y chain y_in in
+    let all : length s.links ≤ length s.candidates = pool.all in
+    ap seen (get_or-append s.candidates more blank y (omega arith)))
+
+pub grow : (s : Block) → IsPool s → length s.links < none → IsGrown s (grown s)
+grow s pool room =
     let next : ℕ → ℕ = link s.links in
     let next' : ℕ → ℕ = link (s.links ++ none ∷ []) in
     let n : ℕ = length s.links in
@@ -144,14 +152,10 @@ grow s q c tag pool room =
     } in
     let free' : IsWhole (link (s.links ++ none ∷ [])) (length (s.links ++ none ∷ [])) s.free (slots_of s s.free)
     = whole_wider (link s.links) (link (s.links ++ none ∷ [])) (length s.links) (length (s.links ++ none ∷ [])) s.free (slots_of s s.free) same wider pool.free in
-    let free_is : slots_of (grown s (q ∷ []) (c ∷ []) (tag ∷ [])) s.free ≡ slots_of s s.free
+    let free_is : slots_of (grown s) s.free ≡ slots_of s s.free
     = trail_is (link (s.links ++ none ∷ [])) (length (s.links ++ none ∷ [])) s.free (slots_of s s.free) block'.few free'.chain in
-    let all_q : length s.links ≤ length s.qs = pool.all_q in
-    let all_c : length s.links ≤ length s.cs = pool.all_c in
-    let all_tags : length s.links ≤ length s.tags = pool.all_tags in
-    let wide_q : length (s.qs ++ q ∷ []) ≡ suc (length s.qs) = length-append s.qs (q ∷ []) ∙ omega arith in
-    let wide_c : length (s.cs ++ c ∷ []) ≡ suc (length s.cs) = length-append s.cs (c ∷ []) ∙ omega arith in
-    let wide_tags : length (s.tags ++ tag ∷ []) ≡ suc (length s.tags) = length-append s.tags (tag ∷ []) ∙ omega arith in
+    let all : length s.links ≤ length s.candidates = pool.all in
+    let all_wide : length (s.candidates ++ blank ∷ []) ≡ suc (length s.candidates) = length-append s.candidates (blank ∷ []) ∙ omega arith in
     let some : length s.links ≢ none = λ (z : length s.links ≡ none). absurd (omega arith) in
     let new_top : (i : ℕ) → link (s.links ++ none ∷ []) i ≢ length s.links = λ i e.
     let low : link s.links i < length s.links = pool.block.inside i (λ f. some (sym e ∙ same i ∙ f)) in
@@ -159,9 +163,7 @@ grow s q c tag pool room =
     record {
       pool = record {
         block = block';
-        all_q = omega arith;
-        all_c = omega arith;
-        all_tags = omega arith;
+        all = omega arith;
         free = subst (λ (l : List ℕ). IsWhole (link (s.links ++ none ∷ [])) (length (s.links ++ none ∷ [])) s.free l) (sym free_is) free';
       };
       one = record {
@@ -180,12 +182,7 @@ grow s q c tag pool room =
           whole = whole_wider (link s.links) (link (s.links ++ none ∷ [])) (length s.links) (length (s.links ++ none ∷ [])) k other.slots same wider other.whole;
           ends = other.ends;
           kept = other.kept;
-          shows = map_same (candidate (grown s (q ∷ []) (c ∷ []) (tag ∷ []))) (candidate s) other.slots (λ y y_in.
-              let low : y < length s.links = in_low (link s.links) (length s.links) k other.slots y other.whole.chain y_in in
-              let e : get_or (s.qs ++ q ∷ []) y (pos 0) ≡ get_or s.qs y (pos 0) = get_or-append s.qs (q ∷ []) (pos 0) y (omega arith) in
-              let f : get_or (s.cs ++ c ∷ []) y 0 ≡ get_or s.cs y 0 = get_or-append s.cs (c ∷ []) 0 y (omega arith) in
-              let g : get_or (s.tags ++ tag ∷ []) y 0 ≡ get_or s.tags y 0 = get_or-append s.tags (tag ∷ []) 0 y (omega arith) in
-              λ i. record { q = e i; c = f i; tag = g i }) ∙ other.shows;
+          shows = widened s (blank ∷ []) k other.slots pool other.whole.chain ∙ other.shows;
         };
         fresh = λ k k_last xs other some_k out is_new. elim is_new [
           | inl e ↦ let low : k < length s.links = some_low (link s.links) (length s.links) k other.slots some_k other.whole.chain in absurd (omega arith)
@@ -195,76 +192,33 @@ grow s q c tag pool room =
       free = ap (λ (l : List ℕ). length l) free_is;
     }
 
--- all three numbers of a slot are written
-pub write_all : (s : Block) (first last : ℕ) (x : Candidate) (q : ℤ) (c tag : ℕ) → IsPool s → IsHeld s first last (x ∷ []) → IsWritten s first (rewritten s (set s.qs first q) (set s.cs first c) (set s.tags first tag))
-write_all s first last x q c tag pool h =
-    write s first last x (set s.qs first q) (set s.cs first c) (set s.tags first tag) pool h
-    (rw (length-set s.qs first q) pool.all_q) (rw (length-set s.cs first c) pool.all_c) (rw (length-set s.tags first tag) pool.all_tags)
-    (λ i d. λ j. record { q = get_or-set_other s.qs first i q (pos 0) d j; c = get_or-set_other s.cs first i c 0 d j; tag = get_or-set_other s.tags first i tag 0 d j })
+-- the numbers that were read at a slot are those of its candidate
+pub read : (s : Block) (i : ℕ) (r : Numbers) → IsPool s → i < length s.links → r ≡ get_or s.candidates i r → seen r ≡ candidate s i
+read s i r pool low e =
+    let all : length s.links ≤ length s.candidates = pool.all in
+    ap seen (e ∙ get_or_default s.candidates i r blank (omega arith))
 
-pub written_all : (s : Block) (first last : ℕ) (x : Candidate) (q : ℤ) (c tag : ℕ) → IsPool s → IsHeld s first last (x ∷ [])
-    → candidate (rewritten s (set s.qs first q) (set s.cs first c) (set s.tags first tag)) first ≡ record { q = q; c = c; tag = tag }
-written_all s first last x q c tag pool h =
-    let one : IsOne s first x h.slots = one_slot s first last x h in
-    let low : first < length s.links = one.low in
-    let all_q : length s.links ≤ length s.qs = pool.all_q in
-    let all_c : length s.links ≤ length s.cs = pool.all_c in
-    let all_tags : length s.links ≤ length s.tags = pool.all_tags in
-    let e : get_or (set s.qs first q) first (pos 0) ≡ q = get_or-set_same s.qs first q (pos 0) (omega arith) in
-    let f : get_or (set s.cs first c) first 0 ≡ c = get_or-set_same s.cs first c 0 (omega arith) in
-    let g : get_or (set s.tags first tag) first 0 ≡ tag = get_or-set_same s.tags first tag 0 (omega arith) in
-    λ i. record { q = e i; c = f i; tag = g i }
+-- what was written is there
+pub written : (s : Block) (first last : ℕ) (x : Candidate) (y : Numbers) → IsPool s → IsHeld s first last (x ∷ []) → candidate (rewritten s (set s.candidates first y)) first ≡ seen y
+written s first last x y pool h =
+    let low : first < length s.links = (one_slot s first last x h).low in
+    let all : length s.links ≤ length s.candidates = pool.all in
+    ap seen (get_or-set_same s.candidates first y blank (omega arith))
 
--- the q of a slot is written
-pub write_q : (s : Block) (first last : ℕ) (x : Candidate) (q : ℤ) → IsPool s → IsHeld s first last (x ∷ []) → IsWritten s first (rewritten s (set s.qs first q) s.cs s.tags)
-write_q s first last x q pool h =
-    write s first last x (set s.qs first q) s.cs s.tags pool h (rw (length-set s.qs first q) pool.all_q) pool.all_c pool.all_tags
-    (λ i d. λ j. record { q = get_or-set_other s.qs first i q (pos 0) d j; c = get_or s.cs i 0; tag = get_or s.tags i 0 })
-
-pub written_q : (s : Block) (first last : ℕ) (x : Candidate) (q : ℤ) → IsPool s → IsHeld s first last (x ∷ [])
-    → candidate (rewritten s (set s.qs first q) s.cs s.tags) first ≡ record { q = q; c = get_or s.cs first 0; tag = get_or s.tags first 0 }
-written_q s first last x q pool h =
-    let one : IsOne s first x h.slots = one_slot s first last x h in
-    let low : first < length s.links = one.low in
-    let all_q : length s.links ≤ length s.qs = pool.all_q in
-    let e : get_or (set s.qs first q) first (pos 0) ≡ q = get_or-set_same s.qs first q (pos 0) (omega arith) in
-    λ i. record { q = e i; c = get_or s.cs first 0; tag = get_or s.tags first 0 }
-
--- the numbers of the block's own slots decide
-pub record IsPadded (s s' : Block) : Type 0 where
-  pub pool : IsPool s'
-  pub others : KeepsOthers s [] s' []
-  pub free : spare s' ≡ spare s
-
-pub pad : (s : Block) (qs : List ℤ) (cs tags : List ℕ) → IsPool s → IsPadded s (record { links = s.links; qs = s.qs ++ qs; cs = s.cs ++ cs; tags = s.tags ++ tags; free = s.free })
-pad s qs cs tags pool =
-    let all_q : length s.links ≤ length s.qs = pool.all_q in
-    let all_c : length s.links ≤ length s.cs = pool.all_c in
-    let all_tags : length s.links ≤ length s.tags = pool.all_tags in
-    let wide_q : length (s.qs ++ qs) ≡ length s.qs + length qs = length-append s.qs qs in
-    let wide_c : length (s.cs ++ cs) ≡ length s.cs + length cs = length-append s.cs cs in
-    let wide_tags : length (s.tags ++ tags) ≡ length s.tags + length tags = length-append s.tags tags in
-    record {
-      pool = record { block = pool.block; all_q = omega arith; all_c = omega arith; all_tags = omega arith; free = pool.free };
-      others = record {
-        few = λ few. few;
-        stays = λ k k_last xs other some out. record {
-          few = other.few;
-          slots = other.slots;
-          whole = other.whole;
-          ends = other.ends;
-          kept = other.kept;
-          shows = map_same (candidate (record { links = s.links; qs = s.qs ++ qs; cs = s.cs ++ cs; tags = s.tags ++ tags; free = s.free })) (candidate s) other.slots (λ y y_in.
-              let low : y < length s.links = in_low (link s.links) (length s.links) k other.slots y other.whole.chain y_in in
-              let e : get_or (s.qs ++ qs) y (pos 0) ≡ get_or s.qs y (pos 0) = get_or-append s.qs qs (pos 0) y (omega arith) in
-              let f : get_or (s.cs ++ cs) y 0 ≡ get_or s.cs y 0 = get_or-append s.cs cs 0 y (omega arith) in
-              let g : get_or (s.tags ++ tags) y 0 ≡ get_or s.tags y 0 = get_or-append s.tags tags 0 y (omega arith) in
-              λ i. record { q = e i; c = f i; tag = g i }) ∙ other.shows;
-        };
-        fresh = λ k k_last xs other some out is_new. is_new;
-      };
-      free = refl;
-    }
+-- one candidate more behind the others
+pub padded : (s : Block) → IsPool s → KeepsOthers s [] (rewritten s (s.candidates ++ blank ∷ [])) []
+padded s pool = record {
+  few = λ few. few;
+  stays = λ k k_last xs other some out. record {
+    few = other.few;
+    slots = other.slots;
+    whole = other.whole;
+    ends = other.ends;
+    kept = other.kept;
+    shows = widened s (blank ∷ []) k other.slots pool other.whole.chain ∙ other.shows;
+  };
+  fresh = λ k k_last xs other some out is_new. is_new;
+}
 
 -- a block that grew by a slot, which is then free
 pub grown_freed : (s t u : Block) (n : ℕ) → IsGrown s t → n ≡ length s.links → IsFreed t n u → KeepsOthers s [] u []

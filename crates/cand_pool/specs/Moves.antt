@@ -1,12 +1,13 @@
 -- The moves of lists in a pool, of which the calls are made.
-use Rattle.std.specs.Prelude.{◌≡◌, ◌≢◌, ℕ, suc, ◌+◌, ◌≤◌, List, [], ◌∷◌, ◌++◌, length, get_or, set, ℤ}
+use Rattle.std.specs.Prelude.{◌≡◌, ◌≢◌, ℕ, suc, ◌+◌, ◌≤◌, List, [], ◌∷◌, ◌++◌, length, get_or, set}
 use Rattle.cand_pool.specs.Links.{none, link, IsChain, IsIn, IsWhole}
-use Rattle.cand_pool.specs.Candidates.{Candidate}
-use Rattle.cand_pool.specs.Pools.{Block, candidate, slots_of, items, spare, IsPool, IsHeld, KeepsOthers}
+use Rattle.cand_pool.specs.Candidates.{Candidate, loaded}
+use Rattle.cand_pool.specs.declared.numbers.Numbers.{Numbers}
+use Rattle.cand_pool.specs.Pools.{Block, blank, candidate_at, candidate, slots_of, items, spare, IsPool, IsHeld, KeepsOthers}
 
 -- the block with another link at one slot, and with this first free slot
 abbrev pub relinked : Block → ℕ → ℕ → ℕ → Block
-relinked s at to free = record { links = set s.links at to; qs = s.qs; cs = s.cs; tags = s.tags; free = free }
+relinked s at to free = record { links = set s.links at to; candidates = s.candidates; free = free }
 
 -- a first slot is cut off: it is a list of its own
 pub record IsTaken (s : Block) (first last : ℕ) (x : Candidate) (xs : List Candidate) (s' : Block) (rest : ℕ) : Type 0 where
@@ -38,8 +39,8 @@ pub record IsFreed (s : Block) (first : ℕ) (s' : Block) : Type 0 where
   pub free : spare s' ≡ suc (spare s)
 
 -- the block with other candidates in its slots
-abbrev pub rewritten : Block → List ℤ → List ℕ → List ℕ → Block
-rewritten s qs cs tags = record { links = s.links; qs = qs; cs = cs; tags = tags; free = s.free }
+abbrev pub rewritten : Block → List Numbers → Block
+rewritten s candidates = record { links = s.links; candidates = candidates; free = s.free }
 
 -- a list of one slot has another candidate
 pub record IsWritten (s : Block) (first : ℕ) (s' : Block) : Type 0 where
@@ -49,8 +50,8 @@ pub record IsWritten (s : Block) (first : ℕ) (s' : Block) : Type 0 where
   pub free : spare s' ≡ spare s
 
 -- the block with one slot more, which is a list of its own
-abbrev pub grown : Block → List ℤ → List ℕ → List ℕ → Block
-grown s qs cs tags = record { links = s.links ++ none ∷ []; qs = s.qs ++ qs; cs = s.cs ++ cs; tags = s.tags ++ tags; free = s.free }
+abbrev pub grown : Block → Block
+grown s = record { links = s.links ++ none ∷ []; candidates = s.candidates ++ blank ∷ []; free = s.free }
 
 pub record IsGrown (s : Block) (s' : Block) : Type 0 where
   pub pool : IsPool s'
@@ -79,18 +80,22 @@ pub record IsTagTaken (s : Block) (first last : ℕ) (x : Candidate) (xs : List 
   pub others : KeepsOthers s (first ∷ []) s' (rest ∷ [])
   pub free : spare s' ≡ suc (spare s)
 
+-- what a slot holds, with a load more
+abbrev pub heavier : ℕ → Numbers → Numbers
+heavier c x = record { q = x.q; c = x.c + c; tag = x.tag }
+
 -- the block with a load more at one slot
 abbrev pub loaded_at : ℕ → Block → ℕ → Block
-loaded_at c s slot = rewritten s s.qs (set s.cs slot (get_or s.cs slot 0 + c)) s.tags
+loaded_at c s slot = rewritten s (set s.candidates slot (heavier c (get_or s.candidates slot blank)))
 
 -- how far a load has come along these slots: from `slot` on they are left
 pub record IsLoading (c : ℕ) (s : Block) (slots : List ℕ) (t : Block) (slot : ℕ) : Type 0 where
-  pub cs : List ℕ
-  pub same : t ≡ rewritten s s.qs cs s.tags
-  pub long : length s.links ≤ length cs
+  pub candidates : List Numbers
+  pub same : t ≡ rewritten s candidates
+  pub long : length s.links ≤ length candidates
   pub left : List ℕ
   pub chain : IsChain (link s.links) (length s.links) slot left
   pub inside : (i : ℕ) → IsIn i left → IsIn i slots
-  pub ahead : (i : ℕ) → IsIn i left → get_or cs i 0 ≡ get_or s.cs i 0
-  pub behind : (i : ℕ) → IsIn i slots → (IsIn i left → ⊥) → get_or cs i 0 ≡ get_or s.cs i 0 + c
-  pub others : (i : ℕ) → (IsIn i slots → ⊥) → get_or cs i 0 ≡ get_or s.cs i 0
+  pub ahead : (i : ℕ) → IsIn i left → candidate_at candidates i ≡ candidate s i
+  pub behind : (i : ℕ) → IsIn i slots → (IsIn i left → ⊥) → candidate_at candidates i ≡ loaded c (candidate s i)
+  pub others : (i : ℕ) → (IsIn i slots → ⊥) → candidate_at candidates i ≡ candidate s i

@@ -1,7 +1,8 @@
 -- What contracts see of a pool: its block of slots, and the lists and bags that are linked in it.
-use Rattle.std.specs.Prelude.{◌≡◌, ◌≢◌, ℕ, ◌≤◌, List, [], ◌∷◌, length, map, get_or, ℤ, pos}
+use Rattle.std.specs.Prelude.{◌≡◌, ◌≢◌, ℕ, ◌≤◌, List, [], ◌∷◌, length, map, get_or, pos}
 use Rattle.cand_pool.specs.Links.{none, link, IsChain, IsIn, last_of, AreLinks, IsWhole, trail}
 use Rattle.cand_pool.specs.Candidates.{Candidate, Candidates, IsModest}
+use Rattle.cand_pool.specs.declared.numbers.Numbers.{Numbers}
 use Rattle.cand_pool.specs.declared.ends.List.{List as NamedList}
 use Rattle.cand_pool.specs.declared.ends.Bag.{Bag}
 use Rattle.cand_pool.specs.declared.ends.Cand.{Cand}
@@ -9,13 +10,21 @@ use Rattle.cand_pool.specs.declared.ends.Cand.{Cand}
 -- the block: of each slot its link and its candidate, and the first of the free slots
 pub record Block : Type 0 where
   pub links : List ℕ
-  pub qs : List ℤ
-  pub cs : List ℕ
-  pub tags : List ℕ
+  pub candidates : List Numbers
   pub free : ℕ
 
+-- what a slot holds, and what it holds before a candidate is written there
+abbrev pub seen : Numbers → Candidate
+seen x = record { q = x.q; c = x.c; tag = x.tag }
+
+abbrev pub blank : Numbers
+blank = record { q = pos 0; c = 0; tag = 0 }
+
+abbrev pub candidate_at : List Numbers → ℕ → Candidate
+candidate_at candidates i = seen (get_or candidates i blank)
+
 abbrev pub candidate : Block → ℕ → Candidate
-candidate s i = record { q = get_or s.qs i (pos 0); c = get_or s.cs i 0; tag = get_or s.tags i 0 }
+candidate s i = candidate_at s.candidates i
 
 -- the slots from this one on
 abbrev pub slots_of : Block → ℕ → List ℕ
@@ -32,9 +41,7 @@ spare s = length (slots_of s s.free)
 -- what is true of each pool
 pub record IsPool (s : Block) : Type 0 where
   pub block : AreLinks (link s.links) (length s.links)
-  pub all_q : length s.links ≤ length s.qs
-  pub all_c : length s.links ≤ length s.cs
-  pub all_tags : length s.links ≤ length s.tags
+  pub all : length s.links ≤ length s.candidates
   pub free : IsWhole (link s.links) (length s.links) s.free (slots_of s s.free)
 
 -- the list or bag with these ends is live, and is this sequence

@@ -27,9 +27,8 @@ impl Pool {
         requires x { x < length self.now.links }
         ensures { result ≡ comes_first (candidate self.now y) (candidate self.now x) }
     {
-        let (x, y) = (x as usize, y as usize);
-        let (x_c, y_c) = (self.cs[x], self.cs[y]);
-        y_c < x_c || y_c == x_c && self.qs[x] < self.qs[y]
+        let (x, y) = (self.candidate(x), self.candidate(y));
+        y.c < x.c || y.c == x.c && x.q < y.q
     }
 
     /// The q of a slot.
@@ -39,7 +38,7 @@ impl Pool {
         ensures step { steps.new ≡ suc steps.old }
     {
         steps.tick();
-        self.qs[slot as usize]
+        self.candidate(slot).q
     }
 
     /// Whether the union of two lists begins with the first of the second one.

@@ -7,6 +7,7 @@ ghost use Rattle.cand_pool.specs.Sequences.{left_of, taken_of, spare_after};
 ghost use Rattle.cand_pool.specs.Branches.{AreBranches, AreJoined};
 
 use crate::ends::{Ends, List, NONE};
+use crate::numbers::Numbers;
 use crate::pool::Pool;
 use crate::steps::Steps;
 use std::sync::ledger::Ledger;
@@ -26,16 +27,8 @@ struct Branches {
     b: Ends,
 }
 
-/// The numbers of a slot.
-#[derive(Clone, Copy)]
-struct Numbers {
-    q: i128,
-    c: u64,
-    tag: u64,
-}
-
 impl Pool {
-    /// The numbers of a slot.
+    /// Looks at the candidate of a slot.
     fn look<L: Ledger>(&self, slot: u32, steps: &mut Steps<L>) -> Numbers
         requires there { slot < length self.now.links }
         ensures q { let x = candidate self.now slot in result.q ≡ x.q }
@@ -44,12 +37,7 @@ impl Pool {
         ensures step { steps.new ≡ steps.old + 1 }
     {
         steps.tick();
-        let slot = slot as usize;
-        Numbers {
-            q: self.qs[slot],
-            c: self.cs[slot],
-            tag: self.tags[slot],
-        }
+        *self.candidate(slot)
     }
 
     /// Joins the first candidates of two lists, which are not empty.

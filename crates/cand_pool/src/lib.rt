@@ -8,6 +8,7 @@ mod laws;
 mod lists;
 mod load;
 mod moves;
+mod numbers;
 mod places;
 mod pool;
 mod sieve;

@@ -30,7 +30,7 @@ impl Pool {
         ensures step { steps.new ≡ suc steps.old }
     {
         steps.tick();
-        self.cs[slot as usize] += c;
+        self.candidates[slot as usize].c += c;
         self.links[slot as usize]
     }
 

@@ -8,6 +8,7 @@ ghost use Rattle.cand_pool.specs.Sieves.{IsSieve, IsSifted};
 ghost use Rattle.cand_pool.specs.declared.ends.Ends.{Ends};
 
 use crate::ends::{Ends, NONE};
+use crate::numbers::Numbers;
 use crate::pool::Pool;
 
 /// What is left of a list, and the list that its first was put after.
@@ -57,9 +58,7 @@ impl Pool {
         ensures written { IsWritten self.old slot self.new }
         ensures there { candidate self.new slot ≡ record { q = q; c = c; tag = tag } }
     {
-        self.qs[slot as usize] = q;
-        self.cs[slot as usize] = c;
-        self.tags[slot as usize] = tag;
+        self.candidates[slot as usize] = Numbers { q, c, tag };
     }
 
     /// Writes the q of the slot of a list of one.
@@ -68,7 +67,7 @@ impl Pool {
         ensures written { IsWritten self.old slot self.new }
         ensures there { let old = candidate self.old slot in candidate self.new slot ≡ record { q = q; c = old.c; tag = old.tag } }
     {
-        self.qs[slot as usize] = q;
+        self.candidates[slot as usize].q = q;
     }
 
     /// Puts one list after the end of another one. Answers the ends of both together.
@@ -126,7 +125,7 @@ impl Pool {
     {
         let first = ends.first;
         let rest = self.take_first(first);
-        let tag = self.tags[first as usize];
+        let tag = self.candidate(first).tag;
         self.give(first);
         (
             tag,

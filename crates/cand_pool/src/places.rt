@@ -47,8 +47,8 @@ impl Pool {
         ensures step { steps.new ≡ suc steps.old }
     {
         steps.tick();
-        let slot = cand.slot as usize;
-        (self.qs[slot], self.cs[slot], self.tags[slot])
+        let x = self.candidate(cand.slot);
+        (x.q, x.c, x.tag)
     }
 
     /// Compares two candidates by their q above a wire of this resistance.
@@ -81,10 +81,8 @@ impl Pool {
         ensures c_low { negsuc (10 ^ 11) ≤ℤ result.1 }
         ensures c_high { result.1 ≤ℤ pos (10 ^ 11) }
     {
-        let (from, to) = (from as usize, to as usize);
-        let q = self.qs[to] - self.qs[from];
-        let c = i128::from(self.cs[to]) - i128::from(self.cs[from]);
-        (q, c)
+        let (from, to) = (self.candidate(from), self.candidate(to));
+        (to.q - from.q, i128::from(to.c) - i128::from(from.c))
     }
 
     /// Whether the second of three candidates, in the order of their list, lies strictly above the line from the first

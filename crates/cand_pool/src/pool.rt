@@ -1,9 +1,10 @@
 //! A pool: one block of slots.
 
-ghost use Rattle.std.specs.Prelude.{◌≡◌, suc, ◌≤◌, [], IfOk, MatchResult};
-ghost use Rattle.cand_pool.specs.Pools.{spare, KeepsOthers};
+ghost use Rattle.std.specs.Prelude.{◌≡◌, suc, ◌≤◌, ◌<◌, [], length, IfOk, MatchResult};
+ghost use Rattle.cand_pool.specs.Pools.{seen, candidate, spare, KeepsOthers};
 
 use crate::ends::NONE;
+use crate::numbers::{BLANK, Numbers};
 use std::alloc::Global;
 use std::marker::Model;
 use vg_num::Memory;
@@ -12,9 +13,7 @@ use vg_num::Memory;
 #[derive(Drop)]
 pub struct Pool {
     pub(crate) links: Vec<u32>,
-    pub(crate) qs: Vec<i128>,
-    pub(crate) cs: Vec<u64>,
-    pub(crate) tags: Vec<u64>,
+    pub(crate) candidates: Vec<Numbers>,
     pub(crate) free: u32,
 }
 
@@ -23,9 +22,9 @@ impl Model for Pool {
 
     ghost Value = { Block };
 
-    ghost view = { λ p. record { links = p.links.items; qs = p.qs.items; cs = p.cs.items; tags = p.tags.items; free = p.free } };
+    ghost view = { λ p. record { links = p.links.items; candidates = p.candidates.items; free = p.free } };
 
-    ghost invariant = { λ p. IsPool (record { links = p.links.items; qs = p.qs.items; cs = p.cs.items; tags = p.tags.items; free = p.free }) };
+    ghost invariant = { λ p. IsPool (record { links = p.links.items; candidates = p.candidates.items; free = p.free }) };
 }
 
 impl Pool {
@@ -35,11 +34,17 @@ impl Pool {
     {
         Pool {
             links: Vec::new(alloc),
-            qs: Vec::new(alloc),
-            cs: Vec::new(alloc),
-            tags: Vec::new(alloc),
+            candidates: Vec::new(alloc),
             free: NONE,
         }
+    }
+
+    /// The candidate of a slot.
+    pub(crate) fn candidate(&self, slot: u32) -> &Numbers
+        requires there { slot < length self.now.links }
+        ensures { seen result.now ≡ candidate self.now slot }
+    {
+        &self.candidates[slot as usize]
     }
 
     /// Adds a free slot.
@@ -51,9 +56,7 @@ impl Pool {
             return Err(Memory);
         }
         let slot = self.links.len() as u32;
-        self.qs.push(0)?;
-        self.cs.push(0)?;
-        self.tags.push(0)?;
+        self.candidates.push(BLANK)?;
         self.links.push(NONE)?;
         self.give(slot);
         Ok(())

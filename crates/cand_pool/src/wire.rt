@@ -39,7 +39,8 @@ impl Pool {
         requires modest { IsModest (candidate self.now slot) }
         ensures { let x = candidate self.now slot in result ≡ (wired r x).q }
     {
-        charged(self.qs[slot as usize], r, self.cs[slot as usize])
+        let x = self.candidate(slot);
+        charged(x.q, r, x.c)
     }
 
     /// One turn of a wire, at the first of the rest.

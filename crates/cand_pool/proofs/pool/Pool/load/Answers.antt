@@ -9,7 +9,7 @@ slots-init g c =
     let live = c.requires.live in
     let e = c.first_slot-slot.ensures.slot in
     record {
-      loading = rw e (loading_start c.args.c c.args.self.now c.args.list.now.ends.first _ _ c.first_slot-slot.ensures.pool.all_c live);
+      loading = rw e (loading_start c.args.c c.args.self.now c.args.list.now.ends.first _ _ c.first_slot-slot.ensures.pool.all live);
       steps = rw e refl;
     }
 
