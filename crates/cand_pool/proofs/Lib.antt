@@ -13,6 +13,5 @@ pub mod PlaceLaws
 pub mod KeptLaws
 pub mod UnionOrder
 pub mod LoadLaws
-pub mod BendLaws
 pub mod LengthLaws
 pub mod CallLaws

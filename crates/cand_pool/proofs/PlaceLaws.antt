@@ -2,17 +2,10 @@
 use Rattle.std.proofs.Common.{◌≡◌, ◌≢◌, ℕ, suc, ◌<◌, ◌≤◌, List, ◌∷◌, length, map, sym, ap, ◌∙◌, subst, arith}
 use Rattle.std.proofs.lemmas.List.{length-map}
 use Rattle.cand_pool.specs.Links.{none, link}
-use Rattle.cand_pool.specs.Candidates.{Candidate, IsModest}
-use Rattle.cand_pool.specs.Pools.{Block, candidate, items, IsFrom, IsPlaceAt, IsModestPlace}
-use Rattle.cand_pool.specs.declared.ends.Cand.{Cand}
+use Rattle.cand_pool.specs.Candidates.{Candidate}
+use Rattle.cand_pool.specs.Pools.{Block, candidate, items, IsFrom, IsPlaceAt}
 use Rattle.cand_pool.proofs.TrailLaws.{trail_is, chain_short}
-use Rattle.cand_pool.proofs.PublicLaws.{place_low, place_is, next_place, from_some, first_from}
-
--- the slot of a modest place is of the block, and its candidate is modest
-pub modest_place : (s : Block) (place : Cand) → IsModestPlace s place → (place.slot < length s.links) × IsModest (candidate s place.slot)
-modest_place s place given =
-    let (x, xs, at, modest) = given in
-    (place_low s place.slot (x ∷ xs) at, subst (λ (y : Candidate). IsModest y) (sym (place_is s place.slot x xs at)) modest)
+use Rattle.cand_pool.proofs.PublicLaws.{place_low, next_place, from_some, first_from}
 
 -- what comes from a slot on is what the map says
 pub from_items : (s : Block) (slot : ℕ) (xs : List Candidate) → IsFrom s slot xs → items s slot ≡ xs

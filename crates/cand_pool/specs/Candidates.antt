@@ -1,5 +1,5 @@
 -- Candidates, and what is done to one.
-use Rattle.std.specs.Prelude.{ℕ, ◌+◌, ◌*◌, ◌^◌, ◌≤◌, cond, Bool, List, [], ◌∷◌, ℤ, pos, negsuc, ◌-ℤ◌, ◌*ℤ◌, ◌≤ℤ◌, int_lt}
+use Rattle.std.specs.Prelude.{ℕ, ◌+◌, ◌*◌, ◌^◌, ◌≤◌, cond, List, [], ◌∷◌, ℤ, pos, negsuc, ◌-ℤ◌, ◌≤ℤ◌, int_lt}
 
 -- the latest time at which the signal may reach a node, the load that the node is seen as, and a mark of its owner's
 pub record Candidate : Type 0 where
@@ -31,7 +31,3 @@ loaded c x = record { q = x.q; c = x.c + c; tag = x.tag }
 -- where two branches meet
 abbrev pub formed : Candidate → Candidate → ℕ → Candidate
 formed x y tag = record { q = cond (int_lt y.q x.q) y.q x.q; c = x.c + y.c; tag = tag }
-
--- whether y lies strictly above the line from x to z, where c rises from x over y to z
-abbrev pub is_bend : Candidate → Candidate → Candidate → Bool
-is_bend x y z = int_lt ((z.q -ℤ x.q) *ℤ (pos y.c -ℤ pos x.c)) ((y.q -ℤ x.q) *ℤ (pos z.c -ℤ pos x.c))

@@ -1,7 +1,7 @@
 -- What contracts see of a pool: its block of slots, and the lists and bags that are linked in it.
-use Rattle.std.specs.Prelude.{◌≡◌, ◌≢◌, ℕ, ◌≤◌, List, [], ◌∷◌, length, map, get_or, pos}
+use Rattle.std.specs.Prelude.{◌≡◌, ◌≢◌, ℕ, ◌≤◌, List, [], length, map, get_or, pos}
 use Rattle.cand_pool.specs.Links.{none, link, IsChain, IsIn, last_of, AreLinks, IsWhole, trail}
-use Rattle.cand_pool.specs.Candidates.{Candidate, Candidates, IsModest}
+use Rattle.cand_pool.specs.Candidates.{Candidate, Candidates}
 use Rattle.cand_pool.specs.declared.numbers.Numbers.{Numbers}
 use Rattle.cand_pool.specs.declared.ends.List.{List as NamedList}
 use Rattle.cand_pool.specs.declared.ends.Bag.{Bag}
@@ -94,10 +94,6 @@ pub record IsPlaceAt (s : Block) (slot : ℕ) (xs : Candidates) : Type 0 where
 -- a live place of a list
 abbrev pub IsPlace : Block → Cand → Candidates → Type 0
 IsPlace s place xs = IsPlaceAt s place.slot xs
-
--- a live place whose numbers are within the limits
-abbrev pub IsModestPlace : Block → Cand → Type 0
-IsModestPlace s place = (x : Candidate) × (xs : Candidates) × IsPlace s place (x ∷ xs) × IsModest x
 
 -- the slot that names a list, or a bag, in its pool
 abbrev pub name : NamedList → ℕ

@@ -34,7 +34,7 @@ fn charged(q: i128, r: u64, c: u64) -> i128
 
 impl Pool {
     /// The q of a slot above a wire.
-    pub(crate) fn after_wire(&self, slot: u32, r: u64) -> i128
+    fn after_wire(&self, slot: u32, r: u64) -> i128
         requires there { slot < length self.now.links }
         requires modest { IsModest (candidate self.now slot) }
         ensures { let x = candidate self.now slot in result ≡ (wired r x).q }
