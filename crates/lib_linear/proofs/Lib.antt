@@ -4,3 +4,4 @@ pub mod RepeaterLaws
 pub mod RepeaterOrder
 pub mod RepeaterSteps
 pub mod LawLemmas
+pub mod CellLemmas

@@ -132,7 +132,7 @@ one_way x y e f = let g = ranks.one_way x y e in absurd (cc)
 
 -- repeaters in order whose cells' names differ rise, each above those before it
 module _ (found ordered : List Repeater) (order : IsInOrder found ordered) (distinct : Distinct (names found)) where
-  ordered_distinct : Distinct (names ordered)
+  pub ordered_distinct : Distinct (names ordered)
   ordered_distinct =
       AllPairs-from_IsDistinct bytes_eq-Decides (names ordered)
       (IsDistinct-IsPermutation bytes_eq nat_list_eq_equiv.symm (names found) (names ordered) (IsPermutation-map (λ (r : Repeater). r.cell) found ordered order.same)

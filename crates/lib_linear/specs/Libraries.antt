@@ -1,5 +1,6 @@
 -- The library that a text denotes, and what it says of pins.
-use Rattle.std.specs.Prelude.{◌≡◌, ℕ, List, [], Option, find, unwrap_or, option_map, option_and_then}
+use Rattle.std.specs.Prelude.{◌≡◌, ◌≢◌, ℕ, List, [], Option, Some, find, unwrap_or, option_map, option_and_then, AllPairs}
+use Rattle.std.specs.List.{All}
 use Rattle.std.specs.Str.{bytes_eq}
 use Rattle.vg_scan.specs.Comments.{without_comments}
 use Rattle.vg_scan.specs.declared.comments.Comments.TheVariants.{Liberty}
@@ -59,3 +60,15 @@ limit_of said cell pin = option_and_then (λ p. p.max) (pin_in said cell pin)
 -- the pins that it names as related
 abbrev pub related_to : Cells → List ℕ → List ℕ → List (List ℕ)
 related_to said cell pin = unwrap_or (option_map (λ p. p.related) (pin_in said cell pin)) []
+
+-- what a library says of the pins of a repeater is what the repeater does
+pub record IsOfCells (said : Cells) (r : Repeater) : Type 0 where
+  pub input : cap_of said r.cell r.input ≡ Some r.rep.cin
+  pub output : drive_in said r.cell r.output ≡ Some (r.rep.k, r.rep.r)
+  pub limit : limit_of said r.cell r.output ≡ r.rep.limit
+  pub differ : r.input ≢ r.output
+
+-- this is so of all its repeaters, and no two of them are of one cell
+pub record AreOfCells (said : Cells) : Type 0 where
+  pub each : All (IsOfCells said) said.repeaters
+  pub once : AllPairs (λ a b. a.cell ≢ b.cell) said.repeaters

@@ -13,7 +13,9 @@ mod repeater_search;
 
 pub use checked::checked_text;
 pub use laws::one_answer;
-pub use library::{Library, pin_cap, pin_drive, pin_limit, related, repeaters};
+pub use library::{
+    Library, pin_cap, pin_drive, pin_limit, related, repeaters, repeaters_are_of_cells,
+};
 pub use read::read_library;
 pub use repeater::Repeater;
 pub use repeater_laws::{

@@ -2,7 +2,7 @@
 
 ghost use Rattle.std.specs.Prelude.{◌≡◌, [], ◌<◌, find, map, option_copied, slice_get};
 ghost use Rattle.std.specs.Str.{bytes_eq};
-ghost use Rattle.lib_linear.specs.Libraries.{cap_of, drive_in, limit_of, pin_in, related_to};
+ghost use Rattle.lib_linear.specs.Libraries.{AreOfCells, cap_of, drive_in, limit_of, pin_in, related_to};
 
 use crate::repeater::Repeater;
 use lib_cells::{CellInfo, PinInfo};
@@ -22,19 +22,21 @@ pub struct Library {
 
 impl Model for Library {
     ghost use Rattle.std.specs.Prelude.{◌≡◌, map};
-    ghost use Rattle.lib_linear.specs.Libraries.{Cells};
+    ghost use Rattle.lib_linear.specs.Libraries.{AreOfCells, Cells};
 
     ghost Value = { Cells };
 
     ghost view = { λ library. record { cells = library.cells; repeaters = library.repeaters } };
 
-    ghost invariant = { λ library. library.names ≡ map (λ info. info.name) library.cells };
+    ghost invariant = { λ library. (library.names ≡ map (λ info. info.name) library.cells)
+        × AreOfCells (record { cells = library.cells; repeaters = library.repeaters }) };
 }
 
 impl Library {
     /// The library of these cells with these names, and these repeaters.
     pub(crate) fn new(names: Names, cells: Vec<CellInfo>, repeaters: Vec<Repeater>) -> Library
-        requires { names ≡ map (λ info. info.name) cells.items }
+        requires names { names ≡ map (λ info. info.name) cells.items }
+        requires repeaters { AreOfCells (record { cells = cells.items; repeaters = repeaters.items }) }
         ensures cells { result.cells ≡ cells.items }
         ensures repeaters { result.repeaters ≡ repeaters.items }
     {
@@ -84,6 +86,13 @@ fn pin_in<'a>(library: &'a Library, cell: &[u8], pin: &[u8]) -> Option<&'a PinIn
 {
     let cell = cell_of(&library.names, library.cells.as_slice(), cell)?;
     pin_of(cell, pin)
+}
+
+/// A law: what a library says of the pins of a repeater is what the repeater does, and no two repeaters are of one cell.
+pub fn repeaters_are_of_cells(library: &Library)
+    ensures { AreOfCells library.now }
+{
+    let _ = &library.names;
 }
 
 /// The repeaters of a library, by rising resistance, then by the names of their cells. It takes no memory.
