@@ -9,8 +9,7 @@ ghost use Rattle.vg_convex.specs.Places.{row, told_by, pair_in, IsPointOf, IsHul
 use crate::work::Point;
 use vg_num::Memory;
 
-/// Whether the first of two products of a time and a load is the lesser. Where both times have 64 bits, as nearly all have, a
-/// product of two words is enough for each.
+/// Whether the first of two products of a time and a load is the lesser.
 fn is_product_less(a_q: i128, a_c: u64, b_q: i128, b_c: u64) -> bool
     requires a_late { pos 0 ≤ℤ a_q }
     requires a_early { a_q ≤ℤ pos (2 * 10 ^ 25 + 1) }
@@ -20,10 +19,7 @@ fn is_product_less(a_q: i128, a_c: u64, b_q: i128, b_c: u64) -> bool
     requires b_small { b_c ≤ 10 ^ 11 }
     ensures { result ≡ int_lt (a_q *ℤ pos a_c) (b_q *ℤ pos b_c) }
 {
-    match (u64::try_from(a_q), u64::try_from(b_q)) {
-        (Ok(a), Ok(b)) => u128::from(a) * u128::from(a_c) < u128::from(b) * u128::from(b_c),
-        _ => a_q * i128::from(a_c) < b_q * i128::from(b_c),
-    }
+    a_q * i128::from(a_c) < b_q * i128::from(b_c)
 }
 
 /// Whether the second of three points, which rise, lies strictly above the line from the first to the third.
