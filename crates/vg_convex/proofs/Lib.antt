@@ -8,8 +8,8 @@ pub mod Walks
 pub mod Finds
 pub mod Scans
 pub mod Ranks
+pub mod Numberings
 pub mod Shelves
 pub mod Results
 pub mod Adds
 pub mod Sweeps
-pub mod Numberings

@@ -1,5 +1,5 @@
 -- What a repeater makes of the candidates of a list.
-use Rattle.std.specs.Prelude.{◌≡◌, ◌≢◌, ◌⊎◌, ◌≤◌, ◌<ℤ◌, ◌≤ℤ◌, ℕ, List, [], ◌∷◌, ◌++◌, length, map, slice_index_or, Option, Some, None, MatchOption}
+use Rattle.std.specs.Prelude.{◌≡◌, ◌≢◌, ◌⊎◌, ◌≤◌, ◌<◌, ◌<ℤ◌, ◌≤ℤ◌, ℕ, List, [], ◌∷◌, ◌++◌, length, map, slice_index_or, Option, Some, None, MatchOption}
 use Rattle.std.specs.List.{All, Contains}
 use Rattle.elmore.specs.Allowances.{Allows}
 use Rattle.elmore.specs.Cells.{rep_at}
@@ -14,6 +14,7 @@ use Rattle.cand_pool.specs.Candidates.{Candidate, Candidates}
 use Rattle.cand_uses.specs.Pairs.{pair_of, pairs_of}
 use Rattle.vg_convex.specs.declared.work.Found.{Found}
 use Rattle.vg_convex.specs.declared.work.Made.{Made}
+use Rattle.vg_convex.specs.declared.work.Work.{Work}
 
 -- the repeater makes the pair z of candidate x, which is within its limit
 pub record IsMadeOf (rep : Rep) (x : Candidate) (z : Pair) : Type 0 where
@@ -49,6 +50,15 @@ pub record IsRow (allowed : Allowed) (reps : List Rep) (found : List (Option Fou
 -- the row has the result of each repeater of an order
 abbrev pub AreAnswered : Allowed → List Rep → Candidates → List ℕ → List (Option Found) → Type 0
 AreAnswered allowed reps xs order found = (b : ℕ) → Contains order b → IsAnswer allowed reps xs b (found_at found b)
+
+-- the row has the result of each repeater
+abbrev pub AreFound : Allowed → List Rep → Candidates → List (Option Found) → Type 0
+AreFound allowed reps xs found = (b : ℕ) → b < length reps → IsAnswer allowed reps xs b (found_at found b)
+
+-- the work has the result of each repeater for a list, at a node that allows some of them
+pub record HasFound (allowed : Allowed) (reps : List Rep) (xs : Candidates) (work : Work) : Type 0 where
+  pub room : length reps ≤ length work.found.items
+  pub each : AreFound allowed reps xs work.found.items
 
 -- a result that stands in the row of its repeater, which is of the order
 pub record IsResultOf (reps : List Rep) (found : List (Option Found)) (order : List ℕ) (made : Made) : Type 0 where

@@ -1,6 +1,6 @@
--- The list of what a shelf makes of a list of candidates, and the solutions of its candidates.
-use Rattle.std.specs.Prelude.{◌≡◌, ◌≢◌, ℕ, ◌+◌, List, [], ◌∷◌, length, Some}
-use Rattle.std.specs.List.{Contains, AllZip}
+-- The list of what the repeaters of one kind make of a list of candidates, and the solutions of its candidates.
+use Rattle.std.specs.Prelude.{◌≡◌, ◌≢◌, ℕ, ◌+◌, ◌<◌, Bool, List, [], ◌∷◌, length, Some, None}
+use Rattle.std.specs.List.{All, Contains, AllZip}
 use Rattle.elmore.specs.Allowances.{Allows}
 use Rattle.elmore.specs.Cells.{rep_at}
 use Rattle.elmore.specs.declared.allowed.Allowed.{Allowed}
@@ -9,7 +9,7 @@ use Rattle.elmore.specs.declared.rep.Rep.{Rep}
 use Rattle.sol_arena.specs.declared.slot.Made.{Made}
 use Rattle.sol_arena.specs.declared.slot.Made.TheVariants.{Cell}
 use Rattle.sol_arena.specs.declared.slot.Slot.{Slot}
-use Rattle.sol_arena.specs.Slots.{none, made_in, made_at, IsSolution}
+use Rattle.sol_arena.specs.Slots.{none, made_in, made_at, IsSolution, IsLive as IsLiveSolution}
 use Rattle.sol_arena.specs.Uses.{held_of}
 use Rattle.sol_arena.specs.Meanings.{with_own, cells_of}
 use Rattle.cand_laws.specs.Merging.{IsGreatestBy}
@@ -19,16 +19,20 @@ use Rattle.cand_pool.specs.declared.ends.List.{List as NamedList}
 use Rattle.cand_uses.specs.Pairs.{pair_of, pairs_of}
 use Rattle.cand_uses.specs.Uses.{uses_by}
 use Rattle.vg_convex.specs.Answers.{IsMadeOf}
-use Rattle.vg_convex.specs.declared.shelf.Shelf.{Shelf}
 use Rattle.vg_convex.specs.declared.work.Made.{Made as Result}
 
--- the shelf has the repeater b, and a node allows it
-abbrev pub MayStand : Shelf → Allowed → ℕ → Type 0
-MayStand shelf allowed b = Contains shelf.by_input.items b × Allows allowed b
+-- b is a repeater of this kind, and a node allows it
+abbrev pub MayStand : List Rep → Bool → Allowed → ℕ → Type 0
+MayStand reps inverts allowed b = (b < length reps) × ((rep_at reps b).inverts ≡ inverts) × Allows allowed b
 
 -- a repeater that may stand makes z of a list, and no pair with more time
-abbrev pub IsMade : List Rep → Shelf → Allowed → Candidates → Pair → Type 0
-IsMade reps shelf allowed xs z = (b : ℕ) × MayStand shelf allowed b × IsGreatestBy (rep_at reps b) (pairs_of xs) z
+abbrev pub IsMade : List Rep → Bool → Allowed → Candidates → Pair → Type 0
+IsMade reps inverts allowed xs z = (b : ℕ) × MayStand reps inverts allowed b × IsGreatestBy (rep_at reps b) (pairs_of xs) z
+
+-- the solutions of these candidates are live, and have no cell at a node
+pub record AreBareAt (ms : List Made) (node : ℕ) (xs : Candidates) : Type 0 where
+  pub live : All (λ x. IsLiveSolution ms x.tag) xs
+  pub bare : All (λ x. cells_of ms x.tag node ≡ None) xs
 
 -- the new solution s is the solution `below` with a cell more: the repeater b at a node
 pub record IsCell (old new : List Made) (node b below s : ℕ) : Type 0 where

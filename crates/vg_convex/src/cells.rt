@@ -1,9 +1,9 @@
-//! The list of what repeaters make of a list at a node.
+//! What repeaters find in a list at a node, and the list of what they make of it.
 
-ghost use Rattle.std.specs.Prelude.{◌≡◌, ℕ, ◌+◌, ◌*◌, ◌^◌, ◌<◌, ◌≤◌, ◌∷◌, [], length, None, IfOk, OnOk, OnErr, MatchResult};
-ghost use Rattle.std.specs.List.{All, AllPairs, Contains};
-ghost use Rattle.elmore.specs.Cells.{rep_at};
+ghost use Rattle.std.specs.Prelude.{◌≡◌, ℕ, ◌+◌, ◌*◌, ◌≤◌, ◌∷◌, [], length, None, IfOk, OnOk, OnErr, MatchResult};
+ghost use Rattle.std.specs.List.{All, AllPairs};
 ghost use Rattle.elmore.specs.Pairs.{IsBelow, IsUndominated};
+ghost use Rattle.elmore.specs.declared.allowed.Allowed.{Allowed as AllowedSpec};
 ghost use Rattle.sol_arena.specs.Arenas.{slots_of, made_of};
 ghost use Rattle.sol_arena.specs.Meanings.{cells_of};
 ghost use Rattle.sol_arena.specs.Reach.{IsRestored};
@@ -12,11 +12,9 @@ ghost use Rattle.cand_pool.specs.Candidates.{Candidate, Candidates, AreModest};
 ghost use Rattle.cand_pool.specs.Pools.{spare, Holds, IsLive, items_of, KeepsOthers, name};
 ghost use Rattle.cand_uses.specs.Pairs.{pairs_of};
 ghost use Rattle.cand_uses.specs.Uses.{IsExchange};
-ghost use Rattle.vg_convex.specs.Answers.{IsRow, AreAnswered};
-ghost use Rattle.vg_convex.specs.Hulls.{Rise};
-ghost use Rattle.vg_convex.specs.Orders.{AreRising, IsShelf};
-ghost use Rattle.vg_convex.specs.Places.{row};
-ghost use Rattle.vg_convex.specs.Lists.{MayStand, IsMade, IsAttained, IsCell, KeepsSolutions, AreAdded, AreWithCells};
+ghost use Rattle.vg_convex.specs.Answers.{HasFound};
+ghost use Rattle.vg_convex.specs.Orders.{numbers_of, AreRising, IsShelf};
+ghost use Rattle.vg_convex.specs.Lists.{MayStand, IsMade, AreBareAt, IsAttained, IsCell, KeepsSolutions, AreAdded, AreWithCells};
 
 use crate::scan::scan_all;
 use crate::search::find_all;
@@ -30,12 +28,13 @@ use sol_arena::{Arena, Sol};
 use std::sync::ledger::Ledger;
 use vg_num::Memory;
 
-/// At most so many repeaters of a shelf are each tried on each candidate: that takes less time than to build the hull.
+/// At most so many repeaters are each tried on each candidate: that takes less time than to build the hull.
 const FEW: usize = 3;
 
-/// The greatest time of each repeater of a shelf that is allowed, in its place of the row. Answers `Memory` where there is no
-/// room.
-fn find_each<L: Ledger>(
+/// Finds for each repeater of a shelf that a node allows the greatest time that it makes of the candidates of a list within its
+/// limit, and keeps it in the work. A few repeaters are tried on each candidate (van Ginneken 1990); more find it on the upper
+/// convex hull of the list (Li and Shi 2005). Answers `Memory` where there is no room.
+pub fn find_each<L: Ledger>(
     pool: &Pool,
     from: &List,
     reps: &[Rep],
@@ -44,23 +43,19 @@ fn find_each<L: Ledger>(
     work: &mut Work,
     steps: &mut Steps<L>,
 ) -> Result<(), Memory>
-    ghost xs: { Candidates }
-    requires list { Holds pool.now from.now xs }
-    requires rise { Rise (row xs) (length xs) }
-    requires modest { AreModest xs }
-    requires stack { work.old.stack.items ≡ [] }
-    requires row { IsRow allowed.now reps.now work.old.found.items }
+    requires from { IsLive pool.now from.now }
+    requires rising { AllPairs IsBelow (pairs_of (items_of pool.now from.now)) }
+    requires modest { AreModest (items_of pool.now from.now) }
     requires shelf { IsShelf reps.now shelf.now }
-    requires rising { AreRising allowed.now }
-    ensures rows { OnOk result (length reps.now ≤ length work.new.found.items) }
-    ensures found { OnOk result (AreAnswered allowed.now reps.now xs shelf.now.by_input.items work.new.found.items) }
-    ensures cost { (d : ℕ) → length xs < 2 ^ d
-        → steps.new ≤ steps.old + 3 * length xs + length shelf.now.by_input.items * (d + 2) }
+    requires allowed { AreRising allowed.now }
+    ensures found { OnOk result (HasFound allowed.now reps.now (items_of pool.now from.now) work.new) }
+    ensures steps { steps.new ≤ steps.old + 3 * length (items_of pool.now from.now) + length reps.now }
 {
-    if shelf.len() > FEW {
+    work.clear(reps.len())?;
+    if reps.len() > FEW {
         return find_all(pool, from, reps, shelf, allowed, work, steps);
     }
-    scan_all(pool, from, reps, &shelf.by_input, allowed, work, steps);
+    scan_all(pool, from, reps, allowed, work, steps);
     Ok(())
 }
 
@@ -110,38 +105,31 @@ fn list_of(pool: &mut Pool, arena: &mut Arena, node: u32, results: &[Made]) -> R
     }
 }
 
-/// What the repeaters of a shelf make of a list at a node that allows some of them: each drives the candidate within its
-/// limit that gives it the most time. A few repeaters are tried on each candidate (van Ginneken 1990); more find it on the
-/// upper convex hull of the list (Li and Shi 2005). The answer has the undominated ones of these pairs, each with the
-/// repeater's cell added to the solution of the candidate that it drives. It is a new list; `from` stays. The work is room,
-/// and keeps nothing. Answers `Memory` where there is no room; then lists, spare slots and solutions are as before.
-pub fn add_cells<L: Ledger>(
+/// What the repeaters of one kind make of a list at a node that allows some of them, where the work has what was found for the
+/// list: each drives the candidate within its limit that gives it the most time. The answer has the undominated ones of these
+/// pairs, each with the repeater's cell added to the solution of the candidate that it drives. It is a new list, and the work
+/// keeps what was found. Answers `Memory` where there is no room; then lists, spare slots and solutions are as before.
+pub fn add_cells(
     pool: &mut Pool,
     arena: &mut Arena,
-    from: &List,
     node: u32,
     reps: &[Rep],
     shelf: &Shelf,
-    allowed: &Allowed,
+    inverts: bool,
     work: &mut Work,
-    steps: &mut Steps<L>,
 ) -> Result<List, Memory>
-    requires from { IsLive pool.old from.now }
-    requires rising { AllPairs IsBelow (pairs_of (items_of pool.old from.now)) }
-    requires modest { AreModest (items_of pool.old from.now) }
-    requires room { length shelf.now.by_input.items ≤ spare pool.old }
+    requires found { (allowed : AllowedSpec) × (xs : Candidates) × HasFound allowed reps.now xs work.old
+        × AreBareAt (made_of arena.old) node xs }
+    requires room { length (numbers_of reps.now inverts) ≤ spare pool.old }
     requires shelf { IsShelf reps.now shelf.now }
-    requires allowed { AreRising allowed.now }
-    requires live { All (λ x. IsLiveSolution (made_of arena.old) x.tag) (items_of pool.old from.now) }
-    requires bare { All (λ x. cells_of (made_of arena.old) x.tag node ≡ None) (items_of pool.old from.now) }
     ensures list { IfOk result (λ list. IsLive pool.new list) }
-    ensures undominated { IfOk result (λ list.
-        IsUndominated (IsMade reps.now shelf.now allowed.now (items_of pool.old from.now)) (pairs_of (items_of pool.new list))) }
-    ensures attained { IfOk result (λ list. All (λ z. (b : ℕ) × (x : Candidate) × MayStand shelf.now allowed.now b
-        × IsAttained reps.now b (items_of pool.old from.now) x z
+    ensures undominated { IfOk result (λ list. (allowed : AllowedSpec) (xs : Candidates) → HasFound allowed reps.now xs work.old
+        → IsUndominated (IsMade reps.now inverts allowed xs) (pairs_of (items_of pool.new list))) }
+    ensures attained { IfOk result (λ list. (allowed : AllowedSpec) (xs : Candidates) → HasFound allowed reps.now xs work.old
+        → All (λ z. (b : ℕ) × (x : Candidate) × MayStand reps.now inverts allowed b × IsAttained reps.now b xs x z
         × IsCell (made_of arena.old) (made_of arena.new) node b x.tag z.tag) (items_of pool.new list)) }
-    ensures empty { items_of pool.old from.now ≡ [] → IfOk result (λ list. items_of pool.new list ≡ []) }
-    ensures few { IfOk result (λ list. length (items_of pool.new list) ≤ length shelf.now.by_input.items) }
+    ensures empty { (allowed : AllowedSpec) → HasFound allowed reps.now [] work.old → IfOk result (λ list. items_of pool.new list ≡ []) }
+    ensures few { IfOk result (λ list. length (items_of pool.new list) ≤ length (numbers_of reps.now inverts)) }
     ensures uses { IfOk result (λ list. IsExchange (slots_of arena.old) [] (slots_of arena.new) (items_of pool.new list)) }
     ensures solutions { KeepsSolutions (made_of arena.old) (made_of arena.new) }
     ensures restored { OnErr result (IsRestored (slots_of arena.old) (slots_of arena.new)) }
@@ -149,12 +137,9 @@ pub fn add_cells<L: Ledger>(
         (λ _. KeepsOthers pool.old [] pool.new []) }
     ensures spare { MatchResult result (λ list. spare pool.old ≡ spare pool.new + length (items_of pool.new list))
         (λ _. spare pool.new ≡ spare pool.old) }
-    ensures steps { (d : ℕ) → length (items_of pool.old from.now) < 2 ^ d
-        → steps.new ≤ steps.old + 3 * length (items_of pool.old from.now) + length shelf.now.by_input.items * (d + 2) }
+    ensures kept { work.new.found ≡ work.old.found }
 {
-    work.clear(reps.len())?;
-    find_each(pool, from, reps, shelf, allowed, work, steps)?;
-    sweep(reps, &shelf.by_input, &work.found, &mut work.kept)?;
+    sweep(reps, shelf.kind(inverts), &work.found, &mut work.kept)?;
     let list = list_of(pool, arena, node, &work.kept)?;
     Ok(list)
 }

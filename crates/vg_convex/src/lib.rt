@@ -13,7 +13,7 @@ mod shelf;
 mod sweep;
 mod work;
 
-pub use cells::add_cells;
+pub use cells::{add_cells, find_each};
 pub use laws::{
     greatest_turns, hull_serves, pair_comes_off, pair_goes_on, peak_is_greatest, values_fall,
 };

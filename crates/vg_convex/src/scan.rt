@@ -1,10 +1,9 @@
 //! The greatest time of each of a few repeaters, which are tried on each candidate (van Ginneken 1990).
 
-ghost use Rattle.std.specs.Prelude.{◌≡◌, ◌⊎◌, ◌+◌, ◌*◌, ◌<◌, ◌≤◌, ◌≤ℤ◌, set, length, Option, MatchOption};
-ghost use Rattle.std.specs.List.{All};
+ghost use Rattle.std.specs.Prelude.{◌≡◌, ◌⊎◌, ◌+◌, ◌*◌, ◌^◌, ◌<◌, ◌≤◌, ◌≤ℤ◌, set, length, Option, MatchOption};
 ghost use Rattle.cand_pool.specs.Candidates.{Candidates, AreModest};
 ghost use Rattle.cand_pool.specs.Pools.{Holds};
-ghost use Rattle.vg_convex.specs.Answers.{IsFoundFor, IsAnswer, IsRow, AreAnswered};
+ghost use Rattle.vg_convex.specs.Answers.{IsFoundFor, IsAnswer, IsRow, AreFound};
 ghost use Rattle.vg_convex.specs.Hulls.{Rise};
 ghost use Rattle.vg_convex.specs.Orders.{AreRising};
 ghost use Rattle.vg_convex.specs.Places.{row};
@@ -77,12 +76,11 @@ fn scan_next<L: Ledger>(
     }
 }
 
-/// The greatest time of each repeater of an order that is allowed, in its place of the row.
+/// The greatest time of each repeater that is allowed, in its place of the row.
 pub(crate) fn scan_all<L: Ledger>(
     pool: &Pool,
     from: &List,
     reps: &[Rep],
-    order: &[u32],
     allowed: &Allowed,
     work: &mut Work,
     steps: &mut Steps<L>,
@@ -92,13 +90,13 @@ pub(crate) fn scan_all<L: Ledger>(
     requires rise { Rise (row xs) (length xs) }
     requires modest { AreModest xs }
     requires row { IsRow allowed.now reps.now work.old.found.items }
-    requires named { All (λ b. b < length reps.now) order.now }
+    requires few { length reps.now < 2 ^ 32 }
     requires rising { AreRising allowed.now }
     ensures row { IsRow allowed.now reps.now work.new.found.items }
-    ensures found { AreAnswered allowed.now reps.now xs order.now work.new.found.items }
-    ensures cost { steps.new ≤ steps.old + length order.now * length xs }
+    ensures found { AreFound allowed.now reps.now xs work.new.found.items }
+    ensures cost { steps.new ≤ steps.old + length reps.now * length xs }
 {
-    'reps: for number in order {
-        scan_next(pool, from, reps, *number, allowed, work, steps);
+    'reps: for number in 0..reps.len() {
+        scan_next(pool, from, reps, number as u32, allowed, work, steps);
     }
 }

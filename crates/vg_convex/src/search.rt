@@ -1,4 +1,4 @@
-//! The greatest time of each repeater of a shelf, on the upper convex hull of the candidates (Li and Shi 2005).
+//! The greatest time of each repeater, on the upper convex hull of the candidates (Li and Shi 2005).
 
 ghost use Rattle.std.specs.Prelude.{◌≡◌, ℕ, ◌+◌, ◌<◌, ◌≤◌, [], set, length, false, IfOk, OnOk, OnErr, Option, None};
 ghost use Rattle.std.specs.List.{All};
@@ -9,7 +9,7 @@ ghost use Rattle.cand_pool.specs.Candidates.{Candidates, AreModest};
 ghost use Rattle.cand_pool.specs.Pools.{Holds};
 ghost use Rattle.vg_convex.specs.Hulls.{Rise, IsGreatest};
 ghost use Rattle.vg_convex.specs.Places.{row, IsPointOf, IsHullOf, IsWalk, IsFurther, IsOver, AreWithin, IsFrontOf};
-ghost use Rattle.vg_convex.specs.Answers.{IsBestOf, IsFoundFor, IsAnswer, found_at, IsRow, AreAnswered};
+ghost use Rattle.vg_convex.specs.Answers.{IsBestOf, IsFoundFor, IsAnswer, found_at, IsRow, AreAnswered, AreFound};
 ghost use Rattle.vg_convex.specs.Orders.{has_limit, AreByLimit, AreByResistance, AreRising, IsShelf};
 ghost use Rattle.vg_convex.specs.declared.work.Found.{Found as FoundSpec};
 
@@ -221,8 +221,8 @@ pub(crate) fn find_all<L: Ledger>(
     requires shelf { IsShelf reps.now shelf.now }
     requires rising { AreRising allowed.now }
     ensures rows { OnOk result (length reps.now ≤ length work.new.found.items) }
-    ensures found { OnOk result (AreAnswered allowed.now reps.now xs shelf.now.by_input.items work.new.found.items) }
-    ensures cost { steps.new ≤ steps.old + length xs + length shelf.now.by_input.items }
+    ensures found { OnOk result (AreFound allowed.now reps.now xs work.new.found.items) }
+    ensures cost { steps.new ≤ steps.old + length xs + length reps.now }
 {
     let first = pool.first(from);
     let next = find_limited(pool, first, reps, &shelf.limited, allowed, work, steps)?;

@@ -1,4 +1,4 @@
-//! The undominated ones of the results of a shelf.
+//! The undominated ones of some results.
 
 ghost use Rattle.std.specs.Prelude.{◌≡◌, ◌<◌, ◌≤◌, length, OnOk, MatchOption};
 ghost use Rattle.std.specs.List.{All};

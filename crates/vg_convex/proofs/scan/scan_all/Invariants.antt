@@ -1,4 +1,4 @@
-use Rattle.std.proofs.Common.{ℕ, ◌+◌, ◌*◌, ◌<◌, ◌≤◌, length, slice_index}
+use Rattle.std.proofs.Common.{ℕ, ◌+◌, ◌*◌, ◌<◌, ◌≤◌, length}
 use Rattle.vg_convex.specs.Answers.{IsAnswer, found_at, IsRow}
 use Rattle.vg_convex.proofs.scan.scan_all.Given as goal
 
@@ -8,6 +8,6 @@ ghost-scan_next g a = g.xs
 abbrev pub invariant-reps : goal.invariant-reps
 invariant-reps g l = record {
   row : IsRow l.allowed l.reps l.work.found.items;
-  answers : (i : ℕ) → i < l.number-index → IsAnswer l.allowed l.reps g.xs (slice_index l.order i) (found_at l.work.found.items (slice_index l.order i));
-  cost : l.steps ≤ l.fn.steps + l.number-index * length g.xs;
+  answers : (b : ℕ) → b < l.number → IsAnswer l.allowed l.reps g.xs b (found_at l.work.found.items b);
+  cost : l.steps ≤ l.fn.steps + l.number * length g.xs;
 }

@@ -31,9 +31,9 @@ returns-in_err-next-clause-cost g c =
     c.deref.ensures.value (omega (arith, c.in_err-next.ensures.cost))
 
 pub returns-then-not-allows_any-clause-found : goal.returns-then-not-allows_any-clause-found
-returns-then-not-allows_any-clause-found g c = λ b b_in.
+returns-then-not-allows_any-clause-found g c = λ b low.
     let (_, (list, (rise, (modest, (empty, (row, (shelf, rising))))))) = c.requires in
-    elim (part_of c.args.reps.now c.args.shelf.now b shelf b_in) [
+    elim (part_of c.args.reps.now c.args.shelf.now b shelf low) [
       | inl one ↦ c.in_ok-next.ensures.found b (subst (λ (l : List ℕ). Contains l b) (sym c.deref.ensures.value) one)
       | inr two ↦
           none_allowed c.args.allowed.now c.args.reps.now g.xs c.find_limited.new.work.found.items b c.in_ok-next.ensures.row
@@ -73,9 +73,9 @@ find_each_free-requires g c =
     )
 
 pub returns-clause-found : goal.returns-clause-found
-returns-clause-found g c = λ b b_in.
+returns-clause-found g c = λ b low.
     let (_, (list, (rise, (modest, (empty, (row, (shelf, rising))))))) = c.requires in
-    elim (part_of c.args.reps.now c.args.shelf.now b shelf b_in) [
+    elim (part_of c.args.reps.now c.args.shelf.now b shelf low) [
       | inl one ↦ c.find_each_free.ensures.others b (c.in_ok-next.ensures.found b (subst (λ (l : List ℕ). Contains l b) (sym c.deref.ensures.value) one))
       | inr two ↦ c.find_each_free.ensures.found b (subst (λ (l : List ℕ). Contains l b) (sym c.deref-3.ensures.value) two)
     ]
