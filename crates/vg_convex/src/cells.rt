@@ -128,7 +128,8 @@ pub fn add_cells(
     ensures attained { IfOk result (λ list. (allowed : AllowedSpec) (xs : Candidates) → HasFound allowed reps.now xs work.old
         → All (λ z. (b : ℕ) × (x : Candidate) × MayStand reps.now inverts allowed b × IsAttained reps.now b xs x z
         × IsCell (made_of arena.old) (made_of arena.new) node b x.tag z.tag) (items_of pool.new list)) }
-    ensures empty { (allowed : AllowedSpec) → HasFound allowed reps.now [] work.old → IfOk result (λ list. items_of pool.new list ≡ []) }
+    ensures empty { (allowed : AllowedSpec) → HasFound allowed reps.now [] work.old
+        → IfOk result (λ list. items_of pool.new list ≡ []) }
     ensures few { IfOk result (λ list. length (items_of pool.new list) ≤ length (numbers_of reps.now inverts)) }
     ensures uses { IfOk result (λ list. IsExchange (slots_of arena.old) [] (slots_of arena.new) (items_of pool.new list)) }
     ensures solutions { KeepsSolutions (made_of arena.old) (made_of arena.new) }
