@@ -1,11 +1,9 @@
 -- What repeaters make of the candidates of a node.
-use Rattle.std.proofs.Common.{◌≡◌, ◌⊎◌, ℕ, ◌+◌, ◌<◌, ◌≤◌, Bool, true, false, not, cond, List, length, get_or, slice_index_or, refl, sym, ap, ◌∙◌, subst, arith, inl, inr, Option, Some, None}
-use Rattle.std.proofs.lemmas.Bool.{cases_Bool}
+use Rattle.std.proofs.Common.{◌≡◌, ◌⊎◌, ℕ, zero, suc, [], ◌∷◌, ◌+◌, ◌<◌, ◌≤◌, Bool, true, false, not, List, length, get_or, slice_index_or, refl, sym, ap, ◌∙◌, subst, arith, inl, inr, Option, Some, None}
 use Rattle.std.proofs.lemmas.List.Elements.{All-contains, Contains-get_or}
 use Rattle.std.proofs.lemmas.List.{get_or_default}
 use Rattle.std.proofs.lemmas.List.Filters.{length-filter_both}
 use Rattle.std.proofs.lemmas.List.FromFn.{length-range_with_len}
-use Rattle.std.proofs.lemmas.List.Sorted.{Contains-permutation, IsPermutation-sym, length_permutation}
 use Rattle.std.specs.List.{All, AllPairs, Contains, range_with_len}
 use Rattle.elmore.specs.Allowances.{allowed_at}
 use Rattle.elmore.specs.Cells.{rep_at}
@@ -20,12 +18,16 @@ use Rattle.elmore.specs.declared.rep.Rep.{Rep}
 use Rattle.elmore.proofs.PathLemmas.{over_le}
 use Rattle.elmore.proofs.TreeLemmas.{tree_falls}
 use Rattle.sol_arena.specs.declared.slot.Made.{Made}
+use Rattle.sol_arena.specs.Arenas.{slots_of, made_of}
 use Rattle.sol_arena.specs.Meanings.{cells_of}
+use Rattle.sol_arena.specs.declared.arena.Arena.{Arena}
+use Rattle.sol_arena.proofs.OneLemmas.{one_same}
+use Rattle.sol_arena.proofs.ReachLemmas.{held_live}
 use Rattle.cand_laws.specs.Candidates.{with_cell, own_capacitance, fork_of, whole_fork}
 use Rattle.cand_laws.specs.Merging.{fork_from, live_from, Greatest, Owns, IsChoiceAt, IsGreatestBy}
 use Rattle.cand_laws.specs.Parts.{IsLivePart}
 use Rattle.cand_laws.specs.Solutions.{cells_by, with_own, IsOpenSolutionOf, IsSolutionOf}
-use Rattle.cand_laws.proofs.ChildLemmas.{child_above, in_nodes, nodes_in, in_filter, filter_parts}
+use Rattle.cand_laws.proofs.ChildLemmas.{child_above}
 use Rattle.cand_laws.proofs.FromLemmas.{live_all, own_all}
 use Rattle.cand_laws.proofs.GreatestLemmas.{greatest_dense}
 use Rattle.cand_laws.proofs.MergeLemmas.{IsDense, dense_exact, same_exact}
@@ -37,15 +39,14 @@ use Rattle.cand_laws.proofs.TurnLemmas.{part_steps, part_open, bare_steps, kept_
 use Rattle.cand_pool.specs.Candidates.{Candidate, Candidates, AreModest}
 use Rattle.cand_pool.specs.Sequences.{union, lowest}
 use Rattle.cand_uses.specs.Pairs.{pair_of, pairs_of}
-use Rattle.cand_uses.specs.Uses.{MeanTheSame}
+use Rattle.cand_uses.specs.Uses.{uses_by, HoldsFor, MeanTheSame}
+use Rattle.cand_uses.proofs.ExchangeLemmas.{uses_of_one}
 use Rattle.cand_lists.specs.ListLaws.{Either, both}
 use Rattle.cand_lists.proofs.ExactLemmas.{both_exact, both_take}
 use Rattle.cand_lists.proofs.KeptLemmas.{kept_length, union_length}
-use Rattle.vg_convex.specs.Lists.{MayStand, IsMade, IsAttained, IsCell}
+use Rattle.vg_convex.specs.Lists.{MayStand, IsMade, AreBareAt, IsAttained, IsCell}
 use Rattle.vg_convex.specs.Orders.{AreRising, numbers_of}
-use Rattle.vg_convex.specs.declared.shelf.Shelf.{Shelf}
 use Rattle.cand_turns.specs.Solved.{AreSolved, IsOpenAt, IsClosedAt}
-use Rattle.cand_turns.specs.Tooled.{IsShelfOf}
 use Rattle.cand_turns.specs.Celled.{IsMadeBy, behind, IsMadeOfClasses, IsOpenList, AreBest}
 use Rattle.cand_turns.proofs.WireLemmas.{small_modest}
 
@@ -84,42 +85,35 @@ whole_solution p v odd f x v_n is =
     subst (λ (us : List ℕ). IsOpenSolutionOf p odd (fork_of v (own_capacitance p v) us) f x) (live_all p v v_n)
     (subst (λ (own : ℕ). IsOpenSolutionOf p odd (fork_of v own (live_from p v (v + 1))) f x) (own_all p v v_n) is)
 
--- THE REPEATERS OF A SHELF
-kind_is : (inverts : Bool) (rep : Rep) → cond inverts rep.inverts (not rep.inverts) ≡ true → rep.inverts ≡ inverts
-kind_is true rep e = e
-kind_is false rep e = elim (cases_Bool rep.inverts) [ inl t ↦ absurd (let clash : false ≡ true = sym (ap not t) ∙ e in cc) | inr f ↦ f ]
+-- THE REPEATERS OF ONE KIND
+-- as many as hold a use of their solutions have live ones, without a cell at the node
+uses_of_some : (xs : Candidates) (x : Candidate) → Contains xs x → 0 < uses_by xs x.tag
+uses_of_some [] x (k, low, e) = absurd (omega (arith, low))
+uses_of_some (y ∷ ys) x (zero, low, e) = omega (arith, uses_of_one y ys x.tag, one_same y.tag x.tag (ap (λ (z : Candidate). z.tag) e))
+uses_of_some (y ∷ ys) x (suc k, low, e) = omega (arith, uses_of_one y ys x.tag, uses_of_some ys x (k, omega (arith, low), e))
 
-of_kind : (inverts : Bool) (rep : Rep) → rep.inverts ≡ inverts → cond inverts rep.inverts (not rep.inverts) ≡ true
-of_kind true rep e = e
-of_kind false rep e = ap not e
+pub bare_at : (p : Problem) (v : ℕ) (odd : Bool) (arena : Arena) (xs : Candidates) → HoldsFor (slots_of arena) xs → IsOpenList p v odd (made_of arena) xs
+    → AreBareAt (made_of arena) v xs
+bare_at p v odd arena xs held opens = record {
+  live = λ k d low some.
+      held_live arena (get_or xs k d).tag some (omega (arith, held (get_or xs k d).tag some, uses_of_some xs (get_or xs k d) (Contains-get_or xs k d low)));
+  bare = λ k d low. open_bare p v odd (made_of arena) xs opens (get_or xs k d) (Contains-get_or xs k d low);
+}
 
-module _ (p : Problem) (v : ℕ) (inverts : Bool) (shelf : Shelf) (of : IsShelfOf p inverts shelf) (place : slice_index_or p.places v false ≡ true) where
-  pub choice_from : (b : ℕ) → MayStand shelf (allowed_at p.allowed v) b → IsChoiceAt p v b × ((rep_at p.reps b).inverts ≡ inverts)
-  choice_from b (there, allows) =
-      let found : Contains (numbers_of p.reps inverts) b
-      = Contains-permutation shelf.by_input.items (numbers_of p.reps inverts) b (IsPermutation-sym (numbers_of p.reps inverts) shelf.by_input.items of.kind) there in
-      let (among, is) = filter_parts (λ k. cond inverts (rep_at p.reps k).inverts (not (rep_at p.reps k).inverts)) (range_with_len 0 (length p.reps)) b found in (
-        record { at_place = place; named = nodes_in (length p.reps) b among; allows = allows },
-        kind_is inverts (rep_at p.reps b) is,
-      )
+module _ (p : Problem) (v : ℕ) (inverts : Bool) (place : slice_index_or p.places v false ≡ true) where
+  choice_from : (b : ℕ) → MayStand p.reps inverts (allowed_at p.allowed v) b → IsChoiceAt p v b × ((rep_at p.reps b).inverts ≡ inverts)
+  choice_from b (low, kind, allows) = (record { at_place = place; named = low; allows = allows }, kind)
 
-  pub stands : (b : ℕ) → IsChoiceAt p v b → (rep_at p.reps b).inverts ≡ inverts → MayStand shelf (allowed_at p.allowed v) b
-  stands b choice is = (
-    Contains-permutation (numbers_of p.reps inverts) shelf.by_input.items b of.kind
-        (in_filter (λ k. cond inverts (rep_at p.reps k).inverts (not (rep_at p.reps k).inverts)) (range_with_len 0 (length p.reps)) b (in_nodes (length p.reps) b choice.named) (of_kind inverts (rep_at p.reps b) is)),
-    choice.allows,
-  )
-
-  pub made_exact : (xs zs : Candidates) → IsUndominated (IsMade p.reps shelf (allowed_at p.allowed v) xs) (pairs_of zs) → IsUndominated (IsMadeBy p v inverts (pairs_of xs)) (pairs_of zs)
+  made_exact : (xs zs : Candidates) → IsUndominated (IsMade p.reps inverts (allowed_at p.allowed v) xs) (pairs_of zs) → IsUndominated (IsMadeBy p v inverts (pairs_of xs)) (pairs_of zs)
   made_exact xs zs are =
-      same_exact (IsMade p.reps shelf (allowed_at p.allowed v) xs) (IsMadeBy p v inverts (pairs_of xs)) (pairs_of zs)
+      same_exact (IsMade p.reps inverts (allowed_at p.allowed v) xs) (IsMadeBy p v inverts (pairs_of xs)) (pairs_of zs)
       (λ z (b, may, is). let (choice, kind) = choice_from b may in (b, choice, kind, is))
-      (λ z (b, choice, kind, is). (b, stands b choice kind, is)) are
+      (λ z (b, choice, kind, is). (b, (choice.named, kind, choice.allows), is)) are
 
   -- the solutions of what they make
-  pub made_solved : (odd : Bool) (old new : List Made) (xs zs : Candidates) → v < length p.tree.nodes
+  made_solved : (odd : Bool) (old new : List Made) (xs zs : Candidates) → v < length p.tree.nodes
       → IsOpenList p v (behind inverts odd) old xs
-      → ((z : Candidate) → Contains zs z → (b : ℕ) × (x : Candidate) × MayStand shelf (allowed_at p.allowed v) b × IsAttained p.reps b xs x z × IsCell old new v b x.tag z.tag)
+      → ((z : Candidate) → Contains zs z → (b : ℕ) × (x : Candidate) × MayStand p.reps inverts (allowed_at p.allowed v) b × IsAttained p.reps b xs x z × IsCell old new v b x.tag z.tag)
       → AreSolved (IsSolutionOf p v odd) new zs
   made_solved odd old new xs zs v_n opens each z found =
       let (b, x, may, made, cell) = each z found in
@@ -135,19 +129,18 @@ module _ (p : Problem) (v : ℕ) (inverts : Bool) (shelf : Shelf) (of : IsShelfO
       subst (λ (q : Pair). IsSolutionOf p v odd (cells_of new z.tag) q) (sym made.made.made)
       (subst (λ held. IsSolutionOf p v odd held (with_cell (Some (rep_at p.reps b)) (pair_of x))) (sym cell.means) closed)
 
-  -- both, for a list of repeaters and what a node allows
-  pub made_best : (odd : Bool) (old new : List Made) (xs zs : Candidates) (reps : List Rep) (allowed : Allowed) → v < length p.tree.nodes
-      → IsOpenList p v (behind inverts odd) old xs → reps ≡ p.reps → allowed ≡ allowed_at p.allowed v → IsUndominated (IsMade reps shelf allowed xs) (pairs_of zs)
-      → All (λ z. (b : ℕ) × (x : Candidate) × MayStand shelf allowed b × IsAttained reps b xs x z × IsCell old new v b x.tag z.tag) zs
+  -- both, for a list of repeaters
+  pub made_best : (odd : Bool) (old new : List Made) (xs zs : Candidates) (reps : List Rep) → v < length p.tree.nodes
+      → IsOpenList p v (behind inverts odd) old xs → reps ≡ p.reps → IsUndominated (IsMade reps inverts (allowed_at p.allowed v) xs) (pairs_of zs)
+      → All (λ z. (b : ℕ) × (x : Candidate) × MayStand reps inverts (allowed_at p.allowed v) b × IsAttained reps b xs x z × IsCell old new v b x.tag z.tag) zs
       → AreBest p v odd (IsMadeBy p v inverts (pairs_of xs)) new zs
-  made_best odd old new xs zs reps allowed v_n opens reps_are allowed_is are all = record {
-    exact = made_exact xs zs (subst (λ (r : List Rep). IsUndominated (IsMade r shelf (allowed_at p.allowed v) xs) (pairs_of zs)) reps_are
-        (subst (λ (a : Allowed). IsUndominated (IsMade reps shelf a xs) (pairs_of zs)) allowed_is are));
+  made_best odd old new xs zs reps v_n opens reps_are are all = record {
+    exact = made_exact xs zs (subst (λ (r : List Rep). IsUndominated (IsMade r inverts (allowed_at p.allowed v) xs) (pairs_of zs)) reps_are are);
     solved = made_solved odd old new xs zs v_n opens (λ z found.
-        let (b, x, may, made, cell) = All-contains (λ z. (b : ℕ) × (x : Candidate) × MayStand shelf allowed b × IsAttained reps b xs x z × IsCell old new v b x.tag z.tag) zs z all found in (
+        let (b, x, may, made, cell) = All-contains (λ z. (b : ℕ) × (x : Candidate) × MayStand reps inverts (allowed_at p.allowed v) b × IsAttained reps b xs x z × IsCell old new v b x.tag z.tag) zs z all found in (
           b,
           x,
-          subst (λ (a : Allowed). MayStand shelf a b) allowed_is may,
+          subst (λ (r : List Rep). MayStand r inverts (allowed_at p.allowed v) b) reps_are may,
           subst (λ (r : List Rep). IsAttained r b xs x z) reps_are made,
           cell,
         ));
@@ -211,6 +204,15 @@ either_kind p v odd classes ms xs are =
       from z (true, made) = inr made
       from z (false, made) = inl made
 
+pub other_kind : (p : Problem) (v : ℕ) (odd : Bool) (classes : Bool → Candidates) (ms : List Made) (xs : Candidates)
+    → AreBest p v odd (λ z. IsMadeBy p v true (pairs_of (classes (not odd))) z ⊎ IsMadeBy p v false (pairs_of (classes odd)) z) ms xs
+    → AreBest p v odd (IsMadeOfClasses p v odd classes) ms xs
+other_kind p v odd classes ms xs are =
+    either_kind p v odd classes ms xs
+    (best_as p v odd (λ z. IsMadeBy p v true (pairs_of (classes (not odd))) z ⊎ IsMadeBy p v false (pairs_of (classes odd)) z)
+    (λ z. IsMadeBy p v false (pairs_of (classes odd)) z ⊎ IsMadeBy p v true (pairs_of (classes (not odd))) z) ms xs
+    (λ z z_in. elim z_in [ inl a ↦ inr a | inr b ↦ inl b ]) (λ z z_in. elim z_in [ inl a ↦ inr a | inr b ↦ inl b ]) are)
+
 -- the candidates with and without a cell are those of the node
 module _ (p : Problem) (v : ℕ) (v_n : v < length p.tree.nodes) (classes : Bool → Candidates) (part : IsLivePart p (IsPairAt p) (v + 1) v (λ odd. pairs_of (classes odd))) where
   to_greatest : (odd : Bool) (z : Pair) → (Contains (pairs_of (classes odd)) z) ⊎ IsMadeOfClasses p v odd classes z → Greatest p v odd (λ o. pairs_of (classes o)) z
@@ -258,16 +260,13 @@ place_closed p v old new classes cells kept v_n at best kept_is same = record {
       (open_best p v odd old (classes odd) v_n (open_list p v old classes odd at)) (best odd)
       (subst (λ (xs : Candidates). MeanTheSame old new xs) (kept_is odd) (same odd)))
 
--- the shelves have at most all repeaters
-pub shelves_few : (p : Problem) (buffers inverters : Shelf) → IsShelfOf p false buffers → IsShelfOf p true inverters
-    → length buffers.by_input.items + length inverters.by_input.items ≡ length p.reps
-shelves_few p buffers inverters one two =
+-- each repeater is of one kind
+pub kinds_sum : (reps : List Rep) → length (numbers_of reps false) + length (numbers_of reps true) ≡ length reps
+kinds_sum reps =
     omega (
       arith,
-      length_permutation (numbers_of p.reps false) buffers.by_input.items one.kind,
-      length_permutation (numbers_of p.reps true) inverters.by_input.items two.kind,
-      length-filter_both (λ b. not (rep_at p.reps b).inverts) (λ b. (rep_at p.reps b).inverts) (λ b. twice (rep_at p.reps b).inverts) (range_with_len 0 (length p.reps)),
-      length-range_with_len 0 (length p.reps),
+      length-filter_both (λ b. not (rep_at reps b).inverts) (λ b. (rep_at reps b).inverts) (λ b. twice (rep_at reps b).inverts) (range_with_len 0 (length reps)),
+      length-range_with_len 0 (length reps),
     ) where
       twice : (b : Bool) → b ≡ not (not b)
       twice true = refl

@@ -1,19 +1,19 @@
--- The repeaters of a problem, on shelves of both kinds.
-use Rattle.std.specs.Prelude.{ℕ, Bool, true, false, cond, length, slice_index_or}
-use Rattle.std.specs.List.Sorted.{IsPermutation}
+-- The repeaters of a problem on their shelf, and what was found for them.
+use Rattle.std.specs.Prelude.{ℕ, false, cond, length, slice_index_or}
+use Rattle.elmore.specs.Allowances.{allowed_at}
 use Rattle.elmore.specs.declared.problem.Problem.{Problem}
-use Rattle.vg_convex.specs.Orders.{numbers_of, IsShelf}
-use Rattle.vg_convex.specs.declared.shelf.Shelf.{Shelf}
+use Rattle.cand_pool.specs.Candidates.{Candidates}
+use Rattle.vg_convex.specs.Answers.{HasFound}
+use Rattle.vg_convex.specs.Orders.{IsShelf}
 use Rattle.cand_turns.specs.declared.tools.Tools.{Tools}
 
--- the shelf has the repeaters of one kind
-pub record IsShelfOf (p : Problem) (inverts : Bool) (shelf : Shelf) : Type 0 where
-  pub orders : IsShelf p.reps shelf
-  pub kind : IsPermutation (numbers_of p.reps inverts) shelf.by_input.items
-
+-- the shelf of the tools has the repeaters of the problem
 pub record AreToolsOf (p : Problem) (tools : Tools) : Type 0 where
-  pub buffers : IsShelfOf p false tools.buffers
-  pub inverters : IsShelfOf p true tools.inverters
+  pub shelf : IsShelf p.reps tools.shelf
+
+-- the tools have what each repeater makes of a list at node v
+abbrev pub HaveFound : Problem → ℕ → Candidates → Tools → Type 0
+HaveFound p v xs tools = HasFound (allowed_at p.allowed v) p.reps xs tools.work
 
 -- how many candidates a node may add to each of its lists
 abbrev pub added_at : Problem → ℕ → ℕ

@@ -1,7 +1,8 @@
 //! Cells at a node.
 
-ghost use Rattle.std.specs.Prelude.{◌≡◌, ◌+◌, ◌*◌, ◌<◌, ◌≤◌, Bool, true, false, [], ◌∷◌, ◌++◌, length, slice_index_or, IfOk, MatchResult};
+ghost use Rattle.std.specs.Prelude.{◌≡◌, ◌+◌, ◌*◌, ◌<◌, ◌≤◌, Bool, true, false, not, [], ◌∷◌, ◌++◌, length, slice_index_or, IfOk, OnOk, MatchResult};
 ghost use Rattle.sol_arena.specs.Arenas.{slots_of, made_of};
+ghost use Rattle.cand_pool.specs.Candidates.{Candidates};
 ghost use Rattle.cand_pool.specs.Pools.{spare, IsLive, items_of};
 ghost use Rattle.cand_uses.specs.Pairs.{pairs_of};
 ghost use Rattle.cand_uses.specs.Uses.{HoldsFor, MeanTheSame};
@@ -9,8 +10,10 @@ ghost use Rattle.cand_lists.specs.ListLaws.{both};
 ghost use Rattle.cand_turns.specs.Swaps.{AreHeld, IsSwap, IsTurn, search};
 ghost use Rattle.cand_turns.specs.Branches.{classes_in, list_of, lists_of};
 ghost use Rattle.cand_turns.specs.Solved.{IsOpenAt, IsClosedAt};
-ghost use Rattle.cand_turns.specs.Tooled.{IsShelfOf, AreToolsOf, added_at};
-ghost use Rattle.cand_turns.specs.Celled.{IsMadeBy, behind, IsMadeOfClasses, IsOpenList, AreBest};
+ghost use Rattle.vg_convex.specs.Orders.{numbers_of};
+ghost use Rattle.cand_turns.specs.Parts.{Solutions};
+ghost use Rattle.cand_turns.specs.Tooled.{AreToolsOf, HaveFound, added_at};
+ghost use Rattle.cand_turns.specs.Celled.{IsMadeBy, behind, IsMadeOfClasses, IsOpenList, AreBest, AreMadeOf, AreFew};
 
 use crate::branch::Branch;
 use crate::tools::Tools;
@@ -20,49 +23,87 @@ use cand_uses::end_list;
 use elmore::Problem;
 use sol_arena::Arena;
 use std::sync::ledger::Ledger;
-use vg_convex::{Shelf, Work, add_cells};
+use vg_convex::{add_cells, find_each};
 use vg_num::Memory;
 
-/// The candidates of a place that the repeaters of a shelf make of a list there, each with its cell. Answers `Memory` where
-/// there is no room.
-fn add_kind<L: Ledger>(
+/// Finds for each repeater that a place allows the greatest time that it makes of a list there, and keeps it in the tools.
+/// Answers `Memory` where there is no room.
+fn find_at<L: Ledger>(
+    pool: &Pool,
+    p: &Problem,
+    node: usize,
+    from: &List,
+    tools: &mut Tools,
+    steps: &mut Steps<L>,
+) -> Result<(), Memory>
+    requires node { node < length p.now.tree.nodes }
+    requires tools { AreToolsOf p.now tools.old }
+    requires live { IsLive pool.now from.now }
+    requires open { (odd : Bool) × (ms : Solutions) × IsOpenList p.now node odd ms (items_of pool.now from.now) }
+    ensures tools { AreToolsOf p.now tools.new }
+    ensures found { OnOk result (HaveFound p.now node (items_of pool.now from.now) tools.new) }
+{
+    let allowed = &p.allowed.as_slice()[node];
+    let Tools { shelf, work } = tools;
+    find_each(pool, from, p.reps.as_slice(), shelf, allowed, work, steps)?;
+    Ok(())
+}
+
+/// The candidates of a place that the repeaters of one kind make of a list there, each with its cell, where the tools have what
+/// was found for the list; they keep it. Answers `Memory` where there is no room.
+fn add_kind(
     pool: &mut Pool,
     arena: &mut Arena,
     p: &Problem,
     node: usize,
-    from: &List,
-    shelf: &Shelf,
-    work: &mut Work,
-    steps: &mut Steps<L>,
+    inverts: bool,
+    tools: &mut Tools,
 ) -> Result<List, Memory>
     requires node { node < length p.now.tree.nodes }
     requires place { slice_index_or p.now.places node false ≡ true }
-    requires room { length shelf.now.by_input.items ≤ spare pool.old }
-    requires shelf { (inverts : Bool) × IsShelfOf p.now inverts shelf.now }
-    requires live { IsLive pool.old from.now }
-    requires held { HoldsFor (slots_of arena.old) (items_of pool.old from.now) }
-    requires open { (odd : Bool) × IsOpenList p.now node odd (made_of arena.old) (items_of pool.old from.now) }
+    requires room { length (numbers_of p.now.reps inverts) ≤ spare pool.old }
+    requires tools { AreToolsOf p.now tools.old }
+    requires found { (odd : Bool) × (xs : Candidates) × HaveFound p.now node xs tools.old × HoldsFor (slots_of arena.old) xs
+        × IsOpenList p.now node odd (made_of arena.old) xs }
+    ensures tools { AreToolsOf p.now tools.new }
+    ensures kept { tools.new.work.found ≡ tools.old.work.found }
     ensures turn { MatchResult result
         (λ list. IsTurn (search pool.old arena.old) [] (search pool.new arena.new) (list ∷ []))
         (λ _. IsSwap (search pool.old arena.old) [] (search pool.new arena.new) []) }
-    ensures best { IfOk result (λ list. (odd inverts : Bool) → IsShelfOf p.now inverts shelf.now
-        → IsOpenList p.now node (behind inverts odd) (made_of arena.old) (items_of pool.old from.now)
-        → AreBest p.now node odd (IsMadeBy p.now node inverts (pairs_of (items_of pool.old from.now))) (made_of arena.new) (items_of pool.new list)) }
-    ensures few { IfOk result (λ list. length (items_of pool.new list) ≤ length shelf.now.by_input.items) }
+    ensures best { IfOk result (λ list. (odd : Bool) (xs : Candidates) → HaveFound p.now node xs tools.old
+        → IsOpenList p.now node (behind inverts odd) (made_of arena.old) xs
+        → AreBest p.now node odd (IsMadeBy p.now node inverts (pairs_of xs)) (made_of arena.new) (items_of pool.new list)) }
+    ensures few { IfOk result (λ list. length (items_of pool.new list) ≤ length (numbers_of p.now.reps inverts)) }
 {
-    let allowed = &p.allowed.as_slice()[node];
+    let Tools { shelf, work } = tools;
     let list = add_cells(
         pool,
         arena,
-        from,
         node as u32,
         p.reps.as_slice(),
         shelf,
-        allowed,
+        inverts,
         work,
-        steps,
     )?;
     Ok(list)
+}
+
+/// The branch of a list for one class and one for the other.
+fn of_lists(odd: bool, list: List, other: List) -> Branch
+    ensures own { list_of result odd ≡ list }
+    ensures other { list_of result (not odd) ≡ other }
+{
+    if odd {
+        Branch {
+            even: other,
+            odd: list,
+        }
+    } else {
+        Branch {
+            even: list,
+            odd: other,
+        }
+    }
 }
 
 impl Branch {
@@ -73,9 +114,9 @@ impl Branch {
         if odd { &self.odd } else { &self.even }
     }
 
-    /// The candidates with a cell at a place, for one class there: buffers drive the list of the same class, inverters that of
-    /// the other. Answers `Memory` where there is no room.
-    fn class_with_cells<L: Ledger>(
+    /// What all repeaters make of the candidates of one class at a place, each with its cell: buffers make candidates for the same
+    /// class there, and inverters for the other one. Answers `Memory` where there is no room.
+    fn cells_before<L: Ledger>(
         &self,
         pool: &mut Pool,
         arena: &mut Arena,
@@ -84,7 +125,7 @@ impl Branch {
         odd: bool,
         tools: &mut Tools,
         steps: &mut Steps<L>,
-    ) -> Result<List, Memory>
+    ) -> Result<Branch, Memory>
         requires node { node < length p.now.tree.nodes }
         requires place { slice_index_or p.now.places node false ≡ true }
         requires tools { AreToolsOf p.now tools.old }
@@ -93,25 +134,16 @@ impl Branch {
         requires open { IsOpenAt p.now (node + 1) node (made_of arena.old) (classes_in pool.old self.now) }
         ensures tools { AreToolsOf p.now tools.new }
         ensures turn { MatchResult result
-            (λ list. IsTurn (search pool.old arena.old) [] (search pool.new arena.new) (list ∷ []))
+            (λ cells. IsTurn (search pool.old arena.old) [] (search pool.new arena.new) (lists_of cells))
             (λ _. IsSwap (search pool.old arena.old) [] (search pool.new arena.new) []) }
-        ensures best { IfOk result (λ list.
-            AreBest p.now node odd (IsMadeOfClasses p.now node odd (classes_in pool.old self.now)) (made_of arena.new) (items_of pool.new list)) }
-        ensures few { IfOk result (λ list. length (items_of pool.new list) ≤ length p.now.reps) }
+        ensures best { IfOk result (λ cells.
+            AreMadeOf p.now node odd (classes_in pool.old self.now odd) (made_of arena.new) (classes_in pool.new cells)) }
+        ensures few { IfOk result (λ cells. AreFew p.now odd (classes_in pool.new cells)) }
     {
-        let same = self.list(odd);
-        let other = self.list(!odd);
-        let Tools {
-            buffers,
-            inverters,
-            work,
-        } = tools;
-        let mut list = add_kind(pool, arena, p, node, same, buffers, work, steps)?;
-        match add_kind(pool, arena, p, node, other, inverters, work, steps) {
-            Ok(inverted) => {
-                absorb(pool, arena, &mut list, inverted, steps);
-                Ok(list)
-            }
+        find_at(pool, p, node, self.list(odd), tools, steps)?;
+        let list = add_kind(pool, arena, p, node, false, tools)?;
+        match add_kind(pool, arena, p, node, true, tools) {
+            Ok(other) => Ok(of_lists(odd, list, other)),
             Err(memory) => {
                 end_list(pool, arena, list);
                 Err(memory)
@@ -144,11 +176,14 @@ impl Branch {
         ensures few { IfOk result (λ cells. (odd : Bool) → length (classes_in pool.new cells odd) ≤ length p.now.reps) }
     {
         pool.reserve(2 * p.reps.len())?;
-        let even = self.class_with_cells(pool, arena, p, node, false, tools, steps)?;
-        match self.class_with_cells(pool, arena, p, node, true, tools, steps) {
-            Ok(odd) => Ok(Branch { even, odd }),
+        let mut cells = self.cells_before(pool, arena, p, node, false, tools, steps)?;
+        match self.cells_before(pool, arena, p, node, true, tools, steps) {
+            Ok(others) => {
+                cells.absorb(pool, arena, others, steps);
+                Ok(cells)
+            }
             Err(memory) => {
-                end_list(pool, arena, even);
+                cells.give_up(pool, arena);
                 Err(memory)
             }
         }

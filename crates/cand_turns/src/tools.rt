@@ -8,25 +8,21 @@ use std::alloc::Global;
 use vg_convex::{Shelf, Work};
 use vg_num::Memory;
 
-/// The buffers and the inverters of a problem, and room to find for each the candidate that it drives. One serves all nodes.
+/// The repeaters of a problem, and room to find for each the candidate that it drives. One serves all nodes.
 #[derive(Drop)]
 pub struct Tools {
-    pub(crate) buffers: Shelf,
-    pub(crate) inverters: Shelf,
+    pub(crate) shelf: Shelf,
     pub(crate) work: Work,
 }
 
 impl Tools {
-    /// The tools of a problem. Answers `Memory` where there is no room for its shelves.
+    /// The tools of a problem. Answers `Memory` where there is no room for their shelf.
     pub fn new(alloc: Global, p: &Problem) -> Result<Tools, Memory>
         ensures { IfOk result (AreToolsOf p.now) }
     {
-        let reps = p.reps.as_slice();
-        let buffers = Shelf::new(alloc, reps, false)?;
-        let inverters = Shelf::new(alloc, reps, true)?;
+        let shelf = Shelf::new(alloc, p.reps.as_slice())?;
         Ok(Tools {
-            buffers,
-            inverters,
+            shelf,
             work: Work::new(alloc),
         })
     }
