@@ -11,7 +11,7 @@ use Rattle.bench_lists.specs.declared.cells.Library.{Library}
 -- repeaters that stand on their shelf, at most 256 of them
 pub record IsLibrary (library : Library) : Type 0 where
   pub shelf : IsShelf library.reps.items library.shelf
-  pub few : length library.shelf.by_input.items ≤ 256
+  pub few : length library.reps.items ≤ 256
 
 -- a list without cells, and another list beside it, the uses of which callers hold
 pub record IsAdded (s : Block) (slots : List Slot) (list made : NamedList) : Type 0 where

@@ -15,7 +15,7 @@ use elmore::{Allowed, Rep};
 use sol_arena::Arena;
 use std::alloc::{AllocError, Global};
 use std::sync::ledger::Ledger;
-use vg_convex::{Shelf, Work, add_cells};
+use vg_convex::{Shelf, Work, add_cells, find_each};
 use vg_num::Memory;
 
 /// The resistance that no repeater reaches (mΩ).
@@ -54,7 +54,7 @@ impl Library {
         ensures { IfOk result IsLibrary }
     {
         let reps = make_reps(alloc, count)?;
-        let shelf = Shelf::new(alloc, &reps, false)?;
+        let shelf = Shelf::new(alloc, &reps)?;
         Ok(Library { reps, shelf })
     }
 }
@@ -114,16 +114,23 @@ pub fn add_all<L: Ledger>(
 {
     let from = bent(pool, size, random);
     let allowed = Allowed::All;
-    let made = add_cells(
+    find_each(
         pool,
-        arena,
         &from,
-        0,
         &library.reps,
         &library.shelf,
         &allowed,
         work,
         steps,
+    )?;
+    let made = add_cells(
+        pool,
+        arena,
+        0,
+        &library.reps,
+        &library.shelf,
+        false,
+        work,
     )?;
     Ok(Added { from, made })
 }

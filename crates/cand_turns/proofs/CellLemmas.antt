@@ -2,9 +2,7 @@
 use Rattle.std.proofs.Common.{◌≡◌, ◌⊎◌, ℕ, zero, suc, [], ◌∷◌, ◌+◌, ◌<◌, ◌≤◌, Bool, true, false, not, List, length, get_or, slice_index_or, refl, sym, ap, ◌∙◌, subst, arith, inl, inr, Option, Some, None}
 use Rattle.std.proofs.lemmas.List.Elements.{All-contains, Contains-get_or}
 use Rattle.std.proofs.lemmas.List.{get_or_default}
-use Rattle.std.proofs.lemmas.List.Filters.{length-filter_both}
-use Rattle.std.proofs.lemmas.List.FromFn.{length-range_with_len}
-use Rattle.std.specs.List.{All, AllPairs, Contains, range_with_len}
+use Rattle.std.specs.List.{All, AllPairs, Contains}
 use Rattle.elmore.specs.Allowances.{allowed_at}
 use Rattle.elmore.specs.Cells.{rep_at}
 use Rattle.elmore.specs.Legal.{IsFit}
@@ -45,7 +43,7 @@ use Rattle.cand_lists.specs.ListLaws.{Either, both}
 use Rattle.cand_lists.proofs.ExactLemmas.{both_exact, both_take}
 use Rattle.cand_lists.proofs.KeptLemmas.{kept_length, union_length}
 use Rattle.vg_convex.specs.Lists.{MayStand, IsMade, AreBareAt, IsAttained, IsCell}
-use Rattle.vg_convex.specs.Orders.{AreRising, numbers_of}
+use Rattle.vg_convex.specs.Orders.{AreRising}
 use Rattle.cand_turns.specs.Solved.{AreSolved, IsOpenAt, IsClosedAt}
 use Rattle.cand_turns.specs.Celled.{IsMadeBy, behind, IsMadeOfClasses, IsOpenList, AreBest}
 use Rattle.cand_turns.proofs.WireLemmas.{small_modest}
@@ -259,15 +257,3 @@ place_closed p v old new classes cells kept v_n at best kept_is same = record {
       (both_best p v odd (λ z. Contains (pairs_of (classes odd)) z) (IsMadeOfClasses p v odd classes) old new (classes odd) (cells odd)
       (open_best p v odd old (classes odd) v_n (open_list p v old classes odd at)) (best odd)
       (subst (λ (xs : Candidates). MeanTheSame old new xs) (kept_is odd) (same odd)))
-
--- each repeater is of one kind
-pub kinds_sum : (reps : List Rep) → length (numbers_of reps false) + length (numbers_of reps true) ≡ length reps
-kinds_sum reps =
-    omega (
-      arith,
-      length-filter_both (λ b. not (rep_at reps b).inverts) (λ b. (rep_at reps b).inverts) (λ b. twice (rep_at reps b).inverts) (range_with_len 0 (length reps)),
-      length-range_with_len 0 (length reps),
-    ) where
-      twice : (b : Bool) → b ≡ not (not b)
-      twice true = refl
-      twice false = refl

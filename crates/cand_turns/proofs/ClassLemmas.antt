@@ -17,6 +17,7 @@ use Rattle.cand_uses.specs.Uses.{HoldsFor, MeanTheSame}
 use Rattle.cand_lists.specs.ListLaws.{both}
 use Rattle.vg_convex.specs.Answers.{AreFound}
 use Rattle.vg_convex.specs.Orders.{numbers_of}
+use Rattle.vg_convex.proofs.Numberings.{kinds_sum}
 use Rattle.cand_turns.specs.Swaps.{search, Search, Lists, AreHeld, IsTurn, AreOf}
 use Rattle.cand_turns.specs.Branches.{classes_in, list_of, lists_of}
 use Rattle.cand_turns.specs.Solved.{IsOpenAt}
@@ -28,7 +29,7 @@ use Rattle.cand_turns.proofs.SwapLemmas.{beside, other_items, turn_among}
 use Rattle.cand_turns.proofs.BranchLemmas.{one_all, two_all, two_held}
 use Rattle.cand_turns.proofs.PartLemmas.{open_at_beside}
 use Rattle.cand_turns.proofs.AddLemmas.{rest_held, classes_same, best_beside}
-use Rattle.cand_turns.proofs.CellLemmas.{best_as, both_best, both_few, either_kind, other_kind, kinds_sum, open_list}
+use Rattle.cand_turns.proofs.CellLemmas.{best_as, both_best, both_few, either_kind, other_kind, open_list}
 
 -- the list of a class
 pub class_live : (at : Search) (branch : Branch) (odd : Bool) (l : NamedList) → l ≡ list_of branch odd → AreHeld at (lists_of branch) → IsLive at.pool l

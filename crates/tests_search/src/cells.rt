@@ -12,7 +12,7 @@ use std::alloc::{AllocError, Global};
 use std::marker::Brand;
 use std::sync::ledger::{Blank, Ledger};
 use std::test::Fail;
-use vg_convex::{Shelf, Work, add_cells};
+use vg_convex::{Shelf, Work, add_cells, find_each};
 use vg_num::Memory;
 
 /// Whether a pair rises over the floor, and is small.
@@ -74,14 +74,15 @@ fn added<L: Ledger>(
     requires { length reps.now < 2 ^ 32 }
 {
     let (mut pool, mut arena) = (Pool::new(alloc), Arena::new(alloc));
-    let shelf = Shelf::new(alloc, reps, false)?;
+    let shelf = Shelf::new(alloc, reps)?;
     let mut work = Work::new(alloc);
     pool.reserve(from.len())?;
     let list = listed(&mut pool, from);
-    pool.reserve(shelf.len())?;
+    pool.reserve(reps.len())?;
     let allowed = Allowed::All;
+    find_each(&pool, &list, reps, &shelf, &allowed, &mut work, steps)?;
     let made = add_cells(
-        &mut pool, &mut arena, &list, 0, reps, &shelf, &allowed, &mut work, steps,
+        &mut pool, &mut arena, 0, reps, &shelf, false, &mut work,
     )?;
     Ok(pairs(alloc, &pool, &made, steps)?)
 }

@@ -1,10 +1,11 @@
 use Rattle.std.proofs.Common.{[], ◌∷◌, not, refl, arith}
 use Rattle.sol_arena.specs.Arenas.{made_of}
+use Rattle.vg_convex.proofs.Numberings.{kinds_sum}
 use Rattle.cand_turns.specs.Swaps.{search}
 use Rattle.cand_turns.specs.Branches.{classes_in, list_of}
 use Rattle.cand_turns.proofs.BranchLemmas.{one_held, end_turn}
 use Rattle.cand_turns.proofs.AddLemmas.{two_adds, still_held, add_lost}
-use Rattle.cand_turns.proofs.CellLemmas.{kinds_sum, open_list}
+use Rattle.cand_turns.proofs.CellLemmas.{open_list}
 use Rattle.cand_turns.proofs.ClassLemmas.{class_live, class_uses, class_open, class_found, still_found, uses_after, open_after, open_behind, class_turn, kinds_made, kinds_few, one_less}
 use Rattle.cand_turns.proofs.branch.Branch.cells_before.Goals as goal
 
