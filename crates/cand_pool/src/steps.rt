@@ -5,7 +5,7 @@ ghost use Rattle.std.specs.Prelude.{◌≡◌, ℕ, suc, ◌<◌};
 use std::marker::Model;
 use std::sync::ledger::{Blank, Book, Ledger, Share};
 
-/// How often the numbers of a candidate were looked at. It takes no bytes, and only such looks change it.
+/// How often the numbers of a candidate were looked at, or those of two that had been told were compared. It takes no bytes.
 #[derive(Drop)]
 pub struct Steps<L: Ledger> {
     book: Book<L>,
@@ -32,8 +32,8 @@ impl<L: Ledger> Steps<L> {
         Steps { book, share }
     }
 
-    /// Counts one more.
-    pub(crate) fn tick(&mut self)
+    /// Counts one more. A pool counts each look at a candidate; who compares candidates that it was told counts this.
+    pub fn tick(&mut self)
         ensures { self.new ≡ suc self.old }
     {
         self.book.add(&mut self.share, 1);

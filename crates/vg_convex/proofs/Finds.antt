@@ -20,6 +20,7 @@ use Rattle.elmore.specs.Allowances.{Allows}
 use Rattle.elmore.specs.declared.allowed.Allowed.{Allowed}
 use Rattle.vg_convex.specs.Answers.{IsBestOf, IsAnswer, found_at, IsRow}
 use Rattle.vg_convex.specs.declared.work.Found.{Found}
+use Rattle.vg_convex.proofs.Stacks.{hull_size}
 
 -- a pair of a list has a number
 pub numbered : (xs : Candidates) (y : Pair) → Contains (pairs_of xs) y → (i : ℕ) × (i < length xs) × (row xs i ≡ y)
@@ -92,6 +93,10 @@ best_found xs n rep i found rise cut i_low best tag time = record {
 
     among : Contains (pairs_of xs) (row xs i)
     among = (i, omega (arith, i_low, length-map xs pair_of), get_or-map pair_of xs i (record { q = pos 0; c = 0; tag = 0 }) (row xs i) i_low)
+
+-- a hull has no more points than the list has candidates
+pub stack_size : (xs : Candidates) (n : ℕ) (stack : List Point) → IsHullOf xs n stack → length stack ≤ length xs
+stack_size xs n stack h = omega (arith, hull_size (row xs) n h.numbers (length stack) h.hull, h.few)
 
 -- a row with one answer more
 row_none : (allowed : Allowed) (reps : List Rep) (xs : Candidates) (b : ℕ) (found : Option Found) → IsAnswer allowed reps xs b found → (Allows allowed b → ⊥) → found ≡ None

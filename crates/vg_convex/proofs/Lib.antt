@@ -4,6 +4,7 @@ pub mod Peaks
 pub mod Numbers
 pub mod Places
 pub mod Fronts
+pub mod Halves
 pub mod Walks
 pub mod Finds
 pub mod Scans

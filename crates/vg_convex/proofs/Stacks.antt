@@ -161,6 +161,21 @@ hull_serves x n s top rise h r i i_n =
 pub start_ready : (x : ℕ → Pair) (n : ℕ) (s : ℕ → ℕ) (top : ℕ) → IsHullSoFar x n s top → IsReadySoFar x n s top
 start_ready x n s top h = record { none = h.none; some = λ on. hull_ready x n s top (h.some on) }
 
+-- the stack holds no more than the numbers
+at_least : (x : ℕ → Pair) (n : ℕ) (s : ℕ → ℕ) (top : ℕ) → IsChain x n s top → (j : ℕ) → j < top → j ≤ s j
+at_least x n s top c zero j_n = omega arith
+at_least x n s top c (suc j) j_n =
+    omega (arith, at_least x n s top c j (omega arith), c.rising j (suc j) (omega arith) j_n)
+
+pub chain_fits : (x : ℕ → Pair) (n : ℕ) (s : ℕ → ℕ) (top : ℕ) → IsChain x n s top → top ≤ n
+chain_fits x n s top c = omega (arith, c.some, at_least x n s top c (top - 1) (omega (arith, c.some)), c.inside (top - 1) (omega (arith, c.some)))
+
+pub hull_size : (x : ℕ → Pair) (n : ℕ) (s : ℕ → ℕ) (top : ℕ) → IsHullSoFar x n s top → top ≤ n
+hull_size x n s top h = elim (cases_lt 0 n) [
+  | inl on ↦ chain_fits x n s top (h.some on).chain
+  | inr off ↦ let at : n ≡ 0 = omega arith in omega (arith, h.none at)
+]
+
 less_at : (x : ℕ → Pair) (n : ℕ) (s : ℕ → ℕ) (t : ℕ) → Rise x (n + 1) → IsReadySoFar x n s (t + 2) → Sags (x (s t)) (x (s (t + 1))) (x n)
     → IsReadySoFar x n s (t + 1)
 less_at x n s t rise ready sags = record {

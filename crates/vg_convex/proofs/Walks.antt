@@ -2,7 +2,7 @@
 use Rattle.std.specs.Prelude.{MatchOption}
 use Rattle.std.proofs.lemmas.Bool.{cases_lt}
 use Rattle.std.proofs.lemmas.List.{drop_more}
-use Rattle.std.proofs.Common.{◌≡◌, ℕ, ◌+◌, ◌<◌, ◌≤◌, List, [], ◌∷◌, length, get_or, slice_index, drop, sym, ap, ◌∙◌, subst, arith, inl, inr, Option, Some, None, pos}
+use Rattle.std.proofs.Common.{◌≡◌, ℕ, ◌+◌, ◌*◌, ◌^◌, ◌<◌, ◌≤◌, List, [], ◌∷◌, length, get_or, slice_index, drop, refl, sym, ap, ◌∙◌, subst, arith, inl, inr, Option, Some, None, pos}
 use Rattle.elmore.specs.Cells.{rep_at}
 use Rattle.elmore.specs.Legal.{IsWithin}
 use Rattle.elmore.specs.declared.rep.Rep.{Rep}
@@ -21,18 +21,18 @@ abbrev pub left_from : Block → Option Cand → ℕ
 left_from s None = 0
 left_from s (Some place) = length (items s place.slot)
 
--- from candidate n on, those that were seen are within the limit and have come on, with a step for each; `before` is what the
--- steps were
+-- from candidate n on, those that were seen are within the limit and have come on; `before` is what the steps and the stack
+-- were
 pub record IsGrowing (s : Block) (xs : Candidates) (limit : Option ℕ) (n : ℕ) (stack : List Point) (next : Option Cand) (before steps : ℕ) : Type 0 where
   pub far : IsFurther s xs limit n stack next
-  pub cost : steps + n ≤ before + far.seen
+  pub cost : steps + length stack + 3 * n ≤ before + 3 * far.seen
 
--- the first i repeaters of an order are done, with at most a step for each beside those for the candidates that came on
+-- the first i repeaters of an order are done
 pub record IsFinding (s : Block) (xs : Candidates) (reps : List Rep) (order : List ℕ) (i : ℕ) (stack : List Point) (next : Option Cand) (before steps : ℕ) : Type 0 where
   pub seen : ℕ
   pub walk : IsWalk s xs seen stack next
   pub within : (j k : ℕ) → i ≤ j → j < length order → k < seen → IsWithin (rep_at reps (slice_index order j)).limit (row xs k).c
-  pub cost : steps ≤ before + seen + i
+  pub cost : (d : ℕ) → length xs < 2 ^ d → steps + length stack ≤ before + 3 * seen + i * (d + 2)
 
 -- what the pool tells of the candidate after a place
 abbrev pub IsAfter : Block → Cand → Option Cand → Type 0
@@ -55,7 +55,7 @@ fewer_left s xs n place next at after =
 pub grown_one : (s : Block) (xs : Candidates) (limit : Option ℕ) (n : ℕ) (stack : List Point) (place : Cand) (before steps : ℕ)
     (stack' : List Point) (next : Option Cand) (steps' c : ℕ) → (g : IsGrowing s xs limit n stack (Some place) before steps)
     → c ≡ (candidate_at xs g.far.seen).c → IsWithin limit c → IsHullOf xs (g.far.seen + 1) stack' → IsAfter s place next
-    → steps' ≡ steps + 1 → IsGrowing s xs limit n stack' next before steps'
+    → steps' + length stack' ≤ steps + 1 + length stack + 2 → IsGrowing s xs limit n stack' next before steps'
 grown_one s xs limit n stack place before steps stack' next steps' c g c_is within hull after cost = record {
   far = record {
     seen = g.far.seen + 1;
@@ -72,7 +72,7 @@ grown_one s xs limit n stack place before steps stack' next steps' c g c_is with
 -- what a walk has come to
 abbrev pub AreGrown : Block → Candidates → Option ℕ → ℕ → List Point → Option Cand → ℕ → ℕ → Type 0
 AreGrown s xs limit n stack next before steps =
-    (f : IsFurther s xs limit n stack next) × IsOver limit xs f.seen × (steps + n ≤ before + f.seen + 1)
+    (f : IsFurther s xs limit n stack next) × IsOver limit xs f.seen × (steps + length stack + 3 * n ≤ before + 3 * f.seen + 1)
 
 -- the candidate that comes next is over the limit
 pub grown_to : (s : Block) (xs : Candidates) (limit : Option ℕ) (n : ℕ) (stack : List Point) (place : Cand) (before steps steps' c : ℕ)
@@ -94,7 +94,7 @@ grown_all s xs limit n stack next before steps e g = (g.far, λ low within. absu
         absurd (cc)
 
 pub grown_begins : (s : Block) (xs : Candidates) (limit : Option ℕ) (n : ℕ) (stack : List Point) (next : Option Cand) (steps : ℕ) → IsWalk s xs n stack next
-    → IsGrowing s xs limit n stack next steps steps
+    → IsGrowing s xs limit n stack next (steps + length stack) steps
 grown_begins s xs limit n stack next steps w = record {
   far = record { seen = n; more = omega arith; within = λ i low high. absurd (omega (arith, low, high)); walk = w };
   cost = omega arith;
@@ -139,14 +139,14 @@ find_begins s xs reps order stack next before w = record {
   seen = 0;
   walk = w;
   within = λ j k first low high. absurd (omega (arith, high));
-  cost = omega arith;
+  cost = λ d less. omega (arith, w.hull.hull.none refl);
 }
 
 -- one repeater more is done
 pub find_more : (s : Block) (xs : Candidates) (reps : List Rep) (order : List ℕ) (i b : ℕ) (stack stack' : List Point) (next next' : Option Cand) (before steps steps' : ℕ)
     → AreByLimit reps order → i < length order → slice_index order i ≡ b → (g : IsFinding s xs reps order i stack next before steps)
     → (f : IsFurther s xs (rep_at reps b).limit g.seen stack' next')
-    → steps' + g.seen ≤ steps + f.seen + 1
+    → ((d : ℕ) → length xs < 2 ^ d → steps' + length stack' + 3 * g.seen ≤ steps + length stack + 3 * f.seen + d + 2)
     → IsFinding s xs reps order (i + 1) stack' next' before steps'
 find_more s xs reps order i b stack stack' next next' before steps steps' by_limit low b_is g f cost = record {
   seen = f.seen;
@@ -157,5 +157,5 @@ find_more s xs reps order i b stack stack' next next' before steps steps' by_lim
         by_limit i j 0 (omega (arith, later)) j_low (row xs k).c
         (subst (λ m. IsWithin (rep_at reps m).limit (row xs k).c) (sym b_is) (f.within k new seen))
   ];
-  cost = omega (arith, g.cost, cost);
+  cost = λ d less. omega (arith, g.cost d less, cost d less);
 }

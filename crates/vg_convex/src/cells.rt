@@ -1,6 +1,6 @@
 //! What repeaters find in a list at a node, and the list of what they make of it.
 
-ghost use Rattle.std.specs.Prelude.{◌≡◌, ℕ, ◌+◌, ◌*◌, ◌≤◌, ◌∷◌, [], length, None, IfOk, OnOk, OnErr, MatchResult};
+ghost use Rattle.std.specs.Prelude.{◌≡◌, ℕ, ◌+◌, ◌*◌, ◌^◌, ◌<◌, ◌≤◌, ◌∷◌, [], length, None, IfOk, OnOk, OnErr, MatchResult};
 ghost use Rattle.std.specs.List.{All, AllPairs};
 ghost use Rattle.elmore.specs.Pairs.{IsBelow, IsUndominated};
 ghost use Rattle.elmore.specs.declared.allowed.Allowed.{Allowed as AllowedSpec};
@@ -49,7 +49,8 @@ pub fn find_each<L: Ledger>(
     requires shelf { IsShelf reps.now shelf.now }
     requires allowed { AreRising allowed.now }
     ensures found { OnOk result (HasFound allowed.now reps.now (items_of pool.now from.now) work.new) }
-    ensures steps { steps.new ≤ steps.old + 3 * length (items_of pool.now from.now) + length reps.now }
+    ensures steps { (d : ℕ) → length (items_of pool.now from.now) < 2 ^ d
+        → steps.new ≤ steps.old + 3 * length (items_of pool.now from.now) + length reps.now * (d + 2) }
 {
     work.clear(reps.len())?;
     if reps.len() > FEW {

@@ -1,6 +1,6 @@
 //! The greatest time of each repeater, on the upper convex hull of the candidates (Li and Shi 2005).
 
-ghost use Rattle.std.specs.Prelude.{◌≡◌, ℕ, ◌+◌, ◌<◌, ◌≤◌, [], set, length, false, IfOk, OnOk, OnErr, Option, None};
+ghost use Rattle.std.specs.Prelude.{◌≡◌, ℕ, ◌+◌, ◌*◌, ◌^◌, ◌<◌, ◌≤◌, [], set, length, false, IfOk, OnOk, OnErr, Option, None};
 ghost use Rattle.std.specs.List.{All};
 ghost use Rattle.elmore.specs.Allowances.{Allows};
 ghost use Rattle.elmore.specs.Cells.{rep_at};
@@ -35,8 +35,9 @@ fn grow<L: Ledger>(
     requires walk { (n : ℕ) × IsWalk pool.now xs n stack.old.items next }
     ensures grown { IfOk result (λ after. (n : ℕ) → IsWalk pool.now xs n stack.old.items next
         → (f : IsFurther pool.now xs limit n stack.new.items after) × IsOver limit xs f.seen
-        × (steps.new + n ≤ steps.old + f.seen + 1)) }
-    ensures cost { (n : ℕ) → IsWalk pool.now xs n stack.old.items next → steps.new + n ≤ steps.old + length xs }
+        × (steps.new + length stack.new.items + 3 * n ≤ steps.old + length stack.old.items + 3 * f.seen + 1)) }
+    ensures cost { (n : ℕ) → IsWalk pool.now xs n stack.old.items next
+        → steps.new + length stack.new.items + 3 * n ≤ steps.old + length stack.old.items + 3 * length xs }
 {
     let mut next = next;
     'grow: while let Some(place) = next {
@@ -44,7 +45,7 @@ fn grow<L: Ledger>(
         if !is_within(limit, c) {
             break;
         }
-        put_on(stack, Point { q, c, tag })?;
+        put_on(stack, Point { q, c, tag }, steps)?;
         next = pool.next(place);
     }
     Ok(next)
@@ -67,15 +68,16 @@ fn best_of(rep: &Rep, point: Point) -> Found
 }
 
 /// The greatest time of one repeater, where the hull is that of the candidates within its limit.
-fn find(rep: &Rep, stack: &[Point]) -> Option<Found>
+fn find<L: Ledger>(rep: &Rep, stack: &[Point], steps: &mut Steps<L>) -> Option<Found>
     ghost xs: { Candidates }
-    requires { (n : ℕ) × IsHullOf xs n stack.now × AreWithin rep.now.limit xs n }
-    ensures { IsFoundFor rep.now xs result }
+    requires hull { (n : ℕ) × IsHullOf xs n stack.now × AreWithin rep.now.limit xs n }
+    ensures found { IsFoundFor rep.now xs result }
+    ensures cost { (d : ℕ) → length xs < 2 ^ d → steps.new ≤ steps.old + d }
 {
     if stack.is_empty() {
         return None;
     }
-    let point = greatest_on(stack, rep.r);
+    let point = greatest_on(stack, rep.r, steps);
     Some(best_of(rep, point))
 }
 
@@ -100,18 +102,19 @@ fn find_next<L: Ledger>(
     requires rising { AreRising allowed.now }
     ensures walk { IfOk result (λ after. (n : ℕ) → IsWalk pool.now xs n work.old.stack.items next
         → (f : IsFurther pool.now xs (rep_at reps.now number).limit n work.new.stack.items after)
-        × (steps.new + n ≤ steps.old + f.seen + 1)) }
+        × ((d : ℕ) → length xs < 2 ^ d → steps.new + length work.new.stack.items + 3 * n
+        ≤ steps.old + length work.old.stack.items + 3 * f.seen + d + 2)) }
     ensures found { OnOk result ((found : Option FoundSpec) × IsAnswer allowed.now reps.now xs number found
         × (work.new.found.items ≡ set work.old.found.items number found)) }
     ensures cost { OnErr result ((n : ℕ) → IsWalk pool.now xs n work.old.stack.items next
-        → steps.new + n ≤ steps.old + length xs) }
+        → steps.new + 3 * n ≤ steps.old + length work.old.stack.items + 3 * length xs) }
 {
     if !is_allowed(allowed, number) {
         return Ok(next);
     }
     let rep = &reps[number as usize];
     let after = grow(pool, rep.limit, &mut work.stack, next, steps)?;
-    work.found[number as usize] = find(rep, &work.stack);
+    work.found[number as usize] = find(rep, &work.stack, steps);
     Ok(after)
 }
 
@@ -133,10 +136,11 @@ fn find_limited<L: Ledger>(
     requires by_limit { AreByLimit reps.now order.now }
     requires rising { AreRising allowed.now }
     ensures walk { IfOk result (λ next. (n : ℕ) × IsWalk pool.now xs n work.new.stack.items next
-        × (steps.new ≤ steps.old + n + length order.now)) }
+        × ((d : ℕ) → length xs < 2 ^ d
+        → steps.new + length work.new.stack.items ≤ steps.old + 3 * n + length order.now * (d + 2))) }
     ensures row { OnOk result (IsRow allowed.now reps.now work.new.found.items) }
     ensures found { OnOk result (AreAnswered allowed.now reps.now xs order.now work.new.found.items) }
-    ensures cost { steps.new ≤ steps.old + length xs + length order.now }
+    ensures cost { (d : ℕ) → length xs < 2 ^ d → steps.new ≤ steps.old + 3 * length xs + length order.now * (d + 2) }
 {
     let mut next = first;
     'reps: for number in order {
@@ -147,23 +151,30 @@ fn find_limited<L: Ledger>(
 
 /// The greatest time of one repeater without a limit, where the hull is that of all candidates, less those at its end that
 /// serve no repeater with so much resistance.
-fn find_at_end(rep: &Rep, stack: &mut Vec<Point>) -> Option<Found>
+fn find_at_end<L: Ledger>(rep: &Rep, stack: &mut Vec<Point>, steps: &mut Steps<L>) -> Option<Found>
     ghost xs: { Candidates }
     requires front { (least : ℕ) × (least ≤ rep.now.r) × IsFrontOf xs least stack.old.items }
     requires free { rep.now.limit ≡ None }
     ensures found { IsFoundFor rep.now xs result }
     ensures front { IsFrontOf xs rep.now.r stack.new.items }
+    ensures cost { steps.new + length stack.new.items ≤ steps.old + length stack.old.items + 1 }
 {
     if stack.is_empty() {
         return None;
     }
-    let point = greatest_at_end(stack, rep.r);
+    let point = greatest_at_end(stack, rep.r, steps);
     Some(best_of(rep, point))
 }
 
 /// Puts the greatest time of a repeater without a limit into the row of results; nothing is done for a repeater that is not
 /// allowed.
-fn find_free(reps: &[Rep], number: u32, allowed: &Allowed, work: &mut Work)
+fn find_free<L: Ledger>(
+    reps: &[Rep],
+    number: u32,
+    allowed: &Allowed,
+    work: &mut Work,
+    steps: &mut Steps<L>,
+)
     ghost xs: { Candidates }
     requires front { (least : ℕ) × (least ≤ (rep_at reps.now number).r) × IsFrontOf xs least work.old.stack.items }
     requires free { has_limit reps.now number ≡ false }
@@ -173,16 +184,23 @@ fn find_free(reps: &[Rep], number: u32, allowed: &Allowed, work: &mut Work)
     ensures front { IsFrontOf xs (rep_at reps.now number).r work.new.stack.items }
     ensures found { (found : Option FoundSpec) × IsAnswer allowed.now reps.now xs number found
         × (work.new.found.items ≡ set work.old.found.items number found) }
+    ensures cost { steps.new + length work.new.stack.items ≤ steps.old + length work.old.stack.items + 1 }
 {
     if is_allowed(allowed, number) {
         let rep = &reps[number as usize];
-        work.found[number as usize] = find_at_end(rep, &mut work.stack);
+        work.found[number as usize] = find_at_end(rep, &mut work.stack, steps);
     }
 }
 
 /// The greatest time of each repeater of an order by resistance that is allowed, in its place of the row, where the hull is
 /// that of all candidates. None of these repeaters has a limit.
-fn find_each_free(reps: &[Rep], order: &[u32], allowed: &Allowed, work: &mut Work)
+fn find_each_free<L: Ledger>(
+    reps: &[Rep],
+    order: &[u32],
+    allowed: &Allowed,
+    work: &mut Work,
+    steps: &mut Steps<L>,
+)
     ghost xs: { Candidates }
     requires hull { IsHullOf xs (length xs) work.old.stack.items }
     requires row { IsRow allowed.now reps.now work.old.found.items }
@@ -194,9 +212,10 @@ fn find_each_free(reps: &[Rep], order: &[u32], allowed: &Allowed, work: &mut Wor
     ensures found { AreAnswered allowed.now reps.now xs order.now work.new.found.items }
     ensures others { (b : ℕ) → IsAnswer allowed.now reps.now xs b (found_at work.old.found.items b)
         → IsAnswer allowed.now reps.now xs b (found_at work.new.found.items b) }
+    ensures cost { steps.new ≤ steps.old + length work.old.stack.items + length order.now }
 {
     'reps: for number in order {
-        find_free(reps, *number, allowed, work);
+        find_free(reps, *number, allowed, work, steps);
     }
 }
 
@@ -222,7 +241,7 @@ pub(crate) fn find_all<L: Ledger>(
     requires rising { AreRising allowed.now }
     ensures rows { OnOk result (length reps.now ≤ length work.new.found.items) }
     ensures found { OnOk result (AreFound allowed.now reps.now xs work.new.found.items) }
-    ensures cost { steps.new ≤ steps.old + length xs + length reps.now }
+    ensures cost { (d : ℕ) → length xs < 2 ^ d → steps.new ≤ steps.old + 3 * length xs + length reps.now * (d + 2) }
 {
     let first = pool.first(from);
     let next = find_limited(pool, first, reps, &shelf.limited, allowed, work, steps)?;
@@ -230,6 +249,6 @@ pub(crate) fn find_all<L: Ledger>(
         return Ok(());
     }
     grow(pool, None, &mut work.stack, next, steps)?;
-    find_each_free(reps, &shelf.free, allowed, work);
+    find_each_free(reps, &shelf.free, allowed, work, steps);
     Ok(())
 }

@@ -10,13 +10,14 @@ use Rattle.vg_convex.proofs.hull.greatest_at_end.Goals.{else-pops-test, then-pop
 
 pub pops-init : goal.pops-init
 pops-init g c =
-    let ((least, more, front), some) = c.requires in
+    let (_, ((least, more, front), some)) = c.requires in
     record {
       some = omega (arith, c.len-left.ensures, some);
       few = omega (arith, c.len-left.ensures);
       front =
           subst (λ (l : List Point). IsFrontOf g.xs c.args.r l) (sym (take_all c.len-left.result c.args.stack.now.items (omega (arith, c.len-left.ensures))))
           (front_turns g.xs least c.args.r c.args.stack.now.items more front);
+      cost = omega (arith, c.len-left.ensures);
     }
 
 pub pops-preserved : goal.pops-preserved
@@ -31,7 +32,8 @@ pops-preserved g c =
       front =
           front_less g.xs c.args.r c.args.stack.now.items c.pops.left c.pops-test.true few front
           (worth_no_more g.xs c.args.r (front.hull.numbers (c.pops.left - 1)) (front.hull.numbers (c.pops.left - 2)) c.index-in-pops.result.now c.index.result.now
-          two one c.if-is_less.ensures);
+          two one c.if-is_less.ensures.order);
+      cost = omega (arith, c.pops.invariant.cost, c.if-is_less.ensures.step, c.pops-test.true);
     }
 
 pub returns-clause-front : goal.returns-clause-front
@@ -67,6 +69,6 @@ returns-clause-greatest g c =
             worth_less g.xs c.args.r (front.hull.numbers (c.pops.left - 2)) (front.hull.numbers (c.pops.left - 1)) w.index.result.now w.index-in-pops.result.now
             (front_at g.xs c.args.r c.args.stack.now.items c.pops.left few front (c.pops.left - 2) w.index.result.now (omega (arith, two)) w.index.ensures)
             (front_at g.xs c.args.r c.args.stack.now.items c.pops.left few front (c.pops.left - 1) w.index-in-pops.result.now (omega (arith, two)) w.index-in-pops.ensures)
-            w.if-is_less.ensures
+            w.if-is_less.ensures.order
       ]),
     )

@@ -1,4 +1,4 @@
-use Rattle.std.proofs.Common.{◌<◌, ◌≤◌, length, take}
+use Rattle.std.proofs.Common.{◌≡◌, ◌+◌, ◌<◌, ◌≤◌, length, take}
 use Rattle.vg_convex.specs.Places.{IsFrontOf}
 use Rattle.vg_convex.proofs.hull.greatest_at_end.Given as goal
 
@@ -7,6 +7,7 @@ invariant-pops g l = record {
   some : 0 < l.left;
   few : l.left ≤ length l.stack.items;
   front : IsFrontOf g.xs l.r (take l.left l.stack.items);
+  cost : l.steps + l.left ≡ l.fn.steps + length l.stack.items;
 }
 
 abbrev pub decreases-pops : goal.decreases-pops

@@ -1,4 +1,4 @@
-use Rattle.std.proofs.Common.{◌≡◌, ℕ, ◌+◌, ◌-◌, ◌<◌, ◌≤◌, ◌<ℤ◌, ◌≤ℤ◌, length}
+use Rattle.std.proofs.Common.{◌≡◌, ℕ, ◌+◌, ◌-◌, ◌^◌, ◌<◌, ◌≤◌, ◌<ℤ◌, ◌≤ℤ◌, length}
 use Rattle.vg_convex.specs.Hulls.{value}
 use Rattle.vg_convex.specs.Places.{row, IsHullOf}
 use Rattle.vg_convex.proofs.hull.greatest_on.Given as goal
@@ -11,6 +11,7 @@ invariant-search g l = record {
       → value l.r (row g.xs (h.numbers j)) <ℤ value l.r (row g.xs (h.numbers l.low));
   after : (n : ℕ) (h : IsHullOf g.xs n l.stack) → l.high + 1 < length l.stack
       → value l.r (row g.xs (h.numbers (l.high + 1))) ≤ℤ value l.r (row g.xs (h.numbers l.high));
+  cost : (d : ℕ) → length l.stack ≤ 2 ^ d → (e : ℕ) × (l.steps + e ≤ l.fn.steps + d) × (l.high - l.low < 2 ^ e);
 }
 
 abbrev pub decreases-search : goal.decreases-search

@@ -1,4 +1,4 @@
-use Rattle.std.proofs.Common.{◌≡◌, ℕ, ◌+◌, ◌<◌, false, List, length, sym, subst, arith, inl, inr, All}
+use Rattle.std.proofs.Common.{◌≡◌, ℕ, ◌+◌, ◌*◌, ◌<◌, false, List, length, refl, sym, subst, arith, inl, inr, All}
 use Rattle.std.specs.List.{Contains}
 use Rattle.std.proofs.lemmas.List.Elements.{All-contains}
 use Rattle.elmore.specs.Allowances.{Allows}
@@ -25,10 +25,10 @@ find_limited-requires g c κs within =
     )
 
 pub returns-in_err-next-clause-cost : goal.returns-in_err-next-clause-cost
-returns-in_err-next-clause-cost g c =
+returns-in_err-next-clause-cost g c = λ d less.
     let (_, (list, (rise, (modest, (empty, (row, (shelf, rising))))))) = c.requires in
-    steps_of_parts c.args.reps.now c.args.shelf.now c.deref.result.now c.find_limited.new.steps (c.args.steps.now + length g.xs) shelf
-    c.deref.ensures.value (omega (arith, c.in_err-next.ensures.cost))
+    steps_of_parts c.args.reps.now c.args.shelf.now c.deref.result.now c.args.shelf.now.free.items c.find_limited.new.steps (c.args.steps.now + 3 * length g.xs) d shelf
+    c.deref.ensures.value refl (omega (arith, c.in_err-next.ensures.cost d less))
 
 pub returns-then-not-allows_any-clause-found : goal.returns-then-not-allows_any-clause-found
 returns-then-not-allows_any-clause-found g c = λ b low.
@@ -42,31 +42,34 @@ returns-then-not-allows_any-clause-found g c = λ b low.
     ]
 
 pub returns-then-not-allows_any-clause-cost : goal.returns-then-not-allows_any-clause-cost
-returns-then-not-allows_any-clause-cost g c =
+returns-then-not-allows_any-clause-cost g c = λ d less.
     let (_, (list, (rise, (modest, (empty, (row, (shelf, rising))))))) = c.requires in
-    steps_of_parts c.args.reps.now c.args.shelf.now c.deref.result.now c.find_limited.new.steps (c.args.steps.now + length g.xs) shelf
-    c.deref.ensures.value (omega (arith, c.in_ok-next.ensures.cost))
+    steps_of_parts c.args.reps.now c.args.shelf.now c.deref.result.now c.args.shelf.now.free.items c.find_limited.new.steps (c.args.steps.now + 3 * length g.xs) d shelf
+    c.deref.ensures.value refl (omega (arith, c.in_ok-next.ensures.cost d less))
 
 pub returns-in_err-grow-clause-cost : goal.returns-in_err-grow-clause-cost
-returns-in_err-grow-clause-cost g c =
+returns-in_err-grow-clause-cost g c = λ d less.
     let (_, (list, (rise, (modest, (empty, (row, (shelf, rising))))))) = c.requires in
     let (n, walk, cost) = c.in_ok-next.ensures.walk in
-    steps_of_parts c.args.reps.now c.args.shelf.now c.deref.result.now c.grow.new.steps (c.args.steps.now + length g.xs) shelf
-    c.deref.ensures.value (omega (arith, cost, c.in_err-grow.ensures.cost n walk))
+    steps_of_parts c.args.reps.now c.args.shelf.now c.deref.result.now c.args.shelf.now.free.items c.grow.new.steps (c.args.steps.now + 3 * length g.xs) d shelf
+    c.deref.ensures.value refl (omega (arith, cost d less, c.in_err-grow.ensures.cost n walk))
 
 pub find_each_free-requires : goal.find_each_free-requires
-find_each_free-requires g c =
+find_each_free-requires g c κs within =
     let (_, (list, (rise, (modest, (empty, (row, (shelf, rising))))))) = c.requires in
     let (n, walk, _) = c.in_ok-next.ensures.walk in
     let (far, over, _) = c.in_ok-grow.ensures.grown n walk in (
-      whole_hull c.args.pool.now g.xs n c.grow.new.stack.items c.in_ok-grow.field-0 far over,
+      within,
       (
-        c.in_ok-next.ensures.row,
+        whole_hull c.args.pool.now g.xs n c.grow.new.stack.items c.in_ok-grow.field-0 far over,
         (
-          subst (All (λ b. b < length c.args.reps.now)) (sym c.deref-3.ensures.value) (free_named c.args.reps.now c.args.shelf.now shelf),
+          c.in_ok-next.ensures.row,
           (
-            subst (All (λ b. has_limit c.args.reps.now b ≡ false)) (sym c.deref-3.ensures.value) shelf.free,
-            (subst (AreByResistance c.args.reps.now) (sym c.deref-3.ensures.value) shelf.by_resistance, rising),
+            subst (All (λ b. b < length c.args.reps.now)) (sym c.deref-3.ensures.value) (free_named c.args.reps.now c.args.shelf.now shelf),
+            (
+              subst (All (λ b. has_limit c.args.reps.now b ≡ false)) (sym c.deref-3.ensures.value) shelf.free,
+              (subst (AreByResistance c.args.reps.now) (sym c.deref-3.ensures.value) shelf.by_resistance, rising),
+            ),
           ),
         ),
       ),
@@ -81,8 +84,8 @@ returns-clause-found g c = λ b low.
     ]
 
 pub returns-clause-cost : goal.returns-clause-cost
-returns-clause-cost g c =
+returns-clause-cost g c = λ d less.
     let (_, (list, (rise, (modest, (empty, (row, (shelf, rising))))))) = c.requires in
     let (n, walk, cost) = c.in_ok-next.ensures.walk in
-    steps_of_parts c.args.reps.now c.args.shelf.now c.deref.result.now c.grow.new.steps (c.args.steps.now + length g.xs) shelf
-    c.deref.ensures.value (omega (arith, cost, c.in_ok-grow.ensures.cost n walk))
+    steps_of_parts c.args.reps.now c.args.shelf.now c.deref.result.now c.deref-3.result.now c.find_each_free.new.steps (c.args.steps.now + 3 * length g.xs) d shelf
+    c.deref.ensures.value c.deref-3.ensures.value (omega (arith, cost d less, c.in_ok-grow.ensures.cost n walk, c.find_each_free.ensures.cost))

@@ -8,25 +8,29 @@ use Rattle.vg_convex.proofs.search.find_each_free.Goals as goal
 
 pub reps-init : goal.reps-init
 reps-init g c =
-    let (hull, (row, _)) = c.requires in
+    let (_, (hull, (row, _))) = c.requires in
     record {
       front = (0, λ j later low. omega arith, front_whole g.xs 0 c.args.work.now.stack.items hull);
       row = row;
       answers = λ i low. absurd (omega (arith, low));
       others = λ b is. is;
+      cost = omega arith;
     }
 
 pub find_free-requires : goal.find_free-requires
-find_free-requires g c =
-    let (hull, (row, (named, (free, (by_resistance, rising))))) = c.requires in
+find_free-requires g c κs within =
+    let (_, (hull, (row, (named, (free, (by_resistance, rising)))))) = c.requires in
     let (least, no_more, front) = c.reps.invariant.front in (
-      (least, no_more c.reps.number-index (omega arith) c.reps-test.true, front),
-      (free c.reps.number-index 0 c.reps-test.true, (named c.reps.number-index 0 c.reps-test.true, (c.reps.invariant.row, rising))),
+      within,
+      (
+        (least, no_more c.reps.number-index (omega arith) c.reps-test.true, front),
+        (free c.reps.number-index 0 c.reps-test.true, (named c.reps.number-index 0 c.reps-test.true, (c.reps.invariant.row, rising))),
+      ),
     )
 
 pub reps-preserved : goal.reps-preserved
 reps-preserved g c =
-    let (hull, (row, (named, (free, (by_resistance, rising))))) = c.requires in
+    let (_, (hull, (row, (named, (free, (by_resistance, rising)))))) = c.requires in
     let (found, is, e) = c.find_free.ensures.found in
     let low : get_or c.args.order.now c.reps.number-index 0 < length c.reps.work.found.items = omega (arith, named c.reps.number-index 0 c.reps-test.true, c.reps.invariant.row.room) in
     record {
@@ -42,6 +46,7 @@ reps-preserved g c =
       others = λ b before.
           kept_answer c.args.allowed.now c.args.reps.now g.xs (get_or c.args.order.now c.reps.number-index 0) found c.reps.work.found.items c.find_free.new.work.found.items
           is e low b (c.reps.invariant.others b before);
+      cost = omega (arith, c.find_free.ensures.cost, c.reps.invariant.cost);
     }
 
 pub returns-clause-found : goal.returns-clause-found

@@ -1,4 +1,4 @@
-use Rattle.std.proofs.Common.{ℕ, ◌<◌, ◌≤◌, length, slice_index}
+use Rattle.std.proofs.Common.{ℕ, ◌+◌, ◌<◌, ◌≤◌, length, slice_index}
 use Rattle.elmore.specs.Cells.{rep_at}
 use Rattle.vg_convex.specs.Answers.{IsAnswer, found_at, IsRow}
 use Rattle.vg_convex.specs.Places.{IsFrontOf}
@@ -14,4 +14,5 @@ invariant-reps g l = record {
   row : IsRow l.allowed l.reps l.work.found.items;
   answers : (i : ℕ) → i < l.number-index → IsAnswer l.allowed l.reps g.xs (slice_index l.order i) (found_at l.work.found.items (slice_index l.order i));
   others : (b : ℕ) → IsAnswer l.allowed l.reps g.xs b (found_at l.fn.work.found.items b) → IsAnswer l.allowed l.reps g.xs b (found_at l.work.found.items b);
+  cost : l.steps + length l.work.stack.items ≤ l.fn.steps + length l.fn.work.stack.items + l.number-index;
 }

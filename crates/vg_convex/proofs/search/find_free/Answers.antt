@@ -4,5 +4,5 @@ use Rattle.vg_convex.proofs.search.find_free.Goals as goal
 
 pub returns-else-is_allowed-clause-front : goal.returns-else-is_allowed-clause-front
 returns-else-is_allowed-clause-front g c =
-    let ((least, more, front), _) = c.requires in
+    let (_, ((least, more, front), _)) = c.requires in
     front_turns g.xs least (rep_at c.args.reps.now c.args.number).r c.args.work.now.stack.items more front
