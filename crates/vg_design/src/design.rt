@@ -108,10 +108,17 @@ impl Design {
     }
 
     /// The constraints.
-    pub(crate) fn cons(&self) -> &Constraints
+    pub fn cons(&self) -> &Constraints
         ensures { result.now ≡ self.now.rows }
     {
         &self.cons
+    }
+
+    /// The netlist.
+    pub fn netlist(&self) -> &Module
+        ensures { result.now ≡ self.now.netlist }
+    {
+        &self.module
     }
 
     /// The net of this number in the netlist.
@@ -139,7 +146,7 @@ impl Design {
     }
 
     /// The instance of a pin.
-    pub(crate) fn instance_of(&self, at: PinRef) -> Instance<'_>
+    pub fn instance_of(&self, at: PinRef) -> Instance<'_>
         requires { IsPin self.now.netlist at }
         ensures { slice_get self.now.netlist.instances at.instance ≡ Some result }
     {

@@ -17,7 +17,7 @@ use vg_wire::{Refusal, Refused, driver_of, named_net};
 
 /// A net with its parasitics, and its number in the netlist.
 #[derive(Drop)]
-pub(crate) struct JoinedNet {
+pub struct JoinedNet {
     pub par: ParNet,
     pub id: u32,
 }

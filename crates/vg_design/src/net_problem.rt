@@ -30,7 +30,7 @@ pub struct NetProblem {
 }
 
 /// Whether a connection is a sink without a required time. Answers `Memory` where there is no room.
-fn is_unconstrained(
+pub fn is_unconstrained(
     alloc: Global,
     cons: &Constraints,
     net: &ParNet,
@@ -124,7 +124,7 @@ fn problem_within(
 }
 
 /// The problem of a net, where it passes no limit. Answers `Memory` where there is no room.
-pub(crate) fn problem_of(
+pub fn problem_of(
     alloc: Global,
     design: &Design,
     ready: &ReadyNet,

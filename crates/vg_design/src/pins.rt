@@ -17,7 +17,7 @@ use vg_wire::is_sink;
 
 /// A net with the pin of the netlist that each of its connections is; that of a port is none.
 #[derive(Drop)]
-pub(crate) struct PinnedNet {
+pub struct PinnedNet {
     pub net: JoinedNet,
     pub pins: Row<Option<PinRef>>,
 }
