@@ -1,18 +1,12 @@
 -- Branches as they are made, and what a merge needs of them.
-use Rattle.std.proofs.Common.{◌≡◌, ◌≢◌, ℕ, zero, suc, ◌+◌, ◌*◌, ◌^◌, ◌<◌, ◌≤◌, List, [], ◌∷◌, ◌++◌, length, refl, sym, ap, ◌∙◌, subst, arith, get_or, Bool, cond, not, Option, None, Some, pos}
+use Rattle.std.proofs.Common.{◌≡◌, ◌≢◌, ℕ, zero, suc, ◌+◌, ◌*◌, ◌^◌, ◌<◌, ◌≤◌, List, [], ◌∷◌, ◌++◌, length, refl, sym, ap, ◌∙◌, subst, arith, get_or, Option, None, Some, pos}
 use Rattle.std.specs.Prelude.{ℤ, ◌≤ℤ◌, ◌<ℤ◌}
-use Rattle.std.specs.List.{All, AllPairs, Contains, filter, range_with_len}
-use Rattle.std.specs.List.Sorted.{IsPermutation}
+use Rattle.std.specs.List.{All, AllPairs, Contains}
 use Rattle.std.proofs.lemmas.Int.{ints}
 use Rattle.std.proofs.lemmas.List.{map-append}
-use Rattle.std.proofs.lemmas.List.Filters.{length-filter_both}
-use Rattle.std.proofs.lemmas.List.FromFn.{length-range_with_len}
-use Rattle.std.proofs.lemmas.List.Sorted.{length_permutation}
 use Rattle.std.proofs.lemmas.List.Quantifiers.{all_pairs_push}
-use Rattle.elmore.specs.Cells.{rep_at}
 use Rattle.elmore.specs.Pairs.{IsBelow}
 use Rattle.elmore.specs.declared.pair.Pair.{Pair}
-use Rattle.elmore.specs.declared.rep.Rep.{Rep}
 use Rattle.sol_arena.specs.Slots.{none, IsLive as IsLiveSolution}
 use Rattle.sol_arena.specs.declared.arena.Arena.{Arena}
 use Rattle.sol_arena.specs.declared.slot.Slot.{Slot}
@@ -28,8 +22,7 @@ use Rattle.cand_uses.specs.Pairs.{pair_of, pairs_of}
 use Rattle.cand_uses.specs.Uses.{uses_by, HoldsFor, IsExchange}
 use Rattle.cand_uses.proofs.ExchangeLemmas.{uses_of_one, empty_cells}
 use Rattle.vg_merge.specs.Merges.{CanMeet}
-use Rattle.vg_convex.specs.Orders.{numbers_of}
-use Rattle.bench_lists.specs.Turns.{IsSmall, AreSmall, IsMade}
+use Rattle.bench_lists.specs.Turns.{IsSmall, IsMade}
 use Rattle.bench_lists.specs.declared.random.Top.{Top}
 use Rattle.bench_lists.specs.Branches.{AreBare, IsReady}
 use Rattle.bench_lists.proofs.Lengths.{small_modest}
@@ -234,12 +227,3 @@ pub all_uncut : (arena : Arena) (node : ℕ) (xs : Candidates) → AreBare xs �
 all_uncut arena node [] bare k d low = absurd (omega arith)
 all_uncut arena node (x ∷ xs) bare zero d low = ap (λ (j : ℕ). cells_of (made_of arena) j node) bare.0 ∙ ap (λ (f : ℕ → Option ℕ). f node) (empty_cells arena)
 all_uncut arena node (x ∷ xs) bare (suc k) d low = all_uncut arena node xs bare.1 k d (omega arith)
-
--- at most all repeaters are of a kind
-pub few_of_kind : (reps : List Rep) (inverts : Bool) (order : List ℕ) → IsPermutation (numbers_of reps inverts) order → length order ≤ length reps
-few_of_kind reps inverts order same =
-    let p : ℕ → Bool = λ b. cond inverts (rep_at reps b).inverts (not (rep_at reps b).inverts) in
-    let all : List ℕ = range_with_len 0 (length reps) in
-    let e : length order ≡ length (filter p all) = length_permutation (numbers_of reps inverts) order same in
-    let f : length (filter p all) + length (filter (λ b. not (p b)) all) ≡ length all = length-filter_both p (λ b. not (p b)) (λ b. refl) all in
-    let n : length all ≡ length reps = length-range_with_len 0 (length reps) in omega (arith, e, f, n)

@@ -113,25 +113,10 @@ pub fn add_all<L: Ledger>(
     ensures spare { IfOk result (λ added. spare pool.old ≡ spare pool.new + size_of pool.new added.from + size_of pool.new added.made) }
 {
     let from = bent(pool, size, random);
-    let allowed = Allowed::All;
-    find_each(
-        pool,
-        &from,
-        &library.reps,
-        &library.shelf,
-        &allowed,
-        work,
-        steps,
-    )?;
-    let made = add_cells(
-        pool,
-        arena,
-        0,
-        &library.reps,
-        &library.shelf,
-        false,
-        work,
-    )?;
+    let reps = library.reps.as_slice();
+    let shelf = &library.shelf;
+    find_each(pool, &from, reps, shelf, &Allowed::All, work, steps)?;
+    let made = add_cells(pool, arena, 0, reps, shelf, false, work)?;
     Ok(Added { from, made })
 }
 

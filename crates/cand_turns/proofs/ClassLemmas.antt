@@ -15,9 +15,9 @@ use Rattle.cand_pool.specs.declared.ends.List.{List as NamedList}
 use Rattle.cand_uses.specs.Pairs.{pairs_of}
 use Rattle.cand_uses.specs.Uses.{HoldsFor, MeanTheSame}
 use Rattle.cand_lists.specs.ListLaws.{both}
-use Rattle.vg_convex.specs.Answers.{AreFound}
 use Rattle.vg_convex.specs.Orders.{numbers_of}
 use Rattle.vg_convex.proofs.Numberings.{kinds_sum}
+use Rattle.vg_convex.proofs.Results.{kept_found}
 use Rattle.cand_turns.specs.Swaps.{search, Search, Lists, AreHeld, IsTurn, AreOf}
 use Rattle.cand_turns.specs.Branches.{classes_in, list_of, lists_of}
 use Rattle.cand_turns.specs.Solved.{IsOpenAt}
@@ -86,10 +86,7 @@ pub class_found : (p : Problem) (v : ℕ) (s : Block) (branch : Branch) (odd : B
 class_found p v s branch odd l tools e found = subst (λ (k : NamedList). HaveFound p v (items_of s k) tools) e found
 
 pub still_found : (p : Problem) (v : ℕ) (xs : Candidates) (old new : Tools) → new.work.found ≡ old.work.found → HaveFound p v xs old → HaveFound p v xs new
-still_found p v xs old new e found = record {
-  room = subst (λ row. length p.reps ≤ length row.items) (sym e) found.room;
-  each = subst (λ row. AreFound (allowed_at p.allowed v) p.reps xs row.items) (sym e) found.each;
-}
+still_found p v xs old new e found = kept_found (allowed_at p.allowed v) p.reps xs old.work new.work e found
 
 -- the class behind an inverter of the other class
 pub open_behind : (p : Problem) (v : ℕ) (odd : Bool) (ms : List Made) (xs : Candidates) → IsOpenList p v odd ms xs → IsOpenList p v (behind true (not odd)) ms xs

@@ -64,13 +64,20 @@ fn listed(pool: &mut Pool, pairs: &[Pair]) -> List
     list
 }
 
+/// The pairs that the buffers make of a list, and those that the inverters make of it.
+#[derive(Drop)]
+struct Kinds {
+    buffers: Vec<Pair>,
+    inverters: Vec<Pair>,
+}
+
 /// The pairs that these repeaters make of this list, at a node that allows all of them.
 fn added<L: Ledger>(
     alloc: Global,
     from: &[Pair],
     reps: &[Rep],
     steps: &mut Steps<L>,
-) -> Result<Vec<Pair>, Memory>
+) -> Result<Kinds, Memory>
     requires { length reps.now < 2 ^ 32 }
 {
     let (mut pool, mut arena) = (Pool::new(alloc), Arena::new(alloc));
@@ -79,12 +86,12 @@ fn added<L: Ledger>(
     pool.reserve(from.len())?;
     let list = listed(&mut pool, from);
     pool.reserve(reps.len())?;
-    let allowed = Allowed::All;
-    find_each(&pool, &list, reps, &shelf, &allowed, &mut work, steps)?;
-    let made = add_cells(
-        &mut pool, &mut arena, 0, reps, &shelf, false, &mut work,
-    )?;
-    Ok(pairs(alloc, &pool, &made, steps)?)
+    find_each(&pool, &list, reps, &shelf, &Allowed::All, &mut work, steps)?;
+    let made = add_cells(&mut pool, &mut arena, 0, reps, &shelf, false, &mut work)?;
+    let buffers = pairs(alloc, &pool, &made, steps)?;
+    let made = add_cells(&mut pool, &mut arena, 0, reps, &shelf, true, &mut work)?;
+    let inverters = pairs(alloc, &pool, &made, steps)?;
+    Ok(Kinds { buffers, inverters })
 }
 
 /// What one repeater makes of these pairs, by a plain program: the greatest time of those within its limit.
@@ -106,15 +113,30 @@ fn best(from: &[Pair], rep: &Rep) -> Option<Pair> {
     best
 }
 
-/// What repeaters make of these pairs, by a plain program.
-fn all_added(alloc: Global, from: &[Pair], reps: &[Rep]) -> Result<Vec<Pair>, AllocError> {
+/// What the repeaters of one kind make of these pairs, by a plain program.
+fn all_of_kind(
+    alloc: Global,
+    from: &[Pair],
+    reps: &[Rep],
+    inverts: bool,
+) -> Result<Vec<Pair>, AllocError> {
     let mut all = Vec::new(alloc);
     for rep in reps {
-        if let Some(pair) = best(from, rep) {
+        if rep.inverts == inverts
+            && let Some(pair) = best(from, rep)
+        {
             all.push(pair)?;
         }
     }
     undominated(alloc, all.as_slice())
+}
+
+/// What repeaters make of these pairs, by a plain program.
+fn all_added(alloc: Global, from: &[Pair], reps: &[Rep]) -> Result<Kinds, AllocError> {
+    Ok(Kinds {
+        buffers: all_of_kind(alloc, from, reps, false)?,
+        inverters: all_of_kind(alloc, from, reps, true)?,
+    })
 }
 
 const fn rep(r: u64, cin: u64) -> Rep {
@@ -139,7 +161,7 @@ const fn pair(q: i128, c: u64) -> Pair {
     Pair { q, c }
 }
 
-/// Whether these repeaters make the wanted pairs of this list.
+/// Whether these buffers make the wanted pairs of this list.
 fn gives<L: Ledger>(
     alloc: Global,
     from: &[Pair],
@@ -150,10 +172,24 @@ fn gives<L: Ledger>(
     requires { length reps.now < 2 ^ 32 }
 {
     let made = added(alloc, from, reps, steps)?;
-    Ok(made.as_slice() == want)
+    Ok(made.buffers.as_slice() == want && made.inverters.is_empty())
 }
 
-/// Whether repeaters make what was worked out by hand.
+/// Whether these repeaters make of this list what the plain program makes.
+fn agrees<L: Ledger>(
+    alloc: Global,
+    from: &[Pair],
+    reps: &[Rep],
+    steps: &mut Steps<L>,
+) -> Result<bool, Memory>
+    requires { length reps.now < 2 ^ 32 }
+{
+    let made = added(alloc, from, reps, steps)?;
+    let want = all_added(alloc, from, reps)?;
+    Ok(made.buffers == want.buffers && made.inverters == want.inverters)
+}
+
+/// Whether buffers make what was worked out by hand.
 fn known<L: Ledger>(alloc: Global, blank: Blank) -> Result<bool, Memory>
     requires name { blank.name ≡ L.name }
     requires parts { blank.parts ≡ L.parts }
@@ -209,6 +245,7 @@ fn draw_reps(alloc: Global, random: &mut Random, size: u32) -> Result<Vec<Rep>, 
         let most = random.draw(60);
         let k = random.draw(3);
         reps.push(Rep {
+            inverts: random.draw(2) == 1,
             k,
             limit: if most < 50 { Some(most) } else { None },
             ..rep(random.draw(6), random.draw(8))
@@ -229,14 +266,7 @@ fn first_wrong<L: Ledger>(alloc: Global, blank: Blank, cases: u32) -> Result<Opt
         let sizes = (random.draw(13) as u32, random.draw(9) as u32);
         let from = draw_pairs(alloc, &mut random, sizes.0)?;
         let reps = draw_reps(alloc, &mut random, sizes.1)?;
-        let want = all_added(alloc, from.as_slice(), reps.as_slice())?;
-        if !gives(
-            alloc,
-            from.as_slice(),
-            reps.as_slice(),
-            want.as_slice(),
-            &mut steps,
-        )? {
+        if !agrees(alloc, from.as_slice(), reps.as_slice(), &mut steps)? {
             return Ok(Some(case));
         }
     }

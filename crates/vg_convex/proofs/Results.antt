@@ -1,5 +1,5 @@
 -- The swept results are the undominated pairs that the repeaters of one kind make of a list.
-use Rattle.std.proofs.Common.{◌≡◌, ℕ, Bool, List, [], ◌∷◌, Option, Some, None, ◌≤ℤ◌, refl, sym, ap, ◌∙◌, subst, arith}
+use Rattle.std.proofs.Common.{◌≡◌, ℕ, ◌≤◌, Bool, List, [], ◌∷◌, length, Option, Some, None, ◌≤ℤ◌, refl, sym, ap, ◌∙◌, subst, arith}
 use Rattle.std.specs.List.{All}
 use Rattle.std.specs.List.Sorted.{IsPermutation}
 use Rattle.std.proofs.lemmas.Int.{ints}
@@ -14,11 +14,12 @@ use Rattle.cand_laws.specs.Candidates.{with_cell}
 use Rattle.cand_laws.specs.Merging.{IsGreatestBy}
 use Rattle.cand_pool.specs.Candidates.{Candidate, Candidates}
 use Rattle.cand_uses.specs.Pairs.{pair_of, pairs_of}
-use Rattle.vg_convex.specs.Answers.{IsBestOf, IsAnswer, found_at, AreFound, IsResultOf, IsResult, made_pairs, AreSwept}
+use Rattle.vg_convex.specs.Answers.{IsBestOf, IsAnswer, found_at, AreFound, HasFound, IsResultOf, IsResult, made_pairs, AreSwept}
 use Rattle.vg_convex.specs.Lists.{MayStand, IsMade, IsAttained, IsCell, IsWithCell, AreWithCells}
 use Rattle.vg_convex.specs.Orders.{numbers_of}
 use Rattle.vg_convex.specs.declared.work.Found.{Found}
 use Rattle.vg_convex.specs.declared.work.Made.{Made as Result}
+use Rattle.vg_convex.specs.declared.work.Work.{Work}
 use Rattle.vg_convex.proofs.Numberings.{of_kind_in, in_kind}
 
 -- a repeater makes no two greatest pairs
@@ -129,6 +130,13 @@ none_attained reps inverts allowed old new node (z ∷ zs) all =
     let (b, x, _, attained, _) = All-head (IsAttainedBy reps inverts allowed [] old new node) z zs all in
     let (k, low, _) = attained.among in
     absurd (omega (arith, low))
+
+-- what was found is kept with the row
+pub kept_found : (allowed : Allowed) (reps : List Rep) (xs : Candidates) (old new : Work) → new.found ≡ old.found → HasFound allowed reps xs old → HasFound allowed reps xs new
+kept_found allowed reps xs old new e found = record {
+  room = subst (λ row. length reps ≤ length row.items) (sym e) found.room;
+  each = subst (λ row. AreFound allowed reps xs row.items) (sym e) found.each;
+}
 
 -- the same of lists that are equal
 pub swept_as : (reps : List Rep) (found found' : List (Option Found)) (order order' : List ℕ) (kept kept' : List Result) → found ≡ found' → order ≡ order' → kept' ≡ kept

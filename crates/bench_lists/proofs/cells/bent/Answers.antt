@@ -1,4 +1,4 @@
-use Rattle.std.proofs.Common.{[], ◌+◌, ◌∙◌, arith, rules, refl, to_z-of_z}
+use Rattle.std.proofs.Common.{[], ◌∙◌, arith, rules, refl, to_z-of_z}
 use Rattle.std.specs.Int.{w128}
 use Rattle.cand_pool.proofs.PublicLaws.{held_named}
 use Rattle.bench_lists.proofs.TurnLaws.{filled_long}
