@@ -1,4 +1,4 @@
-use Rattle.std.proofs.Common.{false, true, arith}
+use Rattle.std.proofs.Common.{false, arith}
 use Rattle.elmore.specs.declared.allowed.Allowed.TheVariants.{All as AllOf}
 use Rattle.cand_pool.specs.Pools.{items_of}
 use Rattle.vg_convex.proofs.Numberings.{few_of_kind, kinds_sum}
