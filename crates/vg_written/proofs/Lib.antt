@@ -7,3 +7,6 @@ pub mod NumberLemmas
 pub mod NoteLemmas
 pub mod LineLemmas
 pub mod Example
+pub mod PrintLemmas
+pub mod ChargeLemmas
+pub mod NetLemmas

@@ -19,7 +19,7 @@ use Rattle.spef_net.specs.declared.net.Direction.TheVariants.{In, Out, Both}
 use Rattle.spef_net.specs.Lines.{note_after}
 use Rattle.spef_net.specs.Statements.{connected, direction_in, starred, conn_line}
 use Rattle.spef_nodes.specs.Names.{node_in}
-use Rattle.vg_written.specs.Texts.{spaced, ended, lined, noted, conn_tag, direction_word, conn_text, star_text, printed_node, IsWord, IsQuiet, IsQuietLine}
+use Rattle.vg_written.specs.Texts.{spaced, ended, lined, noted, conn_tag, direction_word, conn_text, star_text, printed_node, IsWord, IsNodePrintable, IsQuiet, IsQuietLine}
 use Rattle.vg_written.specs.TextLaws.{ConnsAgain, StarsAgain, LinesAreQuiet}
 use Rattle.vg_written.proofs.WordLemmas.{both_true, word_ended, word_last}
 use Rattle.vg_written.proofs.NodeLemmas.{node_again}
@@ -40,14 +40,14 @@ words_noted w (next ∷ ws) note all =
     split [] = refl
     split (b ∷ note) = append_assoc w (32 ∷ spaced (next ∷ ws)) (32 ∷ b ∷ note)
 
-solid_word : (text : List ℕ) → 0 < length text → list_all is_solid text ≡ true → IsWord text
+pub solid_word : (text : List ℕ) → 0 < length text → list_all is_solid text ≡ true → IsWord text
 solid_word text some solid = record { some = some; solid = AllPass-from_list_all is_solid text solid }
 
-tag_word : (kind : ConnKind) → IsWord (conn_tag kind)
+pub tag_word : (kind : ConnKind) → IsWord (conn_tag kind)
 tag_word Pin = solid_word (codes "*I") (omega arith) refl
 tag_word Port = solid_word (codes "*P") (omega arith) refl
 
-way_word : (way : Direction) → IsWord (direction_word way)
+pub way_word : (way : Direction) → IsWord (direction_word way)
 way_word In = solid_word (codes "I") (omega arith) refl
 way_word Out = solid_word (codes "O") (omega arith) refl
 way_word Both = solid_word (codes "B") (omega arith) refl
@@ -69,14 +69,35 @@ star_said : (file : File) (line node : List ℕ) (more : Line)
 unfolding conn_line
 star_said file line node more = refl
 
+pub conn_all : (chars : Chars) (kind : ConnKind) (way : Direction) (node : NodeName) → IsNodePrintable node
+    → All IsWord (conn_tag kind ∷ printed_node chars node ∷ direction_word way ∷ [])
+conn_all chars kind way node printable =
+    let name = printed_node chars node in
+    All-cons IsWord (conn_tag kind) (name ∷ direction_word way ∷ []) (tag_word kind)
+    (All-cons IsWord name (direction_word way ∷ []) (printed_word chars node printable)
+    (All-cons IsWord (direction_word way) [] (way_word way) (All-nil IsWord)))
+
+pub star_all : (chars : Chars) (node : NodeName) → IsNodePrintable node → All IsWord (codes "*N" ∷ printed_node chars node ∷ [])
+star_all chars node printable =
+    All-cons IsWord (codes "*N") (printed_node chars node ∷ []) (solid_word (codes "*N") (omega arith) refl)
+    (All-cons IsWord (printed_node chars node) [] (printed_word chars node printable) (All-nil IsWord))
+
+-- such lines have two words or more
+pub conn_words : (chars : Chars) (kind : ConnKind) (way : Direction) (node : NodeName) (note : List ℕ) → IsNodePrintable node
+    → (more : List (List ℕ)) × (words (conn_text chars kind way node note) ≡ conn_tag kind ∷ printed_node chars node ∷ more)
+conn_words chars kind way node note printable =
+    let (more, e) = words_noted (conn_tag kind) (printed_node chars node ∷ direction_word way ∷ []) note (conn_all chars kind way node printable) in
+    (direction_word way ∷ more, e)
+
+pub star_words : (chars : Chars) (node : NodeName) (note : List ℕ) → IsNodePrintable node
+    → (more : List (List ℕ)) × (words (star_text chars node note) ≡ codes "*N" ∷ printed_node chars node ∷ more)
+star_words chars node note printable = words_noted (codes "*N") (printed_node chars node ∷ []) note (star_all chars node printable)
+
 pub conns_again : ConnsAgain
 conns_again file kind way node note printable at is =
     let name = printed_node file.chars node in
     let line = conn_text file.chars kind way node note in
-    let all : All IsWord (conn_tag kind ∷ name ∷ direction_word way ∷ []) =
-    All-cons IsWord (conn_tag kind) (name ∷ direction_word way ∷ []) (tag_word kind)
-    (All-cons IsWord name (direction_word way ∷ []) (printed_word file.chars node printable)
-    (All-cons IsWord (direction_word way) [] (way_word way) (All-nil IsWord))) in
+    let all = conn_all file.chars kind way node printable in
     let (more, e) = words_noted (conn_tag kind) (name ∷ direction_word way ∷ []) note all in
     ap (conn_line file line) e
     ∙ conn_said file kind line name (direction_word way) more
@@ -90,9 +111,7 @@ pub stars_again : StarsAgain
 stars_again file node note printable is =
     let name = printed_node file.chars node in
     let line = star_text file.chars node note in
-    let all : All IsWord (codes "*N" ∷ name ∷ []) =
-    All-cons IsWord (codes "*N") (name ∷ []) (solid_word (codes "*N") (omega arith) refl)
-    (All-cons IsWord name [] (printed_word file.chars node printable) (All-nil IsWord)) in
+    let all = star_all file.chars node printable in
     let (more, e) = words_noted (codes "*N") (name ∷ []) note all in
     ap (conn_line file line) e
     ∙ star_said file line name more
@@ -100,10 +119,10 @@ stars_again file node note printable is =
     ∙ ap (starred note) (node_again file node.owner node.leaf printable.owner.some)
 
 -- QUIET LINES
-abbrev is_calm : ℕ → Bool
+abbrev pub is_calm : ℕ → Bool
 is_calm b = not (b == 92) && (not (b == 34) && not (b == 47))
 
-calm_quiet : (text : List ℕ) → list_all is_calm text ≡ true → IsQuiet text
+pub calm_quiet : (text : List ℕ) → list_all is_calm text ≡ true → IsQuiet text
 calm_quiet [] e = quiet_none
 calm_quiet (b ∷ bs) e =
     let (first, rest) = both_true (is_calm b) (list_all is_calm bs) e in
@@ -118,7 +137,7 @@ blank_before text q = quiet_both (32 ∷ []) text (calm_quiet (32 ∷ []) refl) 
 line_quiet : (text : List ℕ) → IsQuiet text → IsQuietLine text
 line_quiet text q = quiet_both text (10 ∷ []) q (calm_quiet (10 ∷ []) refl)
 
-spaced_quiet : (ws : List (List ℕ)) → All IsQuiet ws → IsQuiet (spaced ws)
+pub spaced_quiet : (ws : List (List ℕ)) → All IsQuiet ws → IsQuiet (spaced ws)
 spaced_quiet [] all = quiet_none
 spaced_quiet (w ∷ []) all = All-head IsQuiet w [] all
 spaced_quiet (w ∷ next ∷ ws) all =

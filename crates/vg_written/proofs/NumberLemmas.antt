@@ -6,7 +6,7 @@ use Rattle.std.proofs.lemmas.List.Elements.{All-nil, All-cons}
 use Rattle.std.proofs.lemmas.List.Folds.{list_all-append}
 use Rattle.std.proofs.lemmas.List.Sums.{list_all-from_AllPass, AllPass-from_list_all}
 use Rattle.std.specs.Fmt.{decimal}
-use Rattle.std.specs.List.{list_all}
+use Rattle.std.specs.List.{All, list_all}
 use Rattle.vg_num.specs.Number.{is_digit, scaled}
 use Rattle.vg_num.specs.Printed.{with_point, scaled_text}
 use Rattle.vg_num.proofs.AgainLemmas.{scaled_reads}
@@ -18,7 +18,8 @@ use Rattle.vg_scan.specs.Separators.{is_separator}
 use Rattle.vg_scan.proofs.PrintedLemmas.{solid as printed_solid}
 use Rattle.spef_nodes.specs.Names.{node_in}
 use Rattle.spef_net.specs.Statements.{is_colon, value_in, value_of_parts, cap_line, res_line, ground, resistor, both}
-use Rattle.vg_written.specs.Texts.{IsWord, IsQuiet, IsNodePrintable, printed_node, printed_node_with}
+use Rattle.vg_scan.specs.Lines.{words}
+use Rattle.vg_written.specs.Texts.{spaced, IsWord, IsQuiet, IsNodePrintable, printed_node, printed_node_with}
 use Rattle.vg_written.specs.TextLaws.{CapsAgain, RessAgain, NumbersAgain}
 use Rattle.vg_written.proofs.WordLemmas.{both_true, split_last, words_again}
 use Rattle.vg_written.proofs.NodeLemmas.{node_again}
@@ -59,7 +60,7 @@ point_number : (n places : ℕ) → n < 10 ^ 64 → IsNumber (with_point n place
 point_number n zero h = more_numeric (decimal n) 46 (decimal_number n h) refl
 point_number n (suc places) h = more_numeric (with_point (n / 10) places) (48 + n % 10) (point_number (n / 10) places (omega arith)) (last_numeric n)
 
-scaled_number : (n places : ℕ) → n < 10 ^ 64 → IsNumber (scaled_text n places)
+pub scaled_number : (n places : ℕ) → n < 10 ^ 64 → IsNumber (scaled_text n places)
 unfolding scaled_text
 scaled_number n zero h = decimal_number n h
 scaled_number n (suc places) h = either (n % 10 == 0) (scaled_number (n / 10) places (omega arith)) (point_number n (suc places) h)
@@ -75,13 +76,13 @@ numeric_solid b e = grind (arith, nat_tests)
 numeric_plain : (b : ℕ) → is_numeric b ≡ true → not (is_colon b) ≡ true
 numeric_plain b e = grind (arith, nat_tests)
 
-all_weaker : (p q : ℕ → Bool) → ((b : ℕ) → p b ≡ true → q b ≡ true) → (xs : List ℕ) → list_all p xs ≡ true → list_all q xs ≡ true
+pub all_weaker : (p q : ℕ → Bool) → ((b : ℕ) → p b ≡ true → q b ≡ true) → (xs : List ℕ) → list_all p xs ≡ true → list_all q xs ≡ true
 all_weaker p q f [] e = refl
 all_weaker p q f (x ∷ xs) e =
     let (first, rest) = both_true (p x) (list_all p xs) e in
     rw (f x first, all_weaker p q f xs rest) refl
 
-number_word : (text : List ℕ) → IsNumber text → IsWord text
+pub number_word : (text : List ℕ) → IsNumber text → IsWord text
 number_word text is = record { some = is.some; solid = AllPass-from_list_all is_solid text (all_weaker is_numeric is_solid numeric_solid text is.all) }
 
 numeric_quiet : (b : ℕ) → is_numeric b ≡ true → IsQuiet (b ∷ [])
@@ -119,7 +120,7 @@ printed_some chars (b ∷ bs) l = omega (arith, byte_some, length-append (printe
     byte_some : 0 < length (printed_byte chars b)
     byte_some = grind (arith, nat_tests)
 
-node_word : (chars : Chars) (owner leaf : List ℕ) → IsPrintable owner → list_all is_solid leaf ≡ true → IsWord (printed_node_with chars owner leaf)
+pub node_word : (chars : Chars) (owner leaf : List ℕ) → IsPrintable owner → list_all is_solid leaf ≡ true → IsWord (printed_node_with chars owner leaf)
 node_word chars owner [] some solid = record { some = printed_some chars owner some.some; solid = printed_solid chars owner some.solid }
 node_word chars owner (b ∷ leaf) some solid = record {
   some = omega (arith, length-append (printed chars owner) (chars.delimiter ∷ printed chars (b ∷ leaf)));
@@ -137,13 +138,39 @@ pub printed_word : (chars : Chars) (node : NodeName) → IsNodePrintable node �
 printed_word chars node printable = node_word chars node.owner node.leaf printable.owner (list_all-from_AllPass is_solid node.leaf printable.leaf)
 
 -- THE LINES
+-- the words of such lines
+pub cap_all : (chars : Chars) (id v places : ℕ) (node : NodeName) → IsNodePrintable node → id < 10 ^ 64 → v ≤ 10 ^ 15
+    → All IsWord (decimal id ∷ printed_node chars node ∷ scaled_text v places ∷ [])
+cap_all chars id v places node printable id_few small =
+    All-cons IsWord (decimal id) (printed_node chars node ∷ scaled_text v places ∷ []) (number_word (decimal id) (decimal_number id id_few))
+    (All-cons IsWord (printed_node chars node) (scaled_text v places ∷ []) (printed_word chars node printable)
+    (All-cons IsWord (scaled_text v places) [] (numbers_again v places small).0 (All-nil IsWord)))
+
+pub cap_words : (chars : Chars) (id v places : ℕ) (node : NodeName) → IsNodePrintable node → id < 10 ^ 64 → v ≤ 10 ^ 15
+    → words (spaced (decimal id ∷ printed_node chars node ∷ scaled_text v places ∷ [])) ≡ decimal id ∷ printed_node chars node ∷ scaled_text v places ∷ []
+cap_words chars id v places node printable id_few small =
+    words_again (decimal id ∷ printed_node chars node ∷ scaled_text v places ∷ []) (cap_all chars id v places node printable id_few small)
+
+pub res_all : (chars : Chars) (id v places : ℕ) (a b : NodeName) → IsNodePrintable a → IsNodePrintable b → id < 10 ^ 64 → v ≤ 10 ^ 15
+    → All IsWord (decimal id ∷ printed_node chars a ∷ printed_node chars b ∷ scaled_text v places ∷ [])
+res_all chars id v places a b a_printable b_printable id_few small =
+    All-cons IsWord (decimal id) (printed_node chars a ∷ printed_node chars b ∷ scaled_text v places ∷ [])
+    (number_word (decimal id) (decimal_number id id_few))
+    (All-cons IsWord (printed_node chars a) (printed_node chars b ∷ scaled_text v places ∷ []) (printed_word chars a a_printable)
+    (All-cons IsWord (printed_node chars b) (scaled_text v places ∷ []) (printed_word chars b b_printable)
+    (All-cons IsWord (scaled_text v places) [] (numbers_again v places small).0 (All-nil IsWord))))
+
+pub res_words : (chars : Chars) (id v places : ℕ) (a b : NodeName) → IsNodePrintable a → IsNodePrintable b → id < 10 ^ 64 → v ≤ 10 ^ 15
+    → words (spaced (decimal id ∷ printed_node chars a ∷ printed_node chars b ∷ scaled_text v places ∷ []))
+    ≡ decimal id ∷ printed_node chars a ∷ printed_node chars b ∷ scaled_text v places ∷ []
+res_words chars id v places a b a_printable b_printable id_few small =
+    words_again (decimal id ∷ printed_node chars a ∷ printed_node chars b ∷ scaled_text v places ∷ [])
+    (res_all chars id v places a b a_printable b_printable id_few small)
+
 pub caps_again : CapsAgain
 unfolding cap_line
 caps_again file id v places node printable id_few small at =
-    ap (cap_line file) (words_again (decimal id ∷ printed_node file.chars node ∷ scaled_text v places ∷ [])
-    (All-cons IsWord (decimal id) (printed_node file.chars node ∷ scaled_text v places ∷ []) (number_word (decimal id) (decimal_number id id_few))
-    (All-cons IsWord (printed_node file.chars node) (scaled_text v places ∷ []) (printed_word file.chars node printable)
-    (All-cons IsWord (scaled_text v places) [] (numbers_again v places small).0 (All-nil IsWord)))))
+    ap (cap_line file) (cap_words file.chars id v places node printable id_few small)
     ∙ ap (λ o. ground o (value_in file.c_places (scaled_text v places))) (node_again file node.owner node.leaf printable.owner.some)
     ∙ ap (λ p. ground (Some node) (value_in p (scaled_text v places))) at
     ∙ ap (ground (Some node)) (value_again v places small)
@@ -151,12 +178,7 @@ caps_again file id v places node printable id_few small at =
 pub ress_again : RessAgain
 unfolding res_line
 ress_again file id v places a b a_printable b_printable id_few small at =
-    ap (res_line file) (words_again (decimal id ∷ printed_node file.chars a ∷ printed_node file.chars b ∷ scaled_text v places ∷ [])
-    (All-cons IsWord (decimal id) (printed_node file.chars a ∷ printed_node file.chars b ∷ scaled_text v places ∷ [])
-    (number_word (decimal id) (decimal_number id id_few))
-    (All-cons IsWord (printed_node file.chars a) (printed_node file.chars b ∷ scaled_text v places ∷ []) (printed_word file.chars a a_printable)
-    (All-cons IsWord (printed_node file.chars b) (scaled_text v places ∷ []) (printed_word file.chars b b_printable)
-    (All-cons IsWord (scaled_text v places) [] (numbers_again v places small).0 (All-nil IsWord))))))
+    ap (res_line file) (res_words file.chars id v places a b a_printable b_printable id_few small)
     ∙ ap (λ o. resistor (both o (node_in file (printed_node file.chars b))) (value_in file.r_places (scaled_text v places)))
     (node_again file a.owner a.leaf a_printable.owner.some)
     ∙ ap (λ o. resistor (both (Some a) o) (value_in file.r_places (scaled_text v places))) (node_again file b.owner b.leaf b_printable.owner.some)

@@ -1,3 +1,5 @@
 pub mod Texts
 pub mod TextLaws
 pub mod Splices
+pub mod Sections
+pub mod Charges

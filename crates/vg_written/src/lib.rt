@@ -4,10 +4,14 @@
 //! A theory alone: what writes parasitics is to stand on it.
 #![tactic(auto)]
 
+mod charge;
 mod laws;
+mod line;
+mod write;
 
 pub use laws::{
     caps_again, conns_again, cuts_keep_comments, lines_again, lines_are_quiet, names_are_quiet,
     nodes_again, nodes_are_quiet, notes_again, numbers_again, ress_again, sections_splice,
     stars_again, words_again,
 };
+pub use write::write_net;

@@ -1,0 +1,99 @@
+-- Texts that are printed piece by piece, and lists of lines that grow.
+use Rattle.std.proofs.Common.{◌≡◌, ℕ, ◌+◌, ◌<◌, ◌≤◌, List, [], ◌∷◌, ◌++◌, map, filter, refl, sym, ap, ◌∙◌, arith, length, take, get_or}
+use Rattle.std.proofs.lemmas.List.{append-nil, append_assoc, length-take, take_more, map-append, map_more, flat_map_more}
+use Rattle.std.proofs.lemmas.List.Elements.{filter-append}
+use Rattle.vg_scan.specs.declared.chars.Chars.{Chars}
+use Rattle.spef_nodes.specs.Nodes.{ParNode}
+use Rattle.vg_written.specs.Sections.{numbered, headed, star_lines, star_line_of, has_star}
+use Rattle.vg_written.specs.Texts.{spaced, ended, lined, noted, printed_node_with}
+use Rattle.vg_scan.specs.Printed.{printed}
+
+-- pieces behind a text, one after another
+pub two_words : (o a b : List ℕ) → ((o ++ a) ++ 32 ∷ []) ++ b ≡ o ++ spaced (a ∷ b ∷ [])
+two_words o a b = append_assoc (o ++ a) (32 ∷ []) b ∙ append_assoc o a (32 ∷ b)
+
+pub three_words : (o a b c : List ℕ) → ((((o ++ a) ++ 32 ∷ []) ++ b) ++ 32 ∷ []) ++ c ≡ o ++ spaced (a ∷ b ∷ c ∷ [])
+three_words o a b c = two_words ((o ++ a) ++ 32 ∷ []) b c ∙ two_words o a (b ++ 32 ∷ c)
+
+pub four_words : (o a b c d : List ℕ) → ((((((o ++ a) ++ 32 ∷ []) ++ b) ++ 32 ∷ []) ++ c) ++ 32 ∷ []) ++ d ≡ o ++ spaced (a ∷ b ∷ c ∷ d ∷ [])
+four_words o a b c d = three_words ((o ++ a) ++ 32 ∷ []) b c d ∙ two_words o a (b ++ 32 ∷ (c ++ 32 ∷ d))
+
+pub newline_after : (o line : List ℕ) → (o ++ line) ++ 10 ∷ [] ≡ o ++ ended line
+newline_after o line = append_assoc o line (10 ∷ [])
+
+-- the name of a node with a leaf
+pub node_printed : (chars : Chars) (old owner leaf : List ℕ) → 0 < length leaf
+    → ((old ++ printed chars owner) ++ chars.delimiter ∷ []) ++ printed chars leaf ≡ old ++ printed_node_with chars owner leaf
+node_printed chars old owner [] some = absurd (omega (arith, some))
+node_printed chars old owner (b ∷ leaf) some =
+    append_assoc (old ++ printed chars owner) (chars.delimiter ∷ []) (printed chars (b ∷ leaf))
+    ∙ append_assoc old (printed chars owner) (chars.delimiter ∷ printed chars (b ∷ leaf))
+
+-- a note behind a line, where something stands before the line
+pub noted_after : (a line note : List ℕ) → ended (noted (a ++ line) note) ≡ a ++ ended (noted line note)
+noted_after a line [] = append_assoc a line (10 ∷ [])
+noted_after a line (b ∷ note) = ap (λ xs. xs ++ 10 ∷ []) (append_assoc a line (32 ∷ b ∷ note)) ∙ append_assoc a (line ++ 32 ∷ b ∷ note) (10 ∷ [])
+
+-- one line more
+pub lines_more : {X : Type 0} (line : X → List ℕ) (start : List ℕ) (xs : List X) (i : ℕ) (d : X) → i < length xs
+    → (start ++ lined (map line (take i xs))) ++ ended (line (get_or xs i d)) ≡ start ++ lined (map line (take (i + 1) xs))
+lines_more line start xs i d l =
+    flat_map_more ended start (map line (take i xs)) (line (get_or xs i d)) ∙ ap (λ ls. start ++ lined ls) (sym (map_more line xs i d l))
+
+numbered_push : {X : Type 0} (line : ℕ → X → List ℕ) (n : ℕ) (xs : List X) (x : X) (k : ℕ) → n + length xs ≡ k
+    → numbered line n (xs ++ x ∷ []) ≡ numbered line n xs ++ line k x ∷ []
+numbered_push line n [] x k e =
+    let same : n ≡ k = omega (arith, e) in
+    ap (λ (m : ℕ). line m x ∷ []) same
+numbered_push line n (y ∷ ys) x k e = ap (λ ls. line n y ∷ ls) (numbered_push line (n + 1) ys x k (omega (arith, e)))
+
+-- one numbered line more
+pub numbers_more : {X : Type 0} (line : ℕ → X → List ℕ) (start : List ℕ) (xs : List X) (i : ℕ) (d : X) → i < length xs
+    → (start ++ lined (numbered line 1 (take i xs))) ++ ended (line (i + 1) (get_or xs i d)) ≡ start ++ lined (numbered line 1 (take (i + 1) xs))
+numbers_more line start xs i d l =
+    flat_map_more ended start (numbered line 1 (take i xs)) (line (i + 1) (get_or xs i d))
+    ∙ ap (λ ls. start ++ lined ls)
+    (sym (ap (numbered line 1) (take_more xs i d l) ∙ numbered_push line 1 (take i xs) (get_or xs i d) (i + 1) (omega (arith, length-take i xs))))
+
+stars_append : (chars : Chars) (xs ys : List ParNode) → star_lines chars (xs ++ ys) ≡ star_lines chars xs ++ star_lines chars ys
+stars_append chars xs ys = ap (map (star_line_of chars)) (filter-append has_star xs ys) ∙ map-append (star_line_of chars) (filter has_star xs) (filter has_star ys)
+
+lined_append : (ls more : List (List ℕ)) → lined (ls ++ more) ≡ lined ls ++ lined more
+lined_append [] more = refl
+lined_append (l ∷ ls) more = ap (λ xs. ended l ++ xs) (lined_append ls more) ∙ sym (append_assoc (ended l) (lined ls) (lined more))
+
+-- one node more, with its line if it has one
+pub stars_more : (chars : Chars) (start : List ℕ) (xs : List ParNode) (i : ℕ) (d : ParNode) → i < length xs
+    → (start ++ lined (star_lines chars (take i xs))) ++ lined (star_lines chars (get_or xs i d ∷ [])) ≡ start ++ lined (star_lines chars (take (i + 1) xs))
+stars_more chars start xs i d l =
+    append_assoc start (lined (star_lines chars (take i xs))) (lined (star_lines chars (get_or xs i d ∷ [])))
+    ∙ ap (λ ls. start ++ ls)
+    (sym (ap (λ ns. lined (star_lines chars ns)) (take_more xs i d l)
+    ∙ ap lined (stars_append chars (take i xs) (get_or xs i d ∷ []))
+    ∙ lined_append (star_lines chars (take i xs)) (star_lines chars (get_or xs i d ∷ []))))
+
+-- a part with its head, which is left out where there are no rows
+pub part_printed : {X : Type 0} (line : ℕ → X → List ℕ) (old head : List ℕ) (xs : List X) → 0 < length xs
+    → (old ++ ended head) ++ lined (numbered line 1 xs) ≡ old ++ lined (headed head (numbered line 1 xs))
+part_printed line old head [] some = absurd (omega (arith, some))
+part_printed line old head (x ∷ xs) some = append_assoc old (ended head) (lined (numbered line 1 (x ∷ xs)))
+
+pub none_printed : {X : Type 0} (line : ℕ → X → List ℕ) (old head : List ℕ) (xs : List X) → length xs ≡ 0
+    → old ≡ old ++ lined (headed head (numbered line 1 xs))
+none_printed line old head [] none = sym (append-nil old)
+none_printed line old head (x ∷ xs) none = absurd (omega (arith, none))
+
+-- the parts of a section, one after another
+pub parts_printed : (head conn_head conns stars caps ress : List ℕ)
+    → ((((([] ++ head) ++ conn_head) ++ conns) ++ stars) ++ caps) ++ ress ≡ head ++ (conn_head ++ (conns ++ (stars ++ (caps ++ ress))))
+parts_printed head conn_head conns stars caps ress =
+    append_assoc ((((head ++ conn_head) ++ conns) ++ stars)) caps ress
+    ∙ append_assoc ((head ++ conn_head) ++ conns) stars (caps ++ ress)
+    ∙ append_assoc (head ++ conn_head) conns (stars ++ (caps ++ ress))
+    ∙ append_assoc head conn_head (conns ++ (stars ++ (caps ++ ress)))
+
+pub section_lined : (head conn_head : List ℕ) (conns stars caps ress : List (List ℕ))
+    → ended head ++ (ended conn_head ++ (lined conns ++ (lined stars ++ (lined caps ++ lined ress)))) ≡ lined (head ∷ conn_head ∷ (conns ++ (stars ++ (caps ++ ress))))
+section_lined head conn_head conns stars caps ress =
+    ap (λ xs. ended head ++ (ended conn_head ++ xs))
+    (sym (lined_append conns (stars ++ (caps ++ ress)) ∙ ap (λ xs. lined conns ++ xs) (lined_append stars (caps ++ ress) ∙ ap (λ xs. lined stars ++ xs) (lined_append caps ress))))
