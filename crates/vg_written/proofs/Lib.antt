@@ -10,3 +10,6 @@ pub mod Example
 pub mod PrintLemmas
 pub mod ChargeLemmas
 pub mod NetLemmas
+pub mod SayLemmas
+pub mod SaidLemmas
+pub mod ShapeLemmas

@@ -3,3 +3,4 @@ pub mod TextLaws
 pub mod Splices
 pub mod Sections
 pub mod Charges
+pub mod SectionLaws

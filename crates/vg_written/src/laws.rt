@@ -1,6 +1,7 @@
 //! Laws of texts that are written. Their functions do nothing: each one's contract is the law, which a proof may cite.
 
 ghost use Rattle.vg_written.specs.Splices.{CutsKeepComments, SectionsSplice};
+ghost use Rattle.vg_written.specs.SectionLaws.{HeadsNameNets, InnerLinesSay, SectionsAreLines, SectionsAreQuiet};
 ghost use Rattle.vg_written.specs.TextLaws.{CapsAgain, ConnsAgain, LinesAgain, LinesAreQuiet, NamesAreQuiet, NodesAgain, NodesAreQuiet};
 ghost use Rattle.vg_written.specs.TextLaws.{NotesAgain, NumbersAgain, RessAgain, StarsAgain, WordsAgain};
 
@@ -102,4 +103,28 @@ pub fn cuts_keep_comments()
 /// have the comments that they had.
 pub fn sections_splice()
     ensures { SectionsSplice }
+{}
+
+/// Let a file's names and numbers be meant as a header says, and let a net be one that can be written. Then the lines
+/// between the first line of the net's section and its end say just this in the file: its connections with their notes, its
+/// inner nodes with notes, a capacitor to the ground at each node that has a capacitance, and its resistors.
+pub fn inner_lines_say()
+    ensures { InnerLinesSay }
+{}
+
+/// The section of a net has the lines of which it is made, whatever text follows.
+pub fn sections_are_lines()
+    ensures { SectionsAreLines }
+{}
+
+/// Let the notes of a net's nodes stay as they are where comments are made blank, each with a newline behind it, and let
+/// whatever text follows have the comments that it has alone. Then so it is of the net's section.
+pub fn sections_are_quiet()
+    ensures { SectionsAreQuiet }
+{}
+
+/// The words of a section's first line are `*D_NET`, a name and the capacitance. The name is no reference to an index, and
+/// its canonical name is that of the net.
+pub fn heads_name_nets()
+    ensures { HeadsNameNets }
 {}
