@@ -13,3 +13,4 @@ pub mod NetLemmas
 pub mod SayLemmas
 pub mod SaidLemmas
 pub mod ShapeLemmas
+pub mod ClearLemmas
