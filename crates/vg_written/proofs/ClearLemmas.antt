@@ -1,11 +1,11 @@
 -- No line of a section has a fault.
-use Rattle.std.proofs.Common.{◌≡◌, ◌≢◌, ℕ, zero, suc, ◌+◌, ◌<◌, ◌≤◌, ◌^◌, ◌==◌, ◌||◌, ◌&&◌, not, Bool, true, false, cond, List, [], ◌∷◌, ◌++◌, map, filter, refl, sym, ap, ◌∙◌, arith, length, take, get_or, subst, inl, inr, Option, Some, None, Ok, is_some}
+use Rattle.std.proofs.Common.{◌≡◌, ◌≢◌, ℕ, zero, suc, ◌<◌, ◌≤◌, ◌^◌, ◌==◌, ◌||◌, not, Bool, true, false, cond, List, [], ◌∷◌, ◌++◌, map, filter, refl, sym, ap, ◌∙◌, arith, length, take, get_or, subst, inl, inr, Some, None, Ok}
 use Rattle.std.specs.Prelude.{codes}
-use Rattle.std.specs.List.{All, Contains, filter_map, slice_get}
+use Rattle.std.specs.List.{All, Contains, slice_get}
 use Rattle.std.proofs.lemmas.Bool.{cases_lt, cases_eq}
 use Rattle.std.proofs.lemmas.List.{get_or_default, append-nil, append_assoc, length-map, length-take, get_or-take, get_or-map}
-use Rattle.std.proofs.lemmas.List.Elements.{All-nil, All-cons, All-head, All-tail, All-weaker, All-get_or, All-filter, All-append, All-map, All-contains_itself, filter_passes, filter_map-append}
-use Rattle.std.proofs.lemmas.Option.{slice_get-get_or, slice_get-map}
+use Rattle.std.proofs.lemmas.List.Elements.{All-nil, All-cons, All-head, All-tail, All-weaker, All-get_or, All-filter, All-map, All-contains_itself, filter_passes, filter_map-append}
+use Rattle.std.proofs.lemmas.Option.{slice_get-get_or}
 use Rattle.vg_scan.specs.declared.name.NodeName.{NodeName}
 use Rattle.vg_scan.specs.Nodes.{same_node, has_node, node_value}
 use Rattle.spef_nodes.specs.Names.{is_own}
@@ -17,12 +17,11 @@ use Rattle.spef_net.specs.declared.net.ConnKind.TheVariants.{Pin}
 use Rattle.spef_net.specs.declared.net.Direction.TheVariants.{In}
 use Rattle.spef_net.specs.declared.net.ParConn.{ParConn}
 use Rattle.spef_net.specs.declared.net.ParNet.{ParNet}
-use Rattle.spef_net.specs.declared.fault.NetKind.{NetKind}
 use Rattle.spef_net.specs.Nets.{IsInside, IsResOf}
-use Rattle.spef_net.specs.Statements.{Stated, Nothing, Connects, Star, Ground, Resistor}
+use Rattle.spef_net.specs.Statements.{Stated, Nothing, Ground, Resistor}
 use Rattle.spef_net.specs.Rows.{joined_in, starred_in, joined_of, starred_of, connected_of}
-use Rattle.spef_net.specs.Faults.{fault_of, fault_at, IsFaultless}
-use Rattle.vg_written.specs.Sections.{NO_NODE, node_at, total, charged, has_star, IsWritable}
+use Rattle.spef_net.specs.Faults.{fault_of}
+use Rattle.vg_written.specs.Sections.{NO_NODE, node_at, total, charged, has_star}
 use Rattle.vg_written.specs.SectionLaws.{SaidNetsAreFaultless, said_conn, said_star, said_cap, said_res, said_by, opens, opened}
 use Rattle.vg_written.proofs.WordLemmas.{both_true}
 use Rattle.vg_written.proofs.NetLemmas.{conns_are, charges_are, IsConnOf, IsChargeOf}
@@ -201,32 +200,32 @@ module _ (net : ParNet) where
   conns_clear : (before : List Stated) → joined_of before ≡ [] → starred_of before ≡ [] → ClearFrom (connected_of (said_by net)) net.name before (map (said_conn net.nodes) net.conns)
   conns_clear before no_joined no_starred =
       clear_map (connected_of (said_by net)) net.name (said_conn net.nodes) net.conns before (λ i d l.
-          let here = map (said_conn net.nodes) (take i net.conns) in
-          let name = row_name net.nodes (get_or net.conns i d) in
-          conn_clear (connected_of (said_by net)) net.name (before ++ here) net.nodes (get_or net.conns i d)
-          (ap (λ rows. node_value rows name)
-          (filter_map-append joined_in before here ∙ ap (λ rows. rows ++ joined_of here) no_joined ∙ some_mapped joined_in (said_conn net.nodes) (conn_note net.nodes) (λ _. refl) (take i net.conns))
-          ∙ value_absent (map (conn_note net.nodes) (take i net.conns)) name
-          (All-map (λ (row : NodeName × List ℕ). row.0 ≢ name) (conn_note net.nodes) (take i net.conns) (conn_apart net i d l)))
-          (ap (λ rows. node_value rows name)
-          (filter_map-append starred_in before here ∙ ap (λ rows. rows ++ starred_of here) no_starred ∙ none_mapped starred_in (said_conn net.nodes) (λ _. refl) (take i net.conns))))
+      let here = map (said_conn net.nodes) (take i net.conns) in
+      let name = row_name net.nodes (get_or net.conns i d) in
+      conn_clear (connected_of (said_by net)) net.name (before ++ here) net.nodes (get_or net.conns i d)
+      (ap (λ rows. node_value rows name)
+      (filter_map-append joined_in before here ∙ ap (λ rows. rows ++ joined_of here) no_joined ∙ some_mapped joined_in (said_conn net.nodes) (conn_note net.nodes) (λ _. refl) (take i net.conns))
+      ∙ value_absent (map (conn_note net.nodes) (take i net.conns)) name
+      (All-map (λ (row : NodeName × List ℕ). row.0 ≢ name) (conn_note net.nodes) (take i net.conns) (conn_apart net i d l)))
+      (ap (λ rows. node_value rows name)
+      (filter_map-append starred_in before here ∙ ap (λ rows. rows ++ starred_of here) no_starred ∙ none_mapped starred_in (said_conn net.nodes) (λ _. refl) (take i net.conns))))
 
   stars_clear : (before : List Stated) → joined_of before ≡ map (conn_note net.nodes) net.conns
       → ClearFrom (connected_of (said_by net)) net.name before (map said_star (filter has_star net.nodes))
   stars_clear before joined =
       clear_map (connected_of (said_by net)) net.name said_star (filter has_star net.nodes) before (λ i d l.
-          let here = map said_star (take i (filter has_star net.nodes)) in
-          let node = get_or (filter has_star net.nodes) i d in
-          let star : StarAt net node = stars_at net i d l in
-          star_clear (connected_of (said_by net)) net.name (before ++ here) node
-          (All-filter has_star (IsInside net.name) net.nodes net.sound.inside i d l star.inner)
-          (ap (λ rows. node_value rows node.name)
-          (filter_map-append joined_in before here
-          ∙ ap (λ rows. rows ++ joined_of here) joined
-          ∙ ap (λ rows. map (conn_note net.nodes) net.conns ++ rows) (none_mapped joined_in said_star (λ _. refl) (take i (filter has_star net.nodes)))
-          ∙ append-nil (map (conn_note net.nodes) net.conns))
-          ∙ value_absent (map (conn_note net.nodes) net.conns) node.name
-          (All-map (λ (row : NodeName × List ℕ). row.0 ≢ node.name) (conn_note net.nodes) net.conns (star_apart net node star))))
+      let here = map said_star (take i (filter has_star net.nodes)) in
+      let node = get_or (filter has_star net.nodes) i d in
+      let star : StarAt net node = stars_at net i d l in
+      star_clear (connected_of (said_by net)) net.name (before ++ here) node
+      (All-filter has_star (IsInside net.name) net.nodes net.sound.inside i d l star.inner)
+      (ap (λ rows. node_value rows node.name)
+      (filter_map-append joined_in before here
+      ∙ ap (λ rows. rows ++ joined_of here) joined
+      ∙ ap (λ rows. map (conn_note net.nodes) net.conns ++ rows) (none_mapped joined_in said_star (λ _. refl) (take i (filter has_star net.nodes)))
+      ∙ append-nil (map (conn_note net.nodes) net.conns))
+      ∙ value_absent (map (conn_note net.nodes) net.conns) node.name
+      (All-map (λ (row : NodeName × List ℕ). row.0 ≢ node.name) (conn_note net.nodes) net.conns (star_apart net node star))))
 
   caps_clear : total net.caps ≤ 10 ^ 15 → (before : List Stated) → ClearFrom (connected_of (said_by net)) net.name before (opened (codes "*CAP") (map (said_cap net.nodes) (charged net)))
   caps_clear few =
@@ -256,11 +255,10 @@ said_nets_are_faultless net writable = clear_at (connected_of (said_by net)) net
         let caps = opened (codes "*CAP") (map (said_cap net.nodes) (charged net)) in
         let ress = opened (codes "*RES") (map (said_res net.nodes) net.ress) in
         let first = opens (codes "*CONN") ∷ [] in
-        let own = connected_of (said_by net) in
-        (
+        let own = connected_of (said_by net) in (
           (opens_clear own net.name []).0,
           clear_both own net.name first conns (stars ++ (caps ++ ress)) (conns_clear net first refl refl)
-          (clear_both own net.name (first ++ conns) stars (caps ++ ress)
-          (stars_clear net (first ++ conns) (some_mapped joined_in (said_conn net.nodes) (conn_note net.nodes) (λ _. refl) net.conns))
-          (clear_both own net.name ((first ++ conns) ++ stars) caps ress (caps_clear net writable.charge ((first ++ conns) ++ stars)) (ress_clear net (((first ++ conns) ++ stars) ++ caps)))),
+              (clear_both own net.name (first ++ conns) stars (caps ++ ress)
+              (stars_clear net (first ++ conns) (some_mapped joined_in (said_conn net.nodes) (conn_note net.nodes) (λ _. refl) net.conns))
+              (clear_both own net.name ((first ++ conns) ++ stars) caps ress (caps_clear net writable.charge ((first ++ conns) ++ stars)) (ress_clear net (((first ++ conns) ++ stars) ++ caps)))),
         )

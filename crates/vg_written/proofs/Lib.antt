@@ -14,3 +14,4 @@ pub mod SayLemmas
 pub mod SaidLemmas
 pub mod ShapeLemmas
 pub mod ClearLemmas
+pub mod AgainLemmas

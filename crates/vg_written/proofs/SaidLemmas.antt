@@ -1,7 +1,7 @@
 -- What a section says, by kind.
-use Rattle.std.proofs.Common.{◌≡◌, ℕ, true, false, ◌||◌, Bool, List, [], ◌∷◌, ◌++◌, map, filter, refl, sym, ap, ◌∙◌, Option, Some, None, Ok}
-use Rattle.std.specs.List.{filter_map, flat_map, list_any, cons_option}
-use Rattle.std.proofs.lemmas.List.{append-nil, map-append}
+use Rattle.std.proofs.Common.{◌≡◌, ℕ, false, ◌||◌, Bool, List, [], ◌∷◌, ◌++◌, map, filter, refl, sym, ap, ◌∙◌, Option, Some, None}
+use Rattle.std.specs.List.{filter_map, list_any, cons_option}
+use Rattle.std.proofs.lemmas.List.{append-nil}
 use Rattle.std.proofs.lemmas.List.Elements.{filter_map-append}
 use Rattle.vg_scan.specs.declared.name.NodeName.{NodeName}
 use Rattle.spef_nodes.specs.Nodes.{ParNode}

@@ -1,9 +1,9 @@
 -- What the lines of a section say.
-use Rattle.std.proofs.Common.{◌≡◌, ℕ, suc, ◌+◌, ◌<◌, ◌≤◌, ◌^◌, true, false, List, [], ◌∷◌, ◌++◌, map, filter, refl, sym, ap, ◌∙◌, arith, length, Some, None, Ok, pos, subst, get_or}
+use Rattle.std.proofs.Common.{◌≡◌, ℕ, ◌+◌, ◌<◌, ◌≤◌, ◌^◌, List, [], ◌∷◌, ◌++◌, map, filter, refl, sym, ap, ◌∙◌, arith, length, subst, get_or}
 use Rattle.std.specs.Prelude.{codes, unsigned_abs, unwrap_or}
 use Rattle.std.specs.Fmt.{decimal}
 use Rattle.std.specs.List.{All}
-use Rattle.std.proofs.lemmas.List.{append_assoc, append-nil, length-map}
+use Rattle.std.proofs.lemmas.List.{append-nil}
 use Rattle.std.proofs.lemmas.List.Elements.{All-head, All-tail, All-weaker, All-get_or, All-filter}
 use Rattle.vg_num.specs.Printed.{scaled_text}
 use Rattle.vg_scan.specs.declared.chars.Chars.{Chars}
@@ -14,12 +14,11 @@ use Rattle.spef_nodes.specs.Nodes.{ParNode}
 use Rattle.spef_net.specs.declared.net.ParConn.{ParConn}
 use Rattle.spef_net.specs.declared.net.ParNet.{ParNet}
 use Rattle.spef_net.specs.Lines.{part_named}
-use Rattle.spef_net.specs.Statements.{Stated, Opens, statement_of, statement_of_words, statement_in, statements, statements_from, part_after}
+use Rattle.spef_net.specs.Statements.{Stated, Opens, statement_of, statement_of_words, statement_in, statements_from, part_after}
 use Rattle.spef_net.specs.Nets.{IsNote, IsNamed, IsResOf}
-use Rattle.vg_written.specs.Sections.{node_at, charged, conn_lines, conn_line_of, star_lines, star_line_of, has_star, cap_text, res_text, numbered, headed, inner_lines, total, IsWritable}
+use Rattle.vg_written.specs.Sections.{node_at, charged, conn_lines, conn_line_of, star_lines, star_line_of, has_star, cap_text, res_text, numbered, headed, inner_lines, IsWritable}
 use Rattle.vg_written.specs.SectionLaws.{InnerLinesSay, IsMeantBy, said_conn, said_star, said_cap, said_res, said_by, opens, opened}
-use Rattle.vg_written.specs.Texts.{spaced, noted, printed_node, conn_tag, direction_word, conn_text, star_text, IsWord, IsNodePrintable}
-use Rattle.vg_written.proofs.WordLemmas.{words_again}
+use Rattle.vg_written.specs.Texts.{spaced, printed_node, conn_tag, IsNodePrintable}
 use Rattle.vg_written.proofs.NumberLemmas.{caps_again, ress_again, cap_words, res_words}
 use Rattle.vg_written.proofs.LineLemmas.{conns_again, stars_again, conn_words, star_words}
 use Rattle.vg_written.proofs.NetLemmas.{node_printable, note_is, conns_are, charges_are, charged_few, IsConnOf, IsChargeOf}

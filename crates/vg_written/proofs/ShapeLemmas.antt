@@ -1,8 +1,8 @@
 -- The lines of a section, as a text.
-use Rattle.std.proofs.Common.{◌≡◌, ℕ, suc, ◌+◌, ◌-◌, ◌<◌, ◌≤◌, ◌^◌, ◌==◌, true, false, not, Bool, List, [], ◌∷◌, ◌++◌, map, filter, refl, sym, ap, ◌∙◌, arith, length, get_or, subst, inl, inr}
+use Rattle.std.proofs.Common.{◌≡◌, ℕ, ◌+◌, ◌-◌, ◌<◌, ◌≤◌, ◌^◌, ◌==◌, true, false, not, Bool, List, [], ◌∷◌, ◌++◌, filter, refl, ap, ◌∙◌, arith, length, get_or}
 use Rattle.std.specs.Prelude.{codes, unsigned_abs, slice_index}
 use Rattle.std.specs.Fmt.{decimal}
-use Rattle.std.specs.List.{All, AllPass, list_all}
+use Rattle.std.specs.List.{All, list_all}
 use Rattle.std.specs.Str.Lines.{lines}
 use Rattle.std.proofs.lemmas.Bool.Decides.{nat_tests}
 use Rattle.std.proofs.lemmas.List.{append_assoc, length-append, get_or-append_right}
@@ -21,14 +21,14 @@ use Rattle.spef_file.specs.declared.header.Header.{Header}
 use Rattle.spef_nodes.specs.Nodes.{ParNode}
 use Rattle.spef_net.specs.declared.net.ParConn.{ParConn}
 use Rattle.spef_net.specs.declared.net.ParNet.{ParNet}
-use Rattle.spef_net.specs.Nets.{IsNote, IsNamed, IsResOf, in_line}
+use Rattle.spef_net.specs.Nets.{IsNote, IsNamed, IsResOf}
 use Rattle.spef_net.specs.Lines.{is_space}
-use Rattle.vg_written.specs.Sections.{NO_NODE, node_at, charged, conn_lines, conn_line_of, star_lines, star_line_of, has_star, cap_text, res_text, numbered, headed, head_line, inner_lines, section_text, total, IsWritable}
+use Rattle.vg_written.specs.Sections.{NO_NODE, node_at, charged, conn_lines, conn_line_of, star_lines, star_line_of, has_star, cap_text, res_text, numbered, headed, head_line, inner_lines, total, IsWritable}
 use Rattle.vg_written.specs.SectionLaws.{SectionsAreLines, SectionsAreQuiet, HeadsNameNets}
-use Rattle.vg_written.specs.Texts.{spaced, ended, lined, noted, printed_node, conn_tag, direction_word, star_text, IsWord, IsNodePrintable, IsLineText, IsQuiet, IsQuietLine}
+use Rattle.vg_written.specs.Texts.{spaced, lined, noted, printed_node, conn_tag, direction_word, star_text, IsWord, IsNodePrintable, IsLineText, IsQuiet, IsQuietLine}
 use Rattle.vg_written.proofs.WordLemmas.{both_true, words_again, lines_again}
 use Rattle.vg_written.proofs.QuietLemmas.{quiet_both, name_quiet}
-use Rattle.vg_written.proofs.LineLemmas.{lines_are_quiet, calm_quiet, spaced_quiet, solid_word, tag_word, way_word}
+use Rattle.vg_written.proofs.LineLemmas.{lines_are_quiet, calm_quiet, spaced_quiet, solid_word, tag_word}
 use Rattle.vg_written.proofs.NumberLemmas.{IsNumber, is_numeric, all_weaker, node_word, number_word, printed_word, decimal_number, scaled_number, numbers_again}
 use Rattle.vg_written.proofs.NetLemmas.{node_printable, note_is, conns_are, charges_are, charged_few, IsConnOf, IsChargeOf}
 

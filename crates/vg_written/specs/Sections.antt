@@ -9,7 +9,7 @@ use Rattle.spef_file.specs.declared.header.Header.{Header}
 use Rattle.spef_nodes.specs.Nodes.{ParNode}
 use Rattle.spef_net.specs.declared.net.ParConn.{ParConn}
 use Rattle.spef_net.specs.declared.net.ParNet.{ParNet}
-use Rattle.vg_written.specs.Texts.{spaced, ended, lined, printed_node, conn_text, star_text}
+use Rattle.vg_written.specs.Texts.{spaced, lined, printed_node, conn_text, star_text}
 
 -- past the last node there is none
 abbrev pub NO_NODE : ParNode

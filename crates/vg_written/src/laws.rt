@@ -1,7 +1,7 @@
 //! Laws of texts that are written. Their functions do nothing: each one's contract is the law, which a proof may cite.
 
 ghost use Rattle.vg_written.specs.Splices.{CutsKeepComments, SectionsSplice};
-ghost use Rattle.vg_written.specs.SectionLaws.{HeadsNameNets, InnerLinesSay, SectionsAreLines, SectionsAreQuiet};
+ghost use Rattle.vg_written.specs.SectionLaws.{HeadsNameNets, InnerLinesSay, SaidNetsAreFaultless, SectionsAreLines, SectionsAreQuiet, WrittenNetsAgain};
 ghost use Rattle.vg_written.specs.TextLaws.{CapsAgain, ConnsAgain, LinesAgain, LinesAreQuiet, NamesAreQuiet, NodesAgain, NodesAreQuiet};
 ghost use Rattle.vg_written.specs.TextLaws.{NotesAgain, NumbersAgain, RessAgain, StarsAgain, WordsAgain};
 
@@ -110,6 +110,18 @@ pub fn sections_splice()
 /// inner nodes with notes, a capacitor to the ground at each node that has a capacitance, and its resistors.
 pub fn inner_lines_say()
     ensures { InnerLinesSay }
+{}
+
+/// No line of the section of a net that can be written has a fault.
+pub fn said_nets_are_faultless()
+    ensures { SaidNetsAreFaultless }
+{}
+
+/// Let a net be one that can be written. Whatever net the lines of its section denote is this one again, but for the
+/// numbers of nodes, nodes that nothing names, and capacitors of one node, which are one: the name, the nodes with their
+/// notes, and in order the connections, the capacitances and the resistors, by the names of their nodes.
+pub fn written_nets_again()
+    ensures { WrittenNetsAgain }
 {}
 
 /// The section of a net has the lines of which it is made, whatever text follows.

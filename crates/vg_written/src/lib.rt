@@ -12,6 +12,7 @@ mod write;
 pub use laws::{
     caps_again, conns_again, cuts_keep_comments, heads_name_nets, inner_lines_say, lines_again,
     lines_are_quiet, names_are_quiet, nodes_again, nodes_are_quiet, notes_again, numbers_again,
-    ress_again, sections_are_lines, sections_are_quiet, sections_splice, stars_again, words_again,
+    ress_again, said_nets_are_faultless, sections_are_lines, sections_are_quiet, sections_splice,
+    stars_again, words_again, written_nets_again,
 };
 pub use write::write_net;

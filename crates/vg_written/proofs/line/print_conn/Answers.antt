@@ -1,4 +1,4 @@
-use Rattle.std.proofs.Common.{◌≡◌, ◌++◌, ◌∷◌, [], ap, ◌∙◌}
+use Rattle.std.proofs.Common.{◌++◌, ◌∷◌, [], ap, ◌∙◌}
 use Rattle.vg_written.specs.Sections.{NO_NODE, node_at}
 use Rattle.vg_written.specs.Texts.{spaced, ended, noted, conn_tag, direction_word, printed_node}
 use Rattle.vg_written.proofs.PrintLemmas.{three_words, noted_after}

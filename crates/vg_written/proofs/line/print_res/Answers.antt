@@ -1,4 +1,4 @@
-use Rattle.std.proofs.Common.{◌≡◌, ◌++◌, ◌∷◌, [], ap, ◌∙◌}
+use Rattle.std.proofs.Common.{◌++◌, ◌∷◌, [], ap, ◌∙◌}
 use Rattle.std.specs.Prelude.{unsigned_abs}
 use Rattle.std.specs.Fmt.{decimal}
 use Rattle.vg_num.specs.Printed.{scaled_text}

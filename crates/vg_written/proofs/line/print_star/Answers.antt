@@ -1,4 +1,4 @@
-use Rattle.std.proofs.Common.{◌≡◌, ◌++◌, ◌∷◌, [], ap, ◌∙◌, codes, append_assoc}
+use Rattle.std.proofs.Common.{◌++◌, ◌∷◌, [], ap, ◌∙◌, codes, append_assoc}
 use Rattle.vg_written.specs.Sections.{NO_NODE, node_at}
 use Rattle.vg_written.specs.Texts.{spaced, ended, noted, printed_node}
 use Rattle.vg_written.proofs.PrintLemmas.{noted_after}

@@ -1,4 +1,4 @@
-use Rattle.std.proofs.Common.{◌≡◌, ◌+◌, ◌++◌, length, sym, ap, ◌∙◌, subst, get_or}
+use Rattle.std.proofs.Common.{◌+◌, ◌++◌, length, sym, ap, ◌∙◌, subst, get_or}
 use Rattle.std.specs.List.{All}
 use Rattle.vg_written.specs.Sections.{cap_text}
 use Rattle.vg_written.specs.Texts.{ended}

@@ -1,4 +1,4 @@
-use Rattle.std.proofs.Common.{◌<◌, ◌++◌, length, sym, ap, ◌∙◌, subst, get_or, take}
+use Rattle.std.proofs.Common.{◌<◌, length, sym, subst}
 use Rattle.std.specs.List.{All}
 use Rattle.spef_net.specs.declared.net.ConnKind.TheVariants.{Pin}
 use Rattle.spef_net.specs.declared.net.Direction.TheVariants.{In}

@@ -1,4 +1,4 @@
-use Rattle.std.proofs.Common.{◌≡◌, ◌<◌, ◌+◌, ◌++◌, length, sym, ap, ◌∙◌, get_or, arith}
+use Rattle.std.proofs.Common.{◌<◌, ◌+◌, ◌++◌, length, ap, ◌∙◌, get_or, arith}
 use Rattle.vg_written.specs.Sections.{res_text}
 use Rattle.vg_written.specs.Texts.{ended}
 use Rattle.vg_written.proofs.PrintLemmas.{numbers_more}

@@ -1,4 +1,4 @@
-use Rattle.std.proofs.Common.{◌≡◌, ◌<◌, ◌++◌, ◌∷◌, [], length, ap, ◌∙◌, arith}
+use Rattle.std.proofs.Common.{◌<◌, ◌++◌, ◌∷◌, [], length, ap, ◌∙◌, arith}
 use Rattle.vg_written.specs.Sections.{NO_NODE, node_at, star_lines}
 use Rattle.vg_written.specs.Texts.{lined}
 use Rattle.vg_written.proofs.PrintLemmas.{stars_more}

@@ -1,4 +1,4 @@
-use Rattle.std.proofs.Common.{◌≡◌, ℕ, List, ◌++◌, ◌∷◌, [], ap, ◌∙◌, codes}
+use Rattle.std.proofs.Common.{ℕ, List, ◌++◌, ap, ◌∙◌, codes}
 use Rattle.vg_written.specs.Sections.{head_line, conn_lines, star_lines, headed, numbered, cap_text, res_text, charged}
 use Rattle.vg_written.specs.Texts.{ended, lined}
 use Rattle.vg_written.proofs.PrintLemmas.{parts_printed, section_lined}
