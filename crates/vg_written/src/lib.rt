@@ -1,7 +1,6 @@
-//! Texts of lines and words that are read again as they were written: the names of nodes, values, notes, the lines of
-//! capacitors, resistors and connections; and a text of which a section is replaced.
-//!
-//! A theory alone: what writes parasitics is to stand on it.
+//! The sections of nets, as they are written, and what of it is read again: words and lines, the names of nodes, values,
+//! notes, the lines of capacitors, resistors and connections, and a net as a whole; and a text of which a section is
+//! replaced.
 #![tactic(auto)]
 
 mod charge;
@@ -9,6 +8,7 @@ mod laws;
 mod line;
 mod write;
 
+pub use charge::has_small_charge;
 pub use laws::{
     caps_again, conns_again, cuts_keep_comments, heads_name_nets, inner_lines_say, lines_again,
     lines_are_quiet, names_are_quiet, nodes_again, nodes_are_quiet, notes_again, numbers_again,
