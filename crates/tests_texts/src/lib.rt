@@ -20,6 +20,8 @@ mod num;
 #[cfg(test)]
 mod scan;
 #[cfg(test)]
+mod sections;
+#[cfg(test)]
 mod store;
 #[cfg(test)]
 mod texts;

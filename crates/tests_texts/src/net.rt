@@ -10,7 +10,7 @@ use std::test::Fail;
 use vg_num::NumFault;
 
 /// Seventeen lines: a net begins at line 18, and its first line is line 19.
-const HEADER: &str = "*SPEF \"IEEE 1481\"
+pub(crate) const HEADER: &str = "*SPEF \"IEEE 1481\"
 *DESIGN \"top\"
 *DATE \"now\"
 *VENDOR \"v\"
@@ -34,7 +34,11 @@ const FORM: NetKind = NetKind::Number(NumFault::Form);
 const NEGATIVE: NetKind = NetKind::Number(NumFault::Negative);
 
 /// The net at a place of a file.
-fn read(alloc: Global, text: &str, at: usize) -> Result<Result<ParNet, NetFault>, Fail> {
+pub(crate) fn read(
+    alloc: Global,
+    text: &str,
+    at: usize,
+) -> Result<Result<ParNet, NetFault>, Fail> {
     let text = text_of(alloc, text)?;
     let index = index(alloc, &text)?;
     if at >= index.sections.len() {
