@@ -26,16 +26,20 @@ pub record IsMeantBy (header : Header) (file : File) : Type 0 where
   pub c_places : file.c_places ≡ pos (unsigned_abs header.c_places)
   pub r_places : file.r_places ≡ pos (unsigned_abs header.r_places)
 
--- what the lines of a section say: a connection, an inner node with its note, a capacitor to the ground, and a resistor
+-- what the line of a connection says
 abbrev pub said_conn : List ParNode → ParConn → Stated
-said_conn nodes conn = Ok (Connects conn.kind conn.direction (node_at nodes conn.node).name (node_at nodes conn.node).note)
+said_conn nodes conn =
+    Ok (Connects conn.kind conn.direction (node_at nodes conn.node).name (node_at nodes conn.node).note)
 
+-- that of an inner node with its note
 abbrev pub said_star : ParNode → Stated
 said_star node = Ok (Star node.name node.note)
 
+-- that of a capacitor to the ground
 abbrev pub said_cap : List ParNode → ℕ × ℕ → Stated
 said_cap nodes cap = Ok (Ground (node_at nodes cap.0).name (Ok cap.1))
 
+-- and that of a resistor
 abbrev pub said_res : List ParNode → ℕ × ℕ × ℕ → Stated
 said_res nodes res = Ok (Resistor (node_at nodes res.0).name (node_at nodes res.1).name (Ok res.2))
 
@@ -51,9 +55,13 @@ opened head (said ∷ more) = opens head ∷ said ∷ more
 -- what the lines of a net's section say
 abbrev pub said_by : ParNet → List Stated
 said_by net =
-    opens (codes "*CONN") ∷ (map (said_conn net.nodes) net.conns ++ (map said_star (filter has_star net.nodes)
-    ++ (opened (codes "*CAP") (map (said_cap net.nodes) (charged net)) ++ opened (codes "*RES") (map (said_res net.nodes) net.ress))))
+    opens (codes "*CONN")
+    ∷ (map (said_conn net.nodes) net.conns
+    ++ (map said_star (filter has_star net.nodes)
+    ++ (opened (codes "*CAP") (map (said_cap net.nodes) (charged net))
+    ++ opened (codes "*RES") (map (said_res net.nodes) net.ress))))
 
+-- the lines of a section say this, in a file that its header means
 abbrev pub InnerLinesSay : Type 0
 InnerLinesSay = (file : File) (header : Header) (net : ParNet) → IsMeantBy header file → IsWritable net
     → statements file (inner_lines header net) ≡ said_by net
@@ -101,9 +109,12 @@ SectionsAreQuiet = (header : Header) (net : ParNet) → IsWritable net → All (
 
 -- the first line of a section names the net
 pub record IsHeadOf (header : Header) (net : ParNet) : Type 0 where
-  pub says : words (head_line header net) ≡ codes "*D_NET" ∷ printed header.chars net.name ∷ scaled_text (total net.caps) (unsigned_abs header.c_places) ∷ []
+  pub says :
+      words (head_line header net)
+      ≡ codes "*D_NET" ∷ printed header.chars net.name ∷ scaled_text (total net.caps) (unsigned_abs header.c_places) ∷ []
   pub named : canonical header.chars (printed header.chars net.name) ≡ Some net.name
   pub plain : is_reference (printed header.chars net.name) ≡ false
 
+-- so it is of each net that can be written
 abbrev pub HeadsNameNets : Type 0
 HeadsNameNets = (header : Header) (net : ParNet) → IsWritable net → IsHeadOf header net

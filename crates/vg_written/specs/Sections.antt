@@ -15,13 +15,15 @@ use Rattle.vg_written.specs.Texts.{spaced, lined, printed_node, conn_text, star_
 abbrev pub NO_NODE : ParNode
 NO_NODE = record { name = record { owner = []; leaf = [] }; inner = false; note = [] }
 
+-- the node of a number
 abbrev pub node_at : List ParNode → ℕ → ParNode
 node_at nodes k = slice_index_or nodes k NO_NODE
 
--- the values of all capacitors, and of those at a node, together
+-- the values of all capacitors together
 abbrev pub total : List (ℕ × ℕ) → ℕ
 total caps = sum_by (λ cap. cap.1) caps
 
+-- and of those at a node
 abbrev pub total_at : List (ℕ × ℕ) → ℕ → ℕ
 total_at caps k = total (filter (λ cap. cap.0 == k) caps)
 
@@ -62,7 +64,8 @@ headed head (line ∷ lines) = head ∷ line ∷ lines
 
 -- the line of a connection
 abbrev pub conn_line_of : Chars → List ParNode → ParConn → List ℕ
-conn_line_of chars nodes conn = conn_text chars conn.kind conn.direction (node_at nodes conn.node).name (node_at nodes conn.node).note
+conn_line_of chars nodes conn =
+    conn_text chars conn.kind conn.direction (node_at nodes conn.node).name (node_at nodes conn.node).note
 
 -- the lines of the connections
 abbrev pub conn_lines : Chars → List ParNode → List ParConn → List (List ℕ)
@@ -72,6 +75,7 @@ conn_lines chars nodes conns = map (conn_line_of chars nodes) conns
 abbrev pub has_star : ParNode → Bool
 has_star node = node.inner && not (length node.note == 0)
 
+-- its line
 abbrev pub star_line_of : Chars → ParNode → List ℕ
 star_line_of chars node = star_text chars node.name node.note
 
@@ -79,16 +83,25 @@ star_line_of chars node = star_text chars node.name node.note
 abbrev pub star_lines : Chars → List ParNode → List (List ℕ)
 star_lines chars nodes = map (star_line_of chars) (filter has_star nodes)
 
+-- the part of the capacitances
+abbrev pub cap_lines : Header → List ParNode → List (ℕ × ℕ) → List (List ℕ)
+cap_lines header nodes caps = headed (codes "*CAP") (numbered (cap_text header nodes) 1 caps)
+
+-- the part of the resistors
+abbrev pub res_lines : Header → List ParNode → List (ℕ × ℕ × ℕ) → List (List ℕ)
+res_lines header nodes ress = headed (codes "*RES") (numbered (res_text header nodes) 1 ress)
+
 -- the lines between a section's first one and its end
 abbrev pub inner_lines : Header → ParNet → List (List ℕ)
 inner_lines header net =
-    codes "*CONN" ∷ (conn_lines header.chars net.nodes net.conns ++ (star_lines header.chars net.nodes
-    ++ (headed (codes "*CAP") (numbered (cap_text header net.nodes) 1 (charged net))
-    ++ headed (codes "*RES") (numbered (res_text header net.nodes) 1 net.ress))))
+    codes "*CONN"
+    ∷ (conn_lines header.chars net.nodes net.conns
+    ++ (star_lines header.chars net.nodes ++ (cap_lines header net.nodes (charged net) ++ res_lines header net.nodes net.ress)))
 
 -- the first line of a section
 abbrev pub head_line : Header → ParNet → List ℕ
-head_line header net = spaced (codes "*D_NET" ∷ printed header.chars net.name ∷ scaled_text (total net.caps) (unsigned_abs header.c_places) ∷ [])
+head_line header net =
+    spaced (codes "*D_NET" ∷ printed header.chars net.name ∷ scaled_text (total net.caps) (unsigned_abs header.c_places) ∷ [])
 
 -- the section, without a newline behind its end
 abbrev pub section_text : Header → ParNet → List ℕ

@@ -1,7 +1,8 @@
 //! Laws of texts that are written. Their functions do nothing: each one's contract is the law, which a proof may cite.
 
 ghost use Rattle.vg_written.specs.Splices.{CutsKeepComments, SectionsSplice};
-ghost use Rattle.vg_written.specs.SectionLaws.{HeadsNameNets, InnerLinesSay, SaidNetsAreFaultless, SectionsAreLines, SectionsAreQuiet, WrittenNetsAgain};
+ghost use Rattle.vg_written.specs.SectionLaws.{HeadsNameNets, InnerLinesSay, SaidNetsAreFaultless};
+ghost use Rattle.vg_written.specs.SectionLaws.{SectionsAreLines, SectionsAreQuiet, WrittenNetsAgain};
 ghost use Rattle.vg_written.specs.TextLaws.{CapsAgain, ConnsAgain, LinesAgain, LinesAreQuiet, NamesAreQuiet, NodesAgain, NodesAreQuiet};
 ghost use Rattle.vg_written.specs.TextLaws.{NotesAgain, NumbersAgain, RessAgain, StarsAgain, WordsAgain};
 

@@ -1,7 +1,8 @@
 //! Sections of nets, as they are written.
 
-ghost use Rattle.std.specs.Prelude.{◌≡◌, ◌++◌, ◌∷◌, [], ◌<◌, ◌≤◌, ◌^◌, false, length, codes, IfOk, OnOk, OnErr};
-ghost use Rattle.vg_written.specs.Sections.{cap_text, charged, conn_lines, headed, node_at, numbered, res_text, section_text, star_lines, total};
+ghost use Rattle.std.specs.Prelude.{◌≡◌, ◌++◌, ◌∷◌, [], ◌<◌, ◌≤◌, ◌^◌, false, length, IfOk, OnOk, OnErr};
+ghost use Rattle.vg_written.specs.Sections.{cap_lines, cap_text, charged, conn_lines, node_at, numbered, res_lines, res_text};
+ghost use Rattle.vg_written.specs.Sections.{section_text, star_lines, total};
 ghost use Rattle.vg_written.specs.Texts.{lined};
 
 use crate::charge::{charge_of, charged};
@@ -68,7 +69,7 @@ fn print_caps(
     to: &mut Vec<u8>,
 ) -> Result<(), Memory>
     requires { rows.now ≡ charged net.now }
-    ensures { OnOk result (to.new.items ≡ to.old.items ++ lined (headed (codes "*CAP") (numbered (cap_text header.now net.now.nodes) 1 rows.now))) }
+    ensures { OnOk result (to.new.items ≡ to.old.items ++ lined (cap_lines header.now net.now.nodes rows.now)) }
 {
     if rows.is_empty() {
         return Ok(());
@@ -91,7 +92,7 @@ fn print_res_lines(net: &ParNet, header: &Header, to: &mut Vec<u8>) -> Result<()
 
 /// Prints the part of the resistors, if there is one.
 fn print_ress(net: &ParNet, header: &Header, to: &mut Vec<u8>) -> Result<(), Memory>
-    ensures { OnOk result (to.new.items ≡ to.old.items ++ lined (headed (codes "*RES") (numbered (res_text header.now net.now.nodes) 1 net.now.ress))) }
+    ensures { OnOk result (to.new.items ≡ to.old.items ++ lined (res_lines header.now net.now.nodes net.now.ress)) }
 {
     if net.ress.is_empty() {
         return Ok(());
