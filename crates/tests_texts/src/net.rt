@@ -34,11 +34,7 @@ const FORM: NetKind = NetKind::Number(NumFault::Form);
 const NEGATIVE: NetKind = NetKind::Number(NumFault::Negative);
 
 /// The net at a place of a file.
-pub(crate) fn read(
-    alloc: Global,
-    text: &str,
-    at: usize,
-) -> Result<Result<ParNet, NetFault>, Fail> {
+pub(crate) fn read(alloc: Global, text: &str, at: usize) -> Result<Result<ParNet, NetFault>, Fail> {
     let text = text_of(alloc, text)?;
     let index = index(alloc, &text)?;
     if at >= index.sections.len() {

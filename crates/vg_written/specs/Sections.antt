@@ -47,7 +47,10 @@ numbered line n (x ∷ xs) = line n x ∷ numbered line (n + 1) xs
 -- the line of a capacitor to the ground
 abbrev pub cap_text : Header → List ParNode → ℕ → ℕ × ℕ → List ℕ
 cap_text header nodes id cap =
-    spaced (decimal id ∷ printed_node header.chars (node_at nodes cap.0).name ∷ scaled_text cap.1 (unsigned_abs header.c_places) ∷ [])
+    spaced (
+    decimal id ∷ printed_node header.chars (node_at nodes cap.0).name
+    ∷ scaled_text cap.1 (unsigned_abs header.c_places) ∷ []
+    )
 
 -- the line of a resistor
 abbrev pub res_text : Header → List ParNode → ℕ → ℕ × ℕ × ℕ → List ℕ
