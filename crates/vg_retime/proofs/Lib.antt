@@ -1,0 +1,15 @@
+pub mod SignalListLemmas
+pub mod ReachedLemmas
+pub mod LeastLemmas
+pub mod SizeLemmas
+pub mod RiseLemmas
+pub mod TurnLemmas
+pub mod RefusalLemmas
+pub mod PassageLemmas
+pub mod WalkNetLemmas
+pub mod ClimbLemmas
+pub mod DownLemmas
+pub mod SlackLemmas
+pub mod WayLemmas
+pub mod RangeLemmas
+pub mod SignalLemmas

@@ -1,0 +1,128 @@
+//! The way down from the first net.
+
+ghost use Rattle.std.specs.Prelude.{◌≡◌, ◌<◌, ◌≤◌, ◌+◌, ◌^◌, ℕ, List, length, IfOk, IfErr, OnOk};
+ghost use Rattle.vg_retime.specs.Stops.{IsRefusedDown};
+ghost use Rattle.vg_retime.specs.Ways.{wrong_in};
+ghost use Rattle.vg_retime.specs.Steps.{IsFirstWithin, IsSizedNet, IsSizedSignal, IsUnderWay, IsVisited, first_of, signal_of};
+
+use crate::climb::First;
+use crate::come::Come;
+use crate::signals::{Signal, lates, least_in, pass_on, wrong_in};
+use crate::walk_net::{WalkNet, walk_net};
+use std::alloc::Global;
+use vg_design::Design;
+use vg_num::Memory;
+use vg_scan::NodeName;
+use vg_wire::{Refusal, Refused};
+
+/// A walk on its way down.
+#[derive(Drop)]
+pub(crate) struct Walk {
+    pub first: First,
+    /// For each net of the netlist whether it has come.
+    pub come: Come,
+    /// The signals so far, breadth first.
+    pub signals: Vec<Signal>,
+    /// The least time that is left at a sink so far, counted from when the first driver gives the signal on (zs).
+    pub least: Option<i128>,
+    /// The first sink of the wrong polarity so far.
+    pub wrong: Option<NodeName>,
+}
+
+/// The walk at the first net. Answers `Memory` where there is no room.
+fn begin(alloc: Global, design: &Design, first: First) -> Result<Walk, Memory>
+    requires { IsFirstWithin (length design.now.netlist.nets) first }
+    ensures walk { IfOk result (λ walk. (prefix : List ℕ) → IsUnderWay design.now prefix 0 walk) }
+    ensures first { IfOk result (λ walk. walk.first ≡ first) }
+{
+    let come = Come::none(alloc, design)?;
+    let mut signals = Vec::new(alloc);
+    signals.push(Signal {
+        net: first.net,
+        r: first.driver.r,
+        late: 0,
+        inverters: 0,
+    })?;
+    Ok(Walk {
+        first,
+        come,
+        signals,
+        least: None,
+        wrong: None,
+    })
+}
+
+/// Notes the first sink of the wrong polarity in a net, where none was noted before. Answers `Memory` where there is no room.
+fn note_wrong(
+    alloc: Global,
+    net: &WalkNet,
+    signal: &Signal,
+    wrong: &mut Option<NodeName>,
+) -> Result<(), Memory>
+    requires { length net.now.names ≡ length net.now.ends }
+    ensures { OnOk result (wrong.new ≡ first_of wrong.old (wrong_in net.now (signal_of signal.now))) }
+{
+    if wrong.is_none() {
+        *wrong = wrong_in(alloc, net, signal)?;
+    }
+    Ok(())
+}
+
+/// Meets the sinks of a net to which a signal comes, and passes it on. Answers `Memory` where there is no room.
+fn visit(alloc: Global, net: &WalkNet, signal: &Signal, walk: &mut Walk) -> Result<(), Memory>
+    requires net { IsSizedNet (2 ^ 32) net.now }
+    requires signal { IsSizedSignal (2 ^ 32) (2 ^ 32) (signal_of signal.now) }
+    ensures { OnOk result (IsVisited net.now (signal_of signal.now) walk.old walk.new) }
+{
+    let lates = lates(alloc, net, signal)?;
+    walk.least = least_in(net, &lates, walk.least);
+    note_wrong(alloc, net, signal, &mut walk.wrong)?;
+    pass_on(net, signal, &lates, &mut walk.signals)?;
+    Ok(())
+}
+
+/// Passes on the signal of this number, or tells the first reason against its net: it came before, or is refused. Answers
+/// `Memory` where there is no room.
+fn turn(
+    alloc: Global,
+    design: &Design,
+    prefix: &[u8],
+    at: usize,
+    walk: &mut Walk,
+) -> Result<(), Refused>
+    requires walk { IsUnderWay design.now prefix.now at walk.old }
+    requires at { at < length walk.old.signals.items }
+    ensures walk { OnOk result (IsUnderWay design.now prefix.now (at + 1) walk.new) }
+    ensures first { OnOk result (walk.new.first ≡ walk.old.first) }
+    ensures refused { IfErr result (IsRefusedDown design.now prefix.now walk.old.first) }
+{
+    design.netlist().is_sound();
+    let signal = walk.signals[at];
+    if !walk.come.note(signal.net) {
+        return Err(Refused::Net(Refusal::Loop));
+    }
+    let net = walk_net(alloc, design, prefix, signal.net)?;
+    visit(alloc, &net, &signal, walk)?;
+    Ok(())
+}
+
+/// The walk down from the first net, or the first reason against a net on it. Answers `Memory` where there is no room.
+pub(crate) fn go_down(
+    alloc: Global,
+    design: &Design,
+    prefix: &[u8],
+    first: First,
+) -> Result<Walk, Refused>
+    requires { IsFirstWithin (length design.now.netlist.nets) first }
+    ensures walk { IfOk result (λ walk. IsUnderWay design.now prefix.now (length walk.signals.items) walk) }
+    ensures first { IfOk result (λ walk. walk.first ≡ first) }
+    ensures refused { IfErr result (IsRefusedDown design.now prefix.now first) }
+{
+    let mut walk = begin(alloc, design, first)?;
+    let mut at = 0;
+    'signal: while at < walk.signals.len() {
+        turn(alloc, design, prefix, at, &mut walk)?;
+        at += 1;
+    }
+    Ok(walk)
+}

@@ -1,0 +1,14 @@
+//! A net timed through the cells that were put in: those instances whose names begin with a prefix and whose cells are repeaters.
+//!
+//! Resistances are whole milliohms (mΩ), capacitances whole attofarads (aF), times whole zeptoseconds (zs).
+#![tactic(auto)]
+
+mod climb;
+mod come;
+mod down;
+mod passages;
+mod retiming;
+mod signals;
+mod walk_net;
+
+pub use retiming::retime;
