@@ -1,0 +1,6 @@
+pub mod ShapeLemmas
+pub mod StandLemmas
+pub mod PinLemmas
+pub mod FrameLemmas
+pub mod HeadLemmas
+pub mod LawLemmas

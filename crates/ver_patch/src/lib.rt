@@ -1,0 +1,9 @@
+//! A netlist with connections made anew, new wires and new instances (IEEE Std 1364-2005), all other bytes kept.
+#![tactic(auto)]
+
+mod laws;
+mod patch;
+mod print;
+
+pub use laws::spans_rise;
+pub use patch::{NewCell, Rewire};
