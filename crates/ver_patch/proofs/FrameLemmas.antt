@@ -41,7 +41,8 @@ unfolding rows_from
 rows_kinds text [] place = refl
 rows_kinds text (t ∷ ts) place = ap (λ ks. kind_in text t ∷ ks) (rows_kinds text ts (place_after place (kind_in text t)))
 
-follow_front : (front : List Row) (last : Row) (place : Place) → Follow place (front ++ last ∷ []) → Follow place front × (last.place ≡ place_after_all place (kinds_in front))
+follow_front : (front : List Row) (last : Row) (place : Place) → Follow place (front ++ last ∷ [])
+    → Follow place front × (last.place ≡ place_after_all place (kinds_in front))
 follow_front [] last place h = (tt, h.0)
 follow_front (r ∷ rows) last place h = let (f, e) = follow_front rows last (place_after place r.kind) h.1 in ((h.0, f), e)
 

@@ -94,7 +94,8 @@ has_head (r ∷ rows) place from to own follow h =
     here : IsOfHead r.place
     here = subst IsOfHead (sym follow.0) own
 
-    mark_is : (b : Bool) → is Semicolon r.kind ≡ b → unwrap_or (option_map (λ (q : Row). q.to) (cond b (Some r) (find (λ q. is Semicolon q.kind) rows))) 0 ≡ mark_end (r ∷ rows)
+    mark_is : (b : Bool) → is Semicolon r.kind ≡ b
+        → unwrap_or (option_map (λ (q : Row). q.to) (cond b (Some r) (find (λ q. is Semicolon q.kind) rows))) 0 ≡ mark_end (r ∷ rows)
     mark_is b e = sym (ap (λ o. unwrap_or (option_map (λ (q : Row). q.to) o) 0) (find_by (λ q. is Semicolon q.kind) r rows b e))
 
     ended : is Semicolon r.kind ≡ true → HasHead to (r ∷ rows)
@@ -106,7 +107,8 @@ has_head (r ∷ rows) place from to own follow h =
           items =
               items_more r rows (mark_end (r ∷ rows)) to here
               (subst (λ n. Chain SectionStands n to (sections (stands_in Start) rows)) (mark_is true e)
-              (chain_from SectionStands sections_fall (sections (stands_in Start) rows) r.to k.mid to (stand_within (before_first (stands_in Start) rows) r.to k.mid k.front) k.rest));
+              (chain_from SectionStands sections_fall (sections (stands_in Start) rows) r.to k.mid to
+              (stand_within (before_first (stands_in Start) rows) r.to k.mid k.front) k.rest));
         }
 
     going : is Semicolon r.kind ≡ false → HasHead to rows → HasHead to (r ∷ rows)
@@ -127,7 +129,8 @@ find_front : (test : Row → Bool) (rows : List Row) (last : Row) → test last 
 find_front test [] last fails = find_by test last [] false fails
 find_front test (r ∷ rows) last fails = ap (λ o. cond (test r) (Some r) o) (find_front test rows last fails)
 
-find_last : (rows : List Row) (last : Row) → has_end (kinds_in rows) ≡ false → is EndModule last.kind ≡ true → find (λ r. is EndModule r.kind) (rows ++ last ∷ []) ≡ Some last
+find_last : (rows : List Row) (last : Row) → has_end (kinds_in rows) ≡ false → is EndModule last.kind ≡ true
+    → find (λ r. is EndModule r.kind) (rows ++ last ∷ []) ≡ Some last
 find_last [] last none passes = find_by (λ r. is EndModule r.kind) last [] true passes
 find_last (r ∷ rows) last none passes = by_test (is EndModule r.kind) refl none (λ f. find_last rows last f passes)
   where
@@ -202,7 +205,8 @@ head_end_is : (text : List ℕ) (first : Row) (more : List Row) (last : Row) →
 head_end_is text first more last rows is_module is_end =
     ap mark_end rows
     ∙ ap (λ o. unwrap_or (option_map (λ (r : Row). r.to) o) 0)
-    (find_by (λ r. is Semicolon r.kind) first (more ++ last ∷ []) false (ap (is Semicolon) is_module) ∙ find_front (λ r. is Semicolon r.kind) more last (ap (is Semicolon) is_end))
+    (find_by (λ r. is Semicolon r.kind) first (more ++ last ∷ []) false (ap (is Semicolon) is_module)
+    ∙ find_front (λ r. is Semicolon r.kind) more last (ap (is Semicolon) is_end))
 
 end_at_is : (text : List ℕ) (first : Row) (more : List Row) (last : Row) → rows_of text ≡ first ∷ (more ++ last ∷ []) → first.kind ≡ Module → last.kind ≡ EndModule
     → has_end (kinds_in more) ≡ false → end_at text ≡ last.from
@@ -218,10 +222,12 @@ connections_stand text f =
     let starts : stands_in Start f.first ≡ true = ap (is_place Start) f.begins in
     let ends : stands_in Start f.last ≡ true = ap (is_place Start) f.at_start in
     let end = end_at_is text f.first f.more f.last f.is f.is_module f.is_end f.no_end in
+    let behind = head_end_is text f.first f.more f.last f.is f.is_module f.is_end in
+    let all = instances_between text f.first f.more f.last f.is starts ends head.none in
     record {
       instances =
-          subst (Chain InstanceStands (head_end text) (end_at text)) (sym (instances_between text f.first f.more f.last f.is starts ends head.none))
-          (subst (λ n. Chain InstanceStands n (end_at text) (flat_map (instances_by text) (sections (stands_in Start) f.more))) (sym (head_end_is text f.first f.more f.last f.is f.is_module f.is_end))
+          subst (Chain InstanceStands (head_end text) (end_at text)) (sym all)
+          (subst (λ n. Chain InstanceStands n (end_at text) (flat_map (instances_by text) (sections (stands_in Start) f.more))) (sym behind)
           (subst (λ n. Chain InstanceStands (mark_end f.more) n (flat_map (instances_by text) (sections (stands_in Start) f.more))) (sym end)
           (items_stand text (sections (stands_in Start) f.more) (mark_end f.more) f.last.from head.items)));
       within = omega (arith, end, high);

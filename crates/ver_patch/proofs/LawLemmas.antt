@@ -71,7 +71,8 @@ spans_stand order law text netlist at d (net, l) =
 one_instance : (netlist : Netlist) (a b : PinRef) (m n from to : ℕ) (l : HasLink netlist a (One m)) (k : HasLink netlist b (One n))
     → IsInside InstanceStands from to l.instance → l.instance ≡ k.instance → a.pin < b.pin → (span_at netlist a).to ≤ (span_at netlist b).from
 one_instance netlist a b m n from to l k h same less =
-    let two = chain_two PinStands l.instance.pins a.pin b.pin l.pin k.pin h.start h.end h.holds less l.is_pin (ap (λ (i : Instance). slice_get i.pins b.pin) same ∙ k.is_pin) in
+    let is_second = ap (λ (i : Instance). slice_get i.pins b.pin) same ∙ k.is_pin in
+    let two = chain_two PinStands l.instance.pins a.pin b.pin l.pin k.pin h.start h.end h.holds less l.is_pin is_second in
     let x = pin_inside netlist a m h.start two.mid l two.first in
     let y = pin_inside netlist b n two.mid h.end k two.second in
     omega (arith, x.before, y.behind)
@@ -79,7 +80,9 @@ one_instance netlist a b m n from to l k h same less =
 pub spans_rise : StandInOrder → ItemsStandAtStart → SpansRise
 spans_rise order law text netlist a b d (m, l) (n, k) (inl less) =
     let all = all_stand order law text netlist d in
-    let two = chain_two InstanceStands netlist.instances a.instance b.instance l.instance k.instance netlist.head_end netlist.end_at all.instances less l.is_instance k.is_instance in
+    let two =
+    chain_two InstanceStands netlist.instances a.instance b.instance l.instance k.instance netlist.head_end netlist.end_at
+    all.instances less l.is_instance k.is_instance in
     let x = instance_inside netlist a m netlist.head_end two.mid l two.first in
     let y = instance_inside netlist b n two.mid netlist.end_at k two.second in
     omega (arith, x.before, y.behind)

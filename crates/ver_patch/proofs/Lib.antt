@@ -4,3 +4,5 @@ pub mod PinLemmas
 pub mod FrameLemmas
 pub mod HeadLemmas
 pub mod LawLemmas
+pub mod OrderLemmas
+pub mod RiseLemmas

@@ -22,7 +22,7 @@ InstanceStands from to instance = Chain PinStands from to instance.pins
 pins_fall : Falls PinStands
 pins_fall pin before from to low h net e = let s = h net e in record { behind = omega (arith, low, s.behind); some = s.some; before = s.before }
 
-pub instances_fall : Falls InstanceStands
+instances_fall : Falls InstanceStands
 instances_fall instance before from to low h = chain_from PinStands pins_fall instance.pins before from to low h
 
 -- ---- spans
@@ -32,7 +32,8 @@ end_stands [] from to h = (omega arith, h)
 end_stands (r ∷ []) from to h = (omega arith, omega (arith, h.0, h.1, h.2))
 end_stands (r ∷ q ∷ rows) from to h = let (low, high) = end_stands (q ∷ rows) r.to to h.2 in (omega (arith, h.0, h.1, low), high)
 
-span_stands : (text : List ℕ) (rows : List Row) (from to net : ℕ) → Stand from to rows → link_of text (expression_in rows) ≡ One net → StandsBetween from to (span_of rows)
+span_stands : (text : List ℕ) (rows : List Row) (from to net : ℕ) → Stand from to rows → link_of text (expression_in rows) ≡ One net
+    → StandsBetween from to (span_of rows)
 span_stands text [] from to net h e = absurd (cc)
 span_stands text (r ∷ []) from to net h e = absurd (cc)
 span_stands text (r ∷ q ∷ rows) from to net h e =
@@ -58,5 +59,6 @@ item_stands text item from to h =
     (sections_stand (is_name_in Instances) item.body from to (stand_rest item.head item.body from to h))
 
 -- the connections in items
-pub items_stand : (text : List ℕ) (items : List Section) (from to : ℕ) → Chain SectionStands from to items → Chain InstanceStands from to (flat_map (instances_by text) items)
+pub items_stand : (text : List ℕ) (items : List Section) (from to : ℕ) → Chain SectionStands from to items
+    → Chain InstanceStands from to (flat_map (instances_by text) items)
 items_stand text items from to h = chain_flat SectionStands InstanceStands instances_fall (instances_by text) (item_stands text) items from to h

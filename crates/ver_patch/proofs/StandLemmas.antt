@@ -17,7 +17,7 @@ pub stand_within : (rows : List Row) (from to : ℕ) → Stand from to rows → 
 stand_within [] from to h = h
 stand_within (r ∷ rows) from to h = let more = stand_within rows r.to to h.2 in omega (arith, h.0, h.1, more)
 
-pub stand_from : (rows : List Row) (before from to : ℕ) → before ≤ from → Stand from to rows → Stand before to rows
+stand_from : (rows : List Row) (before from to : ℕ) → before ≤ from → Stand from to rows → Stand before to rows
 stand_from [] before from to low h = omega (arith, low, h)
 stand_from (r ∷ rows) before from to low h = (omega (arith, low, h.0), h.1, h.2)
 
@@ -58,7 +58,8 @@ pub chain_from : {X : Type 0} (P : ℕ → ℕ → X → Type 0) → Falls P →
 chain_from P falls [] before from to low h = omega (arith, low, h)
 chain_from P falls (x ∷ xs) before from to low (mid, up, here, rest) = (mid, omega (arith, low, up), falls x before from mid low here, rest)
 
-pub chain_append : {X : Type 0} (P : ℕ → ℕ → X → Type 0) → Falls P → (xs ys : List X) (from mid to : ℕ) → Chain P from mid xs → Chain P mid to ys → Chain P from to (xs ++ ys)
+chain_append : {X : Type 0} (P : ℕ → ℕ → X → Type 0) → Falls P → (xs ys : List X) (from mid to : ℕ) → Chain P from mid xs → Chain P mid to ys
+    → Chain P from to (xs ++ ys)
 chain_append P falls [] ys from mid to h k = chain_from P falls ys from mid to h k
 chain_append P falls (x ∷ xs) ys from mid to (next, up, here, rest) k = (next, up, here, chain_append P falls xs ys next mid to rest k)
 
@@ -83,10 +84,11 @@ pub record IsInside {X : Type 0} (P : ℕ → ℕ → X → Type 0) (from to : �
   pub before : end ≤ to
   pub holds : P start end x
 
-pub inside_from : {X : Type 0} (P : ℕ → ℕ → X → Type 0) (x : X) (before from to : ℕ) → before ≤ from → IsInside P from to x → IsInside P before to x
+inside_from : {X : Type 0} (P : ℕ → ℕ → X → Type 0) (x : X) (before from to : ℕ) → before ≤ from → IsInside P from to x → IsInside P before to x
 inside_from P x before from to low h = record { start = h.start; end = h.end; behind = omega (arith, low, h.behind); before = h.before; holds = h.holds }
 
-pub chain_at : {X : Type 0} (P : ℕ → ℕ → X → Type 0) (xs : List X) (i : ℕ) (x : X) (from to : ℕ) → Chain P from to xs → slice_get xs i ≡ Some x → IsInside P from to x
+pub chain_at : {X : Type 0} (P : ℕ → ℕ → X → Type 0) (xs : List X) (i : ℕ) (x : X) (from to : ℕ) → Chain P from to xs → slice_get xs i ≡ Some x
+    → IsInside P from to x
 chain_at P [] i x from to h e = absurd (none-some x e)
 chain_at P (y ∷ ys) zero x from to (mid, up, here, rest) e = record {
   start = from;
@@ -150,7 +152,11 @@ pub record AreCut (begins : Row → Bool) (from to : ℕ) (rows : List Row) : Ty
   pub rest : Chain SectionStands mid to (sections begins rows)
 
 pub cut : (begins : Row → Bool) (rows : List Row) (from to : ℕ) → Stand from to rows → AreCut begins from to rows
-cut begins [] from to h = record { mid = to; front = h; rest = subst (Chain SectionStands to to) (sym (no_sections begins)) (let low : to ≤ to = omega arith in low) }
+cut begins [] from to h = record {
+  mid = to;
+  front = h;
+  rest = subst (Chain SectionStands to to) (sym (no_sections begins)) (let low : to ≤ to = omega arith in low);
+}
 cut begins (r ∷ rows) from to h = by_test (begins r) refl (cut begins rows r.to to h.2)
   where
     by_test : (b : Bool) → begins r ≡ b → AreCut begins r.to to rows → AreCut begins from to (r ∷ rows)

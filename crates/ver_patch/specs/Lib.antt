@@ -1,3 +1,5 @@
 pub mod Texts
 pub mod Pins
+pub mod Patches
 pub mod Laws
+pub mod Orders

@@ -2,8 +2,9 @@
 #![tactic(auto)]
 
 mod laws;
-mod patch;
+mod order;
 mod print;
+mod text;
 
 pub use laws::spans_rise;
-pub use patch::{NewCell, Rewire};
+pub use text::{NewCell, Rewire, patch};

@@ -1,10 +1,9 @@
 //! New wires and new instances, printed.
 
-ghost use Rattle.std.specs.Prelude.{◌≡◌, ◌++◌, length, take, OnErr, OnOk};
-ghost use Rattle.std.specs.List.{flat_map};
+ghost use Rattle.std.specs.Prelude.{◌≡◌, ◌++◌, OnOk};
 ghost use Rattle.ver_patch.specs.Texts.{cell_text, cell_texts, pin_text, wire_text, wire_texts};
 
-use crate::patch::NewCell;
+use crate::text::NewCell;
 use ver_text::print_name;
 use vg_num::Memory;
 use vg_scan::Name;
