@@ -1,244 +1,360 @@
--- The last node that has not come in comes in to its parent.
-use Rattle.std.proofs.Common.{◌≡◌, ℕ, ◌+◌, ◌<◌, ◌≤◌, Bool, true, false, List, [], ◌∷◌, ◌++◌, length, set, get_or, refl, sym, ap, ◌∙◌, subst, arith}
-use Rattle.std.proofs.lemmas.List.{append-nil, length-append, length-set, get_or_default, set-set}
-use Rattle.std.proofs.lemmas.List.Sorted.{IsPermutation-sym, IsPermutation-append_comm}
+-- A node comes in to its parent.
+use Rattle.std.proofs.Common.{◌≡◌, ◌≢◌, ℕ, zero, suc, ◌+◌, ◌-◌, ◌<◌, ◌≤◌, Bool, true, false, List, [], ◌∷◌, ◌++◌, length, set}
+use Rattle.std.proofs.Common.{refl, sym, ap, ◌∙◌, subst, arith, inl, inr}
+use Rattle.std.proofs.lemmas.Bool.{cases_eq, cases_lt}
+use Rattle.std.proofs.Math.ListN.{get_or-append}
+use Rattle.std.proofs.Math.Seq.{get_or-append_seam}
+use Rattle.std.proofs.lemmas.List.{append-nil, length-append, length-set, set-set, get_or-set_same, get_or-set_other}
+use Rattle.std.proofs.lemmas.List.Sorted.{IsPermutation-refl, IsPermutation-sym, IsPermutation-append_comm}
+use Rattle.std.specs.List.{Contains}
 use Rattle.elmore.specs.Pairs.{IsPairAt}
 use Rattle.elmore.specs.Problems.{is_live}
 use Rattle.elmore.specs.Trees.{parent_of}
+use Rattle.elmore.specs.Wire.{downstream_in}
 use Rattle.elmore.specs.declared.problem.Problem.{Problem}
 use Rattle.sol_arena.specs.declared.arena.Arena.{Arena}
 use Rattle.sol_arena.specs.declared.slot.Made.{Made}
 use Rattle.sol_arena.specs.Arenas.{made_of}
-use Rattle.cand_laws.proofs.ChildLemmas.{IsChild}
-use Rattle.cand_laws.proofs.TurnLemmas.{part_is_live}
+use Rattle.cand_laws.proofs.ChildLemmas.{IsChild, child_above}
+use Rattle.cand_laws.proofs.TurnLemmas.{part_is_live, part_is_dead, part_load}
 use Rattle.cand_pool.specs.Pools.{Block, IsLive}
+use Rattle.cand_pool.specs.declared.ends.List.{List as NamedList}
 use Rattle.cand_uses.specs.Pairs.{pairs_of}
 use Rattle.cand_turns.specs.declared.branch.Branch.{Branch}
 use Rattle.cand_turns.specs.declared.part.Part.{Part}
 use Rattle.cand_turns.specs.declared.part.Part.TheVariants.{Dead, Live}
-use Rattle.cand_turns.specs.Swaps.{Search, Lists, search, AreHeld, IsSwap, IsTurn}
+use Rattle.cand_turns.specs.Swaps.{Search, Lists, search, AreHeld, IsSwap, IsTurn, AreOf}
 use Rattle.cand_turns.specs.Branches.{classes_in, list_of, lists_of}
-use Rattle.cand_turns.specs.Parts.{lists_in, size_in, IsPart}
+use Rattle.cand_turns.specs.Parts.{lists_in, size_in, HasNoMore, IsPart}
+use Rattle.cand_turns.specs.Tooled.{added_at}
 use Rattle.cand_turns.proofs.BranchLemmas.{two_held}
-use Rattle.cand_turns.proofs.SwapLemmas.{order_held, front_held}
-use Rattle.vg_slack.specs.Bounds.{most_at, IsFew, AreFew}
-use Rattle.vg_slack.specs.declared.lists.Lists.{Lists as KeptLists}
-use Rattle.vg_slack.specs.Kept.{AreKept}
-use Rattle.vg_slack.specs.Climbs.{all_lists, part_at, AreParts}
-use Rattle.vg_slack.proofs.BoundLemmas.{few_beside, few_after, rest_few, last_few, taken_few}
-use Rattle.vg_slack.proofs.PartsLemmas.{all_more, with_more, of_parts, beside_at, given_up, place_turn, more_turn}
-use Rattle.vg_slack.proofs.PartsLemmas.{parts_beside, parts_after, rest_parts, last_part}
+use Rattle.cand_turns.proofs.SwapLemmas.{turn_among, order_held, front_held}
+use Rattle.vg_slack.specs.declared.waiting.Waiting.{Waiting}
+use Rattle.vg_slack.specs.Climbs.{all_lists, part_at, without, IsSoFar, AreBegun, AreParts}
+use Rattle.vg_slack.specs.Waits.{last_at, IsThere, IsLastBelow, AreAllWaiting, IsWaiting, IsCrossedOff, IsAtRoot}
+use Rattle.vg_slack.proofs.BoundLemmas.{most_other, closed_few, taken_few}
+use Rattle.vg_slack.proofs.PartsLemmas.{with_part, two_of_parts, in_all_parts, one_left, given_up, back_held, back_turn, back_lost, part_stays, part_beside, size_beside}
+use Rattle.vg_slack.proofs.WaitLemmas.{less, is_last, all_there}
 
--- node i has the last part, and its parent, v, the upper one
-pub record IsLast (p : Problem) (items rest : List Part) (last upper : Part) (i v : ℕ) : Type 0 where
-  pub all_are : items ≡ rest ++ last ∷ []
-  pub node : i ≡ length rest
-  pub within : i < length p.tree.nodes
-  pub parent : v ≡ parent_of p.tree.nodes i
-  pub less : v < i
-  pub upper_is : upper ≡ part_at rest v
+-- FROM ONE NUMBER TO ANOTHER
+-- between them no child of the node
+moves : (p : Problem) (j d v : ℕ) (ms : List Made) (s : Block) (part : Part) → j + d ≤ length p.tree.nodes
+    → ((u : ℕ) → IsChild p.tree.nodes v u → u < j + d → u < j) → IsSoFar p (j + d) v ms s part → IsSoFar p j v ms s part
+moves p j zero v ms s part within none is = let e : j + 0 ≡ j = omega arith in subst (λ (k : ℕ). IsSoFar p k v ms s part) e is
+moves p j (suc d) v ms s part within none is =
+    let e : j + suc d ≡ (j + d) + 1 = omega arith in
+    let here : j + d < length p.tree.nodes = omega (arith, within) in
+    let no_child : IsChild p.tree.nodes v (j + d) → ⊥ = λ child. omega (arith, none (j + d) child (omega arith)) in
+    let last = subst (λ (k : ℕ). IsSoFar p k v ms s part) e is in
+    moves p j d v ms s part (omega (arith, within)) (λ u child low. none u child (omega (arith, low))) (record {
+      part = part_stays p (j + d) v ms s part here no_child last.part;
+      few = λ odd. omega (arith, last.few odd, most_other p (j + d) v here no_child);
+    })
 
--- as the code finds it: the upper part is what it reads at v, and the last part what it takes from the end
-pub at_last : (p : Problem) {items rest : List Part} {part last upper read : Part} (i : ℕ) {v : ℕ} → items ≡ rest ++ part ∷ [] → part ≡ last → i ≡ length rest
-    → length items ≤ length p.tree.nodes → v ≡ parent_of p.tree.nodes i → v < i → upper ≡ read → read ≡ get_or rest v read → IsLast p items rest last upper i v
-at_last p {items} {rest} {part} {last} {upper} {read} i {v} items_are part_is i_is items_n v_is v_i upper_is read_is = record {
-  all_are = items_are ∙ ap (λ (x : Part). rest ++ x ∷ []) part_is;
-  node = i_is;
-  within = omega (arith, items_n, i_is, ap (λ (xs : List Part). length xs) items_are, length-append rest (part ∷ []));
-  parent = v_is;
-  less = v_i;
-  upper_is = upper_is ∙ read_is ∙ get_or_default rest v read (Dead 0) (omega (arith, v_i, i_is));
+-- the next child that comes in is the last one below
+to_next : (p : Problem) (i v last : ℕ) (ms : List Made) (s : Block) (part : Part) → v < i → i ≤ length p.tree.nodes → IsLastBelow p i v last
+    → IsSoFar p i v ms s part → IsSoFar p (last + 1) v ms s part
+to_next p i v last ms s part v_i i_n is so_far =
+    let low : last < i = less p i v last v_i is in
+    let e : i ≡ (last + 1) + (i - (last + 1)) = omega (arith, low) in
+    moves p (last + 1) (i - (last + 1)) v ms s part (omega (arith, e, i_n))
+    (λ u child u_low.
+    omega (arith, e, is.most u (record { parent = child.parent; above = child_above p.tree.nodes p.tree.a_tree v u child; node = child.node }) (omega (arith, e, u_low))))
+    (subst (λ (k : ℕ). IsSoFar p k v ms s part) e so_far)
+
+-- PARTS BESIDE A TURN
+so_far_beside : (p : Problem) (i v : ℕ) (old new : Arena) (s t : Block) (given made others : Lists) → AreHeld (search s old) (given ++ others)
+    → IsTurn (search s old) given (search t new) made → (x : Part) → ((l : NamedList) → Contains (lists_in x) l → Contains others l)
+    → IsSoFar p i v (made_of old) s x → IsSoFar p i v (made_of new) t x
+so_far_beside p i v old new s t given made others held turn x among is = record {
+  part = part_beside p i v old new s t given made others held turn x among is.part;
+  few = λ odd. omega (arith, is.few odd, size_beside (search s old) (search t new) given made others held turn x among odd);
 }
 
--- before it reads the upper part
-pub at_end : (p : Problem) {items rest : List Part} {part last : Part} (i : ℕ) {v : ℕ} → items ≡ rest ++ part ∷ [] → part ≡ last → i ≡ length rest
-    → length items ≤ length p.tree.nodes → v ≡ parent_of p.tree.nodes i → v < i → IsLast p items rest last (part_at rest v) i v
-at_end p {items} {rest} {part} {last} i {v} items_are part_is i_is items_n v_is v_i = record {
-  all_are = items_are ∙ ap (λ (x : Part). rest ++ x ∷ []) part_is;
-  node = i_is;
-  within = omega (arith, items_n, i_is, ap (λ (xs : List Part). length xs) items_are, length-append rest (part ∷ []));
-  parent = v_is;
-  less = v_i;
-  upper_is = refl;
+-- all parts
+module _ (p : Problem) (old new : Arena) (s t : Block) (given made : Lists) (rest : List Part) (held : AreHeld (search s old) (given ++ all_lists rest))
+    (turn : IsTurn (search s old) given (search t new) made) where
+  stays : (i v w : ℕ) → w < length rest → IsSoFar p i v (made_of old) s (part_at rest w) → IsSoFar p i v (made_of new) t (part_at rest w)
+  stays i v w w_n is =
+      so_far_beside p i v old new s t given made (all_lists rest) held turn (part_at rest w) (λ l found. in_all_parts rest w l w_n found) is
+
+  pub begun_beside : AreBegun p (made_of old) s rest → AreBegun p (made_of new) t rest
+  begun_beside are v v_n = stays (length p.tree.nodes) v v v_n (are v v_n)
+
+-- THE START
+-- one part more, of the node after them
+pub begun_more : (p : Problem) (ms : List Made) (s : Block) (parts : List Part) (part : Part) → AreBegun p ms s parts
+    → IsSoFar p (length p.tree.nodes) (length parts) ms s part → AreBegun p ms s (parts ++ part ∷ [])
+begun_more p ms s parts part are is w w_n =
+    elim (cases_lt w (length parts)) [
+      | inl low ↦ subst (λ (x : Part). IsSoFar p (length p.tree.nodes) w ms s x) (sym (get_or-append parts (part ∷ []) (Dead 0) w low)) (are w low)
+      | inr high ↦
+          let last : w ≡ length parts = omega (arith, high, w_n, length-append parts (part ∷ [])) in
+          subst (λ (u : ℕ). IsSoFar p (length p.tree.nodes) u ms s (part_at (parts ++ part ∷ []) u)) (sym last)
+          (subst (λ (x : Part). IsSoFar p (length p.tree.nodes) (length parts) ms s x) (sym (get_or-append_seam parts part [] (Dead 0))) is)
+    ]
+
+pub all_parts : (p : Problem) (w : Waiting) (ms : List Made) (s : Block) (parts : List Part) → AreAllWaiting p w → length parts ≡ length p.tree.nodes
+    → AreBegun p ms s parts → AreParts p w ms s parts
+all_parts p w ms s parts waiting one_each are = record {
+  one_each = one_each;
+  there = λ v v_n _. to_next p (length p.tree.nodes) v (last_at w v) ms s (part_at parts v) v_n (omega arith) (waiting.last v v_n) (are v (omega (arith, v_n, one_each)));
+  came = λ v v_n gone. absurd (gone (all_there waiting v v_n));
 }
 
-module _ {p : Problem} {items rest : List Part} {last upper : Part} {i v : ℕ} (at : IsLast p items rest last upper i v) where
-  in_rest : v < length rest
-  in_rest = omega (arith, at.less, at.node)
+-- A PART COMES IN TO ANOTHER: that of node i, to which all its children came in, to the upper one, of its parent
+pub record IsComing (p : Problem) (i : ℕ) (upper part : Part) (old : Arena) (s : Block) : Type 0 where
+  pub some : 0 < i
+  pub node : i < length p.tree.nodes
+  pub held : AreHeld (search s old) (lists_in upper ++ lists_in part)
+  pub above : IsSoFar p (i + 1) (parent_of p.tree.nodes i) (made_of old) s upper
+  pub whole : IsSoFar p (i + 1) i (made_of old) s part
 
-  count : length items ≡ i + 1
-  count = omega (arith, at.node, ap (λ (xs : List Part). length xs) at.all_are, length-append rest (last ∷ []))
+pub coming : {p : Problem} {i : ℕ} {upper part : Part} {s : Block} (old : Arena) → 0 < i → i < length p.tree.nodes
+    → AreHeld (search s old) (lists_in upper ++ lists_in part) → IsSoFar p (i + 1) (parent_of p.tree.nodes i) (made_of old) s upper
+    → IsSoFar p (i + 1) i (made_of old) s part → IsComing p i upper part old s
+coming old some node held above whole = record { some = some; node = node; held = held; above = above; whole = whole }
 
-  lists_are : all_lists items ≡ all_lists rest ++ lists_in last
-  lists_are = ap (λ (xs : List Part). all_lists xs) at.all_are ∙ all_more rest last
+module _ {p : Problem} {i : ℕ} {upper part : Part} {old : Arena} {s : Block} (at : IsComing p i upper part old s) where
+  is_child : IsChild p.tree.nodes (parent_of p.tree.nodes i) i
+  is_child = record { parent = refl; other = λ e. omega (arith, p.tree.a_tree.smaller i at.some at.node, e); node = at.node }
 
-  all_held : (s : Search) → AreHeld s (all_lists items) → AreHeld s (all_lists rest ++ lists_in last)
-  all_held s held = subst (λ (ls : Lists). AreHeld s ls) lists_are held
+  -- a dead one has no lists
+  module _ (c : ℕ) (part_is : part ≡ Dead c) where
+    alone : lists_in upper ++ lists_in part ≡ lists_in upper
+    alone = ap (λ (x : Part). lists_in upper ++ lists_in x) part_is ∙ append-nil (lists_in upper)
 
-  -- the lists of the last part, and those of its parent's, are held
-  pub last_held : (s : Search) → AreHeld s (all_lists items) → AreHeld s (lists_in last)
-  last_held s held =
-      front_held s (lists_in last) (all_lists rest)
-      (order_held s (all_lists rest ++ lists_in last) (lists_in last ++ all_lists rest) (IsPermutation-append_comm (all_lists rest) (lists_in last))
-      (all_held s held))
+    dead_part : IsPart p (i + 1) i (made_of old) s (Dead c)
+    dead_part = subst (λ (x : Part). IsPart p (i + 1) i (made_of old) s x) part_is at.whole.part
 
-  pub upper_held : (s : Search) (more : Lists) → AreHeld s (all_lists rest ++ more) → AreHeld s (lists_in upper ++ more)
-  upper_held s more held =
-      subst (λ (x : Part). AreHeld s (lists_in x ++ more)) (sym at.upper_is)
-      (front_held s (lists_in (part_at rest v) ++ more) (beside_at rest v)
-      (order_held s (all_lists rest ++ more) ((lists_in (part_at rest v) ++ more) ++ beside_at rest v)
-      (IsPermutation-sym ((lists_in (part_at rest v) ++ more) ++ beside_at rest v) (all_lists rest ++ more)
-      (with_more (lists_in (part_at rest v)) more (beside_at rest v) (all_lists rest) (of_parts rest v in_rest))) held))
+    pub is_dead : is_live p.tree.nodes p.sinks i ≡ false
+    is_dead = part_is_dead p i c at.node dead_part
 
-  -- the parts of all nodes
-  pub parts_of_rest : (ms : List Made) (s : Block) → AreParts p (length items) ms s items → AreParts p (i + 1) ms s rest
-  parts_of_rest ms s parts =
-      subst (λ (k : ℕ). AreParts p k ms s rest) count
-      (rest_parts p (length items) ms s rest last (subst (λ (xs : List Part). AreParts p (length items) ms s xs) at.all_are parts))
+    pub has_load : c ≡ downstream_in p.tree.nodes i
+    has_load = part_load p i c at.node dead_part
 
-  pub part_of_last : (ms : List Made) (s : Block) → AreParts p (length items) ms s items → IsPart p (i + 1) i ms s last
-  part_of_last ms s parts =
-      subst (λ (k : ℕ). IsPart p k i ms s last) count
-      (subst (λ (k : ℕ). IsPart p (length items) k ms s last) (sym at.node)
-      (last_part p (length items) ms s rest last (subst (λ (xs : List Part). AreParts p (length items) ms s xs) at.all_are parts)))
+    pub upper_held : AreHeld (search s old) (lists_in upper)
+    upper_held = subst (λ (ls : Lists). AreHeld (search s old) ls) alone at.held
 
-  pub part_of_upper : (ms : List Made) (s : Block) → AreParts p (i + 1) ms s rest → IsPart p (i + 1) (parent_of p.tree.nodes i) ms s upper
-  part_of_upper ms s parts =
-      subst (λ (k : ℕ). IsPart p (i + 1) k ms s upper) at.parent
-      (subst (λ (x : Part). IsPart p (i + 1) v ms s x) (sym at.upper_is) (parts v in_rest))
+    pub dead_turn : (new : Search) (x : Part) → IsTurn (search s old) (lists_in upper) new (lists_in x)
+        → IsTurn (search s old) (lists_in upper ++ lists_in part) new (lists_in x)
+    dead_turn new x turn = subst (λ (ls : Lists). IsTurn (search s old) ls new (lists_in x)) (sym alone) turn
 
-  -- the lists of the last part were given for others
-  pub closed_turn : (old new : Search) (made : Lists) → AreHeld old (all_lists items) → IsTurn old (lists_in last) new made
-      → IsTurn old (all_lists items) new (all_lists rest ++ made)
-  closed_turn old new made held turn =
-      subst (λ (ls : Lists). IsTurn old ls new (all_lists rest ++ made)) (sym lists_are) (more_turn old new rest (lists_in last) made (all_held old held) turn)
+    pub dead_so_far : (t : Block) (x : Part) → IsPart p i (parent_of p.tree.nodes i) (made_of old) t x
+        → ((odd : Bool) → size_in t x odd ≡ size_in s upper odd) → IsSoFar p i (parent_of p.tree.nodes i) (made_of old) t x
+    dead_so_far t x is same = record {
+      part = is;
+      few = taken_few p i (parent_of p.tree.nodes i) s t upper x (λ _. 0) is_child at.above.few (λ odd. omega arith) (λ odd. omega (arith, same odd));
+    }
 
-  pub lost_turn : (old new : Search) → AreHeld old (all_lists items) → IsSwap old (lists_in last) new [] → IsTurn old (all_lists items) new (all_lists rest)
+  module _ (branch : Branch) (part_is : part ≡ Live branch) where
+    live_held : AreHeld (search s old) (lists_in upper ++ lists_of branch)
+    live_held = subst (λ (x : Part). AreHeld (search s old) (lists_in upper ++ lists_in x)) part_is at.held
+
+    pub live_whole : IsSoFar p (i + 1) i (made_of old) s (Live branch)
+    live_whole = subst (λ (x : Part). IsSoFar p (i + 1) i (made_of old) s x) part_is at.whole
+
+    pub branch_held : AreHeld (search s old) (lists_of branch)
+    branch_held = back_held (search s old) (lists_in upper) (lists_of branch) live_held
+
+    -- it was closed
+    module _ (mid : Arena) (m : Block) (closed : Branch) (turn : IsTurn (search s old) (lists_of branch) (search m mid) (lists_of closed)) where
+      pub closed_turn : IsTurn (search s old) (lists_in upper ++ lists_in part) (search m mid) (lists_in upper ++ lists_of closed)
+      closed_turn =
+          subst (λ (x : Part). IsTurn (search s old) (lists_in upper ++ lists_in x) (search m mid) (lists_in upper ++ lists_of closed)) (sym part_is)
+          (back_turn (search s old) (search m mid) (lists_in upper) (lists_of branch) (lists_of closed) live_held turn)
+
+      pub upper_beside : IsSoFar p (i + 1) (parent_of p.tree.nodes i) (made_of mid) m upper
+      upper_beside =
+          so_far_beside p (i + 1) (parent_of p.tree.nodes i) old mid s m (lists_of branch) (lists_of closed) (lists_in upper)
+          (order_held (search s old) (lists_in upper ++ lists_of branch) (lists_of branch ++ lists_in upper)
+          (IsPermutation-append_comm (lists_in upper) (lists_of branch)) live_held)
+          turn upper (λ l found. found) at.above
+
+      pub live_so_far : (new : Arena) (t : Block) (x : Part)
+          → ((odd : Bool) → length (classes_in m closed odd) ≤ length (classes_in s branch odd) + added_at p i)
+          → IsPart p i (parent_of p.tree.nodes i) (made_of new) t x → HasNoMore m upper closed t x
+          → IsSoFar p i (parent_of p.tree.nodes i) (made_of new) t x
+      live_so_far new t x few is no_more = record {
+        part = is;
+        few = taken_few p i (parent_of p.tree.nodes i) m t upper x (λ odd. length (classes_in m closed odd)) is_child upper_beside.few
+            (closed_few p i s m branch closed at.node live_whole.few few) no_more;
+      }
+
+    -- or lost
+    pub lost : (mid : Search) → IsSwap (search s old) (lists_of branch) mid []
+        → IsTurn (search s old) (lists_in upper ++ lists_in part) mid (lists_in upper)
+    lost mid swap =
+        subst (λ (x : Part). IsTurn (search s old) (lists_in upper ++ lists_in x) mid (lists_in upper)) (sym part_is)
+        (back_lost (search s old) mid (lists_in upper) (lists_of branch) live_held swap)
+
+-- TWO PARTS ARE TAKEN AWAY: the part of node i, and the upper one, of its parent
+pub record AreTaken (p : Problem) (i u : ℕ) (parts one both : List Part) (part upper : Part) : Type 0 where
+  pub some : 0 < i
+  pub node : i < length p.tree.nodes
+  pub one_each : length parts ≡ length p.tree.nodes
+  pub up_is : u ≡ parent_of p.tree.nodes i
+  pub part_is : part ≡ part_at parts i
+  pub one_is : one ≡ without parts i
+  pub upper_is : upper ≡ part_at one u
+  pub both_is : both ≡ without one u
+
+pub taken : (p : Problem) {i u : ℕ} {parts one both : List Part} {part upper : Part} → 0 < i → i < length p.tree.nodes → length parts ≡ length p.tree.nodes
+    → u ≡ parent_of p.tree.nodes i → part ≡ part_at parts i → one ≡ without parts i → upper ≡ part_at one u → both ≡ without one u
+    → AreTaken p i u parts one both part upper
+taken p some node one_each up_is part_is one_is upper_is both_is = record {
+  some = some;
+  node = node;
+  one_each = one_each;
+  up_is = up_is;
+  part_is = part_is;
+  one_is = one_is;
+  upper_is = upper_is;
+  both_is = both_is;
+}
+
+module _ {p : Problem} {i u : ℕ} {parts one both : List Part} {part upper : Part} (at : AreTaken p i u parts one both part upper) where
+  abbrev up : ℕ
+  up = parent_of p.tree.nodes i
+
+  up_i : up < i
+  up_i = p.tree.a_tree.smaller i at.some at.node
+
+  other : up ≢ i
+  other e = omega (arith, e, up_i)
+
+  upper_at : upper ≡ part_at parts up
+  upper_at = at.upper_is ∙ ap (part_at one) at.up_is ∙ ap (λ (xs : List Part). part_at xs up) at.one_is ∙ get_or-set_other parts i up (Dead 0) (Dead 0) other
+
+  at_up : both ≡ without one up
+  at_up = at.both_is ∙ ap (without one) at.up_is
+
+  both_are : both ≡ without (without parts i) up
+  both_are = at_up ∙ ap (λ (xs : List Part). without xs up) at.one_is
+
+  length_both : length both ≡ length p.tree.nodes
+  length_both =
+      ap (λ (xs : List Part). length xs) both_are ∙ length-set (without parts i) up (Dead 0) ∙ length-set parts i (Dead 0) ∙ at.one_each
+
+  of_both : AreOf (lists_in upper ++ lists_in part) (all_lists both) (all_lists parts)
+  of_both =
+      subst (λ (xs : List Part). AreOf (lists_in upper ++ lists_in part) (all_lists xs) (all_lists parts)) (sym both_are)
+      (subst (λ (x : Part). AreOf (lists_in x ++ lists_in part) (all_lists (without (without parts i) up)) (all_lists parts)) (sym upper_at)
+      (subst (λ (x : Part). AreOf (lists_in (part_at parts up) ++ lists_in x) (all_lists (without (without parts i) up)) (all_lists parts)) (sym at.part_is)
+      (two_of_parts parts i up (omega (arith, at.node, at.one_each)) (omega (arith, at.node, at.one_each, up_i)) other)))
+
+  of_new : (x : Part) → AreOf (lists_in x) (all_lists both) (all_lists (set both up x))
+  of_new x =
+      subst (λ (xs : List Part). AreOf (lists_in x) (all_lists xs) (all_lists (set both up x))) (again ∙ sym at_up)
+      (with_part both up x (omega (arith, length_both, at.node, up_i)))
+    where
+      again : without both up ≡ without one up
+      again = ap (λ (xs : List Part). without xs up) at_up ∙ set-set one up (Dead 0) (Dead 0)
+
+  held_beside : (s : Search) → AreHeld s (all_lists parts) → AreHeld s ((lists_in upper ++ lists_in part) ++ all_lists both)
+  held_beside s held =
+      order_held s (all_lists parts) ((lists_in upper ++ lists_in part) ++ all_lists both)
+      (IsPermutation-sym ((lists_in upper ++ lists_in part) ++ all_lists both) (all_lists parts) of_both) held
+
+  pub both_held : (s : Search) → AreHeld s (all_lists parts) → AreHeld s (lists_in upper ++ lists_in part)
+  both_held s held = front_held s (lists_in upper ++ lists_in part) (all_lists both) (held_beside s held)
+
+  -- for both another upper part was given
+  pub taken_turn : (old new : Search) (x : Part) → AreHeld old (all_lists parts) → IsTurn old (lists_in upper ++ lists_in part) new (lists_in x)
+      → IsTurn old (all_lists parts) new (all_lists (set both u x))
+  taken_turn old new x held turn =
+      subst (λ (k : ℕ). IsTurn old (all_lists parts) new (all_lists (set both k x))) (sym at.up_is)
+      (turn_among old new (lists_in upper ++ lists_in part) (lists_in x) (all_lists both) (all_lists parts) (all_lists (set both up x)) held of_both (of_new x) turn)
+
+  -- or none
+  pub lost_turn : (old new : Search) → AreHeld old (all_lists parts) → IsSwap old (lists_in upper ++ lists_in part) new []
+      → IsTurn old (all_lists parts) new (all_lists both)
   lost_turn old new held swap =
-      subst (λ (ls : Lists). IsTurn old (all_lists items) new ls) (append-nil (all_lists rest))
-      (closed_turn old new [] held (given_up old new (lists_in last) swap))
+      turn_among old new (lists_in upper ++ lists_in part) [] (all_lists both) (all_lists parts) (all_lists both) held of_both
+      (IsPermutation-refl (all_lists both)) (given_up old new (lists_in upper ++ lists_in part) swap)
 
-  pub closed_parts : (old new : Arena) (s t : Block) (made : Lists) → AreHeld (search s old) (all_lists items)
-      → IsTurn (search s old) (lists_in last) (search t new) made → AreParts p (length items) (made_of old) s items → AreParts p (i + 1) (made_of new) t rest
-  closed_parts old new s t made held turn parts =
-      parts_beside p (i + 1) old new s t rest (lists_in last) made (all_held (search s old) held) turn (parts_of_rest (made_of old) s parts)
+  -- the other parts are where they were
+  same : (v : ℕ) → v ≢ i → v ≢ up → part_at both v ≡ part_at parts v
+  same v v_i v_up =
+      ap (λ (xs : List Part). part_at xs v) both_are
+      ∙ get_or-set_other (without parts i) up v (Dead 0) (Dead 0) v_up
+      ∙ get_or-set_other parts i v (Dead 0) (Dead 0) v_i
 
-  -- the upper part was given for another one
-  one_taken : (old new : Search) (more : Lists) (x : Part) → AreHeld old (all_lists rest ++ more) → IsTurn old (lists_in upper ++ more) new (lists_in x)
-      → IsTurn old (all_lists rest ++ more) new (all_lists (set rest v x))
-  one_taken old new more x held turn =
-      place_turn old new rest v more x in_rest held (subst (λ (y : Part). IsTurn old (lists_in y ++ more) new (lists_in x)) at.upper_is turn)
+  none_at : part_at both i ≡ Dead 0
+  none_at =
+      ap (λ (xs : List Part). part_at xs i) both_are
+      ∙ get_or-set_other (without parts i) up i (Dead 0) (Dead 0) (λ e. other (sym e))
+      ∙ get_or-set_same parts i (Dead 0) (Dead 0) (omega (arith, at.node, at.one_each))
 
-  -- or for none
-  pub upper_lost : (old new : Search) (more : Lists) (gone : Part) → gone ≡ Dead 0 → AreHeld old (all_lists rest ++ more)
-      → IsSwap old (lists_in upper ++ more) new [] → IsTurn old (all_lists rest ++ more) new (all_lists (set rest v gone))
-  upper_lost old new more gone gone_is held swap =
-      subst (λ (x : Part). IsTurn old (all_lists rest ++ more) new (all_lists (set rest v x))) (sym gone_is)
-      (one_taken old new more (Dead 0) held (given_up old new (lists_in upper ++ more) swap))
+  module _ {w : Waiting} {ms : List Made} {s : Block} (waiting : IsWaiting p w i) (are : AreParts p w ms s parts) where
+    pub part_whole : last_at w i ≡ i → IsSoFar p (i + 1) i ms s part
+    part_whole whole =
+        subst (λ (x : Part). IsSoFar p (i + 1) i ms s x) (sym at.part_is)
+        (subst (λ (k : ℕ). IsSoFar p (k + 1) i ms s (part_at parts i)) whole (are.there i at.node (omega (arith, is_last p w i at.some waiting))))
 
-  -- while it was away another one stood there
-  pub taken_turn : (old new : Search) (more : Lists) (gone x : Part) → AreHeld old (all_lists rest ++ more)
-      → IsTurn old (lists_in upper ++ more) new (lists_in x)
-      → IsTurn old (all_lists rest ++ more) new (all_lists (set (set rest v gone) v x))
-  taken_turn old new more gone x held turn =
-      subst (λ (xs : List Part). IsTurn old (all_lists rest ++ more) new (all_lists xs)) (sym (set-set rest v gone x)) (one_taken old new more x held turn)
+    pub upper_so_far : IsSoFar p (i + 1) up ms s upper
+    upper_so_far =
+        subst (λ (x : Part). IsSoFar p (i + 1) up ms s x) (sym upper_at)
+        (subst (λ (k : ℕ). IsSoFar p (k + 1) up ms s (part_at parts up)) (is_last p w i at.some waiting)
+        (are.there up (omega (arith, up_i, at.node)) (waiting.upper i at.node (omega (arith, is_last p w i at.some waiting)))))
 
-  pub taken_parts : (old new : Arena) (s t : Block) (more : Lists) (gone x : Part) → AreHeld (search s old) (all_lists rest ++ more)
-      → IsTurn (search s old) (lists_in upper ++ more) (search t new) (lists_in x) → AreParts p (i + 1) (made_of old) s rest
-      → IsPart p i (parent_of p.tree.nodes i) (made_of new) t x
-      → AreParts p (length (set (set rest v gone) v x)) (made_of new) t (set (set rest v gone) v x)
-  taken_parts old new s t more gone x held turn parts part =
-      let turn' : IsTurn (search s old) (lists_in (part_at rest v) ++ more) (search t new) (lists_in x)
-      = subst (λ (y : Part). IsTurn (search s old) (lists_in y ++ more) (search t new) (lists_in x)) at.upper_is turn in
-      let part' : IsPart p i v (made_of new) t x = subst (λ (k : ℕ). IsPart p i k (made_of new) t x) (sym at.parent) part in
-      let after : AreParts p i (made_of new) t (set rest v x)
-      = parts_after p i v old new s t rest more x at.within at.parent in_rest held turn' parts part' in
-      let left : length (set rest v x) ≡ i = length-set rest v x ∙ sym at.node in
-      subst (λ (xs : List Part). AreParts p (length xs) (made_of new) t xs) (sym (set-set rest v gone x))
-      (subst (λ (k : ℕ). AreParts p k (made_of new) t (set rest v x)) (sym left) after)
+  -- node i came in
+  module _ (old new : Arena) (s t : Block) (x : Part) (w w' : Waiting) (held : AreHeld (search s old) (all_lists parts))
+      (turn : IsTurn (search s old) (lists_in upper ++ lists_in part) (search t new) (lists_in x)) (waiting : IsWaiting p w i) (crossed : IsCrossedOff p i w w')
+      (are : AreParts p w (made_of old) s parts) (is : IsSoFar p i up (made_of new) t x) where
+    there : (v : ℕ) → v < length p.tree.nodes → IsThere p w' v → IsSoFar p (last_at w' v + 1) v (made_of new) t (part_at (set both up x) v)
+    there v v_n v_there = elim (cases_eq v up) [
+      | inl e ↦
+          subst (λ (u : ℕ). IsSoFar p (last_at w' u + 1) u (made_of new) t (part_at (set both up x) u)) (sym e)
+          (subst (λ (y : Part). IsSoFar p (last_at w' up + 1) up (made_of new) t y) (sym (get_or-set_same both up x (Dead 0) (omega (arith, length_both, v_n, e))))
+          (to_next p i up (last_at w' up) (made_of new) t x up_i (omega (arith, at.node)) crossed.next is))
+      | inr apart ↦
+          let v_i : v ≢ i = λ e. crossed.came (subst (IsThere p w') e v_there) in
+          subst (λ (y : Part). IsSoFar p (last_at w' v + 1) v (made_of new) t y) (sym (get_or-set_other both up v x (Dead 0) apart))
+          (stays p old new s t (lists_in upper ++ lists_in part) (lists_in x) both (held_beside (search s old) held) turn (last_at w' v + 1) v v
+          (omega (arith, v_n, length_both))
+          (subst (λ (y : Part). IsSoFar p (last_at w' v + 1) v (made_of old) s y) (sym (same v v_i apart))
+          (subst (λ (k : ℕ). IsSoFar p (k + 1) v (made_of old) s (part_at parts v)) (sym (crossed.others v apart)) (are.there v v_n (crossed.was v v_there)))))
+    ]
 
-  -- a last part that is dead has no list
-  alone : lists_in last ≡ [] → lists_in upper ++ lists_in last ≡ lists_in upper
-  alone none = ap (λ (ls : Lists). lists_in upper ++ ls) none ∙ append-nil (lists_in upper)
+    came : (v : ℕ) → v < length p.tree.nodes → (IsThere p w' v → ⊥) → lists_in (part_at (set both up x) v) ≡ []
+    came v v_n gone = elim (cases_eq v up) [
+      | inl e ↦
+          absurd (gone (subst (IsThere p w') (sym e)
+          (crossed.still up other (waiting.upper i at.node (omega (arith, is_last p w i at.some waiting))))))
+      | inr apart ↦
+          ap (λ (y : Part). lists_in y) (get_or-set_other both up v x (Dead 0) apart)
+          ∙ elim (cases_eq v i) [
+            | inl e ↦ ap (λ (u : ℕ). lists_in (part_at both u)) e ∙ ap (λ (y : Part). lists_in y) none_at
+            | inr v_i ↦ ap (λ (y : Part). lists_in y) (same v v_i apart) ∙ are.came v v_n (λ v_there. gone (crossed.still v v_i v_there))
+          ]
+    ]
 
-  pub upper_alone : (s : Search) → lists_in last ≡ [] → AreHeld s (all_lists items) → AreHeld s (lists_in upper)
-  upper_alone s none held = subst (λ (ls : Lists). AreHeld s ls) (alone none) (upper_held s (lists_in last) (all_held s held))
+    pub parts_after : AreParts p w' (made_of new) t (set both u x)
+    parts_after =
+        subst (λ (k : ℕ). AreParts p w' (made_of new) t (set both k x)) (sym at.up_is)
+        (record { one_each = length-set both up x ∙ length_both; there = there; came = came })
 
-  pub dead_turn : (old new : Search) (gone x : Part) → lists_in last ≡ [] → AreHeld old (all_lists items) → IsTurn old (lists_in upper) new (lists_in x)
-      → IsTurn old (all_lists items) new (all_lists (set (set rest v gone) v x))
-  dead_turn old new gone x none held turn =
-      subst (λ (ls : Lists). IsTurn old ls new (all_lists (set (set rest v gone) v x))) (sym lists_are)
-      (taken_turn old new (lists_in last) gone x (all_held old held)
-      (subst (λ (ls : Lists). IsTurn old ls new (lists_in x)) (sym (alone none)) turn))
+-- THE ROOT
+module _ {p : Problem} {w : Waiting} (root : IsAtRoot p w) where
+  root_there : IsThere p w 0
+  root_there = omega arith
 
-  pub dead_parts : (arena : Arena) (s t : Block) (gone x : Part) → lists_in last ≡ [] → AreHeld (search s arena) (all_lists items)
-      → IsTurn (search s arena) (lists_in upper) (search t arena) (lists_in x) → AreParts p (i + 1) (made_of arena) s rest
-      → IsPart p i (parent_of p.tree.nodes i) (made_of arena) t x
-      → AreParts p (length (set (set rest v gone) v x)) (made_of arena) t (set (set rest v gone) v x)
-  dead_parts arena s t gone x none held turn parts part =
-      taken_parts arena arena s t (lists_in last) gone x (all_held (search s arena) held)
-      (subst (λ (ls : Lists). IsTurn (search s arena) ls (search t arena) (lists_in x)) (sym (alone none)) turn) parts part
+  pub root_whole : (ms : List Made) (s : Block) (parts : List Part) → AreParts p w ms s parts → IsSoFar p 1 0 ms s (part_at parts 0)
+  root_whole ms s parts are =
+      let one : last_at w 0 + 1 ≡ 1 = omega (arith, root.whole) in
+      subst (λ (k : ℕ). IsSoFar p k 0 ms s (part_at parts 0)) one (are.there 0 p.tree.a_tree.some_node root_there)
 
-  -- WHAT IS KEPT
-  pub kept_ahead : (lists : KeptLists) → AreKept p (length items) lists → AreKept p (i + 1) lists
-  kept_ahead lists kept = subst (λ (k : ℕ). AreKept p k lists) count kept
+  pub root_lists : (ms : List Made) (s : Block) (parts : List Part) → AreParts p w ms s parts → all_lists parts ≡ lists_in (part_at parts 0)
+  root_lists ms s parts are =
+      one_left parts (omega (arith, are.one_each, p.tree.a_tree.some_node))
+      (λ v v_n other. are.came v (omega (arith, v_n, are.one_each)) (λ there. other (root.alone v (omega (arith, v_n, are.one_each)) there)))
 
-  pub kept_after : (gone x : Part) (lists : KeptLists) → AreKept p i lists → AreKept p (length (set (set rest v gone) v x)) lists
-  kept_after gone x lists kept =
-      subst (λ (k : ℕ). AreKept p k lists) (at.node ∙ sym (length-set (set rest v gone) v x ∙ length-set rest v gone)) kept
-
-  -- HOW LONG THE LISTS ARE
-  pub few_of_rest : (s : Block) → AreFew p (length items) s items → AreFew p (i + 1) s rest
-  few_of_rest s few =
-      subst (λ (k : ℕ). AreFew p k s rest) count
-      (rest_few p (length items) s rest last (subst (λ (xs : List Part). AreFew p (length items) s xs) at.all_are few))
-
-  pub few_of_last : (s : Block) → AreFew p (length items) s items → IsFew p (i + 1) i s last
-  few_of_last s few =
-      subst (λ (k : ℕ). IsFew p k i s last) count
-      (subst (λ (k : ℕ). IsFew p (length items) k s last) (sym at.node)
-      (last_few p (length items) s rest last (subst (λ (xs : List Part). AreFew p (length items) s xs) at.all_are few)))
-
-  few_of_upper : (s : Block) → AreFew p (i + 1) s rest → IsFew p (i + 1) v s upper
-  few_of_upper s few = subst (λ (x : Part). IsFew p (i + 1) v s x) (sym at.upper_is) (few v in_rest)
-
-  is_child : IsChild p.tree.nodes v i
-  is_child = record { parent = sym at.parent; other = λ e. omega (arith, at.less, e); node = at.within }
-
-  -- the rest stays while the last branch is closed
-  pub closed_rest_few : (old new : Search) (made : Lists) → AreHeld old (all_lists items) → IsTurn old (lists_in last) new made
-      → AreFew p (length items) old.pool items → AreFew p (i + 1) new.pool rest
-  closed_rest_few old new made held turn few =
-      few_beside p (i + 1) old new rest (lists_in last) made (all_held old held) turn (few_of_rest old.pool few)
-
-  -- the last part came in to the upper one, with so many candidates
-  pub taken_rest_few : (old new : Search) (more : Lists) (gone x : Part) (added : Bool → ℕ) → AreHeld old (all_lists rest ++ more)
-      → IsTurn old (lists_in upper ++ more) new (lists_in x) → AreFew p (i + 1) old.pool rest → ((odd : Bool) → added odd ≤ most_at p i)
-      → ((odd : Bool) → size_in new.pool x odd ≤ size_in old.pool upper odd + added odd)
-      → AreFew p (length (set (set rest v gone) v x)) new.pool (set (set rest v gone) v x)
-  taken_rest_few old new more gone x added held turn few added_few is =
-      let turn' : IsTurn old (lists_in (part_at rest v) ++ more) new (lists_in x)
-      = subst (λ (y : Part). IsTurn old (lists_in y ++ more) new (lists_in x)) at.upper_is turn in
-      let after : AreFew p i new.pool (set rest v x)
-      = few_after p i v old new rest more x at.within at.parent in_rest held turn' few
-      (taken_few p i v old.pool new.pool upper x added is_child (few_of_upper old.pool few) added_few is) in
-      let left : length (set rest v x) ≡ i = length-set rest v x ∙ sym at.node in
-      subst (λ (xs : List Part). AreFew p (length xs) new.pool xs) (sym (set-set rest v gone x))
-      (subst (λ (k : ℕ). AreFew p k new.pool (set rest v x)) (sym left) after)
-
-  -- a last part that is dead has no candidate
-  pub dead_rest_few : (old new : Search) (gone x : Part) → lists_in last ≡ [] → AreHeld old (all_lists items)
-      → IsTurn old (lists_in upper) new (lists_in x) → AreFew p (i + 1) old.pool rest
-      → ((odd : Bool) → size_in new.pool x odd ≡ size_in old.pool upper odd)
-      → AreFew p (length (set (set rest v gone) v x)) new.pool (set (set rest v gone) v x)
-  dead_rest_few old new gone x none held turn few same =
-      taken_rest_few old new (lists_in last) gone x (λ _. 0) (all_held old held)
-      (subst (λ (ls : Lists). IsTurn old ls new (lists_in x)) (sym (alone none)) turn) few (λ odd. omega arith) (λ odd. omega (arith, same odd))
-
--- the last node is live where its part is
-pub last_is_live : (p : Problem) (i : ℕ) (ms : List Made) (s : Block) (branch : Branch) → i < length p.tree.nodes → IsPart p (i + 1) i ms s (Live branch)
+-- BRANCHES
+-- a node is live where its part is
+pub node_live : (p : Problem) (i : ℕ) (ms : List Made) (s : Block) (branch : Branch) → i < length p.tree.nodes → IsSoFar p (i + 1) i ms s (Live branch)
     → is_live p.tree.nodes p.sinks i ≡ true
-last_is_live p i ms s branch i_n part = part_is_live p (IsPairAt p) i (λ odd. pairs_of (classes_in s branch odd)) i_n part.part
+node_live p i ms s branch i_n is = part_is_live p (IsPairAt p) i (λ odd. pairs_of (classes_in s branch odd)) i_n is.part.part
 
 -- both lists of a branch are live
 pub branch_live : (at : Search) (branch : Branch) → AreHeld at (lists_of branch) → (odd : Bool) → IsLive at.pool (list_of branch odd)

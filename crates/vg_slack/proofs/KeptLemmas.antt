@@ -1,7 +1,7 @@
 -- The lists that a search keeps of the nodes of a net.
-use Rattle.std.proofs.Common.{◌≡◌, ◌≢◌, ℕ, ◌+◌, ◌<◌, ◌≤◌, Bool, true, false, List, [], ◌++◌, length, map, get_or, sym, ap, ◌∙◌, subst, arith}
+use Rattle.std.proofs.Common.{◌≡◌, ◌≢◌, ℕ, ◌<◌, ◌≤◌, Bool, true, false, List, [], ◌++◌, length, map, get_or, sym, ap, ◌∙◌, subst, arith}
 use Rattle.std.proofs.Common.{slice_index_or, slice_set, Result, Ok, Err, inl, inr}
-use Rattle.std.specs.Prelude.{OnOk}
+use Rattle.std.specs.Prelude.{IfOk, OnOk}
 use Rattle.std.proofs.lemmas.Bool.{cases_eq}
 use Rattle.std.proofs.lemmas.List.{get_or-map, map-set, get_or-set_same, get_or-set_other, length-map}
 use Rattle.vg_num.specs.declared.memory.Memory.{Memory}
@@ -16,12 +16,19 @@ use Rattle.cand_uses.specs.Pairs.{pair_of, pairs_of}
 use Rattle.cand_turns.specs.Solved.{IsClosedAt}
 use Rattle.vg_slack.specs.declared.lists.NodeLists.{NodeLists}
 use Rattle.vg_slack.specs.declared.lists.Lists.{Lists}
+use Rattle.vg_slack.specs.declared.waiting.Waiting.{Waiting}
 use Rattle.vg_slack.specs.Bounds.{most_at}
-use Rattle.vg_slack.specs.Kept.{Classes, AreEmpty, kept_in, lists_at, IsKeptAt, AreKept}
+use Rattle.vg_slack.specs.Kept.{Classes, AreEmpty, kept_in, lists_at, IsKeptAt, IsKeptOf, AreKept, AreAllKept}
+use Rattle.vg_slack.specs.Waits.{IsThere, AreAllWaiting, IsCrossedOff}
+use Rattle.vg_slack.proofs.WaitLemmas.{all_there}
 
 pub on_ok : {P Q : Type 0} (r : Result (Unit {0}) Memory) → (P → Q) → OnOk r P → OnOk r Q
 on_ok (Ok x) f p = f p
 on_ok (Err e) f p = tt
+
+pub if_ok : {A Q : Type 0} (r : Result A Memory) → Q → IfOk r (λ _. Q)
+if_ok (Ok x) q = q
+if_ok (Err e) q = tt
 
 -- the lists of node v
 abbrev pub at_node : List NodeLists → ℕ → Classes
@@ -48,47 +55,50 @@ kept_other nodes v w kept other =
     ∙ get_or-set_other (map kept_in nodes) v w (kept_in kept) (λ odd. []) other
 
 -- no node came in yet
-pub none_kept : (p : Problem) (lists : Lists) → length lists.nodes.items ≤ length p.tree.nodes → ((v : ℕ) → AreEmpty (lists_at lists v))
-    → AreKept p (length p.tree.nodes) lists
-none_kept p lists few none = record {
-  done = λ v low high. absurd (omega (arith, low, high, few));
-  ahead = λ v low. none v;
+pub none_kept : (p : Problem) (w : Waiting) (lists : Lists) → AreAllWaiting p w → ((v : ℕ) → AreEmpty (lists_at lists v)) → AreKept p w lists
+none_kept p w lists waiting none = record {
+  done = λ v v_n gone. absurd (gone (all_there waiting v v_n));
+  ahead = λ v there. none v;
 }
 
 -- the candidates of node i were kept
-pub one_kept : (p : Problem) (i : ℕ) (old new : Lists) (ms : List Made) (classes : Bool → Candidates) → AreKept p (i + 1) old
-    → IsClosedAt p i ms classes → IsLive p i → ((odd : Bool) → length (classes odd) ≤ most_at p i) → length new.nodes.items ≡ length old.nodes.items
-    → ((v : ℕ) → v ≢ i → lists_at new v ≡ lists_at old v)
-    → (i < length old.nodes.items → (odd : Bool) → lists_at new i odd ≡ pairs_of (classes odd)) → AreKept p i new
-one_kept p i old new ms classes before closed live few same others here = record {
-  done = λ v low high. elim (cases_eq v i) [
-    | inl e ↦ subst (λ w. IsKeptAt p w (lists_at new w)) (sym e) (kept_now (omega (arith, low, same, e)))
-    | inr other ↦
-        subst (λ (lists : Classes). IsKeptAt p v lists) (sym (others v other)) (before.done v (omega (arith, low, same)) (above v high other))
-  ];
-  ahead = λ v low odd.
-      ap (λ (lists : Classes). lists odd) (others v (λ e. absurd (omega (arith, low, e)))) ∙ before.ahead v (omega (arith, low)) odd;
+pub live_kept : (p : Problem) (i : ℕ) (new : Lists) (ms : List Made) (classes : Bool → Candidates) → IsClosedAt p i ms classes → IsLive p i
+    → ((odd : Bool) → length (classes odd) ≤ most_at p i) → ((odd : Bool) → lists_at new i odd ≡ pairs_of (classes odd)) → IsKeptAt p i (lists_at new i)
+live_kept p i new ms classes closed live few here = record {
+  live = λ again odd. subst (λ (xs : List Pair). IsUndominated (IsPairAt p i odd) xs) (sym (here odd)) (closed.exact odd);
+  dead = λ dead. absurd (cc);
+  few = λ odd. omega (arith, few odd, ap (λ (xs : List Pair). length xs) (here odd), length-map (classes odd) pair_of);
 }
-  where
-    above : (v : ℕ) → i ≤ v → v ≢ i → i + 1 ≤ v
-    above v high other = omega (arith, high, other)
-
-    kept_now : i < length old.nodes.items → IsKeptAt p i (lists_at new i)
-    kept_now low = record {
-      live = λ again odd. subst (λ (xs : List Pair). IsUndominated (IsPairAt p i odd) xs) (sym (here low odd)) (closed.exact odd);
-      dead = λ dead. absurd (cc);
-      few = λ odd. omega (arith, few odd, ap (λ (xs : List Pair). length xs) (here low odd), length-map (classes odd) pair_of);
-    }
 
 -- no sink is at node i or below it
-pub dead_kept : (p : Problem) (i : ℕ) (lists : Lists) → AreKept p (i + 1) lists → is_live p.tree.nodes p.sinks i ≡ false → AreKept p i lists
-dead_kept p i lists before dead = record {
-  done = λ v low high. elim (cases_eq v i) [
-    | inl e ↦ subst (λ w. IsKeptAt p w (lists_at lists w)) (sym e) none_now
-    | inr other ↦ before.done v low (omega (arith, high, other))
-  ];
-  ahead = λ v low. before.ahead v (omega (arith, low));
+pub dead_kept : (p : Problem) (i : ℕ) (lists : Lists) → AreEmpty (lists_at lists i) → is_live p.tree.nodes p.sinks i ≡ false
+    → IsKeptAt p i (lists_at lists i)
+dead_kept p i lists none dead = record {
+  live = λ live odd. absurd (cc);
+  dead = λ again. none;
+  few = λ odd. omega (arith, ap (λ (xs : List Pair). length xs) (none odd));
 }
-  where
-    none_now : IsKeptAt p i (lists_at lists i)
-    none_now = record { live = λ live odd. absurd (cc); dead = λ again. before.ahead i (omega arith); few = λ odd. omega (arith, ap (λ (xs : List Pair). length xs) (before.ahead i (omega arith) odd)) }
+
+-- those of node i stand beside what was kept
+kept_beside : (p : Problem) (old new : Lists) (v : ℕ) → length new.nodes.items ≡ length old.nodes.items → lists_at new v ≡ lists_at old v
+    → IsKeptOf p old v → IsKeptOf p new v
+kept_beside p old new v nodes same kept low = subst (λ (lists : Classes). IsKeptAt p v lists) (sym same) (kept (omega (arith, low, nodes)))
+
+pub kept_more : (p : Problem) (i : ℕ) (w w' : Waiting) (old new : Lists) → IsCrossedOff p i w w' → AreKept p w old
+    → length new.nodes.items ≡ length old.nodes.items → ((v : ℕ) → v ≢ i → lists_at new v ≡ lists_at old v) → IsKeptOf p new i → AreKept p w' new
+kept_more p i w w' old new crossed before nodes others here = record {
+  done = λ v v_n gone. elim (cases_eq v i) [
+    | inl e ↦ subst (IsKeptOf p new) (sym e) here
+    | inr other ↦ kept_beside p old new v nodes (others v other) (before.done v v_n (λ there. gone (crossed.still v other there)))
+  ];
+  ahead = λ v there odd.
+      ap (λ (lists : Classes). lists odd) (others v (λ e. crossed.came (subst (IsThere p w') e there))) ∙ before.ahead v (crossed.was v there) odd;
+}
+
+-- and those of the root
+pub root_kept : (p : Problem) (old new : Lists) → ((v : ℕ) → v < length p.tree.nodes → v ≢ 0 → IsKeptOf p old v)
+    → length new.nodes.items ≡ length old.nodes.items → ((v : ℕ) → v ≢ 0 → lists_at new v ≡ lists_at old v) → IsKeptOf p new 0 → AreAllKept p new
+root_kept p old new below nodes others here v v_n = elim (cases_eq v 0) [
+  | inl e ↦ subst (IsKeptOf p new) (sym e) here
+  | inr other ↦ kept_beside p old new v nodes (others v other) (below v v_n other)
+]

@@ -1,15 +1,12 @@
 -- The parts of all nodes: one is exchanged, and the others stay.
-use Rattle.std.proofs.Common.{◌≡◌, ◌≢◌, ℕ, ◌+◌, ◌<◌, Bool, true, false, List, [], ◌∷◌, ◌++◌, length, set, zero, suc, refl, sym, ap, ◌∙◌, subst, arith, inl, inr}
-use Rattle.std.proofs.lemmas.Bool.{cases_eq, cases_lt}
-use Rattle.std.proofs.Math.ListN.{get_or-append}
-use Rattle.std.proofs.Math.Seq.{get_or-append_seam}
-use Rattle.std.proofs.lemmas.List.{append-nil, append_assoc, length-append, set-get_or, length-set, get_or-set_same, get_or-set_other}
+use Rattle.std.proofs.Common.{◌≡◌, ◌≢◌, ℕ, ◌+◌, ◌<◌, Bool, true, false, List, [], ◌∷◌, ◌++◌, length, set, zero, suc}
+use Rattle.std.proofs.Common.{refl, sym, ap, ◌∙◌, subst, arith}
+use Rattle.std.proofs.lemmas.List.{append-nil, append_assoc, set-get_or, length-set, get_or-set_other}
 use Rattle.std.proofs.lemmas.List.Elements.{All-nil, Contains-append_left, Contains-append_right}
-use Rattle.std.proofs.lemmas.List.Sorted.{IsPermutation-refl, IsPermutation-sym, IsPermutation-trans}
+use Rattle.std.proofs.lemmas.List.Sorted.{IsPermutation-refl, IsPermutation-trans}
 use Rattle.std.proofs.lemmas.List.Sorted.{IsPermutation-append_left, IsPermutation-append_right, IsPermutation-append_comm}
 use Rattle.std.specs.List.{Contains}
 use Rattle.std.specs.List.Sorted.{IsPermutation}
-use Rattle.elmore.specs.Trees.{parent_of}
 use Rattle.elmore.specs.declared.problem.Problem.{Problem}
 use Rattle.sol_arena.specs.declared.arena.Arena.{Arena}
 use Rattle.sol_arena.specs.declared.slot.Made.{Made}
@@ -24,6 +21,7 @@ use Rattle.cand_laws.proofs.ChildLemmas.{IsChild}
 use Rattle.cand_laws.proofs.FromLemmas.{other_live, other_own}
 use Rattle.cand_laws.proofs.TurnLemmas.{live_stays, dead_stays}
 use Rattle.elmore.specs.Pairs.{IsPairAt}
+use Rattle.cand_pool.specs.Candidates.{Candidates}
 use Rattle.cand_pool.specs.Pools.{Block, IsLive}
 use Rattle.cand_pool.specs.declared.ends.List.{List as NamedList}
 use Rattle.cand_pool.proofs.PoolMoves.{keeps_itself}
@@ -35,22 +33,16 @@ use Rattle.cand_turns.specs.declared.part.Part.{Part}
 use Rattle.cand_turns.specs.declared.part.Part.TheVariants.{Dead, Live}
 use Rattle.cand_turns.specs.Swaps.{Search, Lists, names, all_of, search, AreHeld, IsSwap, IsTurn, AreOf}
 use Rattle.cand_turns.specs.Branches.{classes_in}
-use Rattle.cand_turns.specs.Parts.{lists_in, IsPart}
+use Rattle.cand_turns.specs.Parts.{lists_in, size_in, IsPart}
 use Rattle.cand_turns.specs.Solved.{AreSolved, IsOpenAt}
-use Rattle.cand_turns.proofs.SwapLemmas.{turn_among, order_held, front_held}
+use Rattle.cand_turns.proofs.SwapLemmas.{turn_among, order_held, front_held, other_items}
 use Rattle.cand_turns.proofs.MeetLemmas.{IsOpenClass, open_beside}
-use Rattle.vg_slack.specs.Climbs.{all_lists, part_at, AreParts}
+use Rattle.vg_slack.specs.Climbs.{all_lists, part_at, without}
 
 -- LISTS OF PARTS
 pub all_more : (parts : List Part) (part : Part) → all_lists (parts ++ part ∷ []) ≡ all_lists parts ++ lists_in part
 all_more [] part = append-nil (lists_in part)
 all_more (x ∷ xs) part = ap (λ (ls : Lists). lists_in x ++ ls) (all_more xs part) ∙ sym (append_assoc (lists_in x) (all_lists xs) (lists_in part))
-
--- the lists of all parts but that at v
-abbrev pub beside_at : List Part → ℕ → Lists
-beside_at [] v = []
-beside_at (x ∷ xs) zero = all_lists xs
-beside_at (x ∷ xs) (suc v) = lists_in x ++ beside_at xs v
 
 second_first : (xs ys zs : Lists) → IsPermutation (xs ++ (ys ++ zs)) (ys ++ (xs ++ zs))
 second_first xs ys zs =
@@ -58,41 +50,60 @@ second_first xs ys zs =
     (subst (λ (ls : Lists). IsPermutation (xs ++ ys ++ zs) ls) (append_assoc ys xs zs)
     (IsPermutation-append_left zs (xs ++ ys) (ys ++ xs) (IsPermutation-append_comm xs ys)))
 
-pub with_part : (parts : List Part) (v : ℕ) (x : Part) → v < length parts → AreOf (lists_in x) (beside_at parts v) (all_lists (set parts v x))
+-- a part in the place of one that was taken away
+pub with_part : (parts : List Part) (v : ℕ) (x : Part) → v < length parts → AreOf (lists_in x) (all_lists (without parts v)) (all_lists (set parts v x))
 with_part [] v x v_n = absurd (omega arith)
 with_part (y ∷ ys) zero x v_n = IsPermutation-refl (lists_in x ++ all_lists ys)
 with_part (y ∷ ys) (suc v) x v_n =
-    IsPermutation-trans (lists_in x ++ (lists_in y ++ beside_at ys v)) (lists_in y ++ (lists_in x ++ beside_at ys v)) (lists_in y ++ all_lists (set ys v x))
-    (second_first (lists_in x) (lists_in y) (beside_at ys v))
-    (IsPermutation-append_right (lists_in y) (lists_in x ++ beside_at ys v) (all_lists (set ys v x)) (with_part ys v x (omega arith)))
+    IsPermutation-trans (lists_in x ++ (lists_in y ++ all_lists (without ys v))) (lists_in y ++ (lists_in x ++ all_lists (without ys v)))
+    (lists_in y ++ all_lists (set ys v x))
+    (second_first (lists_in x) (lists_in y) (all_lists (without ys v)))
+    (IsPermutation-append_right (lists_in y) (lists_in x ++ all_lists (without ys v)) (all_lists (set ys v x)) (with_part ys v x (omega arith)))
 
--- and beside some more lists
-pub with_more : (some more others all : Lists) → AreOf some others all → AreOf (some ++ more) others (all ++ more)
-with_more some more others all of =
-    subst (λ (ls : Lists). IsPermutation ls (all ++ more)) (sym (append_assoc some more others))
-    (IsPermutation-trans (some ++ (more ++ others)) (some ++ (others ++ more)) (all ++ more)
-    (IsPermutation-append_right some (more ++ others) (others ++ more) (IsPermutation-append_comm more others))
-    (subst (λ (ls : Lists). IsPermutation ls (all ++ more)) (append_assoc some others more) (IsPermutation-append_left more (some ++ others) all of)))
-
-pub of_parts : (parts : List Part) (v : ℕ) → v < length parts → AreOf (lists_in (part_at parts v)) (beside_at parts v) (all_lists parts)
+of_parts : (parts : List Part) (v : ℕ) → v < length parts → AreOf (lists_in (part_at parts v)) (all_lists (without parts v)) (all_lists parts)
 of_parts parts v v_n =
-    subst (λ (xs : List Part). AreOf (lists_in (part_at parts v)) (beside_at parts v) (all_lists xs)) (set-get_or parts v (Dead 0))
+    subst (λ (xs : List Part). AreOf (lists_in (part_at parts v)) (all_lists (without parts v)) (all_lists xs)) (set-get_or parts v (Dead 0))
     (with_part parts v (part_at parts v) v_n)
 
--- each part's lists are among all, and beside another part
+-- two of the parts
+module _ (parts : List Part) (v w : ℕ) (v_n : v < length parts) (w_n : w < length parts) (other : w ≢ v) where
+  abbrev upper : Lists
+  upper = lists_in (part_at parts w)
+
+  abbrev lower : Lists
+  lower = lists_in (part_at parts v)
+
+  abbrev rest : Lists
+  rest = all_lists (without (without parts v) w)
+
+  pub two_of_parts : AreOf (upper ++ lower) rest (all_lists parts)
+  two_of_parts =
+      subst (λ (ls : Lists). IsPermutation ls (all_lists parts)) (sym (append_assoc upper lower rest))
+      (IsPermutation-trans (upper ++ (lower ++ rest)) (lower ++ (upper ++ rest)) (all_lists parts) (second_first upper lower rest)
+      (IsPermutation-trans (lower ++ (upper ++ rest)) (lower ++ all_lists (without parts v)) (all_lists parts)
+      (IsPermutation-append_right lower (upper ++ rest) (all_lists (without parts v))
+      (subst (λ (x : Part). AreOf (lists_in x) rest (all_lists (without parts v))) (get_or-set_other parts v w (Dead 0) (Dead 0) other)
+      (of_parts (without parts v) w (omega (arith, w_n, length-set parts v (Dead 0))))))
+      (of_parts parts v v_n)))
+
+-- each part's lists are among all
 pub in_all_parts : (parts : List Part) (w : ℕ) (l : NamedList) → w < length parts → Contains (lists_in (part_at parts w)) l → Contains (all_lists parts) l
 in_all_parts [] w l w_n found = absurd (omega arith)
 in_all_parts (x ∷ xs) zero l w_n found = Contains-append_left (lists_in x) (all_lists xs) l found
 in_all_parts (x ∷ xs) (suc w) l w_n found = Contains-append_right (lists_in x) (all_lists xs) l (in_all_parts xs w l (omega arith) found)
 
-pub in_beside : (parts : List Part) (v w : ℕ) (l : NamedList) → w < length parts → w ≢ v
-    → Contains (lists_in (part_at parts w)) l → Contains (beside_at parts v) l
-in_beside [] v w l w_n other found = absurd (omega arith)
-in_beside (x ∷ xs) zero zero l w_n other found = absurd (other refl)
-in_beside (x ∷ xs) zero (suc w) l w_n other found = in_all_parts xs w l (omega arith) found
-in_beside (x ∷ xs) (suc v) zero l w_n other found = Contains-append_left (lists_in x) (beside_at xs v) l found
-in_beside (x ∷ xs) (suc v) (suc w) l w_n other found =
-    Contains-append_right (lists_in x) (beside_at xs v) l (in_beside xs v w l (omega arith) (λ e. other (ap (λ (k : ℕ). suc k) e)) found)
+-- where no part has lists
+none_left : (parts : List Part) → ((v : ℕ) → v < length parts → lists_in (part_at parts v) ≡ []) → all_lists parts ≡ []
+none_left [] none = refl
+none_left (x ∷ xs) none =
+    ap (λ (ls : Lists). ls ++ all_lists xs) (none 0 (omega arith)) ∙ none_left xs (λ v v_n. none (suc v) (omega arith))
+
+-- or the first alone
+pub one_left : (parts : List Part) → 0 < length parts → ((v : ℕ) → v < length parts → v ≢ 0 → lists_in (part_at parts v) ≡ [])
+    → all_lists parts ≡ lists_in (part_at parts 0)
+one_left [] some none = absurd (omega arith)
+one_left (x ∷ xs) some none =
+    ap (λ (ls : Lists). lists_in x ++ ls) (none_left xs (λ v v_n. none (suc v) (omega arith) (λ e. omega (arith, e)))) ∙ append-nil (lists_in x)
 
 -- SWAPS
 -- lists that were given for none
@@ -102,19 +113,20 @@ given_up old new given swap = record {
   swap = swap;
 }
 
--- one part, and the lists beside the parts, were given for another part
-pub place_turn : (old new : Search) (rest : List Part) (v : ℕ) (more : Lists) (x : Part) → v < length rest → AreHeld old (all_lists rest ++ more)
-    → IsTurn old (lists_in (part_at rest v) ++ more) new (lists_in x) → IsTurn old (all_lists rest ++ more) new (all_lists (set rest v x))
-place_turn old new rest v more x v_n held turn =
-    turn_among old new (lists_in (part_at rest v) ++ more) (lists_in x) (beside_at rest v) (all_lists rest ++ more) (all_lists (set rest v x)) held
-    (with_more (lists_in (part_at rest v)) more (beside_at rest v) (all_lists rest) (of_parts rest v v_n)) (with_part rest v x v_n) turn
+-- the later ones of some lists are held, and may be given for others
+pub back_held : (at : Search) (xs ys : Lists) → AreHeld at (xs ++ ys) → AreHeld at ys
+back_held at xs ys held = front_held at ys xs (order_held at (xs ++ ys) (ys ++ xs) (IsPermutation-append_comm xs ys) held)
 
--- the lists beside the parts were given for others
-pub more_turn : (old new : Search) (rest : List Part) (given made : Lists) → AreHeld old (all_lists rest ++ given) → IsTurn old given new made
-    → IsTurn old (all_lists rest ++ given) new (all_lists rest ++ made)
-more_turn old new rest given made held turn =
-    turn_among old new given made (all_lists rest) (all_lists rest ++ given) (all_lists rest ++ made) held
-    (IsPermutation-append_comm given (all_lists rest)) (IsPermutation-append_comm made (all_lists rest)) turn
+pub back_turn : (old new : Search) (others given made : Lists) → AreHeld old (others ++ given) → IsTurn old given new made
+    → IsTurn old (others ++ given) new (others ++ made)
+back_turn old new others given made held turn =
+    turn_among old new given made others (others ++ given) (others ++ made) held (IsPermutation-append_comm given others) (IsPermutation-append_comm made others) turn
+
+-- or for none
+pub back_lost : (old new : Search) (others given : Lists) → AreHeld old (others ++ given) → IsSwap old given new [] → IsTurn old (others ++ given) new others
+back_lost old new others given held swap =
+    subst (λ (lists : Lists). IsTurn old (others ++ given) new lists) (append-nil others)
+    (back_turn old new others given [] held (given_up old new given swap))
 
 -- PARTS THAT STAY
 pub part_stays : (p : Problem) (i w : ℕ) (ms : List Made) (s : Block) (x : Part) → i < length p.tree.nodes → (IsChild p.tree.nodes w i → ⊥)
@@ -151,60 +163,14 @@ module _ (p : Problem) (i v : ℕ) (old new : Arena) (s t : Block) (given made o
   part_beside (Dead c) among part = part
   part_beside (Live branch) among part = branch_beside branch among part
 
--- all parts stand beside a swap
-pub parts_beside : (p : Problem) (i : ℕ) (old new : Arena) (s t : Block) (rest : List Part) (given made : Lists)
-    → AreHeld (search s old) (all_lists rest ++ given) → IsTurn (search s old) given (search t new) made
-    → AreParts p i (made_of old) s rest → AreParts p i (made_of new) t rest
-parts_beside p i old new s t rest given made held turn parts w w_n =
-    part_beside p i w old new s t given made (all_lists rest)
-    (order_held (search s old) (all_lists rest ++ given) (given ++ all_lists rest) (IsPermutation-append_comm (all_lists rest) given) held)
-    turn (part_at rest w)
-    (λ l found. in_all_parts rest w l w_n found) (parts w w_n)
-
--- node i came in to the part at v, its parent: the others had no child that came in
-pub parts_after : (p : Problem) (i v : ℕ) (old new : Arena) (s t : Block) (rest : List Part) (more : Lists) (x : Part) → i < length p.tree.nodes
-    → v ≡ parent_of p.tree.nodes i → v < length rest → AreHeld (search s old) (all_lists rest ++ more)
-    → IsTurn (search s old) (lists_in (part_at rest v) ++ more) (search t new) (lists_in x)
-    → AreParts p (i + 1) (made_of old) s rest → IsPart p i v (made_of new) t x → AreParts p i (made_of new) t (set rest v x)
-parts_after p i v old new s t rest more x i_n v_is v_n held turn parts part w w_n =
-    elim (cases_eq w v) [
-      | inl e ↦
-          subst (λ (u : ℕ). IsPart p i u (made_of new) t (part_at (set rest v x) u)) (sym e)
-          (subst (λ (y : Part). IsPart p i v (made_of new) t y) (sym (get_or-set_same rest v x (Dead 0) v_n)) part)
-      | inr other ↦
-          let w_rest : w < length rest = omega (arith, length-set rest v x) in
-          subst (λ (y : Part). IsPart p i w (made_of new) t y) (sym (get_or-set_other rest v w x (Dead 0) other))
-          (part_stays p i w (made_of new) t (part_at rest w) i_n (λ child. other (sym child.parent ∙ sym v_is))
-          (part_beside p (i + 1) w old new s t (lists_in (part_at rest v) ++ more) (lists_in x) (beside_at rest v)
-          (order_held (search s old) (all_lists rest ++ more) ((lists_in (part_at rest v) ++ more) ++ beside_at rest v)
-          (IsPermutation-sym ((lists_in (part_at rest v) ++ more) ++ beside_at rest v) (all_lists rest ++ more)
-          (with_more (lists_in (part_at rest v)) more (beside_at rest v) (all_lists rest) (of_parts rest v v_n))) held) turn (part_at rest w)
-          (λ l found. in_beside rest v w l w_rest other found) (parts w w_rest)))
-    ]
-
--- the parts but the last
-pub rest_parts : (p : Problem) (i : ℕ) (ms : List Made) (s : Block) (rest : List Part) (last : Part) → AreParts p i ms s (rest ++ last ∷ [])
-    → AreParts p i ms s rest
-rest_parts p i ms s rest last parts w w_n =
-    subst (λ (x : Part). IsPart p i w ms s x) (get_or-append rest (last ∷ []) (Dead 0) w w_n) (parts w (omega (arith, length-append rest (last ∷ []))))
-
-pub last_part : (p : Problem) (i : ℕ) (ms : List Made) (s : Block) (rest : List Part) (last : Part) → AreParts p i ms s (rest ++ last ∷ [])
-    → IsPart p i (length rest) ms s last
-last_part p i ms s rest last parts =
-    subst (λ (x : Part). IsPart p i (length rest) ms s x) (get_or-append_seam rest last [] (Dead 0))
-    (parts (length rest) (omega (arith, length-append rest (last ∷ []))))
-
--- one part more, of the node after them
-pub parts_more : (p : Problem) (i : ℕ) (ms : List Made) (s : Block) (parts : List Part) (part : Part) → AreParts p i ms s parts → IsPart p i (length parts) ms s part
-    → AreParts p i ms s (parts ++ part ∷ [])
-parts_more p i ms s parts part are is w w_n =
-    elim (cases_lt w (length parts)) [
-      | inl low ↦ subst (λ (x : Part). IsPart p i w ms s x) (sym (get_or-append parts (part ∷ []) (Dead 0) w low)) (are w low)
-      | inr high ↦
-          let last : w ≡ length parts = omega (arith, high, w_n, length-append parts (part ∷ [])) in
-          subst (λ (u : ℕ). IsPart p i u ms s (part_at (parts ++ part ∷ []) u)) (sym last)
-          (subst (λ (x : Part). IsPart p i (length parts) ms s x) (sym (get_or-append_seam parts part [] (Dead 0))) is)
-    ]
+-- and keeps its size
+pub size_beside : (old new : Search) (given made others : Lists) → AreHeld old (given ++ others) → IsTurn old given new made → (x : Part)
+    → ((l : NamedList) → Contains (lists_in x) l → Contains others l) → (odd : Bool) → size_in new.pool x odd ≡ size_in old.pool x odd
+size_beside old new given made others held turn (Dead c) among odd = refl
+size_beside old new given made others held turn (Live branch) among true =
+    ap (λ (xs : Candidates). length xs) (other_items old new given made others held turn branch.odd (among branch.odd (1, omega arith, refl)))
+size_beside old new given made others held turn (Live branch) among false =
+    ap (λ (xs : Candidates). length xs) (other_items old new given made others held turn branch.even (among branch.even (0, omega arith, refl)))
 
 -- a part more beside all that are there
 pub start_more : (old new : Search) (parts : List Part) (part : Part) → AreHeld old (all_lists parts) → IsTurn old [] new (lists_in part)
@@ -216,18 +182,14 @@ start_more old new parts part held turn =
 
 -- the lists of the last part alone
 pub last_alone : (at : Search) (rest : List Part) (last : Part) → AreHeld at (all_lists (rest ++ last ∷ [])) → AreHeld at (lists_in last)
-last_alone at rest last held =
-    front_held at (lists_in last) (all_lists rest)
-    (order_held at (all_lists rest ++ lists_in last) (lists_in last ++ all_lists rest) (IsPermutation-append_comm (all_lists rest) (lists_in last))
-    (subst (AreHeld at) (all_more rest last) held))
+last_alone at rest last held = back_held at (all_lists rest) (lists_in last) (subst (AreHeld at) (all_more rest last) held)
 
 -- the last part was given up
 pub last_given : (old new : Search) (rest : List Part) (last : Part) → AreHeld old (all_lists (rest ++ last ∷ [])) → IsSwap old (lists_in last) new []
     → IsTurn old (all_lists (rest ++ last ∷ [])) new (all_lists rest)
 last_given old new rest last held swap =
     subst (λ (lists : Lists). IsTurn old lists new (all_lists rest)) (sym (all_more rest last))
-    (subst (λ (lists : Lists). IsTurn old (all_lists rest ++ lists_in last) new lists) (append-nil (all_lists rest))
-    (more_turn old new rest (lists_in last) [] (subst (AreHeld old) (all_more rest last) held) (given_up old new (lists_in last) swap)))
+    (back_lost old new (all_lists rest) (lists_in last) (subst (AreHeld old) (all_more rest last) held) swap)
 
 -- nothing happened yet
 pub turn_itself : (at : Search) (lists : Lists) → AreHeld at lists → IsTurn at lists at lists
@@ -235,11 +197,6 @@ turn_itself at lists held = record {
   held = held;
   swap = record { uses = no_exchange at.slots (all_of at.pool lists); others = keeps_itself at.pool (names lists); spare = omega arith };
 }
-
--- one part alone
-pub one_part : (parts rest : List Part) (last : Part) → parts ≡ rest ++ last ∷ [] → length parts ≡ 1 → all_lists parts ≡ lists_in last
-one_part parts [] last are one = ap (λ (xs : List Part). all_lists xs) are ∙ append-nil (lists_in last)
-one_part parts (x ∷ rest) last are one = absurd (omega (arith, one, ap (λ (xs : List Part). length xs) are, length-append rest (last ∷ [])))
 
 -- where no list was given and none is left, the arena is as it was
 pub swap_restores : (old new : Arena) (s t : Block) → IsSwap (search s old) [] (search t new) [] → IsRestored (slots_of old) (slots_of new)

@@ -1,6 +1,6 @@
 -- How long the lists of a search are: in each class a node has at most one candidate for each sink at it or below, and one for each
 -- repeater at each place at it or below.
-use Rattle.std.specs.Prelude.{ℕ, ◌+◌, ◌<◌, ◌≤◌, Bool, List, length}
+use Rattle.std.specs.Prelude.{ℕ, ◌+◌, ◌≤◌, Bool, length}
 use Rattle.std.specs.List.{sum_by}
 use Rattle.elmore.specs.Problems.{is_sink}
 use Rattle.elmore.specs.Trees.{parent_of}
@@ -12,7 +12,6 @@ use Rattle.cand_pool.specs.Pools.{Block}
 use Rattle.cand_turns.specs.declared.part.Part.{Part}
 use Rattle.cand_turns.specs.Parts.{size_in}
 use Rattle.cand_turns.specs.Tooled.{added_at}
-use Rattle.vg_slack.specs.Climbs.{part_at}
 
 -- how many candidates a node itself may bring to each of its lists: one of its sink, and one of each repeater
 abbrev pub worth : Problem → ℕ → ℕ
@@ -29,6 +28,3 @@ most_from p i v = one_if (is_sink p.sinks v) + sum_by (most_at p) (children_from
 -- a part of node v has no more in either class
 abbrev pub IsFew : Problem → ℕ → ℕ → Block → Part → Type 0
 IsFew p i v s part = (odd : Bool) → size_in s part odd ≤ most_from p i v
-
-abbrev pub AreFew : Problem → ℕ → Block → List Part → Type 0
-AreFew p i s parts = (v : ℕ) → v < length parts → IsFew p i v s (part_at parts v)

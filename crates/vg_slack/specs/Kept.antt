@@ -1,13 +1,15 @@
 -- The lists that a search keeps of the nodes of a net.
-use Rattle.std.specs.Prelude.{◌≡◌, ℕ, ◌≤◌, ◌<◌, Bool, true, false, cond, List, [], length, map, get_or}
+use Rattle.std.specs.Prelude.{◌≡◌, ℕ, ◌<◌, ◌≤◌, Bool, true, false, cond, List, [], length, map, get_or}
 use Rattle.elmore.specs.Pairs.{IsPairAt, IsUndominated}
 use Rattle.elmore.specs.Problems.{is_live}
 use Rattle.elmore.specs.declared.pair.Pair.{Pair}
 use Rattle.elmore.specs.declared.problem.Problem.{Problem}
 use Rattle.cand_laws.specs.Candidates.{IsLive}
 use Rattle.vg_slack.specs.Bounds.{most_at}
+use Rattle.vg_slack.specs.Waits.{IsThere}
 use Rattle.vg_slack.specs.declared.lists.NodeLists.{NodeLists}
 use Rattle.vg_slack.specs.declared.lists.Lists.{Lists}
+use Rattle.vg_slack.specs.declared.waiting.Waiting.{Waiting}
 
 -- the list of each class
 abbrev pub Classes : Type 0
@@ -30,10 +32,17 @@ pub record IsKeptAt (p : Problem) (v : ℕ) (lists : Classes) : Type 0 where
   pub dead : is_live p.tree.nodes p.sinks v ≡ false → AreEmpty lists
   pub few : (odd : Bool) → length (lists odd) ≤ most_at p v
 
--- of each node, as far as lists of it are kept: from number i on those of the node, and below i none yet
-pub record AreKept (p : Problem) (i : ℕ) (lists : Lists) : Type 0 where
-  pub done : (v : ℕ) → v < length lists.nodes.items → i ≤ v → IsKeptAt p v (lists_at lists v)
-  pub ahead : (v : ℕ) → v < i → AreEmpty (lists_at lists v)
+-- those of node v are kept, if lists of it are kept at all
+abbrev pub IsKeptOf : Problem → Lists → ℕ → Type 0
+IsKeptOf p lists v = v < length lists.nodes.items → IsKeptAt p v (lists_at lists v)
+
+-- those of the nodes that came in are kept, and of the others none yet
+pub record AreKept (p : Problem) (w : Waiting) (lists : Lists) : Type 0 where
+  pub done : (v : ℕ) → v < length p.tree.nodes → (IsThere p w v → ⊥) → IsKeptOf p lists v
+  pub ahead : (v : ℕ) → IsThere p w v → AreEmpty (lists_at lists v)
+
+abbrev pub AreAllKept : Problem → Lists → Type 0
+AreAllKept p lists = (v : ℕ) → v < length p.tree.nodes → IsKeptOf p lists v
 
 -- those of all nodes are kept, or none
 abbrev pub AreListsOf : Problem → Bool → Lists → Type 0

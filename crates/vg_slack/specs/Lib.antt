@@ -1,3 +1,4 @@
+pub mod Waits
 pub mod Climbs
 pub mod Bounds
 pub mod Roots

@@ -1,19 +1,20 @@
-//! The way from the last node of a net to its root.
+//! The way up a net, from all nodes to its root, depth first.
 
-ghost use Rattle.std.specs.Prelude.{◌≡◌, ◌+◌, ◌<◌, ◌≤◌, Bool, true, [], length, OnOk, IfOk, MatchResult};
-ghost use Rattle.elmore.specs.Problems.{is_live};
+ghost use Rattle.std.specs.Prelude.{◌≡◌, ◌≢◌, ℕ, ◌+◌, ◌<◌, ◌≤◌, Bool, [], ◌++◌, length, sum, OnOk, IfOk, MatchResult};
 ghost use Rattle.elmore.specs.Trees.{parent_of};
 ghost use Rattle.sol_arena.specs.Arenas.{made_of};
 ghost use Rattle.cand_turns.specs.Swaps.{Slots, AreHeld, IsSwap, IsTurn, search, at_slots};
 ghost use Rattle.cand_turns.specs.declared.part.Part.TheVariants.{Live};
 ghost use Rattle.cand_turns.specs.Branches.{classes_in, lists_of};
-ghost use Rattle.cand_turns.specs.Solved.{IsOpenAt, IsClosedAt};
+ghost use Rattle.cand_turns.specs.Parts.{lists_in};
+ghost use Rattle.cand_turns.specs.Solved.{IsClosedAt};
 ghost use Rattle.cand_turns.specs.Tooled.{AreToolsOf, added_at};
-ghost use Rattle.vg_slack.specs.Bounds.{IsFew, AreFew};
-ghost use Rattle.vg_slack.specs.Kept.{AreKept};
-ghost use Rattle.vg_slack.specs.Climbs.{all_lists, AreParts};
+ghost use Rattle.vg_slack.specs.Climbs.{all_lists, part_at, without, IsSoFar, AreBegun, AreParts};
+ghost use Rattle.vg_slack.specs.Kept.{lists_at, AreEmpty, IsKeptOf, AreKept};
+ghost use Rattle.vg_slack.specs.Waits.{last_at, IsWaiting, IsAtRoot};
 
 use crate::lists::Lists;
+use crate::waiting::{Waiting, parent_of};
 use cand_pool::{Pool, Steps};
 use cand_turns::{Branch, Part, Tools};
 use elmore::Problem;
@@ -21,16 +22,6 @@ use sol_arena::Arena;
 use std::mem;
 use std::sync::ledger::Ledger;
 use vg_num::Memory;
-
-/// The parent of a node.
-fn parent_of(p: &Problem, node: usize) -> usize
-    requires some { 0 < node }
-    requires node { node < length p.now.tree.nodes }
-    ensures parent { result ≡ parent_of p.now.tree.nodes node }
-    ensures less { result < node }
-{
-    p.tree.nodes.as_slice()[node].parent as usize
-}
 
 /// The parts of all nodes, to which no child came in yet. Answers `Memory` where there is no room.
 pub(crate) fn start(
@@ -42,8 +33,7 @@ pub(crate) fn start(
     requires none { parts.old.items ≡ [] }
     ensures all { OnOk result (length parts.new.items ≡ length p.now.tree.nodes) }
     ensures turn { OnOk result ((slots : Slots) → IsTurn (at_slots pool.old slots) [] (at_slots pool.new slots) (all_lists parts.new.items)) }
-    ensures parts { OnOk result (AreParts p.now (length p.now.tree.nodes) (made_of arena.now) pool.new parts.new.items) }
-    ensures few { OnOk result (AreFew p.now (length p.now.tree.nodes) pool.new parts.new.items) }
+    ensures begun { OnOk result (AreBegun p.now (made_of arena.now) pool.new parts.new.items) }
 {
     'nodes: for node in 0..p.tree.nodes.len() {
         pool.reserve(1)?;
@@ -51,6 +41,26 @@ pub(crate) fn start(
         parts.push(part)?;
     }
     Ok(())
+}
+
+/// Takes the part of a node away. One without lists stands for it.
+pub(crate) fn take(parts: &mut Vec<Part>, node: usize) -> Part
+    requires { node < length parts.old.items }
+    ensures part { result ≡ part_at parts.old.items node }
+    ensures left { parts.new.items ≡ without parts.old.items node }
+{
+    mem::replace(&mut parts[node], Part::Dead(0))
+}
+
+/// Gives up the lists of a part, with the uses of their solutions.
+fn give_up_part(part: Part, pool: &mut Pool, arena: &mut Arena)
+    requires held { AreHeld (search pool.old arena.old) (lists_in part) }
+    ensures swap { IsSwap (search pool.old arena.old) (lists_in part) (search pool.new arena.new) [] }
+{
+    match part {
+        Part::Dead(_) => {}
+        Part::Live(branch) => branch.give_up(pool, arena),
+    }
 }
 
 /// The candidates of a node to which all its children came in, with and without a cell there. They are kept, where lists are
@@ -66,12 +76,10 @@ pub(crate) fn close<L: Ledger>(
     steps: &mut Steps<L>,
 ) -> Result<Branch, Memory>
     requires node { node < length p.now.tree.nodes }
-    requires live { is_live p.now.tree.nodes p.now.sinks node ≡ true }
     requires tools { AreToolsOf p.now tools.old }
     requires held { AreHeld (search pool.old arena.old) (lists_of branch) }
-    requires open { IsOpenAt p.now (node + 1) node (made_of arena.old) (classes_in pool.old branch) }
-    requires most { IsFew p.now (node + 1) node pool.old (Live branch) }
-    requires ahead { AreKept p.now (node + 1) lists.old }
+    requires whole { IsSoFar p.now (node + 1) node (made_of arena.old) pool.old (Live branch) }
+    requires none { AreEmpty (lists_at lists.old node) }
     ensures tools { AreToolsOf p.now tools.new }
     ensures turn { MatchResult result
         (λ closed. IsTurn (search pool.old arena.old) (lists_of branch) (search pool.new arena.new) (lists_of closed))
@@ -80,7 +88,8 @@ pub(crate) fn close<L: Ledger>(
     ensures few { IfOk result (λ closed. (odd : Bool)
         → length (classes_in pool.new closed odd) ≤ length (classes_in pool.old branch odd) + added_at p.now node) }
     ensures nodes { length lists.new.nodes.items ≡ length lists.old.nodes.items }
-    ensures kept { IfOk result (λ _. AreKept p.now node lists.new) }
+    ensures others { (v : ℕ) → v ≢ node → lists_at lists.new v ≡ lists_at lists.old v }
+    ensures kept { IfOk result (λ _. IsKeptOf p.now lists.new node) }
 {
     let branch = branch.close(pool, arena, p, node, tools, steps)?;
     if let Err(memory) = lists.keep(pool, &branch, node, steps) {
@@ -90,78 +99,121 @@ pub(crate) fn close<L: Ledger>(
     Ok(branch)
 }
 
-/// The last node of those that have not come in comes in to its parent. Answers `Memory` where there is no room.
+/// What the part of a node comes to when a child comes in to it, whose part has all that is below the child. The candidates of
+/// the child are kept, where lists are kept at all. Answers `Memory` when out of memory; both parts are given up then.
+fn take_in<L: Ledger>(
+    upper: Part,
+    part: Part,
+    pool: &mut Pool,
+    arena: &mut Arena,
+    p: &Problem,
+    node: usize,
+    tools: &mut Tools,
+    lists: &mut Lists,
+    steps: &mut Steps<L>,
+) -> Result<Part, Memory>
+    requires below_root { 0 < node }
+    requires node { node < length p.now.tree.nodes }
+    requires tools { AreToolsOf p.now tools.old }
+    requires held { AreHeld (search pool.old arena.old) (lists_in upper ++ lists_in part) }
+    requires upper { IsSoFar p.now (node + 1) (parent_of p.now.tree.nodes node) (made_of arena.old) pool.old upper }
+    requires whole { IsSoFar p.now (node + 1) node (made_of arena.old) pool.old part }
+    requires none { AreEmpty (lists_at lists.old node) }
+    ensures tools { AreToolsOf p.now tools.new }
+    ensures turn { MatchResult result
+        (λ taken. IsTurn (search pool.old arena.old) (lists_in upper ++ lists_in part) (search pool.new arena.new) (lists_in taken))
+        (λ _. IsSwap (search pool.old arena.old) (lists_in upper ++ lists_in part) (search pool.new arena.new) []) }
+    ensures part { IfOk result (λ taken. IsSoFar p.now node (parent_of p.now.tree.nodes node) (made_of arena.new) pool.new taken) }
+    ensures nodes { length lists.new.nodes.items ≡ length lists.old.nodes.items }
+    ensures others { (v : ℕ) → v ≢ node → lists_at lists.new v ≡ lists_at lists.old v }
+    ensures kept { IfOk result (λ _. IsKeptOf p.now lists.new node) }
+{
+    match part {
+        Part::Dead(c) => Ok(upper.take_dead(pool, p, node, c, steps)),
+        Part::Live(branch) => match close(branch, pool, arena, p, node, tools, lists, steps) {
+            Ok(branch) => {
+                let taken = upper.take_live(pool, arena, p, node, branch, steps)?;
+                Ok(taken)
+            }
+            Err(memory) => {
+                give_up_part(upper, pool, arena);
+                Err(memory)
+            }
+        },
+    }
+}
+
+/// A node to which all its children came in comes in to its parent. Answers `Memory` where there is no room.
 fn turn<L: Ledger>(
     pool: &mut Pool,
     arena: &mut Arena,
     p: &Problem,
+    node: usize,
     parts: &mut Vec<Part>,
+    waiting: &mut Waiting,
     tools: &mut Tools,
     lists: &mut Lists,
     steps: &mut Steps<L>,
 ) -> Result<(), Memory>
-    requires more { 1 < length parts.old.items }
-    requires nodes { length parts.old.items ≤ length p.now.tree.nodes }
+    requires below_root { 0 < node }
+    requires waiting { IsWaiting p.now waiting.old node }
+    requires whole { last_at waiting.old node ≡ node }
     requires tools { AreToolsOf p.now tools.old }
     requires held { AreHeld (search pool.old arena.old) (all_lists parts.old.items) }
-    requires parts { AreParts p.now (length parts.old.items) (made_of arena.old) pool.old parts.old.items }
-    requires few { AreFew p.now (length parts.old.items) pool.old parts.old.items }
-    requires ahead { AreKept p.now (length parts.old.items) lists.old }
+    requires parts { AreParts p.now waiting.old (made_of arena.old) pool.old parts.old.items }
+    requires kept { AreKept p.now waiting.old lists.old }
+    ensures waiting { OnOk result (IsWaiting p.now waiting.new (parent_of p.now.tree.nodes node)) }
+    ensures fewer { OnOk result (sum waiting.new.last.items < sum waiting.old.last.items) }
     ensures tools { AreToolsOf p.now tools.new }
     ensures turn { IsTurn (search pool.old arena.old) (all_lists parts.old.items) (search pool.new arena.new) (all_lists parts.new.items) }
-    ensures fewer { OnOk result (length parts.new.items + 1 ≡ length parts.old.items) }
-    ensures parts { OnOk result (AreParts p.now (length parts.new.items) (made_of arena.new) pool.new parts.new.items) }
-    ensures few { OnOk result (AreFew p.now (length parts.new.items) pool.new parts.new.items) }
+    ensures parts { OnOk result (AreParts p.now waiting.new (made_of arena.new) pool.new parts.new.items) }
     ensures nodes { length lists.new.nodes.items ≡ length lists.old.nodes.items }
-    ensures kept { OnOk result (AreKept p.now (length parts.new.items) lists.new) }
+    ensures kept { OnOk result (AreKept p.now waiting.new lists.new) }
 {
-    let Some(part) = parts.pop() else {
-        unreachable!()
-    };
-    let node = parts.len();
     let parent = parent_of(p, node);
-    match part {
-        Part::Dead(c) => {
-            let upper = mem::replace(&mut parts[parent], Part::Dead(0));
-            parts[parent] = upper.take_dead(pool, p, node, c, steps);
-        }
-        Part::Live(branch) => {
-            let branch = close(branch, pool, arena, p, node, tools, lists, steps)?;
-            let upper = mem::replace(&mut parts[parent], Part::Dead(0));
-            parts[parent] = upper.take_live(pool, arena, p, node, branch, steps)?;
-        }
-    }
+    let part = take(parts, node);
+    let upper = take(parts, parent);
+    parts[parent] = take_in(upper, part, pool, arena, p, node, tools, lists, steps)?;
+    waiting.cross_off(p, node);
     Ok(())
 }
 
-/// All nodes but the root come in, each to its parent, from the last to the first. Answers `Memory` where there is no room.
+/// All nodes but the root come in, each to its parent, depth first: a node as soon as all nodes below it are in. Answers `Memory`
+/// where there is no room.
 pub(crate) fn climb<L: Ledger>(
     pool: &mut Pool,
     arena: &mut Arena,
     p: &Problem,
     parts: &mut Vec<Part>,
+    waiting: &mut Waiting,
     tools: &mut Tools,
     lists: &mut Lists,
     steps: &mut Steps<L>,
 ) -> Result<(), Memory>
-    requires nodes { length parts.old.items ≡ length p.now.tree.nodes }
+    requires waiting { IsWaiting p.now waiting.old 0 }
     requires tools { AreToolsOf p.now tools.old }
     requires held { AreHeld (search pool.old arena.old) (all_lists parts.old.items) }
-    requires parts { AreParts p.now (length parts.old.items) (made_of arena.old) pool.old parts.old.items }
-    requires few { AreFew p.now (length parts.old.items) pool.old parts.old.items }
-    requires ahead { AreKept p.now (length p.now.tree.nodes) lists.old }
+    requires parts { AreParts p.now waiting.old (made_of arena.old) pool.old parts.old.items }
+    requires kept { AreKept p.now waiting.old lists.old }
+    ensures root { OnOk result (IsAtRoot p.now waiting.new) }
     ensures tools { AreToolsOf p.now tools.new }
     ensures turn { IsTurn (search pool.old arena.old) (all_lists parts.old.items) (search pool.new arena.new) (all_lists parts.new.items) }
-    ensures root { OnOk result (length parts.new.items ≡ 1) }
-    ensures parts { OnOk result (AreParts p.now 1 (made_of arena.new) pool.new parts.new.items) }
-    ensures few { OnOk result (AreFew p.now 1 pool.new parts.new.items) }
+    ensures parts { OnOk result (AreParts p.now waiting.new (made_of arena.new) pool.new parts.new.items) }
     ensures nodes { length lists.new.nodes.items ≡ length lists.old.nodes.items }
-    ensures kept { OnOk result (AreKept p.now 1 lists.new) }
+    ensures kept { OnOk result (AreKept p.now waiting.new lists.new) }
 {
-    'nodes: while 1 < parts.len() {
-        turn(pool, arena, p, parts, tools, lists, steps)?;
+    let mut at = 0;
+    'nodes: loop {
+        let last = waiting.last(at);
+        if last != at {
+            at = last;
+        } else if at != 0 {
+            turn(pool, arena, p, at, parts, waiting, tools, lists, steps)?;
+            at = parent_of(p, at);
+        } else {
+            return Ok(());
+        }
     }
-    Ok(())
 }
 
 /// Gives up the lists of all parts, with the uses of their solutions.
@@ -170,9 +222,6 @@ pub(crate) fn give_up(pool: &mut Pool, arena: &mut Arena, parts: &mut Vec<Part>)
     ensures swap { IsSwap (search pool.old arena.old) (all_lists parts.old.items) (search pool.new arena.new) [] }
 {
     'parts: while let Some(part) = parts.pop() {
-        match part {
-            Part::Dead(_) => {}
-            Part::Live(branch) => branch.give_up(pool, arena),
-        }
+        give_up_part(part, pool, arena);
     }
 }

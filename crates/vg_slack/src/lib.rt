@@ -6,6 +6,7 @@ mod climb;
 mod lists;
 mod root;
 mod search;
+mod waiting;
 
 pub use answer::{Answer, Best};
 pub use lists::{Lists, NodeLists};

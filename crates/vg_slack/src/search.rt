@@ -1,20 +1,21 @@
 //! The search for a best placement of a net.
 
-ghost use Rattle.std.specs.Prelude.{◌≡◌, [], length, IfOk};
+ghost use Rattle.std.specs.Prelude.{◌≡◌, ◌≢◌, ℕ, ◌<◌, [], length, IfOk};
 ghost use Rattle.sol_arena.specs.Arenas.{slots_of, made_of};
 ghost use Rattle.sol_arena.specs.Reach.{IsRestored};
 ghost use Rattle.cand_turns.specs.Swaps.{AreHeld, IsSwap, search};
-ghost use Rattle.cand_turns.specs.Parts.{lists_in, IsPart};
+ghost use Rattle.cand_turns.specs.Parts.{lists_in};
 ghost use Rattle.cand_turns.specs.Tooled.{AreToolsOf};
-ghost use Rattle.vg_slack.specs.Bounds.{IsFew, AreFew};
-ghost use Rattle.vg_slack.specs.Climbs.{all_lists, AreParts};
+ghost use Rattle.vg_slack.specs.Climbs.{all_lists, IsSoFar, AreParts};
 ghost use Rattle.vg_slack.specs.Bests.{IsAnswer};
-ghost use Rattle.vg_slack.specs.Kept.{AreKept, AreListsOf};
+ghost use Rattle.vg_slack.specs.Kept.{lists_at, AreEmpty, IsKeptOf, AreKept, AreAllKept, AreListsOf};
+ghost use Rattle.vg_slack.specs.Waits.{IsWaiting};
 
 use crate::answer::{Answer, Best, best_placement};
-use crate::climb::{climb, close, give_up, start};
+use crate::climb::{climb, close, give_up, start, take};
 use crate::lists::Lists;
 use crate::root::best_candidate;
+use crate::waiting::Waiting;
 use cand_pool::{Pool, Steps};
 use cand_turns::{Part, Tools};
 use elmore::Problem;
@@ -37,13 +38,13 @@ fn answer_at_root<L: Ledger>(
 ) -> Result<Option<Best>, Memory>
     requires tools { AreToolsOf p.now tools.old }
     requires held { AreHeld (search pool.old arena.old) (lists_in part) }
-    requires part { IsPart p.now 1 0 (made_of arena.old) pool.old part }
-    requires few { IsFew p.now 1 0 pool.old part }
-    requires ahead { AreKept p.now 1 lists.old }
+    requires whole { IsSoFar p.now 1 0 (made_of arena.old) pool.old part }
+    requires none { AreEmpty (lists_at lists.old 0) }
+    requires below { (v : ℕ) → v < length p.now.tree.nodes → v ≢ 0 → IsKeptOf p.now lists.old v }
     ensures answer { IfOk result (IsAnswer p.now) }
     ensures swap { IsSwap (search pool.old arena.old) (lists_in part) (search pool.new arena.new) [] }
     ensures nodes { length lists.new.nodes.items ≡ length lists.old.nodes.items }
-    ensures kept { IfOk result (λ _. AreKept p.now 0 lists.new) }
+    ensures kept { IfOk result (λ _. AreAllKept p.now lists.new) }
 {
     let Part::Live(branch) = part else {
         unreachable!()
@@ -62,28 +63,26 @@ fn answer_of_parts<L: Ledger>(
     arena: &mut Arena,
     p: &Problem,
     parts: &mut Vec<Part>,
+    waiting: &mut Waiting,
     tools: &mut Tools,
     lists: &mut Lists,
     steps: &mut Steps<L>,
 ) -> Result<Option<Best>, Memory>
-    requires nodes { length parts.old.items ≡ length p.now.tree.nodes }
+    requires waiting { IsWaiting p.now waiting.old 0 }
     requires tools { AreToolsOf p.now tools.old }
     requires held { AreHeld (search pool.old arena.old) (all_lists parts.old.items) }
-    requires parts { AreParts p.now (length parts.old.items) (made_of arena.old) pool.old parts.old.items }
-    requires few { AreFew p.now (length parts.old.items) pool.old parts.old.items }
-    requires ahead { AreKept p.now (length p.now.tree.nodes) lists.old }
+    requires parts { AreParts p.now waiting.old (made_of arena.old) pool.old parts.old.items }
+    requires kept { AreKept p.now waiting.old lists.old }
     ensures answer { IfOk result (IsAnswer p.now) }
     ensures swap { IsSwap (search pool.old arena.old) (all_lists parts.old.items) (search pool.new arena.new) [] }
     ensures nodes { length lists.new.nodes.items ≡ length lists.old.nodes.items }
-    ensures kept { IfOk result (λ _. AreKept p.now 0 lists.new) }
+    ensures kept { IfOk result (λ _. AreAllKept p.now lists.new) }
 {
-    if let Err(memory) = climb(pool, arena, p, parts, tools, lists, steps) {
+    if let Err(memory) = climb(pool, arena, p, parts, waiting, tools, lists, steps) {
         give_up(pool, arena, parts);
         return Err(memory);
     }
-    let Some(root) = parts.pop() else {
-        unreachable!()
-    };
+    let root = take(parts, 0);
     answer_at_root(alloc, pool, arena, p, root, tools, lists, steps)
 }
 
@@ -96,18 +95,27 @@ fn answer_in<L: Ledger>(
     lists: &mut Lists,
     steps: &mut Steps<L>,
 ) -> Result<Option<Best>, Memory>
-    requires ahead { AreKept p.now (length p.now.tree.nodes) lists.old }
+    requires none { (v : ℕ) → AreEmpty (lists_at lists.old v) }
     ensures answer { IfOk result (IsAnswer p.now) }
     ensures restored { IsRestored (slots_of arena.old) (slots_of arena.new) }
     ensures nodes { length lists.new.nodes.items ≡ length lists.old.nodes.items }
-    ensures kept { IfOk result (λ _. AreKept p.now 0 lists.new) }
+    ensures kept { IfOk result (λ _. AreAllKept p.now lists.new) }
 {
     let mut pool = Pool::new(alloc);
     let mut parts = Vec::new(alloc);
+    let mut waiting = Waiting::of(alloc, p)?;
     let mut tools = Tools::new(alloc, p)?;
     start(&mut pool, arena, p, &mut parts)?;
     answer_of_parts(
-        alloc, &mut pool, arena, p, &mut parts, &mut tools, lists, steps,
+        alloc,
+        &mut pool,
+        arena,
+        p,
+        &mut parts,
+        &mut waiting,
+        &mut tools,
+        lists,
+        steps,
     )
 }
 

@@ -9,21 +9,19 @@ use Rattle.cand_turns.specs.Parts.{lists_in, IsPart}
 use Rattle.cand_turns.proofs.BranchLemmas.{two_held}
 use Rattle.cand_turns.proofs.WireLemmas.{small_modest, closed_small}
 use Rattle.cand_turns.proofs.SwapLemmas.{swap_then}
-use Rattle.vg_slack.specs.Bounds.{IsFew}
+use Rattle.vg_slack.specs.Climbs.{IsSoFar}
 use Rattle.vg_slack.proofs.ClimbLemmas.{branch_live}
+use Rattle.vg_slack.proofs.KeptLemmas.{if_ok, root_kept}
 use Rattle.vg_slack.proofs.search.answer_at_root.Goals as goal
 
 pub unreachable-requires : goal.unreachable-requires
 unreachable-requires g c =
     let p = c.args.p.now in
-    let part = subst (IsPart p 1 0 (made_of c.args.arena.now) c.args.pool.now) c.in_default.is c.requires.part in
+    let part = subst (IsPart p 1 0 (made_of c.args.arena.now) c.args.pool.now) c.in_default.is c.requires.whole.part in
     absurd (let clash : true ≡ false = sym (root_live p) ∙ part_is_dead p 0 c.in_default.field-0 p.tree.a_tree.some_node part in cc)
 
-pub close-requires-clause-live : goal.close-requires-clause-live
-close-requires-clause-live g c = root_live c.args.p.now
-
-pub close-requires-clause-most : goal.close-requires-clause-most
-close-requires-clause-most g c = subst (IsFew c.args.p.now 1 0 c.args.pool.now) c.in-Live.is c.requires.few
+pub close-requires-clause-whole : goal.close-requires-clause-whole
+close-requires-clause-whole g c = subst (IsSoFar c.args.p.now 1 0 (made_of c.args.arena.now) c.args.pool.now) c.in-Live.is c.requires.whole
 
 pub best_candidate-choice-requires-clause-live : goal.best_candidate-choice-requires-clause-live
 best_candidate-choice-requires-clause-live g c =
@@ -50,3 +48,9 @@ returns-clause-swap g c =
     subst (λ part. IsSwap (search c.args.pool.now c.args.arena.now) (lists_in part) (search c.give_up.new.pool c.give_up.new.arena) []) (sym c.in-Live.is)
     (swap_then (search c.args.pool.now c.args.arena.now) (search c.close.new.pool c.close.new.arena) (search c.give_up.new.pool c.give_up.new.arena)
     (lists_of c.in-Live.branch) (lists_of c.in_ok-branch.branch) [] c.in_ok-branch.ensures.turn.swap c.give_up.ensures.swap)
+
+pub returns-clause-kept : goal.returns-clause-kept
+returns-clause-kept g c =
+    if_ok c.best_placement-found.result
+    (root_kept c.args.p.now c.args.lists.now c.close.new.lists c.requires.below c.in_ok-branch.ensures.nodes c.in_ok-branch.ensures.others
+    c.in_ok-branch.ensures.kept)

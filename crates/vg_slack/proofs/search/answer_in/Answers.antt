@@ -1,13 +1,27 @@
 use Rattle.std.proofs.Common.{[]}
-use Rattle.sol_arena.specs.Arenas.{slots_of}
+use Rattle.sol_arena.specs.Arenas.{slots_of, made_of}
 use Rattle.cand_turns.specs.Swaps.{search}
 use Rattle.cand_turns.proofs.SwapLemmas.{swap_then}
 use Rattle.vg_slack.specs.Climbs.{all_lists}
+use Rattle.vg_slack.proofs.ClimbLemmas.{all_parts}
+use Rattle.vg_slack.proofs.KeptLemmas.{none_kept}
 use Rattle.vg_slack.proofs.PartsLemmas.{swap_restores}
+use Rattle.vg_slack.proofs.WaitLemmas.{all_wait}
 use Rattle.vg_slack.proofs.search.answer_in.Goals as goal
 
 pub answer_of_parts-requires-clause-held : goal.answer_of_parts-requires-clause-held
 answer_of_parts-requires-clause-held g c = (c.in_ok-start.ensures.turn (slots_of c.args.arena.now)).held
+
+pub answer_of_parts-requires-clause-waiting : goal.answer_of_parts-requires-clause-waiting
+answer_of_parts-requires-clause-waiting g c = all_wait c.in_ok-waiting.ensures
+
+pub answer_of_parts-requires-clause-parts : goal.answer_of_parts-requires-clause-parts
+answer_of_parts-requires-clause-parts g c =
+    all_parts c.args.p.now c.in_ok-waiting.waiting (made_of c.args.arena.now) c.start.new.pool c.start.new.parts.items c.in_ok-waiting.ensures
+    c.in_ok-start.ensures.all c.in_ok-start.ensures.begun
+
+pub answer_of_parts-requires-clause-kept : goal.answer_of_parts-requires-clause-kept
+answer_of_parts-requires-clause-kept g c = none_kept c.args.p.now c.in_ok-waiting.waiting c.args.lists.now c.in_ok-waiting.ensures c.requires.none
 
 pub returns-clause-restored : goal.returns-clause-restored
 returns-clause-restored g c =

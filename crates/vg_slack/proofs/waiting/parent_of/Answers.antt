@@ -2,7 +2,7 @@ use Rattle.std.proofs.Common.{◌<◌, List, length, sym, ap, subst, arith}
 use Rattle.std.proofs.lemmas.List.{get_or_default}
 use Rattle.elmore.specs.Trees.{parent_of}
 use Rattle.elmore.specs.declared.tree.Node.{Node}
-use Rattle.vg_slack.proofs.climb.parent_of.Goals as goal
+use Rattle.vg_slack.proofs.waiting.parent_of.Goals as goal
 
 pub returns-clause-less : goal.returns-clause-less
 returns-clause-less c =
