@@ -9,7 +9,7 @@ use Rattle.vg_words.specs.Options.{name_of, option_of}
 use Rattle.vg_words.specs.Request.{Setting, Spells, AreSpelled, Sets, are_once}
 use Rattle.vg_words.specs.Settings.{is_equals, with_value, joined, apart, one_more, one_or_two, one_or_two_spelled, settings, is_spelled}
 use Rattle.vg_words.specs.declared.option.Opt.{Opt}
-use Rattle.vg_words.specs.declared.option.Opt.TheVariants.{Mode, Spef, Lib, Verilog, Cons, Net}
+use Rattle.vg_words.specs.declared.option.Opt.TheVariants.{Mode, Spef, Lib, Verilog, Cons, Net, Prefix}
 
 -- a word with a `=` is what stands before the first and after it
 part_more : (x : ℕ) (xs : List ℕ) (b : Bool) → is_equals x ≡ b → list_any is_equals (x ∷ xs) ≡ true
@@ -36,22 +36,24 @@ or_mode None = Mode
 or_mode (Some o) = o
 
 -- the word that names an option
-chosen : (w : List ℕ) (o : Opt) (a b l v c d : Bool) → bytes_eq w (codes "--mode") ≡ a → bytes_eq w (codes "--spef") ≡ b → bytes_eq w (codes "--lib") ≡ l → bytes_eq w (codes "--verilog") ≡ v
-    → bytes_eq w (codes "--cons") ≡ c → bytes_eq w (codes "--net") ≡ d
-    → (if a then Some Mode else (if b then Some Spef else (if l then Some Lib else (if v then Some Verilog else (if c then Some Cons else (if d then Some Net else None)))))) ≡ Some o
+chosen : (w : List ℕ) (o : Opt) (a b l v c d p : Bool) → bytes_eq w (codes "--mode") ≡ a → bytes_eq w (codes "--spef") ≡ b → bytes_eq w (codes "--lib") ≡ l → bytes_eq w (codes "--verilog") ≡ v
+    → bytes_eq w (codes "--cons") ≡ c → bytes_eq w (codes "--net") ≡ d → bytes_eq w (codes "--prefix") ≡ p
+    → (if a then Some Mode else (if b then Some Spef else (if l then Some Lib else (if v then Some Verilog else (if c then Some Cons else (if d then Some Net
+    else (if p then Some Prefix else None))))))) ≡ Some o
     → w ≡ name_of o
-chosen w o true b l v c d ea eb el ev ec ed e = bytes_are w (codes "--mode") ea ∙ ap (λ x. name_of (or_mode x)) e
-chosen w o false true l v c d ea eb el ev ec ed e = bytes_are w (codes "--spef") eb ∙ ap (λ x. name_of (or_mode x)) e
-chosen w o false false true v c d ea eb el ev ec ed e = bytes_are w (codes "--lib") el ∙ ap (λ x. name_of (or_mode x)) e
-chosen w o false false false true c d ea eb el ev ec ed e = bytes_are w (codes "--verilog") ev ∙ ap (λ x. name_of (or_mode x)) e
-chosen w o false false false false true d ea eb el ev ec ed e = bytes_are w (codes "--cons") ec ∙ ap (λ x. name_of (or_mode x)) e
-chosen w o false false false false false true ea eb el ev ec ed e = bytes_are w (codes "--net") ed ∙ ap (λ x. name_of (or_mode x)) e
-chosen w o false false false false false false ea eb el ev ec ed e = absurd (cc)
+chosen w o true b l v c d p ea eb el ev ec ed ep e = bytes_are w (codes "--mode") ea ∙ ap (λ x. name_of (or_mode x)) e
+chosen w o false true l v c d p ea eb el ev ec ed ep e = bytes_are w (codes "--spef") eb ∙ ap (λ x. name_of (or_mode x)) e
+chosen w o false false true v c d p ea eb el ev ec ed ep e = bytes_are w (codes "--lib") el ∙ ap (λ x. name_of (or_mode x)) e
+chosen w o false false false true c d p ea eb el ev ec ed ep e = bytes_are w (codes "--verilog") ev ∙ ap (λ x. name_of (or_mode x)) e
+chosen w o false false false false true d p ea eb el ev ec ed ep e = bytes_are w (codes "--cons") ec ∙ ap (λ x. name_of (or_mode x)) e
+chosen w o false false false false false true p ea eb el ev ec ed ep e = bytes_are w (codes "--net") ed ∙ ap (λ x. name_of (or_mode x)) e
+chosen w o false false false false false false true ea eb el ev ec ed ep e = bytes_are w (codes "--prefix") ep ∙ ap (λ x. name_of (or_mode x)) e
+chosen w o false false false false false false false ea eb el ev ec ed ep e = absurd (cc)
 
 named : (w : List ℕ) (o : Opt) → option_of w ≡ Some o → w ≡ name_of o
 named w o e =
-    chosen w o (bytes_eq w (codes "--mode")) (bytes_eq w (codes "--spef")) (bytes_eq w (codes "--lib")) (bytes_eq w (codes "--verilog")) (bytes_eq w (codes "--cons")) (bytes_eq w (codes "--net")) refl
-    refl refl refl refl refl e
+    chosen w o (bytes_eq w (codes "--mode")) (bytes_eq w (codes "--spef")) (bytes_eq w (codes "--lib")) (bytes_eq w (codes "--verilog")) (bytes_eq w (codes "--cons")) (bytes_eq w (codes "--net"))
+    (bytes_eq w (codes "--prefix")) refl refl refl refl refl refl refl e
 
 valued : (v u : List ℕ) (p : Option Opt) (o : Opt) → with_value v p ≡ Some (o, u) → (p ≡ Some o) × (u ≡ v)
 valued v u None o e = absurd (cc)
@@ -96,6 +98,7 @@ joined_read Lib v = refl
 joined_read Verilog v = refl
 joined_read Cons v = refl
 joined_read Net v = refl
+joined_read Prefix v = refl
 
 joined_not : (o : Opt) → joined (name_of o) ≡ None
 unfolding joined
@@ -105,6 +108,7 @@ joined_not Lib = refl
 joined_not Verilog = refl
 joined_not Cons = refl
 joined_not Net = refl
+joined_not Prefix = refl
 
 apart_read : (o : Opt) (v : List ℕ) → starts_with_minus v ≡ false → apart (name_of o) v ≡ Some (o, v)
 unfolding apart
@@ -114,6 +118,7 @@ apart_read Lib v e = rw e refl
 apart_read Verilog v e = rw e refl
 apart_read Cons v e = rw e refl
 apart_read Net v e = rw e refl
+apart_read Prefix v e = rw e refl
 
 -- words that are settings whole spell what is read of them
 one_spelled : (w : List ℕ) (ws : List (List ℕ)) (o : Opt) (v : List ℕ) → joined w ≡ Some (o, v) → Spells (w ∷ ws) (o, v) ws

@@ -1,8 +1,8 @@
 -- The options of the command line, and the modes.
-use Rattle.std.specs.Prelude.{ℕ, ◌==◌, Bool, List, [], ◌∷◌, codes, Option, Some, None, if◌then◌else◌}
+use Rattle.std.specs.Prelude.{ℕ, ◌==◌, Bool, List, [], ◌∷◌, ◌++◌, codes, Option, Some, None, if◌then◌else◌}
 use Rattle.std.specs.Str.{bytes_eq}
 use Rattle.vg_words.specs.declared.option.Opt.{Opt}
-use Rattle.vg_words.specs.declared.option.Opt.TheVariants.{Mode, Spef, Lib, Verilog, Cons, Net}
+use Rattle.vg_words.specs.declared.option.Opt.TheVariants.{Mode, Spef, Lib, Verilog, Cons, Net, Prefix}
 use Rattle.vg_words.specs.declared.ask.Mode.{Mode as ModeSpec}
 use Rattle.vg_words.specs.declared.ask.Mode.TheVariants.{Wire, Time, Best}
 
@@ -13,6 +13,7 @@ name_of Lib = codes "--lib"
 name_of Verilog = codes "--verilog"
 name_of Cons = codes "--cons"
 name_of Net = codes "--net"
+name_of Prefix = codes "--prefix"
 
 -- the option that a word names
 abbrev pub option_of : List ℕ → Option Opt
@@ -22,7 +23,8 @@ option_of word =
     else (if bytes_eq word (codes "--lib") then Some Lib
     else (if bytes_eq word (codes "--verilog") then Some Verilog
     else (if bytes_eq word (codes "--cons") then Some Cons
-    else (if bytes_eq word (codes "--net") then Some Net else None)))))
+    else (if bytes_eq word (codes "--net") then Some Net
+    else (if bytes_eq word (codes "--prefix") then Some Prefix else None))))))
 
 -- the place of an option in the order of options
 abbrev pub place_of : Opt → ℕ
@@ -32,12 +34,13 @@ place_of Lib = 2
 place_of Verilog = 3
 place_of Cons = 4
 place_of Net = 5
+place_of Prefix = 6
 
 abbrev pub is_same : Opt → Opt → Bool
 is_same a b = place_of a == place_of b
 
 abbrev pub options : List Opt
-options = Mode ∷ Spef ∷ Lib ∷ Verilog ∷ Cons ∷ Net ∷ []
+options = Mode ∷ Spef ∷ Lib ∷ Verilog ∷ Cons ∷ Net ∷ Prefix ∷ []
 
 -- the options that name files
 abbrev pub file_options : List Opt
@@ -61,6 +64,11 @@ required Wire = Spef ∷ Net ∷ []
 required Time = Spef ∷ Lib ∷ Verilog ∷ Cons ∷ Net ∷ []
 required Best = Spef ∷ Lib ∷ Verilog ∷ Cons ∷ Net ∷ []
 
+-- those that it may be given besides
+abbrev pub optional : ModeSpec → List Opt
+optional Time = Prefix ∷ []
+optional mode = []
+
 -- those that it may be given; it has no use for others
 abbrev pub allowed : ModeSpec → List Opt
-allowed mode = Mode ∷ required mode
+allowed mode = Mode ∷ (required mode ++ optional mode)

@@ -1,12 +1,12 @@
 -- What words ask for, or the first reason why they ask for nothing.
-use Rattle.std.specs.Prelude.{◌≡◌, ◌⊎◌, ℕ, nat_lt, ◌&&◌, Bool, true, false, not, List, [], ◌∷◌, ◌++◌, length, codes, Option, Some, None, is_some, unwrap_or, Result, Ok, Err, map, string_bytes, String, if◌then◌else◌}
+use Rattle.std.specs.Prelude.{◌≡◌, ◌⊎◌, ℕ, nat_lt, nat_le, ◌==◌, ◌&&◌, ◌||◌, Bool, true, false, not, List, [], ◌∷◌, ◌++◌, length, codes, Option, Some, None, is_some, unwrap_or, Result, Ok, Err, map, string_bytes, String, if◌then◌else◌}
 use Rattle.std.specs.List.{count_by, list_all, list_any, find}
 use Rattle.std.specs.Str.{bytes_eq}
 use Rattle.std.specs.Str.Parse.{starts_with_minus}
 use Rattle.std.specs.declared.alloc.Global.{Global}
 use Rattle.vg_words.specs.Options.{name_of, mode_of, mode_name, is_same, options, file_options, required, allowed}
 use Rattle.vg_words.specs.declared.option.Opt.{Opt}
-use Rattle.vg_words.specs.declared.option.Opt.TheVariants.{Mode, Spef, Lib, Verilog, Cons, Net}
+use Rattle.vg_words.specs.declared.option.Opt.TheVariants.{Mode, Spef, Lib, Verilog, Cons, Net, Prefix}
 use Rattle.vg_words.specs.declared.ask.Mode.{Mode as ModeSpec}
 use Rattle.vg_words.specs.declared.ask.Ask.{Ask}
 use Rattle.vg_words.specs.declared.ask.WordFault.{WordFault}
@@ -60,12 +60,29 @@ is_unset values option = not (is_some (values option))
 abbrev pub is_excluded : ModeSpec → Values → Opt → Bool
 is_excluded mode values option = is_some (values option) && not (list_any (is_same option) (allowed mode))
 
-abbrev pub is_empty_value : Option (List ℕ) → Bool
-is_empty_value None = false
-is_empty_value (Some value) = not (nat_lt 0 (length value))
+-- a letter or `_`
+abbrev pub is_letter : ℕ → Bool
+is_letter b = (nat_le 65 b && nat_le b 90) || ((nat_le 97 b && nat_le b 122) || (b == 95))
+
+abbrev pub is_name_byte : ℕ → Bool
+is_name_byte b = is_letter b || (nat_le 48 b && nat_le b 57)
+
+-- a letter or `_`, followed by at most 31 letters, digits or `_`
+abbrev pub is_prefix : List ℕ → Bool
+is_prefix [] = false
+is_prefix (b ∷ bytes) = nat_le (length bytes) 31 && (is_letter b && list_all is_name_byte bytes)
+
+-- an empty value, or a prefix of another form
+abbrev pub is_bad_value : Opt → List ℕ → Bool
+is_bad_value Prefix value = not (is_prefix value)
+is_bad_value option value = not (nat_lt 0 (length value))
+
+abbrev pub has_bad_value : Opt → Option (List ℕ) → Bool
+has_bad_value option None = false
+has_bad_value option (Some value) = is_bad_value option value
 
 abbrev pub is_bad : Values → Opt → Bool
-is_bad values option = is_empty_value (values option)
+is_bad values option = has_bad_value option (values option)
 
 abbrev pub are_equal : Option (List ℕ) → Option (List ℕ) → Bool
 are_equal (Some a) (Some b) = bytes_eq a b
@@ -128,10 +145,15 @@ value ask Lib = ask.lib
 value ask Verilog = ask.verilog
 value ask Cons = ask.cons
 value ask Net = ask.net
+value ask Prefix = ask.prefix
 
 -- that value as a text, empty where there is none
 abbrev pub text_for : Ask → Opt → List ℕ
 text_for ask option = unwrap_or (value ask option) []
+
+-- what the names of cells that were put in begin with
+abbrev pub prefix_of : Ask → List ℕ
+prefix_of ask = unwrap_or ask.prefix (codes "vgi_")
 
 -- the words denote the request: they give each option its value, and no reason is against them
 pub record IsRequest (words : List (List ℕ)) (ask : Ask) : Type 0 where

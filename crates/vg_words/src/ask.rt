@@ -1,7 +1,7 @@
 ghost use Rattle.std.specs.Prelude.{◌≡◌};
 ghost use Rattle.std.specs.List.{list_any};
 ghost use Rattle.vg_words.specs.Options.{allowed, is_same, mode_name, required};
-ghost use Rattle.vg_words.specs.Request.{text_for};
+ghost use Rattle.vg_words.specs.Request.{prefix_of, text_for};
 ghost use Rattle.vg_words.specs.declared.ask.WordFault.TheVariants.{Memory as out_of_memory};
 
 use crate::option::Opt;
@@ -12,7 +12,7 @@ use vg_num::{Memory, Text};
 pub enum Mode {
     /// Prints the wire delays of one net.
     Wire,
-    /// Prints the slack of one net without repeaters, and whether its sinks have their wanted polarity.
+    /// Prints the slack of one net through the cells that were put in, and whether its sinks have their wanted polarity.
     Time,
     /// Prints a best placement of repeaters on one net, and its slack.
     Best,
@@ -37,7 +37,9 @@ impl Mode {
     pub(crate) fn allows(self, option: Opt) -> bool
         ensures { result ≡ list_any (is_same option) (allowed self) }
     {
-        option == Opt::Mode || option.is_among(self.required_options())
+        option == Opt::Mode
+            || option.is_among(self.required_options())
+            || (self == Mode::Time && option == Opt::Prefix)
     }
 
     /// The mode's name in the words.
@@ -66,7 +68,12 @@ pub struct Ask {
     pub cons: Option<Text>,
     /// The name of the net.
     pub net: Option<Text>,
+    /// What the names of cells that were put in begin with.
+    pub prefix: Option<Text>,
 }
+
+/// What the names of cells that were put in begin with, where the words do not say.
+const PREFIX: &str = "vgi_";
 
 impl Ask {
     /// The value of an option as a text, empty where it has none.
@@ -80,10 +87,23 @@ impl Ask {
             Opt::Verilog => &self.verilog,
             Opt::Cons => &self.cons,
             Opt::Net => &self.net,
+            Opt::Prefix => &self.prefix,
         };
         match value {
             Some(text) => text.as_str(),
             None => "",
+        }
+    }
+}
+
+impl Ask {
+    /// What the names of cells that were put in begin with: the value of its option, or `vgi_`.
+    pub fn prefix(&self) -> &str
+        ensures { result.now ≡ prefix_of self.now }
+    {
+        match &self.prefix {
+            Some(text) => text.as_str(),
+            None => PREFIX,
         }
     }
 }
@@ -97,7 +117,7 @@ pub enum WordFault {
     Missing(Opt),
     /// The option is given, and the mode has no use for it.
     Excluded(Opt),
-    /// The option's value is empty, or is no mode.
+    /// The option's value is empty, or is no mode; or a prefix is not a letter or `_`, followed by at most 31 letters, digits or `_`.
     BadValue(Opt),
     /// Both options name one file.
     Equal(Opt, Opt),

@@ -1,8 +1,8 @@
 //! What is asked for, or the first reason against it.
 ghost use Rattle.std.specs.Prelude.{◌≡◌, Some, None, IfOk, option_map};
-ghost use Rattle.std.specs.List.{find};
+ghost use Rattle.std.specs.List.{find, list_all};
 ghost use Rattle.vg_words.specs.Options.{mode_of, options, file_options, required};
-ghost use Rattle.vg_words.specs.Request.{texts, is_unset, is_excluded, is_bad, are_equal, first_equal, fault_in, Judges, ReadsWords};
+ghost use Rattle.vg_words.specs.Request.{texts, is_unset, is_excluded, is_letter, is_name_byte, is_prefix, is_bad_value, is_bad, are_equal, first_equal, fault_in, Judges, ReadsWords};
 ghost use Rattle.vg_words.specs.declared.option.Opt.{Opt};
 ghost use Rattle.vg_words.specs.Views.{given_by};
 
@@ -39,12 +39,51 @@ fn is_excluded(mode: Mode, given: &Given<'_>, option: Opt) -> bool
     given.get(option).is_some() && !mode.allows(option)
 }
 
+/// Whether a byte is a letter or `_`.
+fn is_letter(b: u8) -> bool
+    ensures { result ≡ is_letter b }
+{
+    b.is_ascii_alphabetic() || b == b'_'
+}
+
+/// Whether a byte may stand in a prefix.
+fn is_name_byte(b: u8) -> bool
+    ensures { result ≡ is_name_byte b }
+{
+    is_letter(b) || b.is_ascii_digit()
+}
+
+fn are_name_bytes(bytes: &[u8]) -> bool
+    ensures { result ≡ list_all is_name_byte bytes.now }
+{
+    bytes.iter().all(|b| is_name_byte(*b))
+}
+
+/// Whether a text is a letter or `_`, followed by at most 31 letters, digits or `_`.
+fn is_prefix(text: &[u8]) -> bool
+    ensures { result ≡ is_prefix text.now }
+{
+    let [first, rest @ ..] = text else {
+        return false;
+    };
+    rest.len() <= 31 && is_letter(*first) && are_name_bytes(rest)
+}
+
+fn is_bad_value(option: Opt, value: &str) -> bool
+    ensures { result ≡ is_bad_value option value.now }
+{
+    match option {
+        Opt::Prefix => !is_prefix(value.as_bytes()),
+        _ => value.is_empty(),
+    }
+}
+
 fn is_bad(given: &Given<'_>, option: Opt) -> bool
     ensures { result ≡ is_bad (given_by given.now) option }
 {
     match given.get(option) {
         None => false,
-        Some(value) => value.is_empty(),
+        Some(value) => is_bad_value(option, value),
     }
 }
 
@@ -166,12 +205,14 @@ fn ask_of(alloc: Global, mode: Mode, given: &Given<'_>) -> Result<Ask, Memory>
     ensures verilog { IfOk result (λ ask. ask.verilog ≡ given_by given.now Opt.Verilog) }
     ensures cons { IfOk result (λ ask. ask.cons ≡ given_by given.now Opt.Cons) }
     ensures net { IfOk result (λ ask. ask.net ≡ given_by given.now Opt.Net) }
+    ensures prefix { IfOk result (λ ask. ask.prefix ≡ given_by given.now Opt.Prefix) }
 {
     let spef = text_of(alloc, given.get(Opt::Spef))?;
     let lib = text_of(alloc, given.get(Opt::Lib))?;
     let verilog = text_of(alloc, given.get(Opt::Verilog))?;
     let cons = text_of(alloc, given.get(Opt::Cons))?;
     let net = text_of(alloc, given.get(Opt::Net))?;
+    let prefix = text_of(alloc, given.get(Opt::Prefix))?;
     Ok(Ask {
         mode,
         spef,
@@ -179,6 +220,7 @@ fn ask_of(alloc: Global, mode: Mode, given: &Given<'_>) -> Result<Ask, Memory>
         verilog,
         cons,
         net,
+        prefix,
     })
 }
 
@@ -186,7 +228,7 @@ fn ask_of(alloc: Global, mode: Mode, given: &Given<'_>) -> Result<Ask, Memory>
 ///
 /// Each option is `--name value` or `--name=value`, in any order, at most once; a value that stands in a word of its
 /// own does not begin with `-`. Mode `wire` asks for `--spef` and `--net`, modes `time` and `best` for `--lib`,
-/// `--verilog` and `--cons` too. The faults come in the order of `WordFault`, and of one kind the first option in the order of `Opt`. Answers `Memory` where
+/// `--verilog` and `--cons` too. Mode `time` may be given `--prefix`. The faults come in the order of `WordFault`, and of one kind the first option in the order of `Opt`. Answers `Memory` where
 /// there is no room.
 pub fn read_words(alloc: Global, words: &[String]) -> Result<Ask, WordFault>
     ensures { ReadsWords result (texts words.now) }

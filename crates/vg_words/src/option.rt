@@ -17,16 +17,19 @@ pub enum Opt {
     Cons,
     /// The name of the net.
     Net,
+    /// What the names of cells that were put in begin with.
+    Prefix,
 }
 
 /// All options, in order.
-pub const OPTIONS: [Opt; 6] = [
+pub const OPTIONS: [Opt; 7] = [
     Opt::Mode,
     Opt::Spef,
     Opt::Lib,
     Opt::Verilog,
     Opt::Cons,
     Opt::Net,
+    Opt::Prefix,
 ];
 
 /// Those that name files.
@@ -44,6 +47,7 @@ impl Opt {
             Opt::Verilog => "--verilog",
             Opt::Cons => "--cons",
             Opt::Net => "--net",
+            Opt::Prefix => "--prefix",
         }
     }
 
@@ -77,6 +81,8 @@ impl Opt {
             Some(Opt::Cons)
         } else if word == "--net" {
             Some(Opt::Net)
+        } else if word == "--prefix" {
+            Some(Opt::Prefix)
         } else {
             None
         }
