@@ -47,7 +47,7 @@ one_retiming nets first driver x y a b =
     omega (arith, ints)
 
 -- what was reached stays first
-reached_grow : (nets : ℕ → TimedNet) (start : Signal) (k m : ℕ) → k ≤ m → (more : List Signal) × (reached nets start m ≡ reached nets start k ++ more)
+pub reached_grow : (nets : ℕ → TimedNet) (start : Signal) (k m : ℕ) → k ≤ m → (more : List Signal) × (reached nets start m ≡ reached nets start k ++ more)
 unfolding reached
 reached_grow nets start k zero k_m =
     let e : 0 ≡ k = omega arith in ([], ap (reached nets start) e ∙ sym (append-nil (reached nets start k)))
@@ -98,7 +98,7 @@ walks_go_on nets Accepted start signals s walk all stop =
         ]
 
 -- whatever was reached stands in the walk
-in_walk : (nets : ℕ → TimedNet) (start : Signal) (signals : List Signal) → IsWalk nets start signals
+pub in_walk : (nets : ℕ → TimedNet) (start : Signal) (signals : List Signal) → IsWalk nets start signals
     → (k : ℕ) (s : Signal) → Contains (reached nets start k) s → Contains signals s
 in_walk nets start signals walk k s c =
     elim (cases_lt walk.k k) [

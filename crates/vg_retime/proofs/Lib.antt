@@ -13,3 +13,4 @@ pub mod SlackLemmas
 pub mod WayLemmas
 pub mod RangeLemmas
 pub mod SignalLemmas
+pub mod LawLemmas

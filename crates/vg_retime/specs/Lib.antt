@@ -6,3 +6,4 @@ pub mod Stops
 pub mod Retimings
 pub mod Times
 pub mod Steps
+pub mod Laws

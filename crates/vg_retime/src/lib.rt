@@ -6,9 +6,11 @@
 mod climb;
 mod come;
 mod down;
+mod laws;
 mod passages;
 mod retiming;
 mod signals;
 mod walk_net;
 
+pub use laws::retimed_or_refused;
 pub use retiming::retime;
