@@ -16,6 +16,8 @@ mod texts;
 #[cfg(test)]
 mod time;
 #[cfg(test)]
+mod walks;
+#[cfg(test)]
 mod wire;
 #[cfg(test)]
 mod words;

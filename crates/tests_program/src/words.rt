@@ -78,7 +78,68 @@ fn reads_each_spelling(rt: HostRuntime) -> Result<(), Fail> {
     Ok(())
 }
 
-static FAULTY: [(&str, WordFault); 29] = [
+/// What the names of cells that were put in begin with, by the words.
+static PREFIXES: [(&str, &str); 3] = [
+    (
+        "--mode time --spef a --lib l --verilog v --cons c --net n",
+        "vgi_",
+    ),
+    (
+        "--mode time --spef a --lib l --verilog v --cons c --net n --prefix w_",
+        "w_",
+    ),
+    (
+        "--prefix=_0123456789abcdefABCDEFxyzXYZ_32 --mode time --spef a --lib l --verilog v --cons c --net n",
+        "_0123456789abcdefABCDEFxyzXYZ_32",
+    ),
+];
+
+/// Whether the words ask for this prefix.
+fn asks_prefix(alloc: Global, line: &str, prefix: &str) -> Result<bool, Fail> {
+    let words = words_of(alloc, line)?;
+    let Ok(ask) = read_words(alloc, &words) else {
+        return Ok(false);
+    };
+    Ok(ask.prefix() == prefix)
+}
+
+#[test]
+fn reads_prefixes(rt: HostRuntime) -> Result<(), Fail> {
+    for (line, prefix) in &PREFIXES {
+        assert!(rt; asks_prefix(rt.alloc(), line, prefix)?, "{line}");
+    }
+    Ok(())
+}
+
+static FAULTY: [(&str, WordFault); 36] = [
+    (
+        "--mode wire --spef a --net n --prefix w_",
+        WordFault::Excluded(Opt::Prefix),
+    ),
+    (
+        "--mode best --spef a --lib l --verilog v --cons c --net n --prefix w_",
+        WordFault::Excluded(Opt::Prefix),
+    ),
+    (
+        "--mode time --spef a --lib l --verilog v --cons c --net n --prefix=",
+        WordFault::BadValue(Opt::Prefix),
+    ),
+    (
+        "--mode time --spef a --lib l --verilog v --cons c --net n --prefix 9w",
+        WordFault::BadValue(Opt::Prefix),
+    ),
+    (
+        "--mode time --spef a --lib l --verilog v --cons c --net n --prefix w-",
+        WordFault::BadValue(Opt::Prefix),
+    ),
+    (
+        "--mode time --spef a --lib l --verilog v --cons c --net= --prefix 9w",
+        WordFault::BadValue(Opt::Net),
+    ),
+    (
+        "--mode time --spef a --lib l --verilog v --cons c --net n --prefix _0123456789abcdefABCDEFxyzXYZ_33_",
+        WordFault::BadValue(Opt::Prefix),
+    ),
     ("--mode wire --spef a --net n --fast", WordFault::Unread),
     ("--mode wire --spef a --net n --", WordFault::Unread),
     ("--mode wire --spef a --net n --net n", WordFault::Unread),

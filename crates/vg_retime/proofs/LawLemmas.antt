@@ -129,7 +129,7 @@ not_up d prefix id first r is stop =
     let (later, e) = on_climb d prefix is.nets stop.nets id is.path stop.before first.net stop.at is.climb stop.rise is.accepted stop.accepted in
     let here : Contains (id ∷ is.path) stop.at
     = subst (λ (l : List ℕ). Contains l stop.at) (sym e)
-      (length stop.before, omega (arith, length-append stop.before (stop.at ∷ later)), get_or_at stop.before stop.at later stop.at (length stop.before) refl) in
+    (length stop.before, omega (arith, length-append stop.before (stop.at ∷ later)), get_or_at stop.before stop.at later stop.at (length stop.before) refl) in
     let accepted : IsNetIn 17 d prefix stop.at (is.nets stop.at)
     = All-contains (λ i. IsNetIn 17 d prefix i (is.nets i)) (id ∷ is.path) stop.at is.accepted here in
     elim stop.stops [
@@ -197,7 +197,7 @@ module _ (d : Design) (prefix : List ℕ) (nets others : Nets) (start : Signal) 
           = (j, slice_get_within (reached (timed_nets others) start j) j t e, get_or_from_slice_get (reached (timed_nets others) start j) j t t e) in
           let one : timed_nets others t.net ≡ timed_nets nets t.net
           = ap timed (one_net d prefix t.net (others t.net) (nets t.net) (was_passed j t few here.1 e)
-            (in_signals j t (subst (λ (xs : List Signal). Contains xs t) same here))) in
+          (in_signals j t (subst (λ (xs : List Signal). Contains xs t) same here))) in
           ap (passed_on_by (timed_nets others)) e ∙ ap (λ (n : TimedNet). passed_on n t) one
           ∙ sym (ap (λ (xs : List Signal). passed_on_by (timed_nets nets) (slice_get xs j)) (sym same) ∙ ap (passed_on_by (timed_nets nets)) e)
 
@@ -238,13 +238,13 @@ not_sinkless d prefix asked a b s w goal p q first meets none =
     = λ id x y (m, m_is, m_e) (n, n_is, n_e). sym m_e ∙ ap timed (one_net d prefix id m n m_is n_is) ∙ n_e in
     let same : a.signals ≡ b.signals
     = one_walk_over Is one (timed_nets a.nets) (timed_nets b.nets) (begins b.first) a.signals b.signals
-      (subst (λ (f : First). IsWalk (timed_nets a.nets) (begins f) a.signals) first p.walk) q.walk
-      (record { each = λ t here. (a.nets t.net, All-contains (λ t. IsNetIn 17 d prefix t.net (a.nets t.net)) a.signals t p.met here, refl) })
-      (record { each = λ t here. (b.nets t.net, All-contains (λ t. IsNetIn 17 d prefix t.net (b.nets t.net)) b.signals t q.met here, refl) }) in
+    (subst (λ (f : First). IsWalk (timed_nets a.nets) (begins f) a.signals) first p.walk) q.walk
+    (record { each = λ t here. (a.nets t.net, All-contains (λ t. IsNetIn 17 d prefix t.net (a.nets t.net)) a.signals t p.met here, refl) })
+    (record { each = λ t here. (b.nets t.net, All-contains (λ t. IsNetIn 17 d prefix t.net (b.nets t.net)) b.signals t q.met here, refl) }) in
     let there : Contains b.signals s = subst (λ (xs : List Signal). Contains xs s) same meets.come in
     let net : a.nets s.net ≡ b.nets s.net
     = one_net d prefix s.net (a.nets s.net) (b.nets s.net) (All-contains (λ t. IsNetIn 17 d prefix t.net (a.nets t.net)) a.signals s p.met meets.come)
-      (All-contains (λ t. IsNetIn 17 d prefix t.net (b.nets t.net)) b.signals s q.met there) in
+    (All-contains (λ t. IsNetIn 17 d prefix t.net (b.nets t.net)) b.signals s q.met there) in
     none s w goal (record { come = there; here = subst (λ (n : WalkNet). end_at (timed n) w ≡ sink goal) net meets.here })
 
 pub retimed_not_refused : RetimedNotRefused
@@ -261,7 +261,7 @@ retimed_not_refused d prefix asked timed_as r is (at_end way is_way none _) =
     let (s, w, goal, meets, _) = is.slack.met in
     let same : way.first ≡ is.way.first
     = same_first d prefix is.is_way.id way.first is.way.first
-      (subst (λ i. IsFirstNet 17 d prefix i way.first) (some_id is_way.id is.is_way.id (sym is_way.named ∙ is.is_way.named)) is_way.climb) is.is_way.climb in
+    (subst (λ i. IsFirstNet 17 d prefix i way.first) (some_id is_way.id is.is_way.id (sym is_way.named ∙ is.is_way.named)) is_way.climb) is.is_way.climb in
     let signals : is.slack.signals ≡ is.way.signals
     = one_walk (timed_nets is.way.nets) (begins is.way.first) is.slack.signals is.way.signals is.slack.walk is.is_way.walk in
     not_sinkless d prefix asked is.way way s w goal is.is_way is_way (sym same)

@@ -29,11 +29,13 @@ use Rattle.vg_design.specs.Nets.{IsNetProblem}
 use Rattle.vg_design.specs.Refusals.{IsFirstRefusal}
 use Rattle.vg_design.specs.declared.net_problem.NetProblem.{NetProblem}
 use Rattle.vg_design.proofs.LawLemmas.{one_problem}
+use Rattle.vg_retime.specs.Retimings.{IsFirstRefusal as IsFirstOnWay}
+use Rattle.vg_retime.proofs.LawLemmas.{retimed_not_refused}
 use Rattle.vg_inputs.specs.Designs.{IsSpef, IsDesign}
 use Rattle.vg_inputs.proofs.LawLemmas.{apart_faults, library_apart, module_apart, one_is}
 use Rattle.vginsert_top.specs.Answer.{IsAnswerFor, IsNoneFor, IsReportFor, IsRefusalFor, design_texts}
 use Rattle.vginsert_top.specs.Inputs.{design_inputs, inputs, IsFirstFault}
-use Rattle.vginsert_top.specs.Results.{IsDesignRefusal}
+use Rattle.vginsert_top.specs.Results.{Asked, IsDesignRefusal, IsTimes, IsTimeRefusal}
 use Rattle.vginsert_top.specs.declared.answer.AnswerKind.{AnswerKind}
 use Rattle.vginsert_top.specs.declared.answer.AnswerKind.TheVariants.{Report, NoneGood, Refusal as Refused}
 use Rattle.vginsert_top.specs.declared.input.Input.{Input}
@@ -120,17 +122,25 @@ few_refusals NoSink = omega arith
 few_refusals TooLarge = omega arith
 
 -- of the texts of a mode an answer has one kind
-module _ (net : Bytes) (texts : Input → Bytes) where
+module _ (net : Asked) (texts : Input → Bytes) where
   -- a net that has a problem is not refused
-  not_refused : (d : Design) (found : NetProblem) (u : Bytes) → IsDesign (design_texts texts) d → IsNetProblem d net found → IsDesignRefusal (design_texts texts) net u → ⊥
+  not_refused : (d : Design) (found : NetProblem) (u : Bytes) → IsDesign (design_texts texts) d → IsNetProblem d net.net found → IsDesignRefusal (design_texts texts) net.net u → ⊥
   not_refused d found u design_of net_of r =
       let same : d ≡ r.design = one_is (design_texts texts) d r.design design_of r.design_of in
-      let refused : IsFirstRefusal d net r.refusal = subst (λ (design : Design). IsFirstRefusal design net r.refusal) (sym same) r.refused in
+      let refused : IsFirstRefusal d net.net r.refusal = subst (λ (design : Design). IsFirstRefusal design net.net r.refusal) (sym same) r.refused in
       net_of.accepted r.refusal (few_refusals r.refusal) refused.holds
 
+  -- a net that re-times is not refused
+  not_stopped : (t u : Bytes) → IsTimes (design_texts texts) net t → IsTimeRefusal (design_texts texts) net u → ⊥
+  not_stopped t u d r =
+      let same : d.design ≡ r.design = one_is (design_texts texts) d.design r.design d.design_of r.design_of in
+      let refused : IsFirstOnWay d.design net.prefix net.net r.refusal
+      = subst (λ (design : Design). IsFirstOnWay design net.prefix net.net r.refusal) (sym same) r.refused in
+      retimed_not_refused d.design net.prefix net.net d.timed r.refusal d.timed_of refused
+
   report_not_refusal : (mode : Mode) (t u : Bytes) → IsReportFor mode texts net t → IsRefusalFor mode texts net u → ⊥
-  report_not_refusal Wire t u d r = passed_is (texts Spef) net d.wire_of.net 17 r.refusal d.wire_of.named d.wire_of.accepted (omega arith) r.refused (few_refusals r.refusal)
-  report_not_refusal Time t u d r = not_refused d.design d.timed_of.found u d.design_of d.timed_of.problem r
+  report_not_refusal Wire t u d r = passed_is (texts Spef) net.net d.wire_of.net 17 r.refusal d.wire_of.named d.wire_of.accepted (omega arith) r.refused (few_refusals r.refusal)
+  report_not_refusal Time t u d r = not_stopped t u d r
   report_not_refusal Best t u d r = not_refused d.design d.net u d.design_of d.net_of r
 
   none_not_refusal : (mode : Mode) (t u : Bytes) → IsNoneFor mode texts net t → IsRefusalFor mode texts net u → ⊥
@@ -143,8 +153,8 @@ module _ (net : Bytes) (texts : Input → Bytes) where
   report_not_none Time t u d none = none
   report_not_none Best t u d none =
       let same : d.design ≡ none.design = one_is (design_texts texts) d.design none.design d.design_of none.design_of in
-      let here : IsNetProblem none.design net d.net = subst (λ (design : Design). IsNetProblem design net d.net) same d.net_of in
-      none.none d.best.placement.cells (good_as d.net none.net (one_problem none.design net d.net none.net here none.net_of) d.best.placement.cells d.best_of.best.good)
+      let here : IsNetProblem none.design net.net d.net = subst (λ (design : Design). IsNetProblem design net.net d.net) same d.net_of in
+      none.none d.best.placement.cells (good_as d.net none.net (one_problem none.design net.net d.net none.net here none.net_of) d.best.placement.cells d.best_of.best.good)
 
   pub one_kind : (mode : Mode) (a b : AnswerKind) (t u : Bytes) → IsAnswerFor a mode texts net t → IsAnswerFor b mode texts net u → a ≡ b
   one_kind mode Report Report t u p q = refl
@@ -176,6 +186,6 @@ module _ (net : Bytes) (texts : Input → Bytes) where
   not_faulty NoneGood Wire t line input none f = none
   not_faulty NoneGood Time t line input none f = none
   not_faulty NoneGood Best t line input none f = design_not_faulty none.design line input none.design_of f
-  not_faulty Refused Wire t line input r f = (let file = has_file (texts Spef) net r.refusal r.refused in file_not_faulty file.0 line input file.1 f)
+  not_faulty Refused Wire t line input r f = (let file = has_file (texts Spef) net.net r.refusal r.refused in file_not_faulty file.0 line input file.1 f)
   not_faulty Refused Time t line input r f = design_not_faulty r.design line input r.design_of f
   not_faulty Refused Best t line input r f = design_not_faulty r.design line input r.design_of f

@@ -23,7 +23,7 @@ use Rattle.vg_wire.specs.declared.refusal.Refusal.TheVariants.{UnknownNet, Secti
 use Rattle.vg_wire.specs.declared.wire.WireNet.{WireNet}
 use Rattle.vg_words.specs.declared.ask.Mode.TheVariants.{Wire}
 use Rattle.vginsert_top.specs.Answer.{AnswersFor, IsAnswerFor, texts_of}
-use Rattle.vginsert_top.specs.Results.{IsSpefFault}
+use Rattle.vginsert_top.specs.Results.{Asked, IsSpefFault}
 use Rattle.vginsert_top.specs.declared.answer.Answer.{Answer}
 use Rattle.vginsert_top.specs.declared.answer.AnswerKind.{AnswerKind}
 use Rattle.vginsert_top.specs.declared.answer.AnswerKind.TheVariants.{Report, NoneGood, Refusal as Refused}
@@ -86,12 +86,12 @@ module _ (raw clear : List ℕ) (same : without_comments Spef clear ≡ without_
   spef_same line h = record { fault = h.fault; found = fault_of_file_same h.fault h.found; text_is = h.text_is }
 
   -- an answer of the one is an answer of the other
-  wire_kind : (lib verilog cons name text : List ℕ) (kind : AnswerKind) → IsAnswerFor kind Wire (texts_of clear [] [] []) name text → IsAnswerFor kind Wire (texts_of raw lib verilog cons) name text
-  wire_kind lib verilog cons name text Report h = record { wire = h.wire; wire_of = wire_same name h.wire h.wire_of; text_is = h.text_is }
+  wire_kind : (lib verilog cons : List ℕ) (name : Asked) (text : List ℕ) (kind : AnswerKind) → IsAnswerFor kind Wire (texts_of clear [] [] []) name text → IsAnswerFor kind Wire (texts_of raw lib verilog cons) name text
+  wire_kind lib verilog cons name text Report h = record { wire = h.wire; wire_of = wire_same name.net h.wire h.wire_of; text_is = h.text_is }
   wire_kind lib verilog cons name text NoneGood h = h
-  wire_kind lib verilog cons name text Refused h = record { refusal = h.refusal; refused = refusal_same name h.refusal h.refused; text_is = h.text_is }
+  wire_kind lib verilog cons name text Refused h = record { refusal = h.refusal; refused = refusal_same name.net h.refusal h.refused; text_is = h.text_is }
 
-  pub wire_answers : (lib verilog cons name : List ℕ) (result : Result Answer NoAnswer) → AnswersFor Wire (texts_of clear [] [] []) name result → AnswersFor Wire (texts_of raw lib verilog cons) name result
+  pub wire_answers : (lib verilog cons : List ℕ) (name : Asked) (result : Result Answer NoAnswer) → AnswersFor Wire (texts_of clear [] [] []) name result → AnswersFor Wire (texts_of raw lib verilog cons) name result
   wire_answers lib verilog cons name (Ok answer) h = wire_kind lib verilog cons name answer.text.items answer.kind h
   wire_answers lib verilog cons name (Err (FaultyInput input line)) (inl (is, fault)) = inl (is, spef_same line fault)
   wire_answers lib verilog cons name (Err (FaultyInput input line)) (inr (good, none)) = absurd none

@@ -4,17 +4,17 @@ use Rattle.std.specs.List.{All}
 use Rattle.vg_store.specs.Causes.{Rose}
 use Rattle.vg_store.specs.Reading.{FilesState}
 use Rattle.vg_store.specs.Writing.{OutState, Gains, GainsPrefix}
-use Rattle.vg_words.specs.Request.{text_for, IsRequest, IsRefused, ReadsWords}
+use Rattle.vg_words.specs.Request.{IsRequest, IsRefused, ReadsWords}
 use Rattle.vg_words.specs.declared.ask.Ask.{Ask}
 use Rattle.vg_words.specs.declared.ask.Mode.{Mode}
 use Rattle.vg_words.specs.declared.ask.Mode.TheVariants.{Wire, Time, Best}
 use Rattle.vg_words.specs.declared.ask.WordFault.{WordFault}
 use Rattle.vg_words.specs.declared.ask.WordFault.TheVariants.{Unread, Missing, Excluded, BadValue, Equal, Memory as NoRoom}
-use Rattle.vg_words.specs.declared.option.Opt.TheVariants.{Net}
 use Rattle.vg_words.proofs.JudgeLemmas.{refused_none, one}
 use Rattle.vginsert_top.specs.Answer.{IsAnswerFor, texts_of}
 use Rattle.vginsert_top.specs.Inputs.{design_inputs, inputs, told, Change, IsShort, IsLong, IsRead, IsFirstFault}
-use Rattle.vginsert_top.specs.Run.{AreTold, AreShort, IsExact, IsStatusFor, Prints, PrintsSome, Says, TellsFlaw, status_for}
+use Rattle.vginsert_top.specs.Results.{Asked}
+use Rattle.vginsert_top.specs.Run.{asked_by, AreTold, AreShort, IsExact, IsStatusFor, Prints, PrintsSome, Says, TellsFlaw, status_for}
 use Rattle.vginsert_top.specs.Outcomes.{Ends, IsStatusOf, Tells, status_of, fault_status}
 use Rattle.vginsert_top.specs.declared.answer.AnswerKind.{AnswerKind}
 use Rattle.vginsert_top.specs.declared.answer.AnswerKind.TheVariants.{Report, NoneGood, Refusal}
@@ -47,18 +47,18 @@ fault_two (Equal a b) = inl refl
 fault_two NoRoom = inr refl
 
 module _ (ask : Ask) (texts : Input → Bytes) where
-  answer_status : AreShort ask texts → (kind : AnswerKind) (t : Bytes) → IsAnswerFor kind ask.mode texts (text_for ask Net) t → IsStatusFor ask texts (status_for kind)
+  answer_status : AreShort ask texts → (kind : AnswerKind) (t : Bytes) → IsAnswerFor kind ask.mode texts (asked_by ask) t → IsStatusFor ask texts (status_for kind)
   answer_status short kind t is = record {
     too_long = λ long. absurd (long short);
-    faulty = λ _ line input f. absurd (not_faulty (text_for ask Net) texts kind ask.mode t line input is f);
-    answer = λ _ other u r. ap status_for (one_kind (text_for ask Net) texts ask.mode kind other t u is r);
+    faulty = λ _ line input f. absurd (not_faulty (asked_by ask) texts kind ask.mode t line input is f);
+    answer = λ _ other u r. ap status_for (one_kind (asked_by ask) texts ask.mode kind other t u is r);
   }
 
   faulty_status : (line : Bytes) (input : Input) → IsFirstFault texts (inputs ask.mode) line input → IsStatusFor ask texts 4
   faulty_status line input is = record {
     too_long = λ _. refl;
     faulty = λ _ _ _ _. refl;
-    answer = λ _ kind t r. absurd (not_faulty (text_for ask Net) texts kind ask.mode t line input r is);
+    answer = λ _ kind t r. absurd (not_faulty (asked_by ask) texts kind ask.mode t line input r is);
   }
 
   long_status : (AreShort ask texts → ⊥) → IsStatusFor ask texts 4
@@ -100,7 +100,7 @@ along P a b (s, l, v, c) p =
     (subst (λ (verilog : Bytes). P (texts_of (b Spef) (b Lib) verilog (a Cons))) v
     (subst (λ (lib : Bytes). P (texts_of (b Spef) lib (a Verilog) (a Cons))) l (subst (λ (spef : Bytes). P (texts_of spef (a Lib) (a Verilog) (a Cons))) s p)))
 
-answer_as : (kind : AnswerKind) (mode : Mode) (a b : Input → Bytes) (net t : Bytes) → Agree mode a b → IsAnswerFor kind mode a net t → IsAnswerFor kind mode b net t
+answer_as : (kind : AnswerKind) (mode : Mode) (a b : Input → Bytes) (net : Asked) (t : Bytes) → Agree mode a b → IsAnswerFor kind mode a net t → IsAnswerFor kind mode b net t
 answer_as Report Wire a b net t e is = subst (λ (s : Bytes). IsAnswerFor Report Wire (texts_of s (b Lib) (b Verilog) (b Cons)) net t) e is
 answer_as Report Time a b net t e is = along (λ texts. IsAnswerFor Report Time texts net t) a b e is
 answer_as Report Best a b net t e is = along (λ texts. IsAnswerFor Report Best texts net t) a b e is
@@ -158,7 +158,7 @@ module _ (ask : Ask) (files : Change FilesState) (out : Change OutState) where
       → status_of outcome ≢ 5 → status_of outcome ≢ 6 → status_of outcome ≢ 7 → IsStatusFor ask b (status_of outcome)
   exact_is (Printed kind) (a, read, (t, is, _)) b tells five six seven =
       let e = agree ask.mode (told files.0 ask) a b read tells in
-      answer_status ask b (shorts ask.mode (told files.0 ask) a b read e) kind t (answer_as kind ask.mode a b (text_for ask Net) t e is)
+      answer_status ask b (shorts ask.mode (told files.0 ask) a b read e) kind t (answer_as kind ask.mode a b (asked_by ask) t e is)
   exact_is (Flawed input (Faulty line)) (flawed, _) b tells five six seven =
       let e = agree ask.mode (told files.0 ask) flawed.texts b flawed.first.0 tells in
       faulty_status ask b line input (faulty_as ask.mode flawed.texts b line input e flawed.first.1)

@@ -9,7 +9,7 @@ use Rattle.vg_words.specs.declared.ask.Mode.{Mode}
 use Rattle.vg_words.specs.declared.ask.Mode.TheVariants.{Wire, Time, Best}
 use Rattle.vginsert_top.specs.Inputs.{inputs, IsFirstFault}
 use Rattle.vginsert_top.specs.Faults.{cons_fault, lib_fault, spef_fault, ver_fault}
-use Rattle.vginsert_top.specs.Results.{IsBestReport, IsDelays, IsDesignRefusal, IsNoneReport, IsRefusal, IsTimes, IsSpefFault}
+use Rattle.vginsert_top.specs.Results.{Asked, IsBestReport, IsDelays, IsDesignRefusal, IsNoneReport, IsRefusal, IsTimes, IsTimeRefusal, IsSpefFault}
 use Rattle.vginsert_top.specs.declared.input.Input.{Input}
 use Rattle.vginsert_top.specs.declared.input.Input.TheVariants.{Spef, Lib, Verilog, Cons}
 use Rattle.vginsert_top.specs.declared.input.Texts.{Texts as TextsRead}
@@ -24,34 +24,34 @@ abbrev pub design_texts : (Input → List ℕ) → Texts
 design_texts texts = record { spef = texts Spef; lib = texts Lib; verilog = texts Verilog; cons = texts Cons }
 
 -- the text is the report that a mode prints
-abbrev pub IsReportFor : Mode → (Input → List ℕ) → List ℕ → List ℕ → Type 0
-IsReportFor Wire texts net text = IsDelays (texts Spef) net text
-IsReportFor Time texts net text = IsTimes (design_texts texts) net text
-IsReportFor Best texts net text = IsBestReport (design_texts texts) net text
+abbrev pub IsReportFor : Mode → (Input → List ℕ) → Asked → List ℕ → Type 0
+IsReportFor Wire texts asked text = IsDelays (texts Spef) asked.net text
+IsReportFor Time texts asked text = IsTimes (design_texts texts) asked text
+IsReportFor Best texts asked text = IsBestReport (design_texts texts) asked.net text
 
 -- the text says that no placement is good, which mode `best` alone may say
-abbrev pub IsNoneFor : Mode → (Input → List ℕ) → List ℕ → List ℕ → Type 0
-IsNoneFor Wire texts net text = ⊥
-IsNoneFor Time texts net text = ⊥
-IsNoneFor Best texts net text = IsNoneReport (design_texts texts) net text
+abbrev pub IsNoneFor : Mode → (Input → List ℕ) → Asked → List ℕ → Type 0
+IsNoneFor Wire texts asked text = ⊥
+IsNoneFor Time texts asked text = ⊥
+IsNoneFor Best texts asked text = IsNoneReport (design_texts texts) asked.net text
 
 -- the text refuses the net
-abbrev pub IsRefusalFor : Mode → (Input → List ℕ) → List ℕ → List ℕ → Type 0
-IsRefusalFor Wire texts net text = IsRefusal (texts Spef) net text
-IsRefusalFor Time texts net text = IsDesignRefusal (design_texts texts) net text
-IsRefusalFor Best texts net text = IsDesignRefusal (design_texts texts) net text
+abbrev pub IsRefusalFor : Mode → (Input → List ℕ) → Asked → List ℕ → Type 0
+IsRefusalFor Wire texts asked text = IsRefusal (texts Spef) asked.net text
+IsRefusalFor Time texts asked text = IsTimeRefusal (design_texts texts) asked text
+IsRefusalFor Best texts asked text = IsDesignRefusal (design_texts texts) asked.net text
 
 -- the text is an answer of this kind
-abbrev pub IsAnswerFor : AnswerKind → Mode → (Input → List ℕ) → List ℕ → List ℕ → Type 0
-IsAnswerFor Report mode texts net text = IsReportFor mode texts net text
-IsAnswerFor NoneGood mode texts net text = IsNoneFor mode texts net text
-IsAnswerFor Refusal mode texts net text = IsRefusalFor mode texts net text
+abbrev pub IsAnswerFor : AnswerKind → Mode → (Input → List ℕ) → Asked → List ℕ → Type 0
+IsAnswerFor Report mode texts asked text = IsReportFor mode texts asked text
+IsAnswerFor NoneGood mode texts asked text = IsNoneFor mode texts asked text
+IsAnswerFor Refusal mode texts asked text = IsRefusalFor mode texts asked text
 
 -- what judging the texts of a mode may answer: an answer, the first fault, or out of memory
-abbrev pub AnswersFor : Mode → (Input → List ℕ) → List ℕ → Result Answer NoAnswer → Type 0
-AnswersFor mode texts net (Ok answer) = IsAnswerFor answer.kind mode texts net answer.text.items
-AnswersFor mode texts net (Err (Faulty input line)) = IsFirstFault texts (inputs mode) line input
-AnswersFor mode texts net (Err Memory) = Unit {0}
+abbrev pub AnswersFor : Mode → (Input → List ℕ) → Asked → Result Answer NoAnswer → Type 0
+AnswersFor mode texts asked (Ok answer) = IsAnswerFor answer.kind mode texts asked answer.text.items
+AnswersFor mode texts asked (Err (Faulty input line)) = IsFirstFault texts (inputs mode) line input
+AnswersFor mode texts asked (Err Memory) = Unit {0}
 
 -- these texts
 abbrev pub texts_of : List ℕ → List ℕ → List ℕ → List ℕ → Input → List ℕ

@@ -10,10 +10,11 @@ use Rattle.vg_cons.specs.Lines.{lines_of as cons_lines}
 use Rattle.vg_cons.specs.Faults.{IsFaultIn}
 use Rattle.vg_cons.specs.declared.fault.ConsKind.{ConsKind}
 use Rattle.vg_design.specs.Designs.{Design}
-use Rattle.vg_design.specs.Nets.{IsNetProblem, IsTimedOf}
+use Rattle.vg_design.specs.Nets.{IsNetProblem}
 use Rattle.vg_design.specs.Refusals.{IsFirstRefusal}
 use Rattle.vg_design.specs.declared.time.Timed.{Timed}
 use Rattle.vg_inputs.specs.Designs.{Texts, IsDesign}
+use Rattle.vg_retime.specs.Retimings.{Retimes, IsFirstRefusal as IsFirstOnWay}
 use Rattle.vg_scan.specs.declared.fault.LineFault.{LineFault}
 use Rattle.vg_wire.specs.Nets.{IsRefusalOf}
 use Rattle.vg_wire.specs.Wires.{IsWireOf}
@@ -62,13 +63,26 @@ pub record IsConsFault (cons text : List ℕ) : Type 0 where
   pub found : IsFaultIn (cons_lines cons) fault
   pub text_is : text ≡ cons_fault fault
 
--- the four texts are a design, its net of this name has a slack, and the text reports it
-pub record IsTimes (texts : Texts) (name text : List ℕ) : Type 0 where
+-- What is asked of a net: its name, and what the names of cells that were put in begin with.
+pub record Asked : Type 0 where
+  pub net : List ℕ
+  pub prefix : List ℕ
+
+-- the four texts are a design, the net that is asked for re-times through the cells that were put in, and the text reports it
+pub record IsTimes (texts : Texts) (asked : Asked) (text : List ℕ) : Type 0 where
   pub design : Design
   pub design_of : IsDesign texts design
   pub timed : Timed
-  pub timed_of : IsTimedOf design name timed
-  pub text_is : text ≡ slack_line name timed
+  pub timed_of : Retimes 17 design asked.prefix asked.net timed
+  pub text_is : text ≡ slack_line asked.net timed
+
+-- the walk from it is refused, and the text says why
+pub record IsTimeRefusal (texts : Texts) (asked : Asked) (text : List ℕ) : Type 0 where
+  pub design : Design
+  pub design_of : IsDesign texts design
+  pub refusal : Refusal
+  pub refused : IsFirstOnWay design asked.prefix asked.net refusal
+  pub text_is : text ≡ refusal_line asked.net refusal
 
 -- the four texts are a design, its net of this name has a best placement, without a cell where one without a cell is best, and
 -- the text reports it

@@ -5,7 +5,7 @@ use Rattle.vg_store.specs.Causes.{Rose}
 use Rattle.vg_store.specs.Reading.{FilesState}
 use Rattle.vg_store.specs.Writing.{OutState, Gains, GainsPrefix}
 use Rattle.vg_words.specs.Options.{name_of as option_name}
-use Rattle.vg_words.specs.Request.{text_for, IsRequest, IsRefused}
+use Rattle.vg_words.specs.Request.{prefix_of, text_for, IsRequest, IsRefused}
 use Rattle.vg_words.specs.declared.ask.Ask.{Ask}
 use Rattle.vg_words.specs.declared.ask.WordFault.{WordFault}
 use Rattle.vg_words.specs.declared.ask.WordFault.TheVariants.{Unread, Missing, Excluded, BadValue, Equal, Memory as NoRoom}
@@ -14,9 +14,14 @@ use Rattle.vginsert_top.specs.Answer.{IsAnswerFor}
 use Rattle.vginsert_top.specs.declared.answer.AnswerKind.{AnswerKind}
 use Rattle.vginsert_top.specs.declared.answer.AnswerKind.TheVariants.{Report, NoneGood, Refusal}
 use Rattle.vginsert_top.specs.Inputs.{inputs, name_of, told, Change, IsShort, AreRead, IsFirstFault, IsFlawed}
+use Rattle.vginsert_top.specs.Results.{Asked}
 use Rattle.vginsert_top.specs.declared.input.Input.{Input}
 use Rattle.vginsert_top.specs.declared.input.Flaw.{Flaw}
 use Rattle.vginsert_top.specs.declared.input.Flaw.TheVariants.{Failed, TooLong, Faulty}
+
+-- what a request asks of its net
+abbrev pub asked_by : Ask → Asked
+asked_by ask = record { net = text_for ask Net; prefix = prefix_of ask }
 
 -- the words are a request, and this holds of it
 abbrev pub ForRequest : List (List ℕ) → (Ask → Type 0) → Type 0
@@ -58,7 +63,7 @@ refused_line NoRoom = codes "vginsert: out of memory\n"
 -- of the texts that were read an output gained an answer of this kind
 abbrev pub Prints : AnswerKind → FilesState → (List ℕ → Type 0) → Ask → Type 0
 Prints kind files Gained ask =
-    (texts : Input → List ℕ) × AreRead files ask texts × ((text : List ℕ) × IsAnswerFor kind ask.mode texts (text_for ask Net) text × Gained text)
+    (texts : Input → List ℕ) × AreRead files ask texts × ((text : List ℕ) × IsAnswerFor kind ask.mode texts (asked_by ask) text × Gained text)
 
 abbrev pub PrintsSome : FilesState → (List ℕ → Type 0) → Ask → Type 0
 PrintsSome files Gained ask = (kind : AnswerKind) × Prints kind files Gained ask
@@ -94,7 +99,7 @@ AreShort ask texts = All (λ input. IsShort (texts input)) (inputs ask.mode)
 pub record IsStatusFor (ask : Ask) (texts : Input → List ℕ) (status : ℕ) : Type 0 where
   pub too_long : (AreShort ask texts → ⊥) → status ≡ 4
   pub faulty : AreShort ask texts → (line : List ℕ) (input : Input) → IsFirstFault texts (inputs ask.mode) line input → status ≡ 4
-  pub answer : AreShort ask texts → (kind : AnswerKind) (text : List ℕ) → IsAnswerFor kind ask.mode texts (text_for ask Net) text → status ≡ status_for kind
+  pub answer : AreShort ask texts → (kind : AnswerKind) (text : List ℕ) → IsAnswerFor kind ask.mode texts (asked_by ask) text → status ≡ status_for kind
 
 -- where nothing failed, the status is exactly the one that the files and the request ask for
 abbrev pub IsExact : List (List ℕ) → FilesState → ℕ → Type 0

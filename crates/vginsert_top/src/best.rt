@@ -1,6 +1,6 @@
 //! The best placement of repeaters on a net, as text.
 
-ghost use Rattle.std.specs.Prelude.{◌≡◌, ◌<◌, ◌≤◌, ◌^◌, ◌++◌, length, OnOk, IfOk};
+ghost use Rattle.std.specs.Prelude.{◌≡◌, ◌<◌, ◌≤◌, ◌^◌, ◌++◌, [], length, OnOk, IfOk};
 ghost use Rattle.elmore.specs.Placed.{IsPlacementOf};
 ghost use Rattle.elmore.specs.Placements.{IsPlacement};
 ghost use Rattle.vg_design.specs.Nets.{IsNetProblem};
@@ -135,7 +135,7 @@ pub fn best_for(alloc: Global, inputs: Inputs, name: &[u8]) -> Result<Answer, No
     requires lib { length inputs.lib.items ≤ 2 ^ 28 }
     requires verilog { length inputs.verilog.items ≤ 2 ^ 28 }
     requires cons { length inputs.cons.items ≤ 2 ^ 28 }
-    ensures { AnswersFor Mode.Best (texts_by (texts_of inputs)) name.now result }
+    ensures { AnswersFor Mode.Best (texts_by (texts_of inputs)) (record { net = name.now; prefix = [] }) result }
 {
     let design = design_of(alloc, inputs)?;
     let net = Name::from_bytes(alloc, name)?;

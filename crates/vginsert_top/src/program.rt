@@ -1,5 +1,5 @@
 //! The top call: from the words to the bytes that are written.
-ghost use Rattle.std.specs.Prelude.{◌≡◌, ◌≢◌, ◌⊎◌, ◌≤◌, ◌^◌, length, ℕ, List, IsTrue};
+ghost use Rattle.std.specs.Prelude.{[], ◌≡◌, ◌≢◌, ◌⊎◌, ◌≤◌, ◌^◌, length, ℕ, List, IsTrue};
 ghost use Rattle.vg_store.specs.Causes.{Rose};
 ghost use Rattle.vg_store.specs.Writing.{Gains, GainsPrefix};
 ghost use Rattle.vg_words.specs.Request.{texts, IsRequest};
@@ -29,16 +29,23 @@ use vg_words::{Ask, Mode, Opt, WordFault, read_words};
 /// What is said of the wire delays of a net of the file of these bytes.
 fn wire_in(alloc: Global, spef: Vec<u8>, net: &[u8]) -> Result<Answer, NoAnswer>
     requires { length spef.items ≤ 2 ^ 28 }
-    ensures { (lib verilog cons : List ℕ) → AnswersFor ModeSpec.Wire (texts_of spef.items lib verilog cons) net.now result }
+    ensures { (lib verilog cons : List ℕ)
+        → AnswersFor ModeSpec.Wire (texts_of spef.items lib verilog cons) (record { net = net.now; prefix = [] }) result }
 {
     let text = SpefText::new(spef);
     wire_for(alloc, &text, net)
 }
 
-/// What is said of a net of the inputs that a mode has read.
-fn answer(alloc: Global, mode: Mode, texts: Texts, net: &[u8]) -> Result<Answer, NoAnswer>
+/// What is said of a net of the inputs that a mode has read, where the names of cells that were put in begin with the prefix.
+fn answer(
+    alloc: Global,
+    mode: Mode,
+    texts: Texts,
+    net: &[u8],
+    prefix: &[u8],
+) -> Result<Answer, NoAnswer>
     requires { All (λ input. IsShort (texts_in texts input)) (inputs mode) }
-    ensures { AnswersFor mode (texts_in texts) net.now result }
+    ensures { AnswersFor mode (texts_in texts) (record { net = net.now; prefix = prefix.now }) result }
 {
     let Texts {
         spef,
@@ -54,7 +61,7 @@ fn answer(alloc: Global, mode: Mode, texts: Texts, net: &[u8]) -> Result<Answer,
     };
     match mode {
         Mode::Wire => wire_in(alloc, inputs.spef, net),
-        Mode::Time => time_for(alloc, inputs, net),
+        Mode::Time => time_for(alloc, inputs, net, prefix),
         Mode::Best => best_for(alloc, inputs, net),
     }
 }
@@ -80,7 +87,8 @@ fn execute<F: Files, O: Out>(alloc: Global, ask: &Ask, files: &mut F, out: &mut 
         Err((input, ReadAll::TooLong)) => return Outcome::Flawed(input, Flaw::TooLong),
         Err((_, ReadAll::Memory)) => return Outcome::Memory,
     };
-    match answer(alloc, ask.mode, texts, ask.text(Opt::Net).as_bytes()) {
+    let net = ask.text(Opt::Net).as_bytes();
+    match answer(alloc, ask.mode, texts, net, ask.prefix().as_bytes()) {
         Ok(answer) => print(out, &answer.text, Outcome::Printed(answer.kind)),
         Err(NoAnswer::Faulty(input, line)) => Outcome::Flawed(input, Flaw::Faulty(line)),
         Err(NoAnswer::Memory) => Outcome::Memory,

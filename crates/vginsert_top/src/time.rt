@@ -9,9 +9,10 @@ use crate::answer::{Answer, AnswerKind, NoAnswer, design_of};
 use crate::report::{print_node, print_slack};
 use crate::wire::refuse;
 use std::alloc::Global;
-use vg_design::{Timed, time_net};
+use vg_design::Timed;
 use vg_inputs::Inputs;
 use vg_num::Memory;
+use vg_retime::retime;
 use vg_scan::Name;
 use vg_wire::Refused;
 
@@ -31,17 +32,23 @@ fn report_slack(alloc: Global, name: &[u8], timed: &Timed) -> Result<Vec<u8>, Me
     Ok(text)
 }
 
-/// What is said of the slack of the net of this name in the design of four files.
-pub fn time_for(alloc: Global, inputs: Inputs, name: &[u8]) -> Result<Answer, NoAnswer>
+/// What is said of the slack of the net of this name in the design of four files, through the cells that were put in, whose names
+/// begin with the prefix.
+pub fn time_for(
+    alloc: Global,
+    inputs: Inputs,
+    name: &[u8],
+    prefix: &[u8],
+) -> Result<Answer, NoAnswer>
     requires spef { length inputs.spef.items ≤ 2 ^ 28 }
     requires lib { length inputs.lib.items ≤ 2 ^ 28 }
     requires verilog { length inputs.verilog.items ≤ 2 ^ 28 }
     requires cons { length inputs.cons.items ≤ 2 ^ 28 }
-    ensures { AnswersFor Mode.Time (texts_by (texts_of inputs)) name.now result }
+    ensures { AnswersFor Mode.Time (texts_by (texts_of inputs)) (record { net = name.now; prefix = prefix.now }) result }
 {
     let design = design_of(alloc, inputs)?;
     let net = Name::from_bytes(alloc, name)?;
-    match time_net(alloc, &design, &net) {
+    match retime(alloc, &design, &net, prefix) {
         Ok(timed) => Ok(Answer {
             kind: AnswerKind::Report,
             text: report_slack(alloc, name, &timed)?,

@@ -85,7 +85,7 @@ pub fn refuse(alloc: Global, name: &[u8], refusal: &Refusal) -> Result<Answer, M
 
 /// What is said of the wire delays of the net of this name.
 pub fn wire_for(alloc: Global, file: &SpefText, name: &[u8]) -> Result<Answer, NoAnswer>
-    ensures { AnswersFor Mode.Wire (texts_of file.now [] [] []) name.now result }
+    ensures { AnswersFor Mode.Wire (texts_of file.now [] [] []) (record { net = name.now; prefix = [] }) result }
 {
     let index = index_of(alloc, file)?;
     let net = Name::from_bytes(alloc, name)?;
