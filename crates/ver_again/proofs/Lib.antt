@@ -1,0 +1,17 @@
+pub mod PieceLemmas
+pub mod PlaceLemmas
+pub mod ScanLemmas
+pub mod WordLemmas
+pub mod ReachLemmas
+pub mod OrderLemmas
+pub mod ChainLemmas
+pub mod PatchLemmas
+pub mod TextLemmas
+pub mod StateLemmas
+pub mod SectionLemmas
+pub mod RunLemmas
+pub mod PinLemmas
+pub mod KindLemmas
+pub mod PinTokenLemmas
+pub mod FrameLemmas
+pub mod LawLemmas

@@ -1,0 +1,8 @@
+//! Laws of the texts of changed netlists. Their functions do nothing: each one's contract is the law, which a proof may cite.
+
+ghost use Rattle.ver_again.specs.Laws.{WordsArePatched};
+
+/// The tokens of the text of a changed netlist are, by their kinds and bytes, those of the text with the same changes.
+pub fn words_are_patched()
+    ensures { WordsArePatched }
+{}
