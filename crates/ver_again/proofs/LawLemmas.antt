@@ -22,14 +22,21 @@ use Rattle.ver_patch.specs.Texts.{cell_texts, wire_texts}
 use Rattle.ver_patch.specs.declared.text.NewCell.{NewCell}
 use Rattle.ver_patch.specs.declared.text.Rewire.{Rewire}
 use Rattle.ver_patch.proofs.LawLemmas.{heads_end_first, span_is, spans_rise, spans_stand}
-use Rattle.ver_again.specs.Laws.{IsChanged, WordsArePatched}
+use Rattle.ver_again.specs.Laws.{IsChanged, ModulesStay, WordsArePatched}
 use Rattle.ver_again.specs.NewWords.{cell_words, changes_of, inserted_words, rewired_words, wire_words}
 use Rattle.ver_again.specs.Texts.{IsNetText, IsNewCell}
-use Rattle.ver_again.specs.Words.{WordEdit, words_of, words_with}
+use Rattle.ver_again.specs.Words.{Word, WordEdit, word_in, words_of, words_with}
 use Rattle.ver_again.proofs.ChainLemmas.{Chained, NameStands, StandsAt, stands_behind}
 use Rattle.ver_again.proofs.FrameLemmas.{EndTokens, HeadTokens, end_tokens, head_tokens}
-use Rattle.ver_again.proofs.PatchLemmas.{chain_end, chain_head, chain_more, stands_behind_mark}
+use Rattle.ver_again.proofs.PatchLemmas.{chain_end, chain_head, chain_more, head_words, stands_behind_mark}
+use Rattle.ver_again.proofs.GrammarLemmas.{Goes, at_item, goes_end, goes_more, kinds_are, no_bad, over_kept, wires_run, word_kinds}
 use Rattle.ver_again.proofs.PinLemmas.{shaped_pin}
+use Rattle.ver_again.proofs.RunLemmas.{ended_modules, is_over}
+use Rattle.ver_again.proofs.StateLemmas.{start}
+use Rattle.ver_again.proofs.WordLemmas.{map_append}
+use Rattle.vg_grammar.specs.Machines.{run}
+use Rattle.ver_syntax.specs.Moves.{State, next}
+use Rattle.ver_text.specs.Kinds.{kind_in, kinds_of}
 use Rattle.ver_again.proofs.PinTokenLemmas.{IsPinPlace, pin_place}
 use Rattle.ver_again.proofs.SectionLemmas.{pin_found}
 use Rattle.ver_again.proofs.TextLemmas.{Each, cells_are_put, net_is_new, wires_read}
@@ -59,6 +66,12 @@ pin_stands text netlist d at (net, l) =
 
 -- ---- the words
 
+spans_behind : (text : List ℕ) (netlist : Netlist) → Denotes text netlist → (r : Rewire) → IsOnOneNet netlist r.at → (rs : List Rewire)
+    → Each (λ q. IsBefore r.at q.at) rs → Each (λ q. IsOnOneNet netlist q.at) rs → Each (λ q. (span_at netlist r.at).to ≤ (span_at netlist q.at).from) rs
+spans_behind text netlist d r own [] b l = tt
+spans_behind text netlist d r own (q ∷ rs) b l =
+    (spans_rise stand_in_order items_stand text netlist r.at q.at d own l.0 b.0, spans_behind text netlist d r own rs b.1 l.1)
+
 abbrev pub end_edits : Netlist → List NewCell → List Edit
 end_edits netlist cells = inserted netlist.end_at (cell_texts cells) ∷ []
 
@@ -82,14 +95,9 @@ module _ (text : List ℕ) (netlist : Netlist) (d : Denotes text netlist) (cells
       let more =
       chained rest span.to (p.stands.before ++ p.stands.bracket ∷ (p.stands.name ∷ p.stands.more)) (p.stands.close ∷ p.stands.after)
       (stands_behind text span.from span.to p.stands) linked.1 named.1 (tail_pairs (λ a b. IsBefore a.at b.at) r rest before)
-      (behind rest (head_pairs (λ a b. IsBefore a.at b.at) r rest before) linked.1) stands.before in
+      (spans_behind text netlist d r linked.0 rest (head_pairs (λ a b. IsBefore a.at b.at) r rest before) linked.1) stands.before in
       chain_more text at done ts span.from span.to r.net (words_of r.net) (map (rewired netlist) rest ++ end_edits netlist cells)
       (map (rewired_words netlist) rest ++ end_changes netlist cells) here p.stands low.0 (net_is_new r.net named.0) more
-    where
-      behind : (rs : List Rewire) → Each (λ q. IsBefore r.at q.at) rs → Each (λ q. IsOnOneNet netlist q.at) rs
-          → Each (λ q. (span_at netlist r.at).to ≤ (span_at netlist q.at).from) rs
-      behind [] b l = tt
-      behind (q ∷ rs) b l = (spans_rise stand_in_order items_stand text netlist r.at q.at d linked.0 l.0 b.0, behind rs b.1 l.1)
 
 pub all_low : (text : List ℕ) (netlist : Netlist) → Denotes text netlist → (rs : List Rewire) → Each (λ q. IsOnOneNet netlist q.at) rs
     → Each (λ q. netlist.head_end ≤ (span_at netlist q.at).from) rs
@@ -118,3 +126,53 @@ words_are_patched text netlist rewires cells wires new c =
     (sym place)
     (chain_head text h.front h.mark h.back (wire_texts wires) (flat_map wire_words wires) (map (rewired netlist) p.ordered ++ end_edits netlist cells)
     (map (rewired_words netlist) p.ordered ++ end_changes netlist cells) h.is h.marks (wires_read wires declared) rest)
+
+-- ---- the grammar
+
+module _ (text : List ℕ) (netlist : Netlist) (d : Denotes text netlist) (cells : List NewCell) (made : Each IsNewCell cells) where
+  goes : (rewires : List Rewire) (at : ℕ) (done ts : List Token) (s : State) → StandsAt text at done ts → Each (λ r. IsOnOneNet netlist r.at) rewires
+      → Each (λ r. IsNetText r.net) rewires → AllPairs (λ a b. IsBefore a.at b.at) rewires → Each (λ r. at ≤ (span_at netlist r.at).from) rewires
+      → at ≤ netlist.end_at → run next (Some start) (map (kind_in text) done) ≡ Some s
+      → Goes text ts (map (rewired_words netlist) rewires ++ end_changes netlist cells) s
+  goes [] at done ts s here linked named before low up there =
+      let e = end_tokens text d.grammar in
+      let place : netlist.end_at ≡ e.last.from = ap (λ (n : Netlist). n.end_at) d.is ∙ e.place in
+      subst (λ n. Goes text ts (inserted_words n (flat_map cell_words cells) ∷ []) s) (sym place)
+      (goes_end text at done ts e.front e.mark e.last cells s here e.ends (omega (arith, place, up)) made e.kind e.comes there)
+  goes (r ∷ rest) at done ts s here linked named before low up there =
+      let span = span_at netlist r.at in
+      let p = pin_stands text netlist d r.at linked.0 in
+      let stands = spans_stand stand_in_order items_stand text netlist r.at d linked.0 in
+      goes_more text at done ts span.from span.to r.net (map (rewired_words netlist) rest ++ end_changes netlist cells) s here p.stands low.0 named.0 p.closing p.comes p.runs there
+      (λ t e. goes rest span.to (p.stands.before ++ p.stands.bracket ∷ (p.stands.name ∷ p.stands.more)) (p.stands.close ∷ p.stands.after) t
+      (stands_behind text span.from span.to p.stands) linked.1 named.1 (tail_pairs (λ a b. IsBefore a.at b.at) r rest before)
+      (spans_behind text netlist d r linked.0 rest (head_pairs (λ a b. IsBefore a.at b.at) r rest before) linked.1) stands.before e)
+
+pub modules_stay : ModulesStay
+modules_stay text netlist rewires cells wires new c =
+    let d = c.denotes in
+    let p = c.patched in
+    let h = head_tokens text d.grammar in
+    let place : netlist.head_end ≡ h.mark.to = ap (λ (n : Netlist). n.head_end) d.is ∙ h.place in
+    let linked = each_of (λ (r : Rewire). IsOnOneNet netlist r.at) p.ordered
+    (All-permutation (λ (r : Rewire). IsOnOneNet netlist r.at) rewires p.ordered p.same c.rewirable.linked) in
+    let named = each_of (λ (r : Rewire). IsNetText r.net) p.ordered
+    (All-permutation (λ (r : Rewire). IsNetText r.net) rewires p.ordered p.same c.written.linked) in
+    let made = each_of IsNewCell cells c.written.made in
+    let changes = map (rewired_words netlist) p.ordered ++ end_changes netlist cells in
+    let g =
+    goes text netlist d cells made p.ordered h.mark.to (h.front ++ h.mark ∷ []) h.back at_item (stands_behind_mark text h.front h.mark h.back h.is h.marks)
+    linked named p.rising (subst (λ n. Each (λ q. n ≤ (span_at netlist q.at).from) p.ordered) place (all_low text netlist d p.ordered linked))
+    (subst (λ n. n ≤ netlist.end_at) place (heads_end_first stand_in_order items_stand text netlist d).rise) h.comes in
+    let words : words_of new ≡ map (word_in text) (h.front ++ h.mark ∷ []) ++ (flat_map wire_words wires ++ words_with text changes h.back)
+    = words_are_patched text netlist rewires cells wires new c
+    ∙ ap (λ n. words_with text (inserted_words n (flat_map wire_words wires) ∷ changes) (tokens_of text)) place
+    ∙ head_words text h.front h.mark h.back (flat_map wire_words wires) changes h.is h.marks in
+    let over : is_over (run next (Some start) (kinds_of new)) ≡ true
+    = ap is_over
+    (ap (run next (Some start)) (sym (kinds_are new (tokens_of new)) ∙ ap word_kinds words)
+    ∙ over_kept text (h.front ++ h.mark ∷ []) (flat_map wire_words wires ++ words_with text changes h.back) start at_item h.comes
+    ∙ ap (run next (Some at_item)) (map_append (λ (w : Word). w.kind) (flat_map wire_words wires) (words_with text changes h.back))
+    ∙ wires_run wires (word_kinds (words_with text changes h.back)))
+    ∙ g.over in
+    (no_bad new (tokens_of new) start over, ended_modules (kinds_of new) over)

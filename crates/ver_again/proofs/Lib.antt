@@ -15,3 +15,4 @@ pub mod KindLemmas
 pub mod PinTokenLemmas
 pub mod FrameLemmas
 pub mod LawLemmas
+pub mod GrammarLemmas

@@ -208,50 +208,73 @@ module _ (text : List ℕ) where
           absurd (omega (arith, place, low.1.0))
       split (d ∷ ds) (x ∷ before) f low = let g : ds ++ ts ≡ before ++ mark ∷ last ∷ [] = cc in split ds before g low.1
 
+  -- the last token, found from a place
+  pub record EndLocated (at : ℕ) (done ts before : List Token) (mark last : Token) : Type 0 where
+    pub front : List Token
+    pub ts_are : ts ≡ front ++ last ∷ []
+    pub before_is : before ++ mark ∷ [] ≡ done ++ front
+    pub reached : Reached at (drop at text) front last []
+    pub some : (c : Token) (rest : List Token) (m : ℕ) → ts ≡ c ∷ rest → c.kind ≡ Mark m → (f : Token) × (fs : List Token) × (front ≡ f ∷ fs)
+    pub words : (words : List Word) → words_with text (record { from = last.from; to = last.from; words = words } ∷ []) ts
+        ≡ map (word_in text) front ++ (words ++ map (word_in text) (last ∷ []))
+
+  pub end_located : (at : ℕ) (done ts before : List Token) (mark last : Token) → StandsAt text at done ts → EndsIn before mark last → at ≤ last.from
+      → EndLocated at done ts before mark last
+  end_located at done ts before mark last here e behind =
+      let (front, ts_are, r, some) = reached_end at done ts before mark last here e behind in
+      let whole : tokens_of text ≡ (before ++ mark ∷ []) ++ last ∷ [] = e.is ∙ sym (append_assoc before (mark ∷ []) (last ∷ [])) in
+      let a = stand_at text (before ++ mark ∷ []) last [] whole in
+      let same : before ++ mark ∷ [] ≡ done ++ front
+      = append_cancel_right (before ++ mark ∷ []) (done ++ front) (last ∷ [])
+      (sym whole ∙ here.split ∙ ap (λ xs. done ++ xs) ts_are ∙ sym (append_assoc done front (last ∷ []))) in
+      let fronts : Each (λ t. t.from < last.from) front
+      = (each_front (λ t. t.from < last.from) done front (subst (Each (λ t. t.from < last.from)) same a.before)).1 in
+      record {
+        front = front;
+        ts_are = ts_are;
+        before_is = same;
+        reached = r;
+        some = some;
+        words = λ words.
+            ap (words_with text (record { from = last.from; to = last.from; words = words } ∷ [])) ts_are
+            ∙ words_replaced text (record { from = last.from; to = last.from; words = words }) [] front [] (last ∷ []) fronts tt
+            (let low : last.from ≤ last.from = omega arith in low, tt) (omega arith);
+      }
+
   -- new instances before the last token
   pub chain_end : (at : ℕ) (done ts before : List Token) (mark last : Token) (new : List ℕ) (words : List Word) → StandsAt text at done ts
       → EndsIn before mark last → at ≤ last.from → IsPutBefore new words
       → Chained text at ts (record { from = last.from; to = last.from; text = new } ∷ []) (record { from = last.from; to = last.from; words = words } ∷ [])
   chain_end at done ts before mark last new words here e behind n =
+      let l = end_located at done ts before mark last here e behind in
       let pre = take at text in
       let far : at ≡ length pre = sym (length_take at text here.rest.within) in
-      let (front, ts_are, r, some) = reached_end at done ts before mark last here e behind in
+      let r = l.reached in
       let p = r.place in
       let s = name_begins last p.b p.bs e.named p.kind in
       let (y, ys, t, is) = n.begins p.b p.bs s in
-      let us_are : part text at last.from ≡ p.us = front_is text at front last [] p in
-      let whole : tokens_of text ≡ (before ++ mark ∷ []) ++ last ∷ [] = e.is ∙ sym (append_assoc before (mark ∷ []) (last ∷ [])) in
-      let a = stand_at text (before ++ mark ∷ []) last [] whole in
-      let fronts : Each (λ t. t.from < last.from) front
-      = (each_front (λ t. t.from < last.from) done front
-      (subst (Each (λ t. t.from < last.from))
-      (same_last done front before mark last (sym whole ∙ here.split ∙ ap (λ xs. done ++ xs) ts_are)) a.before)).1 in
-      let rest_is : drop last.from text ≡ p.b ∷ p.bs = rest_from text at front last [] p here.rest.within in
-      let old : words_from 0 (drop at text) ≡ map (word_in text) front ++ words_from 0 (p.b ∷ p.bs)
-      = ap (words_from 0) p.is ∙ words_reached pre (drop at text) at front last [] r p.b p.bs far s
-      ∙ ap (λ xs. map (word_in xs) front ++ words_from 0 (p.b ∷ p.bs)) (whole_at at) in
+      let us_are : part text at last.from ≡ p.us = front_is text at l.front last [] p in
+      let rest_is : drop last.from text ≡ p.b ∷ p.bs = rest_from text at l.front last [] p here.rest.within in
+      let old : words_from 0 (drop at text) ≡ map (word_in text) l.front ++ words_from 0 (p.b ∷ p.bs)
+      = ap (words_from 0) p.is ∙ words_reached pre (drop at text) at l.front last [] r p.b p.bs far s
+      ∙ ap (λ xs. map (word_in xs) l.front ++ words_from 0 (p.b ∷ p.bs)) (whole_at at) in
       let all : words_from 0 (drop at text) ≡ map (word_in text) ts
       = sym (words_are (drop at text) pre 0 at far) ∙ (λ i. map (word_in (whole_at at i)) (here.rest.tokens i)) in
       let last_word : words_from 0 (p.b ∷ p.bs) ≡ map (word_in text) (last ∷ [])
-      = append_cancel_left (map (word_in text) front) (words_from 0 (p.b ∷ p.bs)) (map (word_in text) (last ∷ []))
-      (sym old ∙ all ∙ ap (map (word_in text)) ts_are ∙ map_append (word_in text) front (last ∷ [])) in
+      = append_cancel_left (map (word_in text) l.front) (words_from 0 (p.b ∷ p.bs)) (map (word_in text) (last ∷ []))
+      (sym old ∙ all ∙ ap (map (word_in text)) l.ts_are ∙ map_append (word_in text) l.front (last ∷ [])) in
       record {
         words =
             (λ i. words_from 0 (us_are i ++ (new ++ rest_is i)))
             ∙ ap (λ xs. words_from 0 (p.us ++ xs)) is
-            ∙ words_reached pre (drop at text) at front last [] r y ys far t
-            ∙ (λ i. map (word_in (whole_at at i)) front ++ words_from 0 (sym is i))
-            ∙ ap (λ ws. map (word_in text) front ++ ws) (n.reads p.b p.bs s ∙ ap (λ ws. words ++ ws) last_word)
-            ∙ sym (words_replaced text (record { from = last.from; to = last.from; words = words }) [] front [] (last ∷ []) fronts tt
-            (let low : last.from ≤ last.from = omega arith in low, tt) (omega arith))
-            ∙ ap (words_with text (record { from = last.from; to = last.from; words = words } ∷ [])) (sym ts_are);
+            ∙ words_reached pre (drop at text) at l.front last [] r y ys far t
+            ∙ (λ i. map (word_in (whole_at at i)) l.front ++ words_from 0 (sym is i))
+            ∙ ap (λ ws. map (word_in text) l.front ++ ws) (n.reads p.b p.bs s ∙ ap (λ ws. words ++ ws) last_word)
+            ∙ sym (l.words words);
         shut = λ c rest m f k.
-            let (x, xs, first) = some c rest m f k in
+            let (x, xs, first) = l.some c rest m f k in
             shut_front text at x xs ts last [] (subst (λ zs. Found 0 at (drop at text) zs last []) first p) here.rest (new ++ drop last.from text) c rest m f k;
       }
-    where
-      same_last : (done front before : List Token) (m l : Token) → (before ++ m ∷ []) ++ l ∷ [] ≡ done ++ (front ++ l ∷ []) → before ++ m ∷ [] ≡ done ++ front
-      same_last done front before m l f = append_cancel_right (before ++ m ∷ []) (done ++ front) (l ∷ []) (f ∙ sym (append_assoc done front (l ∷ [])))
 
   -- ---- the head
 
@@ -270,6 +293,16 @@ module _ (text : List ℕ) where
       each_up : (xs : List Token) (m n : ℕ) → m ≤ n → Each (λ t. t.from < m) xs → Each (λ t. t.from < n) xs
       each_up [] m n low h = tt
       each_up (x ∷ xs) m n low h = (omega (arith, low, h.0), each_up xs m n low h.1)
+
+  -- the words behind the head
+  pub head_words : (front : List Token) (h : Token) (back : List Token) (words : List Word) (changes : List WordEdit) → tokens_of text ≡ front ++ h ∷ back → h.kind ≡ Mark 59
+      → words_with text (record { from = h.to; to = h.to; words = words } ∷ changes) (tokens_of text)
+      ≡ map (word_in text) (front ++ h ∷ []) ++ (words ++ words_with text changes back)
+  head_words front h back words changes e k =
+      let a = stand_at text front h back e in
+      ap (words_with text (record { from = h.to; to = h.to; words = words } ∷ changes)) (e ∙ sym (append_assoc front (h ∷ []) back))
+      ∙ words_replaced text (record { from = h.to; to = h.to; words = words }) changes (front ++ h ∷ []) [] back
+      ((stands_behind_mark front h back e k).low) tt a.behind (omega arith)
 
   -- new declarations behind the head
   pub chain_head : (front : List Token) (h : Token) (back : List Token) (new : List ℕ) (words : List Word) (edits : List Edit) (changes : List WordEdit)
@@ -307,8 +340,6 @@ module _ (text : List ℕ) where
       = append_cancel_left (map (word_in text) front) (map (word_in text) (h ∷ back)) (words_from 0 (59 ∷ p.bs))
       (sym (map_append (word_in text) front (h ∷ back)) ∙ ap (map (word_in text)) (sym e) ∙ old) in
       let mark : record { kind = Semicolon; bytes = 59 ∷ [] } ≡ word_in text h = cc in
-      let a = stand_at text front h back e in
-      let up = a.some in
       words_of_are (patched text (record { from = h.to; to = h.to; text = new } ∷ edits))
       ∙ (λ i. words_from (directive_length (made i)) (made i))
       ∙ ap (λ (n : ℕ). words_from n (p.us ++ 59 ∷ rest)) same
@@ -316,6 +347,4 @@ module _ (text : List ℕ) where
       ∙ (λ i. fronts i ++ mark i ∷ (reads gone ∙ ap (λ ws. words ++ ws) later.words) i)
       ∙ sym (append_assoc (map (word_in text) front) (word_in text h ∷ []) (words ++ words_with text changes back))
       ∙ ap (λ ws. ws ++ (words ++ words_with text changes back)) (sym (map_append (word_in text) front (h ∷ [])))
-      ∙ sym (words_replaced text (record { from = h.to; to = h.to; words = words }) changes (front ++ h ∷ []) [] back
-      ((stands_behind_mark front h back e k).low) tt a.behind (omega arith))
-      ∙ ap (words_with text (record { from = h.to; to = h.to; words = words } ∷ changes)) (append_assoc front (h ∷ []) back ∙ sym e)
+      ∙ sym (head_words front h back words changes e k)

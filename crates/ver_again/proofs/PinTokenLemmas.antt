@@ -6,6 +6,7 @@ use Rattle.vg_scan.specs.Lines.{part}
 use Rattle.vg_scan.specs.declared.lines.Span.{Span}
 use Rattle.ver_text.specs.declared.token.Token.{Token}
 use Rattle.ver_text.specs.declared.token.TokenKind.TheVariants.{Mark}
+use Rattle.ver_text.specs.declared.kind.Kind.{Kind}
 use Rattle.ver_text.specs.declared.kind.Kind.TheVariants.{Close, Identifier, Open}
 use Rattle.ver_text.specs.Kinds.{kind_in}
 use Rattle.ver_text.specs.Tokens.{tokens_of}
@@ -80,6 +81,7 @@ kinds_from text (t ∷ ts) place = ap (λ ks. kind_in text t ∷ ks) (kinds_from
 pub record IsPinPlace (text : List ℕ) (span : Span) : Type 0 where
   pub stands : NameStands text span.from span.to
   pub comes : run next (Some start) (map (kind_in text) (stands.before ++ stands.bracket ∷ [])) ≡ Some (state (AtInstance Connection))
+  pub closing : kind_in text stands.close ≡ Close
   pub runs : run next (Some (state (AtInstance Connection))) (map (kind_in text) (stands.name ∷ (stands.more ++ stands.close ∷ []))) ≡ Some (state (AtInstance PinEnd))
 
 last_is : (text : List ℕ) (q : Place) (t : Token) (place : Place) (ts : List Token) → last_to (row text q t) (rows_from text place ts) ≡ end_of t ts
@@ -94,6 +96,10 @@ all_shut : (text : List ℕ) (t : Token) (ts : List Token) (q place : Place) →
 unfolding rows_from
 all_shut text t [] q place h = not_open text t h.0
 all_shut text t (u ∷ ts) q place h = all_shut text u ts place (place_after place (kind_in text u)) h.1
+
+close_is : (k : Kind) → is Close k ≡ true → k ≡ Close
+close_is Close e = refl
+close_is k e = absurd (cc)
 
 pub pin_place : (text : List ℕ) (span : Span) → IsShapedPin text span → IsPinPlace text span
 unfolding rows_from
@@ -134,5 +140,6 @@ pin_place text span s =
         ends = s.to ∙ (λ i. last_to (n.own i) (m.rows i)) ∙ last_is text o.there n.token n.there m.front;
       };
       comes = ap (run next (Some start)) front ∙ s.comes;
+      closing = ap (λ (r : Row). r.kind) (sym c.own) ∙ close_is s.close.kind s.closes;
       runs = ap (run next (Some (state (AtInstance Connection)))) behind ∙ s.runs;
     }

@@ -5,4 +5,4 @@
 
 mod laws;
 
-pub use laws::words_are_patched;
+pub use laws::{modules_stay, words_are_patched};
