@@ -1,28 +1,25 @@
 -- The words of a text in which names are replaced one after another.
-use Rattle.std.proofs.Common.{◌≡◌, ℕ, zero, suc, ◌+◌, ◌-◌, ◌<◌, ◌≤◌, Bool, true, false, ◌==◌, ◌||◌, List, [], ◌∷◌, ◌++◌, length, map, take, drop, Option, Some, None, refl, sym, ap, ◌∙◌, subst, arith, length-append, append_assoc, ◌⊎◌, inl, inr, take-append-drop}
+use Rattle.std.proofs.Common.{◌≡◌, ℕ, ◌+◌, ◌<◌, ◌≤◌, Bool, true, false, List, [], ◌∷◌, ◌++◌, length, drop, Option, Some, None, refl, sym, ap, ◌∙◌, subst, arith, append_assoc}
 use Rattle.std.specs.Prelude.{⊤}
 use Rattle.std.specs.List.{prefix_len}
-use Rattle.std.proofs.lemmas.List.{append-nil}
 use Rattle.std.proofs.lemmas.Bool.Decides.{nat_tests}
-use Rattle.std.proofs.Math.Seq.{take-append_seam, drop-append_seam}
 use Rattle.vg_num.specs.Number.{is_digit}
-use Rattle.vg_scan.specs.Lines.{is_blank, part}
-use Rattle.vg_patch.specs.Edits.{Edit, patched_from, patched}
+use Rattle.vg_scan.specs.Lines.{is_blank}
+use Rattle.vg_patch.specs.Edits.{Edit, patched_from}
 use Rattle.ver_text.specs.declared.token.Token.{Token}
 use Rattle.ver_text.specs.declared.token.TokenKind.{TokenKind}
 use Rattle.ver_text.specs.declared.token.TokenKind.TheVariants.{Mark}
 use Rattle.ver_text.specs.Bytes.{is_letter, is_mark, is_word_byte}
 use Rattle.ver_text.specs.Laws.{StandBetween}
-use Rattle.ver_text.specs.Tokens.{based_length, directive_length, piece, token_of, tokens_from, tokens_of}
+use Rattle.ver_text.specs.Tokens.{based_length, piece, token_of, tokens_from, tokens_of}
 use Rattle.ver_text.specs.Written.{begins_with}
 use Rattle.ver_text.proofs.OrderLemmas.{stand_in_order}
-use Rattle.ver_again.specs.Words.{Word, WordEdit, word_in, words_of, words_with}
-use Rattle.ver_again.proofs.OrderLemmas.{Each, IsAmong, IsBehind, among, behind_token, each_append, words_replaced}
-use Rattle.ver_again.proofs.PieceLemmas.{semicolon_stops}
-use Rattle.ver_again.proofs.PlaceLemmas.{BeginsName, directive_same, number_some}
-use Rattle.ver_again.proofs.ReachLemmas.{IsName, Reached, name_begins, reached_at_once, reached_behind, words_reached}
-use Rattle.ver_again.proofs.ScanLemmas.{Found, found, holds_before_stop, holds_words, left_within, tokens_in, words_from, words_in}
-use Rattle.ver_again.proofs.WordLemmas.{first_byte, words_are, words_in_are, words_of_are}
+use Rattle.ver_again.specs.Words.{Word, WordEdit, words_with}
+use Rattle.ver_again.proofs.OrderLemmas.{Each, IsAmong, IsBehind, among, behind_token, each_append}
+use Rattle.ver_again.proofs.PlaceLemmas.{BeginsName, number_some}
+use Rattle.ver_again.proofs.ReachLemmas.{IsName}
+use Rattle.ver_again.proofs.ScanLemmas.{words_from}
+use Rattle.ver_again.proofs.WordLemmas.{first_byte}
 
 -- ---- no word before a mark
 

@@ -1,5 +1,5 @@
 -- The first `;` of a module, and its `endmodule`, by tokens.
-use Rattle.std.proofs.Common.{◌≡◌, ℕ, Bool, true, false, cond, List, [], ◌∷◌, ◌++◌, map, Option, Some, None, refl, sym, ap, ◌∙◌, subst, arith, append_assoc, ◌⊎◌, inl, inr}
+use Rattle.std.proofs.Common.{◌≡◌, ℕ, Bool, true, false, List, [], ◌∷◌, ◌++◌, map, Some, refl, sym, ap, ◌∙◌, subst, append_assoc, inl}
 use Rattle.std.specs.Prelude.{find, option_map, unwrap_or}
 use Rattle.vg_grammar.specs.Machines.{run}
 use Rattle.vg_scan.specs.Lines.{part}
@@ -17,7 +17,7 @@ use Rattle.ver_syntax.specs.declared.state.At.TheVariants.{Item as AtItem}
 use Rattle.ver_syntax.specs.declared.state.Item.TheVariants.{Start as ItemStart, Over}
 use Rattle.ver_syntax.specs.Grammar.{is}
 use Rattle.ver_syntax.specs.Moves.{State, next}
-use Rattle.ver_syntax.specs.Rows.{kinds_in, row, rows_from, rows_of}
+use Rattle.ver_syntax.specs.Rows.{kinds_in, rows_from, rows_of}
 use Rattle.ver_syntax.specs.Syntax.{IsModule}
 use Rattle.ver_syntax.proofs.PlaceLemmas.{items_stand}
 use Rattle.ver_items.proofs.RowLemmas.{kinds_append}

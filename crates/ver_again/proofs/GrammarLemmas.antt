@@ -1,38 +1,30 @@
 -- The text of a changed netlist is a module.
-use Rattle.std.proofs.Common.{◌≡◌, ℕ, zero, suc, ◌+◌, ◌<◌, ◌≤◌, ◌^◌, ◌==◌, Bool, true, false, ◌||◌, List, [], ◌∷◌, ◌++◌, map, length, Option, Some, None, refl, sym, ap, ◌∙◌, subst, arith, append_assoc, ◌⊎◌, inl, inr}
-use Rattle.std.specs.Prelude.{⊤, IfSome, codes, find, nat_lt}
+use Rattle.std.proofs.Common.{◌≡◌, ℕ, ◌≤◌, ◌^◌, ◌==◌, Bool, true, false, List, [], ◌∷◌, ◌++◌, map, Option, Some, None, refl, sym, ap, ◌∙◌, subst, arith, append_assoc, ◌⊎◌, inl, inr}
+use Rattle.std.specs.Prelude.{IfSome, codes, find, nat_lt}
 use Rattle.std.specs.Fmt.{decimal}
-use Rattle.std.specs.List.{AllPairs, flat_map}
+use Rattle.std.specs.List.{flat_map}
 use Rattle.std.proofs.lemmas.Bool.Decides.{nat_tests}
-use Rattle.std.proofs.lemmas.List.Sorted.{All-permutation}
 use Rattle.vg_grammar.specs.Machines.{run}
 use Rattle.vg_num.proofs.ReadingLemmas.{decimal_writes}
 use Rattle.ver_text.specs.declared.kind.Kind.{Kind}
-use Rattle.ver_text.specs.declared.kind.Kind.TheVariants.{Wire, Identifier, Zero, Small, Limit, Open, Close, OpenSquare, CloseSquare, Comma, Semicolon, Dot, EndModule, Stray}
+use Rattle.ver_text.specs.declared.kind.Kind.TheVariants.{Identifier, Zero, Small, Limit, Open, Close, OpenSquare, CloseSquare, Comma, Semicolon, Dot, EndModule}
 use Rattle.ver_text.specs.declared.token.Token.{Token}
 use Rattle.ver_text.specs.declared.token.TokenKind.TheVariants.{Mark}
-use Rattle.ver_text.specs.Kinds.{digits_kind, kind_in, kinds_of, number_kind}
-use Rattle.ver_text.specs.Names.{is_simple}
-use Rattle.ver_text.specs.Tokens.{tokens_of}
+use Rattle.ver_text.specs.Kinds.{digits_kind, kind_in, number_kind}
 use Rattle.ver_syntax.specs.declared.state.At.TheVariants.{Instance as AtInstance, Item as AtItem}
 use Rattle.ver_syntax.specs.declared.state.Instance.TheVariants.{Connection, PinEnd}
-use Rattle.ver_syntax.specs.declared.state.Item.TheVariants.{Start as ItemStart, Over}
-use Rattle.ver_syntax.specs.Moves.{State, move, next}
-use Rattle.ver_syntax.specs.Syntax.{HasTokens, IsModule, is_bad}
+use Rattle.ver_syntax.specs.declared.state.Item.TheVariants.{Start as ItemStart}
+use Rattle.ver_syntax.specs.Moves.{State, next}
+use Rattle.ver_syntax.specs.Syntax.{is_bad}
 use Rattle.ver_syntax.proofs.FaultLemmas.{no_stray}
 use Rattle.ver_syntax.proofs.ReadLemmas.{stray}
-use Rattle.ver_module.specs.Netlists.{Net, Netlist}
-use Rattle.ver_file.specs.Modules.{Denotes}
-use Rattle.ver_net.specs.Laws.{IsBefore}
-use Rattle.ver_patch.specs.Pins.{IsOnOneNet, span_at}
+use Rattle.ver_module.specs.Netlists.{Net}
 use Rattle.ver_patch.specs.declared.text.NewCell.{NewCell}
-use Rattle.ver_patch.specs.declared.text.Rewire.{Rewire}
-use Rattle.ver_again.specs.NewWords.{cell_words, net_words, pin_words, rewired_words, select_words, wire_words, word}
+use Rattle.ver_again.specs.NewWords.{cell_words, net_words, pin_words, select_words, wire_words, word}
 use Rattle.ver_again.specs.Texts.{IsNetText, IsNewCell}
 use Rattle.ver_again.specs.Words.{Word, WordEdit, word_in, words_of, words_with}
-use Rattle.ver_again.proofs.ChainLemmas.{NameStands, StandsAt, stands_behind}
+use Rattle.ver_again.proofs.ChainLemmas.{NameStands, StandsAt}
 use Rattle.ver_again.proofs.PatchLemmas.{EndsIn, end_located, located}
-use Rattle.ver_again.proofs.PinTokenLemmas.{IsPinPlace}
 use Rattle.ver_again.proofs.RunLemmas.{is_over}
 use Rattle.ver_again.proofs.StateLemmas.{run_append, start, state, stopped}
 use Rattle.ver_again.proofs.TextLemmas.{Each, net_named}
@@ -182,10 +174,11 @@ module _ (text : List ℕ) where
             ∙ ap (λ k. run next (Some at_item) (k ∷ [])) kind);
         head = λ c rest m f k.
             let (x, xs, first) = l.some c rest m f k in
-            let same : x ≡ c = (let parts : c ∷ rest ≡ (x ∷ xs) ++ last ∷ [] = sym f ∙ l.ts_are ∙ ap (λ ys. ys ++ last ∷ []) first in cc) in
-            (map (word_in text) xs ++ (ws ++ map (word_in text) (last ∷ [])),
-            l.words ws ∙ ap (λ ys. map (word_in text) ys ++ (ws ++ map (word_in text) (last ∷ []))) first
-            ∙ ap (λ t. word_in text t ∷ (map (word_in text) xs ++ (ws ++ map (word_in text) (last ∷ [])))) same);
+            let same : x ≡ c = (let parts : c ∷ rest ≡ (x ∷ xs) ++ last ∷ [] = sym f ∙ l.ts_are ∙ ap (λ ys. ys ++ last ∷ []) first in cc) in (
+              map (word_in text) xs ++ (ws ++ map (word_in text) (last ∷ [])),
+              l.words ws ∙ ap (λ ys. map (word_in text) ys ++ (ws ++ map (word_in text) (last ∷ []))) first
+                  ∙ ap (λ t. word_in text t ∷ (map (word_in text) xs ++ (ws ++ map (word_in text) (last ∷ [])))) same,
+            );
       }
 
   -- the machine before the bracket that ends a connection

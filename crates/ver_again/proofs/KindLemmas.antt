@@ -1,14 +1,14 @@
 -- Which tokens have some kinds.
-use Rattle.std.proofs.Common.{◌≡◌, ℕ, Bool, true, false, cond, ◌==◌, List, [], ◌∷◌, ◌++◌, refl, sym, ap, ◌∙◌, subst, arith, ◌⊎◌, inl, inr}
+use Rattle.std.proofs.Common.{◌≡◌, ℕ, Bool, true, false, cond, ◌==◌, List, refl, ap, arith, ◌⊎◌, inl, inr}
 use Rattle.std.specs.Str.{bytes_eq}
 use Rattle.std.specs.Prelude.{codes, nat_lt, ◌^◌}
 use Rattle.std.proofs.lemmas.Bool.Decides.{nat_tests}
 use Rattle.vg_num.specs.Number.{value_of}
 use Rattle.ver_text.specs.declared.kind.Kind.{Kind}
-use Rattle.ver_text.specs.declared.kind.Kind.TheVariants.{Module, EndModule, Direction, Wire, NetType, Assign, Parameter, Identifier, Zero, Small, Limit, Large, Based as ABased, Open, Close, OpenSquare, CloseSquare, OpenBrace, CloseBrace, Comma, Semicolon, Dot, Colon, Equals, Hash, Stray as AStray}
+use Rattle.ver_text.specs.declared.kind.Kind.TheVariants.{Module, EndModule, Direction, Wire, NetType, Assign, Parameter, Identifier, Zero, Small, Limit, Large, Open, Close, OpenSquare, CloseSquare, OpenBrace, CloseBrace, Comma, Semicolon, Dot, Colon, Equals, Hash, Stray as AStray}
 use Rattle.ver_text.specs.declared.token.TokenKind.{TokenKind}
 use Rattle.ver_text.specs.declared.token.TokenKind.TheVariants.{Word, Escaped, Digits, Based, Mark, Stray, Unclosed}
-use Rattle.ver_text.specs.Kinds.{digits_kind, grammar_kind, is_direction, is_net_type, is_parameter, mark_kind, number_kind, word_kind}
+use Rattle.ver_text.specs.Kinds.{digits_kind, grammar_kind, is_direction, is_net_type, is_parameter, mark_kind, word_kind}
 use Rattle.ver_syntax.specs.Grammar.{is}
 
 module _ (test : Kind → Bool) where

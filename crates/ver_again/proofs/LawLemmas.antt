@@ -1,6 +1,6 @@
 -- The words of the text of a changed netlist.
-use Rattle.std.proofs.Common.{◌≡◌, ℕ, zero, suc, ◌+◌, ◌<◌, ◌≤◌, true, List, [], ◌∷◌, ◌++◌, map, length, Some, refl, sym, ap, ◌∙◌, subst, arith, get_or}
-use Rattle.std.specs.Prelude.{⊤, IsPermutation, slice_get}
+use Rattle.std.proofs.Common.{◌≡◌, ℕ, suc, ◌≤◌, true, List, [], ◌∷◌, ◌++◌, map, Some, sym, ap, ◌∙◌, subst, arith}
+use Rattle.std.specs.Prelude.{slice_get}
 use Rattle.std.specs.List.{All, AllPairs, flat_map}
 use Rattle.std.proofs.lemmas.List.Elements.{All-head, All-tail}
 use Rattle.std.proofs.lemmas.List.Sorted.{All-permutation}
@@ -11,23 +11,23 @@ use Rattle.ver_text.specs.Tokens.{tokens_of}
 use Rattle.ver_text.proofs.OrderLemmas.{stand_in_order}
 use Rattle.ver_syntax.proofs.PlaceLemmas.{items_stand}
 use Rattle.ver_module.specs.declared.link.Link.TheVariants.{One}
-use Rattle.ver_module.specs.Netlists.{Instance, Netlist, Pin}
+use Rattle.ver_module.specs.Netlists.{Netlist, Pin}
 use Rattle.ver_file.specs.Modules.{Denotes}
-use Rattle.ver_file.specs.Netlists.{netlist_of, pin_of}
-use Rattle.ver_net.specs.Laws.{HasLink, IsBefore}
+use Rattle.ver_file.specs.Netlists.{pin_of}
+use Rattle.ver_net.specs.Laws.{IsBefore}
 use Rattle.ver_net.specs.declared.pin_ref.PinRef.{PinRef}
-use Rattle.ver_patch.specs.Patches.{edits_of, inserted, rewired}
+use Rattle.ver_patch.specs.Patches.{inserted, rewired}
 use Rattle.ver_patch.specs.Pins.{IsOnOneNet, span_at}
 use Rattle.ver_patch.specs.Texts.{cell_texts, wire_texts}
 use Rattle.ver_patch.specs.declared.text.NewCell.{NewCell}
 use Rattle.ver_patch.specs.declared.text.Rewire.{Rewire}
 use Rattle.ver_patch.proofs.LawLemmas.{heads_end_first, span_is, spans_rise, spans_stand}
-use Rattle.ver_again.specs.Laws.{IsChanged, ModulesStay, WordsArePatched}
-use Rattle.ver_again.specs.NewWords.{cell_words, changes_of, inserted_words, rewired_words, wire_words}
+use Rattle.ver_again.specs.Laws.{ModulesStay, WordsArePatched}
+use Rattle.ver_again.specs.NewWords.{cell_words, inserted_words, rewired_words, wire_words}
 use Rattle.ver_again.specs.Texts.{IsNetText, IsNewCell}
 use Rattle.ver_again.specs.Words.{Word, WordEdit, word_in, words_of, words_with}
-use Rattle.ver_again.proofs.ChainLemmas.{Chained, NameStands, StandsAt, stands_behind}
-use Rattle.ver_again.proofs.FrameLemmas.{EndTokens, HeadTokens, end_tokens, head_tokens}
+use Rattle.ver_again.proofs.ChainLemmas.{Chained, StandsAt, stands_behind}
+use Rattle.ver_again.proofs.FrameLemmas.{end_tokens, head_tokens}
 use Rattle.ver_again.proofs.PatchLemmas.{chain_end, chain_head, chain_more, head_words, stands_behind_mark}
 use Rattle.ver_again.proofs.GrammarLemmas.{Goes, at_item, goes_end, goes_more, kinds_are, no_bad, over_kept, wires_run, word_kinds}
 use Rattle.ver_again.proofs.PinLemmas.{shaped_pin}

@@ -1,6 +1,5 @@
 -- The words of a text with new declarations, new names and new instances.
-use Rattle.std.proofs.Common.{◌≡◌, ℕ, zero, suc, ◌+◌, ◌-◌, ◌<◌, ◌≤◌, Bool, true, false, List, [], ◌∷◌, ◌++◌, length, map, take, drop, Option, Some, refl, sym, ap, ◌∙◌, subst, arith, length-append, append_assoc, ◌⊎◌, inl, inr, take-append-drop}
-use Rattle.std.specs.Prelude.{⊤}
+use Rattle.std.proofs.Common.{◌≡◌, ℕ, zero, suc, ◌+◌, ◌-◌, ◌<◌, ◌≤◌, false, List, [], ◌∷◌, ◌++◌, length, map, take, drop, Some, refl, sym, ap, ◌∙◌, subst, arith, length-append, append_assoc, ◌⊎◌, inl, inr, take-append-drop}
 use Rattle.std.proofs.Math.Seq.{drop-append_seam, take-append_seam}
 use Rattle.std.proofs.lemmas.List.{append_cancel_left, append_cancel_right}
 use Rattle.vg_scan.specs.Lines.{part}
@@ -9,13 +8,13 @@ use Rattle.ver_text.specs.declared.token.Token.{Token}
 use Rattle.ver_text.specs.declared.token.TokenKind.TheVariants.{Mark}
 use Rattle.ver_text.specs.Bytes.{is_word_byte}
 use Rattle.ver_text.specs.declared.kind.Kind.TheVariants.{Semicolon}
-use Rattle.ver_text.specs.Tokens.{directive_length, piece, tokens_from, tokens_of}
+use Rattle.ver_text.specs.Tokens.{directive_length, tokens_from, tokens_of}
 use Rattle.ver_text.specs.Written.{begins_with}
 use Rattle.ver_again.specs.Words.{Word, WordEdit, word_in, words_of, words_with}
 use Rattle.ver_again.proofs.OrderLemmas.{Each, IsBehind, behind_token, each_append, words_replaced}
 use Rattle.ver_again.proofs.PieceLemmas.{semicolon_stops}
 use Rattle.ver_again.proofs.PlaceLemmas.{BeginsName, directive_same}
-use Rattle.ver_again.proofs.ChainLemmas.{Chained, IsNewName, IsShut, NameStands, StandsAt, each_front, end_of, has_last, locate, no_word, shut_append, stand_at, stands_behind}
+use Rattle.ver_again.proofs.ChainLemmas.{Chained, IsNewName, NameStands, StandsAt, each_front, has_last, locate, no_word, shut_append, stand_at}
 use Rattle.ver_again.proofs.ReachLemmas.{IsName, Reached, name_begins, reached_at_once, reached_behind, words_reached}
 use Rattle.ver_again.proofs.ScanLemmas.{Found, found, holds_before_stop, holds_words, left, left_within, tokens_in, words_from, words_in}
 use Rattle.ver_again.proofs.WordLemmas.{first_byte, map_append, words_are, words_in_are, words_of_are}
@@ -71,7 +70,6 @@ pub record IsPutBefore (new : List ℕ) (words : List Word) : Type 0 where
 -- what is put in behind a `;` is read as these words
 abbrev pub IsRead : List ℕ → List Word → Type 0
 IsRead new words = (rest : List ℕ) → words_from 0 (new ++ rest) ≡ words ++ words_from 0 rest
-
 
 module _ (text : List ℕ) where
   whole_at : (at : ℕ) → take at text ++ drop at text ≡ text
@@ -187,11 +185,18 @@ module _ (text : List ℕ) where
       let pre = take at text in
       let far : at ≡ length pre = sym (length_take at text here.rest.within) in
       elim (split done before (sym here.split ∙ e.is) here.low) [
-        inl one ↦ ([], one, reached_at_once pre (drop at text) at last [] far e.named (here.rest.tokens ∙ one),
-          λ c rest m f k. absurd (not_named last c m e.named (let same : last ≡ c = cc in ap (λ (t : Token). t.kind) same ∙ k)))
-        | inr (front, two) ↦ (front ++ mark ∷ [], two ∙ sym (append_assoc front (mark ∷ []) (last ∷ [])),
+        | inl one ↦ (
+          [],
+          one,
+          reached_at_once pre (drop at text) at last [] far e.named (here.rest.tokens ∙ one),
+          λ c rest m f k. absurd (not_named last c m e.named (let same : last ≡ c = cc in ap (λ (t : Token). t.kind) same ∙ k)),
+        )
+        | inr (front, two) ↦ (
+          front ++ mark ∷ [],
+          two ∙ sym (append_assoc front (mark ∷ []) (last ∷ [])),
           reached_behind pre (drop at text) at front mark last [] far (inr e.ends) e.named (here.rest.tokens ∙ two),
-          λ c rest m f k. cons_front front mark)
+          λ c rest m f k. cons_front front mark,
+        )
       ]
     where
       not_named : (t c : Token) (m : ℕ) → IsName t → t.kind ≡ Mark m → ⊥

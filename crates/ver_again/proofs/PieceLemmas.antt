@@ -1,13 +1,10 @@
 -- What a byte begins is told by the bytes up to one that stops it.
-use Rattle.std.proofs.Common.{◌≡◌, ◌≢◌, ℕ, zero, suc, ◌+◌, ◌<◌, ◌≤◌, Bool, true, false, ◌&&◌, ◌||◌, ◌==◌, ◌⊎◌, inl, inr, List, [], ◌∷◌, ◌++◌, length, drop, cond, Option, Some, None, refl, sym, ap, ◌∙◌, subst, arith, length-append, if◌then◌else◌}
+use Rattle.std.proofs.Common.{◌≡◌, ℕ, zero, suc, ◌+◌, ◌≤◌, Bool, true, false, ◌||◌, ◌==◌, List, [], ◌∷◌, ◌++◌, length, drop, cond, Option, Some, None, refl, sym, ap, ◌∙◌, arith, if◌then◌else◌}
 use Rattle.std.specs.List.{prefix_len}
-use Rattle.std.proofs.lemmas.Bool.Decides.{nat_tests}
 use Rattle.vg_num.specs.Number.{is_digit}
-use Rattle.vg_scan.specs.Lines.{is_blank, is_newline}
-use Rattle.ver_text.specs.declared.token.TokenKind.{TokenKind}
-use Rattle.ver_text.specs.declared.token.TokenKind.TheVariants.{Word, Escaped, Digits, Based, Mark, Stray, Unclosed}
-use Rattle.ver_text.specs.Bytes.{is_letter, is_word_byte, is_printable, is_in_line, base_of, is_digit_of, is_mark}
-use Rattle.ver_text.specs.Tokens.{begins, token, passed, with_more, digits_of, base_length, signed_length, based_length, number, number_before, unsized_before, escaped_before, closes, before_close, enclosed, slash_before, bracket_before, directive_length, mark_before, piece}
+use Rattle.vg_scan.specs.Lines.{is_blank}
+use Rattle.ver_text.specs.Bytes.{is_word_byte, is_in_line, base_of, is_digit_of}
+use Rattle.ver_text.specs.Tokens.{digits_of, base_length}
 
 -- ---- runs
 

@@ -1,13 +1,12 @@
 -- A pin that is linked to one net: the tokens of its connection.
-use Rattle.std.proofs.Common.{◌≡◌, ℕ, zero, suc, ◌+◌, ◌-◌, ◌<◌, ◌≤◌, Bool, true, false, cond, ◌&&◌, not, List, [], ◌∷◌, ◌++◌, map, take, drop, length, Option, Some, None, refl, sym, ap, ◌∙◌, subst, arith, append_assoc, length-append, ◌⊎◌, inl, inr}
-use Rattle.std.specs.Prelude.{⊤}
+use Rattle.std.proofs.Common.{◌≡◌, ℕ, suc, ◌+◌, ◌-◌, Bool, true, false, cond, ◌&&◌, List, [], ◌∷◌, ◌++◌, take, drop, length, Some, refl, sym, ap, ◌∙◌, subst, arith, append_assoc, length-append}
 use Rattle.std.specs.List.{prefix_len, take_while}
 use Rattle.std.proofs.Math.Seq.{take-append_seam}
 use Rattle.vg_grammar.specs.Machines.{run}
 use Rattle.vg_scan.specs.declared.lines.Span.{Span}
 use Rattle.ver_text.specs.declared.kind.Kind.{Kind}
 use Rattle.ver_text.specs.declared.kind.Kind.TheVariants.{Close, Identifier, Open}
-use Rattle.ver_syntax.specs.declared.row.Place.TheVariants.{Connection as InConnection, Pins as InPins}
+use Rattle.ver_syntax.specs.declared.row.Place.TheVariants.{Connection as InConnection}
 use Rattle.ver_syntax.specs.declared.row.Row.{Row}
 use Rattle.ver_syntax.specs.declared.state.At.TheVariants.{Instance as AtInstance}
 use Rattle.ver_syntax.specs.declared.state.Instance.TheVariants.{Connection, Pin as PinName, PinEnd}
@@ -15,12 +14,12 @@ use Rattle.ver_syntax.specs.Grammar.{is}
 use Rattle.ver_syntax.specs.Moves.{State, next}
 use Rattle.ver_syntax.specs.Rows.{kinds_in, rows_of}
 use Rattle.ver_syntax.specs.Syntax.{IsModule}
-use Rattle.ver_items.specs.Connections.{connection_of, end_of, expression_in, expression_of, span_of, start_of}
+use Rattle.ver_items.specs.Connections.{end_of, expression_in, span_of}
 use Rattle.ver_items.specs.Sections.{Section, is_identifier, section_before, stands_in}
-use Rattle.ver_module.specs.declared.link.Link.TheVariants.{One, Open as OpenLink, Many}
+use Rattle.ver_module.specs.declared.link.Link.TheVariants.{One}
 use Rattle.ver_file.specs.Netlists.{is_one, link_of, pin_of}
-use Rattle.ver_again.proofs.RunLemmas.{Comes, EachRow, IsConnection, Moves, Runs, connection_runs, module_runs, runs_next, runs_on}
-use Rattle.ver_again.proofs.SectionLemmas.{PinRows, Quits, in_pins, quits_append}
+use Rattle.ver_again.proofs.RunLemmas.{EachRow, IsConnection, Moves, Runs, connection_runs, module_runs, runs_next, runs_on}
+use Rattle.ver_again.proofs.SectionLemmas.{PinRows, Quits, in_pins}
 use Rattle.ver_again.proofs.StateLemmas.{identifier_moves, name_moves, place_at, run_append, start, state}
 use Rattle.ver_items.proofs.RowLemmas.{kinds_append}
 

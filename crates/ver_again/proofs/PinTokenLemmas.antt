@@ -1,6 +1,5 @@
 -- A pin that is linked to one net, by tokens.
-use Rattle.std.proofs.Common.{◌≡◌, ℕ, Bool, true, false, List, [], ◌∷◌, ◌++◌, map, Some, refl, sym, ap, ◌∙◌, subst, arith, ◌⊎◌, inl, inr}
-use Rattle.std.specs.Prelude.{⊤}
+use Rattle.std.proofs.Common.{◌≡◌, ℕ, true, false, List, [], ◌∷◌, ◌++◌, map, Some, refl, sym, ap, ◌∙◌, subst}
 use Rattle.vg_grammar.specs.Machines.{run}
 use Rattle.vg_scan.specs.Lines.{part}
 use Rattle.vg_scan.specs.declared.lines.Span.{Span}
@@ -17,7 +16,7 @@ use Rattle.ver_syntax.specs.declared.state.At.TheVariants.{Instance as AtInstanc
 use Rattle.ver_syntax.specs.declared.state.Instance.TheVariants.{Connection, PinEnd}
 use Rattle.ver_syntax.specs.Grammar.{is}
 use Rattle.ver_syntax.specs.Moves.{next}
-use Rattle.ver_syntax.specs.Rows.{kinds_in, place_after, row, rows_from, rows_of}
+use Rattle.ver_syntax.specs.Rows.{kinds_in, place_after, row, rows_from}
 use Rattle.ver_again.proofs.ChainLemmas.{IsShut, NameStands, end_of}
 use Rattle.ver_again.proofs.KindLemmas.{close_mark, identifier_token, open_mark}
 use Rattle.ver_again.proofs.PinLemmas.{IsShapedPin, last_to}

@@ -1,12 +1,12 @@
 -- What a byte begins is the same whatever follows the place where it ends.
-use Rattle.std.proofs.Common.{◌≡◌, ℕ, zero, suc, ◌+◌, ◌<◌, ◌≤◌, Bool, true, false, cond, ◌&&◌, ◌||◌, ◌==◌, List, [], ◌∷◌, ◌++◌, length, drop, Option, Some, None, refl, sym, ap, ◌∙◌, arith, length-append, if◌then◌else◌}
+use Rattle.std.proofs.Common.{◌≡◌, ℕ, zero, suc, ◌+◌, ◌≤◌, Bool, true, false, cond, ◌&&◌, ◌==◌, List, [], ◌∷◌, ◌++◌, length, drop, None, refl, sym, ap, ◌∙◌, arith, length-append, if◌then◌else◌}
 use Rattle.std.specs.List.{prefix_len}
 use Rattle.std.proofs.lemmas.Bool.Decides.{nat_tests}
 use Rattle.vg_num.specs.Number.{is_digit}
 use Rattle.vg_scan.specs.Lines.{is_blank, is_newline}
-use Rattle.ver_text.specs.declared.token.TokenKind.TheVariants.{Word, Escaped, Digits, Based, Mark, Stray, Unclosed}
-use Rattle.ver_text.specs.Bytes.{is_letter, is_word_byte, is_printable, is_in_line, base_of, is_mark}
-use Rattle.ver_text.specs.Tokens.{begins, token, passed, with_more, digits_of, base_length, signed_length, based_length, number, number_before, unsized_before, escaped_before, before_close, enclosed, slash_before, bracket_before, directive_length, mark_before, piece}
+use Rattle.ver_text.specs.declared.token.TokenKind.TheVariants.{Word, Escaped, Based, Mark, Stray}
+use Rattle.ver_text.specs.Bytes.{is_letter, is_word_byte, is_printable, is_in_line, is_mark}
+use Rattle.ver_text.specs.Tokens.{begins, token, passed, with_more, base_length, signed_length, based_length, number, number_before, unsized_before, escaped_before, before_close, enclosed, slash_before, bracket_before, directive_length, mark_before, piece}
 use Rattle.ver_again.proofs.PieceLemmas.{IsStop, drop_within, run_same, run_stops_at, run_to}
 
 -- ---- choices

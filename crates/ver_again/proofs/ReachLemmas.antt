@@ -1,11 +1,9 @@
 -- A name behind a `(` or a `;` may be replaced by another: what stands before it is read as it was.
-use Rattle.std.proofs.Common.{◌≡◌, ℕ, zero, suc, ◌+◌, ◌-◌, ◌<◌, ◌≤◌, Bool, true, false, List, [], ◌∷◌, ◌++◌, length, map, take, drop, Option, Some, refl, sym, ap, ◌∙◌, subst, arith, length-append, append_assoc, ◌⊎◌, inl, inr}
-use Rattle.std.specs.Prelude.{⊤}
+use Rattle.std.proofs.Common.{◌≡◌, ℕ, ◌+◌, ◌≤◌, List, [], ◌∷◌, ◌++◌, length, map, Some, refl, sym, ap, ◌∙◌, subst, arith, length-append, append_assoc, ◌⊎◌, inl, inr}
 use Rattle.ver_text.specs.declared.token.Token.{Token}
-use Rattle.ver_text.specs.declared.token.TokenKind.{TokenKind}
 use Rattle.ver_text.specs.declared.token.TokenKind.TheVariants.{Word as AWord, Escaped, Mark}
 use Rattle.ver_text.specs.Tokens.{piece, tokens_from}
-use Rattle.ver_again.specs.Words.{Word, word_in}
+use Rattle.ver_again.specs.Words.{word_in}
 use Rattle.ver_again.proofs.PieceLemmas.{IsStop, open_stops, semicolon_stops}
 use Rattle.ver_again.proofs.PlaceLemmas.{BeginsName, backslash_begins, bracket_kept, letter_begins}
 use Rattle.ver_again.proofs.ScanLemmas.{Found, Holds, found, holds_append, holds_before_name, holds_before_stop, holds_more, holds_words, left, tokens_in, words_from, words_in}

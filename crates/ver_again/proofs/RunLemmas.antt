@@ -1,5 +1,5 @@
 -- The machine over the rows of a module, and over the connection of a pin.
-use Rattle.std.proofs.Common.{◌≡◌, ℕ, zero, suc, ◌+◌, ◌-◌, ◌<◌, ◌≤◌, Bool, true, false, cond, ◌&&◌, not, List, [], ◌∷◌, ◌++◌, map, take, drop, length, Option, Some, None, refl, sym, ap, ◌∙◌, subst, arith, append_assoc, length-append, ◌⊎◌, inl, inr}
+use Rattle.std.proofs.Common.{◌≡◌, ℕ, Bool, true, false, List, [], ◌∷◌, ◌++◌, Option, Some, None, refl, sym, ap, ◌∙◌, subst, inl, inr}
 use Rattle.std.specs.Prelude.{⊤}
 use Rattle.vg_grammar.specs.Machines.{is_done as is_done_by, run}
 use Rattle.vg_grammar.proofs.LawLemmas.{ends}
@@ -14,7 +14,7 @@ use Rattle.ver_syntax.specs.declared.row.Row.{Row}
 use Rattle.ver_syntax.specs.declared.state.At.{At}
 use Rattle.ver_syntax.specs.declared.state.At.TheVariants.{Item as AtItem, Instance as AtInstance}
 use Rattle.ver_syntax.specs.declared.state.Item.TheVariants.{Over}
-use Rattle.ver_syntax.specs.declared.state.Instance.TheVariants.{Connection, PinEnd}
+use Rattle.ver_syntax.specs.declared.state.Instance.TheVariants.{PinEnd}
 use Rattle.ver_syntax.specs.Grammar.{is, module_declaration, rules}
 use Rattle.ver_syntax.specs.Moves.{State, is_done, is_done_at, next, ways}
 use Rattle.ver_syntax.specs.Rows.{kinds_in, place_after, rows_from, rows_of}
@@ -127,14 +127,14 @@ pub connection_runs : (e : Row) (rows rest : List Row) (s : State) → place_at 
 connection_runs e [] rest s inside each q h =
     let m = runs_next s e rest h in
     elim (connection_moves s m.state e.kind inside m.move) [
-      inl k ↦ absurd (stays_not m.state rest m.runs q k.0)
+      | inl k ↦ absurd (stays_not m.state rest m.runs q k.0)
       | inr k ↦ record { front = []; close = e; parts = refl; closes = k.0; bare = tt; run = m.move ∙ ap Some k.1 }
     ]
 connection_runs e (f ∷ rows) rest s inside each q h =
     let m = runs_next s e (f ∷ (rows ++ rest)) h in
     let go = λ (k : place_at m.state.at ≡ InConnection). connection_runs f rows rest m.state k each.1 q m.runs in
     elim (connection_moves s m.state e.kind inside m.move) [
-      inl k ↦ (let c = go k.0 in record {
+      | inl k ↦ (let c = go k.0 in record {
         front = e ∷ c.front;
         close = c.close;
         parts = ap (λ xs. e ∷ xs) c.parts;

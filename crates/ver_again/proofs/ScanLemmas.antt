@@ -1,13 +1,12 @@
 -- The words of a text, one after another, by its bytes alone.
-use Rattle.std.proofs.Common.{◌≡◌, ℕ, zero, suc, ◌+◌, ◌-◌, ◌<◌, ◌≤◌, List, [], ◌∷◌, ◌++◌, length, map, take, drop, Option, Some, None, refl, sym, ap, ◌∙◌, subst, arith, length-append, append_assoc}
-use Rattle.vg_scan.specs.Lines.{part}
+use Rattle.std.proofs.Common.{◌≡◌, ℕ, zero, suc, ◌+◌, ◌≤◌, List, [], ◌∷◌, ◌++◌, length, take, Option, Some, None, refl, sym, ap, ◌∙◌, arith, append_assoc}
 use Rattle.ver_text.specs.declared.token.Token.{Token}
 use Rattle.ver_text.specs.declared.token.TokenKind.{TokenKind}
 use Rattle.ver_text.specs.Kinds.{grammar_kind}
-use Rattle.ver_text.specs.Tokens.{directive_length, piece, token_at, token_of, tokens_from, tokens_of}
-use Rattle.ver_again.specs.Words.{Word, word_in, words_of}
+use Rattle.ver_text.specs.Tokens.{piece, token_at, token_of, tokens_from}
+use Rattle.ver_again.specs.Words.{Word}
 use Rattle.ver_again.proofs.PieceLemmas.{IsStop}
-use Rattle.ver_again.proofs.PlaceLemmas.{BeginsName, directive_same, piece_kept, piece_same}
+use Rattle.ver_again.proofs.PlaceLemmas.{BeginsName, piece_kept, piece_same}
 
 -- ---- words
 

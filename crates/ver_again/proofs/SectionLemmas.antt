@@ -1,7 +1,7 @@
 -- The rows of a pin among those of its text.
-use Rattle.std.proofs.Common.{◌≡◌, ℕ, zero, suc, ◌+◌, ◌<◌, ◌≤◌, Bool, true, false, cond, ◌&&◌, not, List, [], ◌∷◌, ◌++◌, map, take, drop, length, Option, Some, None, refl, sym, ap, ◌∙◌, subst, arith, append_assoc, ◌⊎◌, inl, inr}
+use Rattle.std.proofs.Common.{◌≡◌, ℕ, zero, suc, Bool, true, false, List, [], ◌∷◌, ◌++◌, map, Some, refl, sym, ap, ◌∙◌, subst, append_assoc, ◌⊎◌, inl, inr}
 use Rattle.std.specs.Prelude.{⊤, slice_get}
-use Rattle.std.specs.List.{before_first, flat_map, prefix_len, take_while}
+use Rattle.std.specs.List.{before_first, flat_map}
 use Rattle.std.proofs.lemmas.Option.{none-some, same_Some}
 use Rattle.std.proofs.lemmas.Bool.{and_parts}
 use Rattle.ver_syntax.specs.declared.row.Place.{Place}
@@ -31,7 +31,7 @@ pub get_flat : {X Y : Type 0} (f : X → List Y) (xs : List X) (k : ℕ) (y : Y)
 get_flat f [] k y e = absurd (none-some y e)
 get_flat f (x ∷ xs) k y e =
     elim (get_append (f x) (flat_map f xs) k y e) [
-      inl (j, h) ↦ (x, 0, j, refl, h)
+      | inl (j, h) ↦ (x, 0, j, refl, h)
       | inr (j, h) ↦ (let (z, i, m, g, l) = get_flat f xs j y h in (z, suc i, m, g, l))
     ]
 

@@ -1,8 +1,8 @@
 -- Where the machine of the grammar stands in pins and between items.
-use Rattle.std.proofs.Common.{◌≡◌, ℕ, Bool, true, false, ◌&&◌, ◌||◌, ◌==◌, not, List, [], ◌∷◌, ◌++◌, map, Option, Some, None, refl, sym, ap, ◌∙◌, subst, ◌⊎◌, inl, inr}
+use Rattle.std.proofs.Common.{◌≡◌, ℕ, Bool, true, false, ◌&&◌, ◌||◌, ◌==◌, not, List, [], ◌∷◌, ◌++◌, Option, Some, None, refl, ap, ◌∙◌, subst, ◌⊎◌, inl, inr}
 use Rattle.vg_grammar.specs.Machines.{run}
 use Rattle.ver_text.specs.declared.kind.Kind.{Kind}
-use Rattle.ver_text.specs.declared.kind.Kind.TheVariants.{Module, EndModule, Identifier, Open, Close, Semicolon}
+use Rattle.ver_text.specs.declared.kind.Kind.TheVariants.{EndModule, Identifier, Open, Close, Semicolon}
 use Rattle.ver_syntax.specs.declared.row.Place.{Place}
 use Rattle.ver_syntax.specs.declared.row.Place.TheVariants.{Start as InStart, Head as InHead, Ports as InPorts, Declaration, Assignment, Instances, Pins as InPins, Connection as InConnection}
 use Rattle.ver_syntax.specs.Grammar.{is}
@@ -199,7 +199,7 @@ connection_moves s t k inside e =
     let h = or_false (number (place_at s.at) == 7) (stays k (next s k)) (connection_leads s.at k s.open_braces) (ap (λ p. number p == 7) inside) in
     let m = rw e at h in
     elim (either_true ((number (place_at t.at) == 7) && not (is Open k)) (is Close k && (is_pin_end t.at && no_braces t.open_braces)) m) [
-      inl n ↦ (let (f, g) = both_true (number (place_at t.at) == 7) (not (is Open k)) n in inl (same (place_at t.at) InConnection f, not_true (is Open k) g))
+      | inl n ↦ (let (f, g) = both_true (number (place_at t.at) == 7) (not (is Open k)) n in inl (same (place_at t.at) InConnection f, not_true (is Open k) g))
       | inr n ↦ (let (f, g) = both_true (is Close k) (is_pin_end t.at && no_braces t.open_braces) n in inr (f, led is_pin_end (AtInstance PinEnd) pin_end_is t g))
     ]
   where

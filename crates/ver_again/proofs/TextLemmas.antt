@@ -1,21 +1,21 @@
 -- The words of what is put into a module.
-use Rattle.std.proofs.Common.{◌≡◌, ℕ, zero, suc, ◌+◌, ◌-◌, ◌<◌, ◌≤◌, ◌^◌, Bool, true, false, ◌==◌, ◌&&◌, List, [], ◌∷◌, ◌++◌, length, map, take, drop, Option, Some, None, refl, sym, ap, ◌∙◌, subst, arith, length-append, append_assoc, not, if◌then◌else◌}
+use Rattle.std.proofs.Common.{◌≡◌, ℕ, ◌+◌, ◌-◌, ◌<◌, ◌^◌, Bool, true, false, List, [], ◌∷◌, ◌++◌, length, map, take, Option, Some, None, refl, sym, ap, ◌∙◌, subst, arith, append_assoc, not, if◌then◌else◌}
 use Rattle.std.specs.Prelude.{⊤, codes, IfSome}
 use Rattle.std.specs.Fmt.{decimal}
-use Rattle.std.specs.List.{flat_map, list_all, prefix_len}
+use Rattle.std.specs.List.{flat_map, list_all}
 use Rattle.std.proofs.lemmas.List.{append-nil}
 use Rattle.std.proofs.lemmas.Bool.{and_parts}
 use Rattle.std.proofs.Math.Seq.{take-append_seam}
 use Rattle.vg_num.proofs.ReadingLemmas.{decimal_writes}
-use Rattle.vg_scan.specs.Lines.{is_blank, part}
+use Rattle.vg_scan.specs.Lines.{part}
 use Rattle.ver_text.specs.declared.kind.Kind.{Kind}
 use Rattle.ver_text.specs.declared.kind.Kind.TheVariants.{Wire, Identifier, Open, Close, OpenSquare, CloseSquare, Comma, Semicolon, Dot}
 use Rattle.ver_text.specs.declared.token.TokenKind.{TokenKind}
-use Rattle.ver_text.specs.declared.token.TokenKind.TheVariants.{Word as AWord, Escaped, Digits, Mark}
-use Rattle.ver_text.specs.Bytes.{is_letter, is_mark, is_printable, is_word_byte}
+use Rattle.ver_text.specs.declared.token.TokenKind.TheVariants.{Word as AWord, Escaped, Digits}
+use Rattle.ver_text.specs.Bytes.{is_letter, is_word_byte}
 use Rattle.ver_text.specs.Kinds.{digits_kind, grammar_kind, word_kind}
 use Rattle.ver_text.specs.Names.{escaped, is_identifier, is_simple, is_word, printed}
-use Rattle.ver_text.specs.Tokens.{begins, directive_length, piece, tokens_from}
+use Rattle.ver_text.specs.Tokens.{directive_length}
 use Rattle.ver_text.specs.Written.{BeginsToken, begins_with}
 use Rattle.ver_text.proofs.WrittenLemmas.{words_are_tokens, escaped_names_are_tokens, digits_are_tokens}
 use Rattle.ver_module.specs.Netlists.{Net}
@@ -294,10 +294,13 @@ cells_begin : (cells : List NewCell) (b : ℕ) (bs : List ℕ) → BeginsName b 
 cells_begin [] b bs s = (b, bs, s, refl)
 cells_begin (c ∷ cells) b bs s =
     let (y, ys, is, t) = printed_first c.cell in
-    let after : List ℕ = codes " " ++ (c.name ++ (codes " (" ++ (pin_text c.input c.from ++ (codes ", " ++ (pin_text c.output c.to ++ (codes ");\n" ++ (cell_texts cells ++ b ∷ bs))))))) in
-    (y, ys ++ after, t,
-    regroup (printed c.cell) (codes " ") c.name (codes " (") (pin_text c.input c.from) (codes ", ") (pin_text c.output c.to) (codes ");\n") (cell_texts cells) (b ∷ bs)
-    ∙ ap (λ xs. xs ++ after) is)
+    let after : List ℕ = codes " " ++ (c.name ++ (codes " (" ++ (pin_text c.input c.from ++ (codes ", " ++ (pin_text c.output c.to ++ (codes ");\n" ++ (cell_texts cells ++ b ∷ bs))))))) in (
+      y,
+      ys ++ after,
+      t,
+      regroup (printed c.cell) (codes " ") c.name (codes " (") (pin_text c.input c.from) (codes ", ") (pin_text c.output c.to) (codes ");\n") (cell_texts cells) (b ∷ bs)
+          ∙ ap (λ xs. xs ++ after) is,
+    )
   where
     regroup : (a b c d e f g h i rest : List ℕ)
         → ((((((((a ++ b) ++ c) ++ d) ++ e) ++ f) ++ g) ++ h) ++ i) ++ rest ≡ a ++ (b ++ (c ++ (d ++ (e ++ (f ++ (g ++ (h ++ (i ++ rest))))))))

@@ -1,21 +1,18 @@
 -- The words of tokens, and the first bytes of marks and names.
-use Rattle.std.proofs.Common.{◌≡◌, ℕ, zero, suc, ◌+◌, ◌-◌, ◌<◌, ◌≤◌, Bool, true, false, cond, ◌&&◌, ◌||◌, ◌==◌, List, [], ◌∷◌, ◌++◌, length, map, take, drop, Option, Some, None, refl, sym, ap, ◌∙◌, subst, arith, length-append, append_assoc, if◌then◌else◌, ◌⊎◌, inl, inr}
+use Rattle.std.proofs.Common.{◌≡◌, ℕ, zero, suc, ◌+◌, ◌-◌, Bool, true, false, ◌&&◌, ◌==◌, List, [], ◌∷◌, ◌++◌, length, map, take, drop, Option, Some, None, refl, sym, ap, ◌∙◌, subst, arith, length-append, append_assoc, if◌then◌else◌, ◌⊎◌, inl, inr}
 use Rattle.std.specs.Prelude.{⊤}
 use Rattle.std.proofs.lemmas.Bool.Decides.{nat_tests}
 use Rattle.std.proofs.Math.Seq.{drop-append_seam}
 use Rattle.vg_num.specs.Number.{is_digit}
 use Rattle.vg_scan.specs.Lines.{is_blank, is_newline, part}
-use Rattle.ver_text.specs.declared.token.Token.{Token}
 use Rattle.ver_text.specs.declared.token.TokenKind.{TokenKind}
 use Rattle.ver_text.specs.declared.token.TokenKind.TheVariants.{Word as AWord, Escaped, Digits, Based, Mark, Stray, Unclosed}
-use Rattle.ver_text.specs.Bytes.{is_letter, is_word_byte, is_printable, is_in_line, is_mark}
+use Rattle.ver_text.specs.Bytes.{is_letter, is_printable, is_mark}
 use Rattle.ver_text.specs.Kinds.{grammar_kind}
-use Rattle.ver_text.specs.Tokens.{begins, token, passed, number, before_close, enclosed, directive_length, piece, signed_length, based_length, token_at, token_of, tokens_from, tokens_of}
-use Rattle.ver_text.specs.Written.{begins_with}
+use Rattle.ver_text.specs.Tokens.{begins, token, number, before_close, enclosed, directive_length, piece, signed_length, based_length, token_at, token_of, tokens_from}
 use Rattle.std.specs.List.{prefix_len}
-use Rattle.ver_again.specs.Words.{Word, word_in, words_of}
-use Rattle.ver_again.proofs.PlaceLemmas.{BeginsName, letter_begins, backslash_begins}
-use Rattle.ver_again.proofs.ScanLemmas.{left, tokens_in, word_by, words_from, words_in}
+use Rattle.ver_again.specs.Words.{word_in, words_of}
+use Rattle.ver_again.proofs.ScanLemmas.{tokens_in, word_by, words_from, words_in}
 
 -- ---- words of tokens
 
