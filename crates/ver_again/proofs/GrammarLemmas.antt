@@ -182,7 +182,7 @@ module _ (text : List ℕ) where
       }
 
   -- the machine before the bracket that ends a connection
-  before_close : (ks : List Kind) (k : Kind) (s t : State) → run next (Some s) (ks ++ k ∷ []) ≡ Some t → (u : State) × (run next (Some s) ks ≡ Some u) × (next u k ≡ Some t)
+  pub before_close : (ks : List Kind) (k : Kind) (s t : State) → run next (Some s) (ks ++ k ∷ []) ≡ Some t → (u : State) × (run next (Some s) ks ≡ Some u) × (next u k ≡ Some t)
   before_close ks k s t e = by_state (run next (Some s) ks) refl
     where
       by_state : (o : Option State) → run next (Some s) ks ≡ o → (u : State) × (run next (Some s) ks ≡ Some u) × (next u k ≡ Some t)

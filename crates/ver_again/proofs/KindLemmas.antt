@@ -24,7 +24,7 @@ module _ (test : Kind → Bool) where
       (choose (bytes_eq w (codes "module")) _ _ e (choose (bytes_eq w (codes "endmodule")) _ _ f (choose (is_parameter w) _ _ g h))))))
 
   -- a test that no number passes
-  no_number : test Zero ≡ false → test Small ≡ false → test Limit ≡ false → test Large ≡ false → (w : List ℕ) → test (digits_kind w) ≡ false
+  pub no_number : test Zero ≡ false → test Small ≡ false → test Limit ≡ false → test Large ≡ false → (w : List ℕ) → test (digits_kind w) ≡ false
   unfolding digits_kind
   no_number a b c d w =
       choose (value_of w == 0) _ _ a (choose (nat_lt (value_of w) (2 ^ 20)) _ _ b (choose (value_of w == 2 ^ 20) _ _ c d))

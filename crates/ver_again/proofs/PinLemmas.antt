@@ -109,6 +109,7 @@ pub record IsShapedPin (text : List ℕ) (span : Span) : Type 0 where
   pub named : is Identifier first.kind ≡ true
   pub closes : is Close close.kind ≡ true
   pub bare : EachRow (λ r. is Open r.kind ≡ false) (first ∷ more)
+  pub inside : EachRow (λ r. stands_in InConnection r ≡ true) (first ∷ (more ++ close ∷ []))
   pub from : span.from ≡ first.from
   pub to : span.to ≡ last_to first more
   pub comes : run next (Some start) (kinds_in (before ++ bracket ∷ [])) ≡ Some (state (AtInstance Connection))
@@ -123,8 +124,8 @@ module _ (text : List ℕ) where
   in_bracket : (before : List Row) (h b : Row) (conn rest after : List Row) (net : ℕ) (t : State)
       → rows_of text ≡ before ++ h ∷ (b ∷ (conn ++ rest) ++ after) → is Open b.kind ≡ true → t ≡ state (AtInstance Connection)
       → run next (Some start) (kinds_in ((before ++ h ∷ []) ++ b ∷ [])) ≡ Some t
-      → IsConnection t conn → link_of text (expression_in conn) ≡ One net → IsShapedPin text (span_of conn)
-  in_bracket before h b conn rest after net t rows opens at comes c link =
+      → IsConnection t conn → EachRow (λ r. stands_in InConnection r ≡ true) conn → link_of text (expression_in conn) ≡ One net → IsShapedPin text (span_of conn)
+  in_bracket before h b conn rest after net t rows opens at comes c each link =
       let whole : expression_in conn ≡ c.front = ap expression_in c.parts ∙ expression_is c.front c.close in
       let one = one_expression text c.front net (ap (link_of text) (sym whole) ∙ link) in
       let parts : conn ≡ one.first ∷ (one.more ++ c.close ∷ []) = c.parts ∙ ap (λ xs. xs ++ c.close ∷ []) one.parts in
@@ -140,6 +141,7 @@ module _ (text : List ℕ) where
         named = one.named;
         closes = c.closes;
         bare = subst (EachRow (λ r. is Open r.kind ≡ false)) one.parts c.bare;
+        inside = subst (EachRow (λ r. stands_in InConnection r ≡ true)) parts each;
         from = ap (λ xs. (span_of xs).from) parts;
         to = ap (λ xs. (span_of xs).to) parts ∙ end_is one.first.from one.first one.more c.close;
         comes = comes ∙ ap Some at;
@@ -179,7 +181,7 @@ module _ (text : List ℕ) where
           let here : Runs m.state (x ∷ (conn ++ (rest ++ after)))
           = subst (Runs m.state) (ap (λ ys. ys ++ after) e ∙ append_assoc (x ∷ conn) rest after) m.runs in
           let c = connection_runs x conn (rest ++ after) m.state (ap (λ (t : State). place_at t.at) there) each quit here in
-          in_bracket before h b (x ∷ conn) rest after net m.state (rows ∙ ap (λ ys. before ++ h ∷ (b ∷ ys ++ after)) e) opens there far c l
+          in_bracket before h b (x ∷ conn) rest after net m.state (rows ∙ ap (λ ys. before ++ h ∷ (b ∷ ys ++ after)) e) opens there far c each l
 
   -- a pin that is linked to one net
   pub shaped_pin : IsModule text → (p : Section) (net : ℕ) → PinRows (rows_of text) p → (pin_of text p).link ≡ One net → IsShapedPin text (pin_of text p).span

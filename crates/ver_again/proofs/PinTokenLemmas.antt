@@ -1,5 +1,6 @@
 -- A pin that is linked to one net, by tokens.
-use Rattle.std.proofs.Common.{◌≡◌, ℕ, true, false, List, [], ◌∷◌, ◌++◌, map, Some, refl, sym, ap, ◌∙◌, subst}
+use Rattle.std.proofs.Common.{◌≡◌, ℕ, true, false, List, [], ◌∷◌, ◌++◌, length, map, Some, refl, sym, ap, ◌∙◌, subst, arith, append_assoc, length-append}
+use Rattle.ver_items.specs.Sections.{is_place, stands_in}
 use Rattle.vg_grammar.specs.Machines.{run}
 use Rattle.vg_scan.specs.Lines.{part}
 use Rattle.vg_scan.specs.declared.lines.Span.{Span}
@@ -10,7 +11,7 @@ use Rattle.ver_text.specs.declared.kind.Kind.TheVariants.{Close, Identifier, Ope
 use Rattle.ver_text.specs.Kinds.{kind_in}
 use Rattle.ver_text.specs.Tokens.{tokens_of}
 use Rattle.ver_syntax.specs.declared.row.Place.{Place}
-use Rattle.ver_syntax.specs.declared.row.Place.TheVariants.{Start}
+use Rattle.ver_syntax.specs.declared.row.Place.TheVariants.{Connection as InConnection, Start}
 use Rattle.ver_syntax.specs.declared.row.Row.{Row}
 use Rattle.ver_syntax.specs.declared.state.At.TheVariants.{Instance as AtInstance}
 use Rattle.ver_syntax.specs.declared.state.Instance.TheVariants.{Connection, PinEnd}
@@ -80,6 +81,7 @@ kinds_from text (t ∷ ts) place = ap (λ ks. kind_in text t ∷ ks) (kinds_from
 pub record IsPinPlace (text : List ℕ) (span : Span) : Type 0 where
   pub stands : NameStands text span.from span.to
   pub comes : run next (Some start) (map (kind_in text) (stands.before ++ stands.bracket ∷ [])) ≡ Some (state (AtInstance Connection))
+  pub inside : EachRow (λ r. stands_in InConnection r ≡ true) (rows_from text InConnection (stands.name ∷ (stands.more ++ stands.close ∷ [])))
   pub closing : kind_in text stands.close ≡ Close
   pub runs : run next (Some (state (AtInstance Connection))) (map (kind_in text) (stands.name ∷ (stands.more ++ stands.close ∷ []))) ≡ Some (state (AtInstance PinEnd))
 
@@ -95,6 +97,33 @@ all_shut : (text : List ℕ) (t : Token) (ts : List Token) (q place : Place) →
 unfolding rows_from
 all_shut text t [] q place h = not_open text t h.0
 all_shut text t (u ∷ ts) q place h = all_shut text u ts place (place_after place (kind_in text u)) h.1
+
+rows_count : (text : List ℕ) (ts : List Token) (place : Place) → length (rows_from text place ts) ≡ length ts
+unfolding rows_from
+rows_count text [] place = refl
+rows_count text (t ∷ ts) place = let e = rows_count text ts (place_after place (kind_in text t)) in omega (arith, e)
+
+rows_front : (text : List ℕ) (us vs : List Token) (place : Place) (xs ys : List Row) → xs ++ ys ≡ rows_from text place (us ++ vs) → length xs ≡ length us
+    → xs ≡ rows_from text place us
+unfolding rows_from
+rows_front text [] vs place [] ys e n = refl
+rows_front text [] vs place (x ∷ xs) ys e n = absurd (omega (arith, n))
+rows_front text (u ∷ us) vs place [] ys e n = absurd (omega (arith, n))
+rows_front text (u ∷ us) vs place (x ∷ xs) ys e n =
+    let own : x ≡ row text place u = cc in
+    let rest : xs ++ ys ≡ rows_from text (place_after place (kind_in text u)) (us ++ vs) = cc in
+    let more = rows_front text us vs (place_after place (kind_in text u)) xs ys rest (omega (arith, n)) in
+    λ i. own i ∷ more i
+
+connection_place : (p : Place) → is_place InConnection p ≡ true → p ≡ InConnection
+connection_place InConnection e = refl
+connection_place p e = absurd (cc)
+
+all_inside : (text : List ℕ) (t : Token) (ts : List Token) (place : Place) → EachRow (λ r. stands_in InConnection r ≡ true) (rows_from text place (t ∷ ts))
+    → EachRow (λ r. stands_in InConnection r ≡ true) (rows_from text InConnection (t ∷ ts))
+unfolding rows_from
+all_inside text t ts place h =
+    subst (λ p. EachRow (λ r. stands_in InConnection r ≡ true) (rows_from text p (t ∷ ts))) (connection_place place h.0) h
 
 close_is : (k : Kind) → is Close k ≡ true → k ≡ Close
 close_is Close e = refl
@@ -118,6 +147,12 @@ pin_place text span s =
     = ap (λ ks. kind_in text n.token ∷ ks) (map_append (kind_in text) m.front (c.token ∷ []))
     ∙ (λ i. (sym n.own i).kind ∷ (sym more i ++ (sym c.own i).kind ∷ []))
     ∙ ap (λ ks. s.first.kind ∷ ks) (sym (map_append (λ (r : Row). r.kind) s.more (s.close ∷ []))) in
+    let counts : length (s.first ∷ (s.more ++ s.close ∷ [])) ≡ length (n.token ∷ (m.front ++ c.token ∷ []))
+    = omega (arith, length-append s.more (s.close ∷ []), length-append m.front (c.token ∷ []), ap length m.rows, rows_count text m.front n.there) in
+    let whole : (s.first ∷ (s.more ++ s.close ∷ [])) ++ s.after ≡ rows_from text o.there ((n.token ∷ (m.front ++ c.token ∷ [])) ++ c.back)
+    = ap (λ rs. s.first ∷ rs) (append_assoc s.more (s.close ∷ []) s.after) ∙ o.others
+    ∙ ap (rows_from text o.there) (n.is ∙ ap (λ ts. n.token ∷ ts) (m.is ∙ ap (λ ts. m.front ++ ts) c.is ∙ sym (append_assoc m.front (c.token ∷ []) c.back))) in
+    let rows_are = rows_front text (n.token ∷ (m.front ++ c.token ∷ [])) c.back o.there (s.first ∷ (s.more ++ s.close ∷ [])) s.after whole counts in
     record {
       stands = record {
         before = a.front;
@@ -139,6 +174,9 @@ pin_place text span s =
         ends = s.to ∙ (λ i. last_to (n.own i) (m.rows i)) ∙ last_is text o.there n.token n.there m.front;
       };
       comes = ap (run next (Some start)) front ∙ s.comes;
+      inside =
+          all_inside text n.token (m.front ++ c.token ∷ []) o.there
+          (subst (EachRow (λ r. stands_in InConnection r ≡ true)) rows_are s.inside);
       closing = ap (λ (r : Row). r.kind) (sym c.own) ∙ close_is s.close.kind s.closes;
       runs = ap (run next (Some (state (AtInstance Connection)))) behind ∙ s.runs;
     }

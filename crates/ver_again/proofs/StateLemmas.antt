@@ -8,6 +8,7 @@ use Rattle.ver_syntax.specs.declared.row.Place.TheVariants.{Start as InStart, He
 use Rattle.ver_syntax.specs.Grammar.{is}
 use Rattle.ver_syntax.specs.Moves.{State, move, next}
 use Rattle.ver_syntax.specs.Rows.{place_after}
+use Rattle.ver_syntax.specs.Laws.{place_after_all}
 use Rattle.ver_syntax.proofs.TableLemmas.{both_true, each_kind, each_move, each_state}
 use Rattle.ver_syntax.specs.declared.state.Head.TheVariants.{Start as HeadStart, Module as HeadModule, Name as HeadName, End as HeadEnd}
 use Rattle.ver_syntax.specs.declared.state.Item.TheVariants.{Start as ItemStart, Over}
@@ -264,3 +265,26 @@ start_leads = each_move (λ at k bs. not (comes_to_start (move at k bs)) || is S
 pub start_moves : (s t : State) (k : Kind) → next s k ≡ Some t → t.at ≡ AtItem ItemStart → is Semicolon k ≡ true
 unfolding comes_to_start is_item_start
 start_moves s t k e f = or_false (comes_to_start (next s k)) (is Semicolon k) (start_leads s.at k s.open_braces) (ap comes_to_start e ∙ ap is_item_start f)
+
+-- where the machine stands tells what the next token stands in
+pub ran_places : (ks : List Kind) (s t : State) → run next (Some s) ks ≡ Some t → place_after_all (place_at s.at) ks ≡ place_at t.at
+ran_places [] s t e = let same : s ≡ t = cc in ap (λ (x : State). place_at x.at) same
+ran_places (k ∷ ks) s t e = by_move (next s k) refl e (λ (u : State) (g : run next (Some u) ks ≡ Some t). ran_places ks u t g)
+  where
+    by_move : (o : Option State) → next s k ≡ o → run next o ks ≡ Some t
+        → ((u : State) → run next (Some u) ks ≡ Some t → place_after_all (place_at u.at) ks ≡ place_at t.at)
+        → place_after_all (place_after (place_at s.at) k) ks ≡ place_at t.at
+    by_move None f g ih = let h = stopped ks in absurd (cc)
+    by_move (Some u) f g ih = rw (place_moves s u k f) (ih u g)
+
+pub start_place : place_at start.at ≡ InStart
+unfolding place_at
+start_place = refl
+
+pub item_place : place_at (AtItem ItemStart) ≡ InStart
+unfolding place_at
+item_place = refl
+
+pub connection_place : place_at (AtInstance Connection) ≡ InConnection
+unfolding place_at
+connection_place = refl
