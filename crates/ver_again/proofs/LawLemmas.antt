@@ -66,7 +66,7 @@ pin_stands text netlist d at (net, l) =
 
 -- ---- the words
 
-spans_behind : (text : List ℕ) (netlist : Netlist) → Denotes text netlist → (r : Rewire) → IsOnOneNet netlist r.at → (rs : List Rewire)
+pub spans_behind : (text : List ℕ) (netlist : Netlist) → Denotes text netlist → (r : Rewire) → IsOnOneNet netlist r.at → (rs : List Rewire)
     → Each (λ q. IsBefore r.at q.at) rs → Each (λ q. IsOnOneNet netlist q.at) rs → Each (λ q. (span_at netlist r.at).to ≤ (span_at netlist q.at).from) rs
 spans_behind text netlist d r own [] b l = tt
 spans_behind text netlist d r own (q ∷ rs) b l =

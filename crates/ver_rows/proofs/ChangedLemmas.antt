@@ -124,18 +124,18 @@ stays_there k e f = refl
 digits_stay : (w : List ℕ) → place_after InConnection (digits_kind w) ≡ InConnection
 digits_stay w = stays_there (digits_kind w) (no_number (is Close) refl refl refl refl w) (no_number (is Semicolon) refl refl refl refl w)
 
-abbrev Stay : List Kind → Type 0
+abbrev pub Stay : List Kind → Type 0
 Stay [] = ⊤
 Stay (k ∷ ks) = (place_after InConnection k ≡ InConnection) × Stay ks
 
-net_stays : (net : Net) → Stay (word_kinds (net_words net))
+pub net_stays : (net : Net) → Stay (word_kinds (net_words net))
 net_stays net = (refl, by_bit net.bit)
   where
     by_bit : (bit : Option ℕ) → Stay (word_kinds (select_words bit))
     by_bit None = tt
     by_bit (Some bit) = (refl, (digits_stay (decimal bit), (refl, tt)))
 
-place_stays : (ks : List Kind) → Stay ks → place_after_all InConnection ks ≡ InConnection
+pub place_stays : (ks : List Kind) → Stay ks → place_after_all InConnection ks ≡ InConnection
 place_stays [] h = refl
 place_stays (k ∷ ks) h = ap (λ p. place_after_all p ks) h.0 ∙ place_stays ks h.1
 
@@ -155,7 +155,7 @@ unfolding rows_from
 inside_front text [] t p h = (tt, in_place p h.0)
 inside_front text (u ∷ ts) t p h = let (f, g) = inside_front text ts t (place_after p (kind_in text u)) h.1 in ((h.0, f), g)
 
-word_kinds_of : (new : List ℕ) (ts : List Token) (ws : List Word) → map (word_in new) ts ≡ ws → map (kind_in new) ts ≡ word_kinds ws
+pub word_kinds_of : (new : List ℕ) (ts : List Token) (ws : List Word) → map (word_in new) ts ≡ ws → map (kind_in new) ts ≡ word_kinds ws
 word_kinds_of new ts ws e = kinds_map ts ∙ ap word_kinds e
   where
     kinds_map : (us : List Token) → map (kind_in new) us ≡ word_kinds (map (word_in new) us)
@@ -179,7 +179,7 @@ pub record RowsGo (text new : List ℕ) (last : Token) (cells : List NewCell) (p
   pub last_is : word_in new end ≡ word_in text last
 
 -- where the machine stands at an item, an item may begin
-at_item_place : (ks : List Kind) → run next (Some start) ks ≡ Some (state (AtItem ItemStart)) → place_after_all InStart ks ≡ InStart
+pub at_item_place : (ks : List Kind) → run next (Some start) ks ≡ Some (state (AtItem ItemStart)) → place_after_all InStart ks ≡ InStart
 at_item_place ks e = ap (λ p. place_after_all p ks) (sym start_place) ∙ ran_places ks start (state (AtItem ItemStart)) e ∙ item_place
 
 module _ (text new : List ℕ) (cells : List NewCell) where
@@ -220,7 +220,8 @@ module _ (text new : List ℕ) (cells : List NewCell) where
       → run next (Some start) (map (kind_in text) (s.before ++ s.bracket ∷ [])) ≡ Some (state (AtInstance Connection))
       → EachRow InOne (rows_from text InConnection (s.name ∷ (s.more ++ s.close ∷ [])))
       → place_after_all InStart (map (kind_in text) done) ≡ p
-      → ((us : List Token) → map (word_in new) us ≡ words_with text changes (s.close ∷ s.after) → RowsGo text new last cells InConnection (s.close ∷ s.after) us)
+      → ((us : List Token) → place_after_all InStart (map (kind_in text) (s.before ++ s.bracket ∷ (s.name ∷ s.more))) ≡ InConnection
+      → map (word_in new) us ≡ words_with text changes (s.close ∷ s.after) → RowsGo text new last cells InConnection (s.close ∷ s.after) us)
       → map (word_in new) others ≡ words_with text (record { from = from; to = to; words = words_of net } ∷ changes) ts
       → RowsGo text new last cells p ts others
   rows_more at done ts from to net changes p last others here s behind n comes inside there later words =
@@ -228,16 +229,23 @@ module _ (text new : List ℕ) (cells : List NewCell) where
       let front = l.front ++ s.bracket ∷ [] in
       let c = map_cut (word_in new) others (map (word_in text) front) (words_of net ++ words_with text changes (s.close ∷ s.after)) (words ∙ l.words (words_of net) changes) in
       let k = map_cut (word_in new) c.back (words_of net) (words_with text changes (s.close ∷ s.after)) c.backs in
-      let g = later k.back k.backs in
+      let (each, stays) = inside_front text (s.name ∷ s.more) s.close InConnection inside in
+      let bracket_place : place_after_all InStart (map (kind_in text) (s.before ++ s.bracket ∷ [])) ≡ InConnection
+      = ap (λ q. place_after_all q (map (kind_in text) (s.before ++ s.bracket ∷ []))) (sym start_place)
+      ∙ ran_places (map (kind_in text) (s.before ++ s.bracket ∷ [])) start (state (AtInstance Connection)) comes ∙ connection_place in
+      let name_place : place_after_all InStart (map (kind_in text) (s.before ++ s.bracket ∷ (s.name ∷ s.more))) ≡ InConnection
+      = ap (λ ts. place_after_all InStart (map (kind_in text) ts)) (sym (append_assoc s.before (s.bracket ∷ []) (s.name ∷ s.more)))
+      ∙ ap (place_after_all InStart) (map_append (kind_in text) (s.before ++ s.bracket ∷ []) (s.name ∷ s.more))
+      ∙ place_append InStart (map (kind_in text) (s.before ++ s.bracket ∷ [])) (map (kind_in text) (s.name ∷ s.more))
+      ∙ ap (λ q. place_after_all q (map (kind_in text) (s.name ∷ s.more))) bracket_place ∙ stays in
+      let g = later k.back name_place k.backs in
       let here_place : place_after_all p (map (kind_in text) front) ≡ InConnection
       = ap (λ q. place_after_all q (map (kind_in text) front)) (sym there)
       ∙ sym (place_append InStart (map (kind_in text) done) (map (kind_in text) front))
       ∙ ap (place_after_all InStart) (sym (map_append (kind_in text) done front)
       ∙ ap (map (kind_in text)) (sym (append_assoc done l.front (s.bracket ∷ [])) ∙ ap (λ ts. ts ++ s.bracket ∷ []) (sym l.before_is)))
-      ∙ ap (λ q. place_after_all q (map (kind_in text) (s.before ++ s.bracket ∷ []))) (sym start_place)
-      ∙ ran_places (map (kind_in text) (s.before ++ s.bracket ∷ [])) start (state (AtInstance Connection)) comes ∙ connection_place in
+      ∙ bracket_place in
       let new_place : place_after_all p (map (kind_in new) c.front) ≡ InConnection = ap (place_after_all p) (kinds_same text new front c.front c.fronts) ∙ here_place in
-      let (each, stays) = inside_front text (s.name ∷ s.more) s.close InConnection inside in
       let stay : Stay (map (kind_in new) k.front)
       = subst Stay (sym (word_kinds_of new k.front (words_of net) k.fronts ∙ ap word_kinds (net_named net n))) (net_stays n.net) in
       let stays' = place_stays (map (kind_in new) k.front) stay in

@@ -1,2 +1,4 @@
 pub mod ChangedLemmas
 pub mod SectionLemmas
+pub mod NewRowLemmas
+pub mod LawLemmas

@@ -110,7 +110,7 @@ connection_is p e = absurd (cc)
 starts_alike : (r q : Row) → r.place ≡ q.place → r.kind ≡ q.kind → stands_in Start r ≡ stands_in Start q
 starts_alike r q e f = ap (is_place Start) e
 
-starts_off : (r : Row) → InOne r → stands_in Start r ≡ false
+pub starts_off : (r : Row) → InOne r → stands_in Start r ≡ false
 starts_off r h = ap (is_place Start) (connection_is r.place h)
 
 names_alike : (place : Place) (r q : Row) → r.place ≡ q.place → r.kind ≡ q.kind → is_name_in place r ≡ is_name_in place q
@@ -120,7 +120,7 @@ and_none : (a b : Bool) → b ≡ false → (a && b) ≡ false
 and_none true b e = e
 and_none false b e = refl
 
-names_off : (place : Place) → is_place place InConnection ≡ false → (r : Row) → InOne r → is_name_in place r ≡ false
+pub names_off : (place : Place) → is_place place InConnection ≡ false → (r : Row) → InOne r → is_name_in place r ≡ false
 names_off place e r h = and_none (is_identifier r) (stands_in place r) (ap (is_place place) (connection_is r.place h) ∙ e)
 
 module _ (text new : List ℕ) where

@@ -5,4 +5,4 @@
 
 mod laws;
 
-pub use laws::nothing;
+pub use laws::instances_stay;

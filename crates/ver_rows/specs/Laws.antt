@@ -1,0 +1,15 @@
+-- What is true of the instances of every changed netlist.
+use Rattle.std.specs.Prelude.{◌≡◌, ℕ, List, ◌++◌, map}
+use Rattle.ver_module.specs.Netlists.{Netlist}
+use Rattle.ver_file.specs.Netlists.{instances_of}
+use Rattle.ver_patch.specs.declared.text.NewCell.{NewCell}
+use Rattle.ver_patch.specs.declared.text.Rewire.{Rewire}
+use Rattle.ver_again.specs.Laws.{IsChanged}
+use Rattle.ver_rows.specs.Shapes.{new_shape, shape_of}
+
+-- the instances of the new text are the old ones, in order, each with its name, its cell and its pins, and then the new ones
+abbrev pub InstancesStay : Type 0
+InstancesStay =
+    (text : List ℕ) (netlist : Netlist) (rewires : List Rewire) (cells : List NewCell) (wires : List (List ℕ)) (new : List ℕ)
+    → IsChanged text netlist rewires cells wires new
+    → map shape_of (instances_of new) ≡ map shape_of netlist.instances ++ map new_shape cells
