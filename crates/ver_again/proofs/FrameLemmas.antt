@@ -24,9 +24,9 @@ use Rattle.ver_items.proofs.RowLemmas.{kinds_append}
 use Rattle.ver_file.specs.Netlists.{end_at, head_end}
 use Rattle.ver_patch.proofs.FrameLemmas.{framed}
 use Rattle.ver_again.proofs.KindLemmas.{end_token, semicolon_mark}
-use Rattle.ver_again.proofs.PatchLemmas.{EndsIn}
+use Rattle.ver_words.proofs.PatchLemmas.{EndsIn}
 use Rattle.ver_again.proofs.PinTokenLemmas.{kinds_from, next_row, rows_cut}
-use Rattle.ver_again.proofs.WordLemmas.{map_append}
+use Rattle.ver_words.proofs.WordLemmas.{map_append}
 use Rattle.ver_again.proofs.RunLemmas.{Runs, module_runs, runs_next, runs_on}
 use Rattle.ver_again.proofs.StateLemmas.{end_moves, over_stops, run_append, semicolon_moves, start, start_moves, state}
 

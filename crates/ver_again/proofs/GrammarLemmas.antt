@@ -20,15 +20,15 @@ use Rattle.ver_syntax.proofs.FaultLemmas.{no_stray}
 use Rattle.ver_syntax.proofs.ReadLemmas.{stray}
 use Rattle.ver_module.specs.Netlists.{Net}
 use Rattle.ver_patch.specs.declared.text.NewCell.{NewCell}
-use Rattle.ver_again.specs.NewWords.{cell_words, net_words, pin_words, select_words, wire_words, word}
-use Rattle.ver_again.specs.Texts.{IsNetText, IsNewCell}
-use Rattle.ver_again.specs.Words.{Word, WordEdit, word_in, words_of, words_with}
-use Rattle.ver_again.proofs.ChainLemmas.{NameStands, StandsAt}
-use Rattle.ver_again.proofs.PatchLemmas.{EndsIn, end_located, located}
+use Rattle.ver_words.specs.NewWords.{cell_words, net_words, pin_words, select_words, wire_words, word}
+use Rattle.ver_words.specs.Texts.{IsNetText, IsNewCell}
+use Rattle.ver_words.specs.Words.{Word, WordEdit, word_in, words_of, words_with}
+use Rattle.ver_words.proofs.ChainLemmas.{NameStands, StandsAt}
+use Rattle.ver_words.proofs.PatchLemmas.{EndsIn, end_located, located}
 use Rattle.ver_again.proofs.RunLemmas.{is_over}
 use Rattle.ver_again.proofs.StateLemmas.{run_append, start, state, stopped}
-use Rattle.ver_again.proofs.TextLemmas.{Each, net_named}
-use Rattle.ver_again.proofs.WordLemmas.{map_append}
+use Rattle.ver_words.proofs.TextLemmas.{Each, net_named}
+use Rattle.ver_words.proofs.WordLemmas.{map_append}
 
 -- the kinds of some words
 abbrev pub word_kinds : List Word → List Kind

@@ -23,23 +23,23 @@ use Rattle.ver_patch.specs.declared.text.NewCell.{NewCell}
 use Rattle.ver_patch.specs.declared.text.Rewire.{Rewire}
 use Rattle.ver_patch.proofs.LawLemmas.{heads_end_first, span_is, spans_rise, spans_stand}
 use Rattle.ver_again.specs.Laws.{ModulesStay, WordsArePatched}
-use Rattle.ver_again.specs.NewWords.{cell_words, inserted_words, rewired_words, wire_words}
-use Rattle.ver_again.specs.Texts.{IsNetText, IsNewCell}
-use Rattle.ver_again.specs.Words.{Word, WordEdit, word_in, words_of, words_with}
-use Rattle.ver_again.proofs.ChainLemmas.{Chained, StandsAt, stands_behind}
+use Rattle.ver_words.specs.NewWords.{cell_words, inserted_words, rewired_words, wire_words}
+use Rattle.ver_words.specs.Texts.{IsNetText, IsNewCell}
+use Rattle.ver_words.specs.Words.{Word, WordEdit, word_in, words_of, words_with}
+use Rattle.ver_words.proofs.ChainLemmas.{Chained, StandsAt, stands_behind}
 use Rattle.ver_again.proofs.FrameLemmas.{end_tokens, head_tokens}
-use Rattle.ver_again.proofs.PatchLemmas.{chain_end, chain_head, chain_more, head_words, stands_behind_mark}
+use Rattle.ver_words.proofs.PatchLemmas.{chain_end, chain_head, chain_more, head_words, stands_behind_mark}
 use Rattle.ver_again.proofs.GrammarLemmas.{Goes, at_item, goes_end, goes_more, kinds_are, no_bad, over_kept, wires_run, word_kinds}
 use Rattle.ver_again.proofs.PinLemmas.{shaped_pin}
 use Rattle.ver_again.proofs.RunLemmas.{ended_modules, is_over}
 use Rattle.ver_again.proofs.StateLemmas.{start}
-use Rattle.ver_again.proofs.WordLemmas.{map_append}
+use Rattle.ver_words.proofs.WordLemmas.{map_append}
 use Rattle.vg_grammar.specs.Machines.{run}
 use Rattle.ver_syntax.specs.Moves.{State, next}
 use Rattle.ver_text.specs.Kinds.{kind_in, kinds_of}
 use Rattle.ver_again.proofs.PinTokenLemmas.{IsPinPlace, pin_place}
 use Rattle.ver_again.proofs.SectionLemmas.{pin_found}
-use Rattle.ver_again.proofs.TextLemmas.{Each, cells_are_put, net_is_new, wires_read}
+use Rattle.ver_words.proofs.TextLemmas.{Each, cells_are_put, net_is_new, wires_read}
 
 -- ---- lists
 

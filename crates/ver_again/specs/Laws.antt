@@ -8,9 +8,9 @@ use Rattle.ver_patch.specs.Patches.{IsPatched}
 use Rattle.ver_patch.specs.Pins.{AreRewirable}
 use Rattle.ver_patch.specs.declared.text.NewCell.{NewCell}
 use Rattle.ver_patch.specs.declared.text.Rewire.{Rewire}
-use Rattle.ver_again.specs.NewWords.{changes_of}
-use Rattle.ver_again.specs.Texts.{AreWritten}
-use Rattle.ver_again.specs.Words.{words_of, words_with}
+use Rattle.ver_words.specs.NewWords.{changes_of}
+use Rattle.ver_words.specs.Texts.{AreWritten}
+use Rattle.ver_words.specs.Words.{words_of, words_with}
 
 -- The text of a netlist is changed, by what may be written into it.
 pub record IsChanged (text : List ℕ) (netlist : Netlist) (rewires : List Rewire) (cells : List NewCell) (wires : List (List ℕ)) (new : List ℕ) : Type 0 where

@@ -1,4 +1,1 @@
-pub mod Words
-pub mod Texts
-pub mod NewWords
 pub mod Laws

@@ -23,17 +23,17 @@ use Rattle.ver_syntax.specs.Rows.{place_after, row, rows_from}
 use Rattle.ver_items.specs.Sections.{bytes_at, is_place, stands_in}
 use Rattle.ver_module.specs.Netlists.{Net}
 use Rattle.ver_patch.specs.declared.text.NewCell.{NewCell}
-use Rattle.ver_again.specs.NewWords.{cell_words, net_words, select_words}
-use Rattle.ver_again.specs.Texts.{IsNetText}
-use Rattle.ver_again.specs.Words.{Word, WordEdit, word_in, words_of, words_with}
-use Rattle.ver_again.proofs.ChainLemmas.{NameStands, StandsAt}
+use Rattle.ver_words.specs.NewWords.{cell_words, net_words, select_words}
+use Rattle.ver_words.specs.Texts.{IsNetText}
+use Rattle.ver_words.specs.Words.{Word, WordEdit, word_in, words_of, words_with}
+use Rattle.ver_words.proofs.ChainLemmas.{NameStands, StandsAt}
 use Rattle.ver_again.proofs.GrammarLemmas.{word_kinds}
 use Rattle.ver_again.proofs.KindLemmas.{no_number}
-use Rattle.ver_again.proofs.PatchLemmas.{EndsIn, end_located, located}
+use Rattle.ver_words.proofs.PatchLemmas.{EndsIn, end_located, located}
 use Rattle.ver_again.proofs.RunLemmas.{EachRow}
 use Rattle.ver_again.proofs.StateLemmas.{connection_place, item_place, ran_places, start, start_place, state}
-use Rattle.ver_again.proofs.TextLemmas.{net_named}
-use Rattle.ver_again.proofs.WordLemmas.{map_append}
+use Rattle.ver_words.proofs.TextLemmas.{net_named}
+use Rattle.ver_words.proofs.WordLemmas.{map_append}
 
 -- ---- rows of two texts
 

@@ -27,16 +27,16 @@ use Rattle.ver_patch.specs.declared.text.Rewire.{Rewire}
 use Rattle.ver_patch.proofs.LawLemmas.{heads_end_first, spans_stand}
 use Rattle.ver_patch.proofs.StandLemmas.{no_sections}
 use Rattle.ver_again.specs.Laws.{IsChanged}
-use Rattle.ver_again.specs.NewWords.{cell_words, inserted_words, rewired_words, wire_words}
-use Rattle.ver_again.specs.Texts.{IsNetText, IsNewCell}
-use Rattle.ver_again.specs.Words.{word_in, words_of, words_with}
-use Rattle.ver_again.proofs.ChainLemmas.{StandsAt, stands_behind}
+use Rattle.ver_words.specs.NewWords.{cell_words, inserted_words, rewired_words, wire_words}
+use Rattle.ver_words.specs.Texts.{IsNetText, IsNewCell}
+use Rattle.ver_words.specs.Words.{word_in, words_of, words_with}
+use Rattle.ver_words.proofs.ChainLemmas.{StandsAt, stands_behind}
 use Rattle.ver_again.proofs.FrameLemmas.{EndTokens, HeadTokens, end_tokens, head_tokens}
 use Rattle.ver_again.proofs.LawLemmas.{all_low, each_of, end_changes, head_pairs, pin_stands, spans_behind, tail_pairs, words_are_patched}
-use Rattle.ver_again.proofs.PatchLemmas.{head_words, stands_behind_mark}
+use Rattle.ver_words.proofs.PatchLemmas.{head_words, stands_behind_mark}
 use Rattle.ver_again.proofs.SectionLemmas.{Next}
-use Rattle.ver_again.proofs.TextLemmas.{Each}
-use Rattle.ver_again.proofs.WordLemmas.{map_append}
+use Rattle.ver_words.proofs.TextLemmas.{Each}
+use Rattle.ver_words.proofs.WordLemmas.{map_append}
 use Rattle.ver_rows.specs.Laws.{InstancesStay}
 use Rattle.ver_rows.specs.Shapes.{Shape, new_shape, shape_of}
 use Rattle.ver_rows.proofs.ChangedLemmas.{AreChanged, RowsGo, at_item_place, kept_rows, kinds_same, map_cut, place_append, rows_append, rows_end, rows_more, word_kinds_of}

@@ -22,14 +22,14 @@ use Rattle.ver_module.specs.Netlists.{Instance, Pin}
 use Rattle.ver_file.specs.Netlists.{instance_of, instances_by, pin_of}
 use Rattle.ver_patch.proofs.StandLemmas.{before_others, no_sections, sections_by}
 use Rattle.ver_patch.specs.declared.text.NewCell.{NewCell}
-use Rattle.ver_again.specs.NewWords.{cell_words, identifier_bytes, net_words, pin_words, printed_word, wire_words, word}
-use Rattle.ver_again.specs.Texts.{IsNetText, IsNewCell}
-use Rattle.ver_again.specs.Words.{Word, word_in, words_of}
+use Rattle.ver_words.specs.NewWords.{cell_words, identifier_bytes, net_words, pin_words, printed_word, wire_words, word}
+use Rattle.ver_words.specs.Texts.{IsNetText, IsNewCell}
+use Rattle.ver_words.specs.Words.{Word, word_in, words_of}
 use Rattle.ver_again.proofs.GrammarLemmas.{word_kinds}
 use Rattle.ver_again.proofs.RunLemmas.{EachRow}
 use Rattle.ver_again.proofs.SectionLemmas.{Next}
-use Rattle.ver_again.proofs.TextLemmas.{Each, net_named}
-use Rattle.ver_again.proofs.WordLemmas.{map_append}
+use Rattle.ver_words.proofs.TextLemmas.{Each, net_named}
+use Rattle.ver_words.proofs.WordLemmas.{map_append}
 use Rattle.ver_rows.specs.Shapes.{Shape, new_shape, shape_of}
 use Rattle.ver_rows.proofs.ChangedLemmas.{InOne, Stay, net_stays, place_append, place_stays}
 use Rattle.ver_rows.proofs.SectionLemmas.{before_skip, names_off, sections_append, sections_skip, starts_off}

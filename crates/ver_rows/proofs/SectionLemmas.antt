@@ -6,7 +6,7 @@ use Rattle.ver_text.specs.declared.kind.Kind.{Kind}
 use Rattle.ver_text.specs.Names.{name_of}
 use Rattle.ver_text.specs.declared.kind.Kind.TheVariants.{Identifier}
 use Rattle.ver_syntax.specs.Grammar.{is}
-use Rattle.ver_again.proofs.WordLemmas.{map_append}
+use Rattle.ver_words.proofs.WordLemmas.{map_append}
 use Rattle.ver_rows.proofs.ChangedLemmas.AreChanged.{none, kept, replaced}
 use Rattle.ver_syntax.specs.declared.row.Place.{Place}
 use Rattle.ver_syntax.specs.declared.row.Place.TheVariants.{Start, Instances, Pins, Connection as InConnection}

@@ -4,9 +4,9 @@ use Rattle.ver_text.specs.declared.token.Token.{Token}
 use Rattle.ver_text.specs.declared.token.TokenKind.{TokenKind}
 use Rattle.ver_text.specs.Kinds.{grammar_kind}
 use Rattle.ver_text.specs.Tokens.{piece, token_at, token_of, tokens_from}
-use Rattle.ver_again.specs.Words.{Word}
-use Rattle.ver_again.proofs.PieceLemmas.{IsStop}
-use Rattle.ver_again.proofs.PlaceLemmas.{BeginsName, piece_kept, piece_same}
+use Rattle.ver_words.specs.Words.{Word}
+use Rattle.ver_words.proofs.PieceLemmas.{IsStop}
+use Rattle.ver_words.proofs.PlaceLemmas.{BeginsName, piece_kept, piece_same}
 
 -- ---- words
 

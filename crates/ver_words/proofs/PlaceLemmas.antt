@@ -7,7 +7,7 @@ use Rattle.vg_scan.specs.Lines.{is_blank, is_newline}
 use Rattle.ver_text.specs.declared.token.TokenKind.TheVariants.{Word, Escaped, Based, Mark, Stray}
 use Rattle.ver_text.specs.Bytes.{is_letter, is_word_byte, is_printable, is_in_line, is_mark}
 use Rattle.ver_text.specs.Tokens.{begins, token, passed, with_more, base_length, signed_length, based_length, number, number_before, unsized_before, escaped_before, before_close, enclosed, slash_before, bracket_before, directive_length, mark_before, piece}
-use Rattle.ver_again.proofs.PieceLemmas.{IsStop, drop_within, run_same, run_stops_at, run_to}
+use Rattle.ver_words.proofs.PieceLemmas.{IsStop, drop_within, run_same, run_stops_at, run_to}
 
 -- ---- choices
 

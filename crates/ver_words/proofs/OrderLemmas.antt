@@ -9,8 +9,8 @@ use Rattle.ver_text.specs.Laws.{StandBetween}
 use Rattle.ver_text.specs.Tokens.{directive_length, piece, tokens_from, tokens_of}
 use Rattle.ver_text.proofs.OrderLemmas.{stand_in_order}
 use Rattle.ver_text.proofs.TokenLemmas.{jump}
-use Rattle.ver_again.specs.Words.{WordEdit, word_in, words_with}
-use Rattle.ver_again.proofs.ScanLemmas.{found}
+use Rattle.ver_words.specs.Words.{WordEdit, word_in, words_with}
+use Rattle.ver_words.proofs.ScanLemmas.{found}
 
 -- each token has this
 abbrev pub Each : (Token → Type 0) → List Token → Type 0

@@ -10,14 +10,14 @@ use Rattle.ver_text.specs.Bytes.{is_word_byte}
 use Rattle.ver_text.specs.declared.kind.Kind.TheVariants.{Semicolon}
 use Rattle.ver_text.specs.Tokens.{directive_length, tokens_from, tokens_of}
 use Rattle.ver_text.specs.Written.{begins_with}
-use Rattle.ver_again.specs.Words.{Word, WordEdit, word_in, words_of, words_with}
-use Rattle.ver_again.proofs.OrderLemmas.{Each, IsBehind, behind_token, each_append, words_replaced}
-use Rattle.ver_again.proofs.PieceLemmas.{semicolon_stops}
-use Rattle.ver_again.proofs.PlaceLemmas.{BeginsName, directive_same}
-use Rattle.ver_again.proofs.ChainLemmas.{Chained, IsNewName, NameStands, StandsAt, each_front, has_last, locate, no_word, shut_append, stand_at}
-use Rattle.ver_again.proofs.ReachLemmas.{IsName, Reached, name_begins, reached_at_once, reached_behind, words_reached}
-use Rattle.ver_again.proofs.ScanLemmas.{Found, found, holds_before_stop, holds_words, left, left_within, tokens_in, words_from, words_in}
-use Rattle.ver_again.proofs.WordLemmas.{first_byte, map_append, words_are, words_in_are, words_of_are}
+use Rattle.ver_words.specs.Words.{Word, WordEdit, word_in, words_of, words_with}
+use Rattle.ver_words.proofs.OrderLemmas.{Each, IsBehind, behind_token, each_append, words_replaced}
+use Rattle.ver_words.proofs.PieceLemmas.{semicolon_stops}
+use Rattle.ver_words.proofs.PlaceLemmas.{BeginsName, directive_same}
+use Rattle.ver_words.proofs.ChainLemmas.{Chained, IsNewName, NameStands, StandsAt, each_front, has_last, locate, no_word, shut_append, stand_at}
+use Rattle.ver_words.proofs.ReachLemmas.{IsName, Reached, name_begins, reached_at_once, reached_behind, words_reached}
+use Rattle.ver_words.proofs.ScanLemmas.{Found, found, holds_before_stop, holds_words, left, left_within, tokens_in, words_from, words_in}
+use Rattle.ver_words.proofs.WordLemmas.{first_byte, map_append, words_are, words_in_are, words_of_are}
 
 length_take : (n : ℕ) (xs : List ℕ) → n ≤ length xs → length (take n xs) ≡ n
 length_take zero xs h = refl

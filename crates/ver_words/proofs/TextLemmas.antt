@@ -23,14 +23,14 @@ use Rattle.ver_net.specs.ReadAgain.{IsWritable}
 use Rattle.ver_net.specs.Texts.{identifier_text, select_text, text_of}
 use Rattle.ver_patch.specs.Texts.{cell_text, cell_texts, pin_text, wire_text, wire_texts}
 use Rattle.ver_patch.specs.declared.text.NewCell.{NewCell}
-use Rattle.ver_again.specs.Texts.{IsNetText, IsNewCell, IsPrinted}
-use Rattle.ver_again.specs.NewWords.{cell_words, identifier_bytes, net_words, pin_words, printed_word, select_words, wire_words, word}
-use Rattle.ver_again.specs.Words.{Word, word_in, words_of}
-use Rattle.ver_again.proofs.ChainLemmas.{IsNewName}
-use Rattle.ver_again.proofs.PatchLemmas.{IsPutBefore, IsRead}
-use Rattle.ver_again.proofs.PlaceLemmas.{BeginsName, backslash_begins, letter_begins}
-use Rattle.ver_again.proofs.ScanLemmas.{words_from}
-use Rattle.ver_again.proofs.WordLemmas.{words_are, words_of_are}
+use Rattle.ver_words.specs.Texts.{IsNetText, IsNewCell, IsPrinted}
+use Rattle.ver_words.specs.NewWords.{cell_words, identifier_bytes, net_words, pin_words, printed_word, select_words, wire_words, word}
+use Rattle.ver_words.specs.Words.{Word, word_in, words_of}
+use Rattle.ver_words.proofs.ChainLemmas.{IsNewName}
+use Rattle.ver_words.proofs.PatchLemmas.{IsPutBefore, IsRead}
+use Rattle.ver_words.proofs.PlaceLemmas.{BeginsName, backslash_begins, letter_begins}
+use Rattle.ver_words.proofs.ScanLemmas.{words_from}
+use Rattle.ver_words.proofs.WordLemmas.{words_are, words_of_are}
 
 -- each of a list has this
 abbrev pub Each : {X : Type 0} → (X → Type 0) → List X → Type 0

@@ -11,8 +11,8 @@ use Rattle.ver_text.specs.Bytes.{is_letter, is_printable, is_mark}
 use Rattle.ver_text.specs.Kinds.{grammar_kind}
 use Rattle.ver_text.specs.Tokens.{begins, token, number, before_close, enclosed, directive_length, piece, signed_length, based_length, token_at, token_of, tokens_from}
 use Rattle.std.specs.List.{prefix_len}
-use Rattle.ver_again.specs.Words.{word_in, words_of}
-use Rattle.ver_again.proofs.ScanLemmas.{tokens_in, word_by, words_from, words_in}
+use Rattle.ver_words.specs.Words.{word_in, words_of}
+use Rattle.ver_words.proofs.ScanLemmas.{tokens_in, word_by, words_from, words_in}
 
 -- ---- words of tokens
 

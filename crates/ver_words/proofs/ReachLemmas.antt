@@ -3,11 +3,11 @@ use Rattle.std.proofs.Common.{◌≡◌, ℕ, ◌+◌, ◌≤◌, List, [], ◌�
 use Rattle.ver_text.specs.declared.token.Token.{Token}
 use Rattle.ver_text.specs.declared.token.TokenKind.TheVariants.{Word as AWord, Escaped, Mark}
 use Rattle.ver_text.specs.Tokens.{piece, tokens_from}
-use Rattle.ver_again.specs.Words.{word_in}
-use Rattle.ver_again.proofs.PieceLemmas.{IsStop, open_stops, semicolon_stops}
-use Rattle.ver_again.proofs.PlaceLemmas.{BeginsName, backslash_begins, bracket_kept, letter_begins}
-use Rattle.ver_again.proofs.ScanLemmas.{Found, Holds, found, holds_append, holds_before_name, holds_before_stop, holds_more, holds_words, left, tokens_in, words_from, words_in}
-use Rattle.ver_again.proofs.WordLemmas.{first_byte, words_in_are}
+use Rattle.ver_words.specs.Words.{word_in}
+use Rattle.ver_words.proofs.PieceLemmas.{IsStop, open_stops, semicolon_stops}
+use Rattle.ver_words.proofs.PlaceLemmas.{BeginsName, backslash_begins, bracket_kept, letter_begins}
+use Rattle.ver_words.proofs.ScanLemmas.{Found, Holds, found, holds_append, holds_before_name, holds_before_stop, holds_more, holds_words, left, tokens_in, words_from, words_in}
+use Rattle.ver_words.proofs.WordLemmas.{first_byte, words_in_are}
 
 -- a token is an identifier or a keyword
 abbrev pub IsName : Token → Type 0

@@ -10,7 +10,7 @@ use Rattle.ver_module.specs.Netlists.{Net, Netlist}
 use Rattle.ver_patch.specs.Pins.{span_at}
 use Rattle.ver_patch.specs.declared.text.NewCell.{NewCell}
 use Rattle.ver_patch.specs.declared.text.Rewire.{Rewire}
-use Rattle.ver_again.specs.Words.{Word, WordEdit, words_of}
+use Rattle.ver_words.specs.Words.{Word, WordEdit, words_of}
 
 abbrev pub word : Kind → List ℕ → Word
 word kind bytes = record { kind = kind; bytes = bytes }

@@ -14,12 +14,12 @@ use Rattle.ver_text.specs.Laws.{StandBetween}
 use Rattle.ver_text.specs.Tokens.{based_length, piece, token_of, tokens_from, tokens_of}
 use Rattle.ver_text.specs.Written.{begins_with}
 use Rattle.ver_text.proofs.OrderLemmas.{stand_in_order}
-use Rattle.ver_again.specs.Words.{Word, WordEdit, words_with}
-use Rattle.ver_again.proofs.OrderLemmas.{Each, IsAmong, IsBehind, among, behind_token, each_append}
-use Rattle.ver_again.proofs.PlaceLemmas.{BeginsName, number_some}
-use Rattle.ver_again.proofs.ReachLemmas.{IsName}
-use Rattle.ver_again.proofs.ScanLemmas.{words_from}
-use Rattle.ver_again.proofs.WordLemmas.{first_byte}
+use Rattle.ver_words.specs.Words.{Word, WordEdit, words_with}
+use Rattle.ver_words.proofs.OrderLemmas.{Each, IsAmong, IsBehind, among, behind_token, each_append}
+use Rattle.ver_words.proofs.PlaceLemmas.{BeginsName, number_some}
+use Rattle.ver_words.proofs.ReachLemmas.{IsName}
+use Rattle.ver_words.proofs.ScanLemmas.{words_from}
+use Rattle.ver_words.proofs.WordLemmas.{first_byte}
 
 -- ---- no word before a mark
 

@@ -1,0 +1,9 @@
+pub mod PieceLemmas
+pub mod PlaceLemmas
+pub mod ScanLemmas
+pub mod WordLemmas
+pub mod ReachLemmas
+pub mod OrderLemmas
+pub mod ChainLemmas
+pub mod PatchLemmas
+pub mod TextLemmas
