@@ -1,13 +1,12 @@
 -- The rows of the text of a changed netlist, beside those of the text.
-use Rattle.std.proofs.Common.{◌≡◌, ℕ, zero, suc, ◌+◌, ◌<◌, ◌≤◌, Bool, true, false, List, [], ◌∷◌, ◌++◌, map, length, Option, Some, None, refl, sym, ap, ◌∙◌, subst, arith, append_assoc, ◌⊎◌, inl, inr}
+use Rattle.std.proofs.Common.{◌≡◌, ℕ, ◌≤◌, true, false, List, [], ◌∷◌, ◌++◌, map, Option, Some, None, refl, sym, ap, ◌∙◌, subst, append_assoc}
 use Rattle.std.specs.Prelude.{⊤}
 use Rattle.std.specs.Fmt.{decimal}
 use Rattle.std.specs.List.{flat_map}
 use Rattle.std.proofs.lemmas.List.{append-nil}
 use Rattle.vg_grammar.specs.Machines.{run}
-use Rattle.vg_scan.specs.Lines.{part}
 use Rattle.ver_text.specs.declared.kind.Kind.{Kind}
-use Rattle.ver_text.specs.declared.kind.Kind.TheVariants.{Close, Identifier, Module, Semicolon}
+use Rattle.ver_text.specs.declared.kind.Kind.TheVariants.{Close, Module, Semicolon}
 use Rattle.ver_text.specs.declared.token.Token.{Token}
 use Rattle.ver_text.specs.Kinds.{digits_kind, kind_in}
 use Rattle.ver_syntax.specs.declared.row.Place.{Place}

@@ -1,12 +1,10 @@
 -- The instances of the text of a changed netlist.
-use Rattle.std.proofs.Common.{◌≡◌, ℕ, ◌≤◌, true, false, List, [], ◌∷◌, ◌++◌, map, refl, sym, ap, ◌∙◌, subst, arith, append_assoc}
-use Rattle.std.specs.Prelude.{⊤}
+use Rattle.std.proofs.Common.{◌≡◌, ℕ, ◌≤◌, List, [], ◌∷◌, ◌++◌, map, refl, sym, ap, ◌∙◌, subst, arith, append_assoc}
 use Rattle.std.specs.List.{AllPairs, flat_map}
 use Rattle.std.proofs.lemmas.List.{append-nil}
 use Rattle.std.proofs.lemmas.List.Sorted.{All-permutation}
 use Rattle.ver_text.specs.declared.token.Token.{Token}
 use Rattle.ver_text.specs.Kinds.{kind_in}
-use Rattle.ver_text.specs.Names.{is_simple}
 use Rattle.ver_text.specs.Tokens.{tokens_of}
 use Rattle.ver_text.proofs.OrderLemmas.{stand_in_order}
 use Rattle.ver_syntax.specs.declared.row.Place.{Place}
@@ -18,7 +16,7 @@ use Rattle.ver_syntax.proofs.PlaceLemmas.{items_stand}
 use Rattle.ver_items.specs.Sections.{is_name_in, sections, stands_in}
 use Rattle.ver_module.specs.Netlists.{Netlist}
 use Rattle.ver_file.specs.Modules.{Denotes}
-use Rattle.ver_file.specs.Netlists.{instance_of, instances_by, instances_of}
+use Rattle.ver_file.specs.Netlists.{instance_of, instances_by}
 use Rattle.ver_file.proofs.ListLemmas.{flat_map-append}
 use Rattle.ver_net.specs.Laws.{IsBefore}
 use Rattle.ver_patch.specs.Pins.{IsOnOneNet, span_at}
@@ -26,12 +24,11 @@ use Rattle.ver_patch.specs.declared.text.NewCell.{NewCell}
 use Rattle.ver_patch.specs.declared.text.Rewire.{Rewire}
 use Rattle.ver_patch.proofs.LawLemmas.{heads_end_first, spans_stand}
 use Rattle.ver_patch.proofs.StandLemmas.{no_sections}
-use Rattle.ver_again.specs.Laws.{IsChanged}
 use Rattle.ver_words.specs.NewWords.{cell_words, inserted_words, rewired_words, wire_words}
 use Rattle.ver_words.specs.Texts.{IsNetText, IsNewCell}
-use Rattle.ver_words.specs.Words.{word_in, words_of, words_with}
+use Rattle.ver_words.specs.Words.{word_in, words_with}
 use Rattle.ver_words.proofs.ChainLemmas.{StandsAt, stands_behind}
-use Rattle.ver_again.proofs.FrameLemmas.{EndTokens, HeadTokens, end_tokens, head_tokens}
+use Rattle.ver_again.proofs.FrameLemmas.{EndTokens, end_tokens, head_tokens}
 use Rattle.ver_again.proofs.LawLemmas.{all_low, each_of, end_changes, head_pairs, pin_stands, spans_behind, tail_pairs, words_are_patched}
 use Rattle.ver_words.proofs.PatchLemmas.{head_words, stands_behind_mark}
 use Rattle.ver_again.proofs.SectionLemmas.{Next}
@@ -39,7 +36,7 @@ use Rattle.ver_words.proofs.TextLemmas.{Each}
 use Rattle.ver_words.proofs.WordLemmas.{map_append}
 use Rattle.ver_rows.specs.Laws.{InstancesStay}
 use Rattle.ver_rows.specs.Shapes.{Shape, new_shape, shape_of}
-use Rattle.ver_rows.proofs.ChangedLemmas.{AreChanged, RowsGo, at_item_place, kept_rows, kinds_same, map_cut, place_append, rows_append, rows_end, rows_more, word_kinds_of}
+use Rattle.ver_rows.proofs.ChangedLemmas.{AreChanged, RowsGo, at_item_place, kept_rows, kinds_same, map_cut, rows_append, rows_end, rows_more, word_kinds_of}
 use Rattle.ver_rows.proofs.ChangedLemmas.AreChanged.{none}
 use Rattle.ver_rows.proofs.NewRowLemmas.{cells_place, cells_shapes, one_section, rows_are, wires_none, wires_place}
 use Rattle.ver_rows.proofs.SectionLemmas.{rows_same, sections_append}

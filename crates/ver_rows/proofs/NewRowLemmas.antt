@@ -1,11 +1,10 @@
 -- The rows of new wires and new instances.
-use Rattle.std.proofs.Common.{◌≡◌, ℕ, Bool, true, false, cond, ◌&&◌, ◌||◌, ◌==◌, not, List, [], ◌∷◌, ◌++◌, drop, map, refl, sym, ap, ◌∙◌, subst, append_assoc, arith}
-use Rattle.std.specs.Prelude.{⊤, codes}
+use Rattle.std.proofs.Common.{◌≡◌, ℕ, Bool, true, false, ◌&&◌, ◌==◌, not, List, [], ◌∷◌, ◌++◌, map, refl, sym, ap, ◌∙◌, subst, append_assoc, arith}
+use Rattle.std.specs.Prelude.{codes}
 use Rattle.std.specs.List.{before_first, flat_map, list_all}
 use Rattle.std.proofs.lemmas.List.{append-nil}
 use Rattle.std.proofs.lemmas.Bool.{and_parts}
 use Rattle.std.proofs.lemmas.Bool.Decides.{nat_tests}
-use Rattle.ver_text.specs.declared.kind.Kind.{Kind}
 use Rattle.ver_text.specs.declared.kind.Kind.TheVariants.{Close, Comma, Identifier, Semicolon}
 use Rattle.ver_text.specs.declared.token.Token.{Token}
 use Rattle.ver_text.specs.Bytes.{is_letter, is_word_byte}
@@ -17,12 +16,12 @@ use Rattle.ver_syntax.specs.declared.row.Row.{Row}
 use Rattle.ver_syntax.specs.Grammar.{is}
 use Rattle.ver_syntax.specs.Laws.{place_after_all}
 use Rattle.ver_syntax.specs.Rows.{place_after, row, rows_from}
-use Rattle.ver_items.specs.Sections.{Section, bytes_at, instances_in, is_identifier, is_name_in, is_place, name_at, pins_in, section_before, sections, stands_in}
-use Rattle.ver_module.specs.Netlists.{Instance, Pin}
+use Rattle.ver_items.specs.Sections.{bytes_at, is_name_in, is_place, name_at, sections, stands_in}
+use Rattle.ver_module.specs.Netlists.{Pin}
 use Rattle.ver_file.specs.Netlists.{instance_of, instances_by, pin_of}
 use Rattle.ver_patch.proofs.StandLemmas.{before_others, no_sections, sections_by}
 use Rattle.ver_patch.specs.declared.text.NewCell.{NewCell}
-use Rattle.ver_words.specs.NewWords.{cell_words, identifier_bytes, net_words, pin_words, printed_word, wire_words, word}
+use Rattle.ver_words.specs.NewWords.{cell_words, identifier_bytes, pin_words, wire_words, word}
 use Rattle.ver_words.specs.Texts.{IsNetText, IsNewCell}
 use Rattle.ver_words.specs.Words.{Word, word_in, words_of}
 use Rattle.ver_again.proofs.GrammarLemmas.{word_kinds}
@@ -30,7 +29,7 @@ use Rattle.ver_again.proofs.RunLemmas.{EachRow}
 use Rattle.ver_again.proofs.SectionLemmas.{Next}
 use Rattle.ver_words.proofs.TextLemmas.{Each, net_named}
 use Rattle.ver_words.proofs.WordLemmas.{map_append}
-use Rattle.ver_rows.specs.Shapes.{Shape, new_shape, shape_of}
+use Rattle.ver_rows.specs.Shapes.{new_shape, shape_of}
 use Rattle.ver_rows.proofs.ChangedLemmas.{InOne, Stay, net_stays, place_append, place_stays}
 use Rattle.ver_rows.proofs.SectionLemmas.{before_skip, names_off, sections_append, sections_skip, starts_off}
 use Rattle.ver_file.proofs.ListLemmas.{flat_map-append}
@@ -97,10 +96,13 @@ module _ (new : List ℕ) where
   rows_are (t ∷ ts) p (w ∷ ws) e =
       let one : word_in new t ≡ w = cc in
       let rest : map (word_in new) ts ≡ ws = cc in
-      let kind : kind_in new t ≡ w.kind = ap (λ (v : Word). v.kind) one in
-      (row new p t, rows_from new (place_after p (kind_in new t)) ts, refl,
-      record { place = refl; kind = kind; bytes = ap (λ (v : Word). v.bytes) one },
-      subst (λ k. RowsAre (place_after p w.kind) ws (rows_from new (place_after p k) ts)) (sym kind) (rows_are ts (place_after p w.kind) ws rest))
+      let kind : kind_in new t ≡ w.kind = ap (λ (v : Word). v.kind) one in (
+        row new p t,
+        rows_from new (place_after p (kind_in new t)) ts,
+        refl,
+        record { place = refl; kind = kind; bytes = ap (λ (v : Word). v.bytes) one },
+        subst (λ k. RowsAre (place_after p w.kind) ws (rows_from new (place_after p k) ts)) (sym kind) (rows_are ts (place_after p w.kind) ws rest),
+      )
 
   record AreCut (p : Place) (ws vs : List Word) (rows : List Row) : Type 0 where
     front : List Row
@@ -197,14 +199,16 @@ module _ (new : List ℕ) where
         off = names Pins Pins _ d hd;
         on = names Pins Pins _ n hn;
         named = ap name_of hn.bytes ∙ printed_name pin;
-        tails =
-            (names Pins Pins _ o ho,
-            each_append (λ r. is_name_in Pins r ≡ false) c.front (q ∷ [])
-            (each_weak InOne (λ r. is_name_in Pins r ≡ false) (names_off Pins refl) c.front ones) (names_off Pins refl q last, tt));
+        tails = (
+          names Pins Pins _ o ho,
+          each_append (λ r. is_name_in Pins r ≡ false) c.front (q ∷ [])
+              (each_weak InOne (λ r. is_name_in Pins r ≡ false) (names_off Pins refl) c.front ones) (names_off Pins refl q last, tt),
+        );
         inner =
-            subst (EachRow IsInner) (sym whole)
-            ((starts Pins _ d hd, names Instances Pins _ d hd),
-            ((starts Pins _ n hn, names Instances Pins _ n hn), ((starts Pins _ o ho, names Instances Pins _ o ho), inners)));
+            subst (EachRow IsInner) (sym whole) (
+              (starts Pins _ d hd, names Instances Pins _ d hd),
+              ((starts Pins _ n hn, names Instances Pins _ n hn), ((starts Pins _ o ho, names Instances Pins _ o ho), inners)),
+            );
       }
 
   pin_place : (pin net : List ℕ) → IsNetText net → place_after_all Pins (word_kinds (pin_words pin (words_of net))) ≡ Pins
@@ -246,10 +250,13 @@ module _ (new : List ℕ) where
       = e1 ∙ ap (λ rs. a ∷ rs) (e2 ∙ ap (λ rs. b ∷ rs) (e3 ∙ ap (λ rs. o ∷ rs) (k.is ∙ ap (λ rs. k.front ++ rs)
       (e4 ∙ ap (λ rs. co ∷ rs) (l.is ∙ ap (λ rs. l.front ++ rs) (e5 ∙ ap (λ rs. cl ∷ rs) (e6 ∙ ap (λ rs. se ∷ rs) e7))))))) in
       let inner : EachRow IsInner tail
-      = ((starts Instances _ o ho, names Instances Instances _ o ho),
-      each_append IsInner k.front (co ∷ (l.front ++ ends)) p.inner
-      ((starts Pins _ co hco, names Instances Pins _ co hco),
-      each_append IsInner l.front ends q.inner ((starts Pins _ cl hcl, names Instances Pins _ cl hcl), ((starts Instances _ se hse, names Instances Instances _ se hse), tt)))) in
+      = (
+        (starts Instances _ o ho, names Instances Instances _ o ho),
+        each_append IsInner k.front (co ∷ (l.front ++ ends)) p.inner (
+          (starts Pins _ co hco, names Instances Pins _ co hco),
+          each_append IsInner l.front ends q.inner ((starts Pins _ cl hcl, names Instances Pins _ cl hcl), ((starts Instances _ se hse, names Instances Instances _ se hse), tt)),
+        ),
+      ) in
       let item : sections (stands_in Start) (rows ++ more) ≡ record { head = a; body = b ∷ tail } ∷ sections (stands_in Start) more
       = ap (λ rs. sections (stands_in Start) (rs ++ more)) whole
       ∙ one_section (stands_in Start) a (b ∷ tail) more (starts Start _ a ha)

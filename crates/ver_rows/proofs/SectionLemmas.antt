@@ -1,8 +1,7 @@
 -- The sections of rows in which connections are replaced.
-use Rattle.std.proofs.Common.{◌≡◌, ℕ, Bool, true, false, cond, List, [], ◌∷◌, ◌++◌, map, refl, sym, ap, ◌∙◌, subst, append_assoc, ◌⊎◌, inl, inr, ◌&&◌}
+use Rattle.std.proofs.Common.{◌≡◌, ℕ, Bool, true, false, cond, List, [], ◌∷◌, ◌++◌, map, refl, sym, ap, ◌∙◌, subst, ◌&&◌}
 use Rattle.std.specs.Prelude.{⊤}
 use Rattle.std.specs.List.{before_first, flat_map}
-use Rattle.ver_text.specs.declared.kind.Kind.{Kind}
 use Rattle.ver_text.specs.Names.{name_of}
 use Rattle.ver_text.specs.declared.kind.Kind.TheVariants.{Identifier}
 use Rattle.ver_syntax.specs.Grammar.{is}
@@ -12,12 +11,12 @@ use Rattle.ver_syntax.specs.declared.row.Place.{Place}
 use Rattle.ver_syntax.specs.declared.row.Place.TheVariants.{Start, Instances, Pins, Connection as InConnection}
 use Rattle.ver_syntax.specs.declared.row.Row.{Row}
 use Rattle.ver_items.specs.Sections.{Section, instances_in, is_identifier, is_name_in, is_place, name_at, pins_in, section_before, sections, stands_in}
-use Rattle.ver_module.specs.Netlists.{Instance, Pin}
+use Rattle.ver_module.specs.Netlists.{Pin}
 use Rattle.ver_file.specs.Netlists.{instance_of, instances_by, pin_of}
 use Rattle.ver_patch.proofs.StandLemmas.{before_others, no_sections, sections_by}
 use Rattle.ver_again.proofs.RunLemmas.{EachRow}
 use Rattle.ver_again.proofs.SectionLemmas.{Next}
-use Rattle.ver_rows.specs.Shapes.{Shape, shape_of}
+use Rattle.ver_rows.specs.Shapes.{shape_of}
 use Rattle.ver_rows.proofs.ChangedLemmas.{AreChanged, InOne, IsSame}
 
 -- ---- sections of rows one after another
