@@ -1,4 +1,5 @@
 -- The first `;` of a module, and its `endmodule`, by tokens.
+use Rattle.std.proofs.lemmas.List.{map-append}
 use Rattle.std.proofs.Common.{◌≡◌, ℕ, Bool, true, false, List, [], ◌∷◌, ◌++◌, map, Some, refl, sym, ap, ◌∙◌, subst, append_assoc, inl}
 use Rattle.std.specs.Prelude.{find, option_map, unwrap_or}
 use Rattle.vg_grammar.specs.Machines.{run}
@@ -26,7 +27,6 @@ use Rattle.ver_patch.proofs.FrameLemmas.{framed}
 use Rattle.ver_again.proofs.KindLemmas.{end_token, semicolon_mark}
 use Rattle.ver_words.proofs.PatchLemmas.{EndsIn}
 use Rattle.ver_again.proofs.PinTokenLemmas.{kinds_from, next_row, rows_cut}
-use Rattle.ver_words.proofs.WordLemmas.{map_append}
 use Rattle.ver_again.proofs.RunLemmas.{Runs, module_runs, runs_next, runs_on}
 use Rattle.ver_again.proofs.StateLemmas.{end_moves, over_stops, run_append, semicolon_moves, start, start_moves, state}
 
@@ -160,7 +160,7 @@ head_tokens text h =
       marks = semicolon_mark o.token.kind (part text o.token.from o.token.to) (ap (λ (r : Row). is Semicolon r.kind) (sym o.own) ∙ g.passes);
       place = ap (λ q. unwrap_or (option_map (λ (r : Row). r.to) q) 0) (ap (find (λ r. is Semicolon r.kind)) rows ∙ g.found) ∙ ap (λ (r : Row). r.to) o.own;
       comes =
-          ap (run next (Some start)) (map_append (kind_in text) a.front (o.token ∷ []))
+          ap (run next (Some start)) (map-append (kind_in text) a.front (o.token ∷ []))
           ∙ run_append (Some start) (map (kind_in text) a.front) (kind_in text o.token ∷ [])
           ∙ (λ i. run next (run next (Some start) ((sym (kinds_from text a.front Start) ∙ ap kinds_in (sym a.rows)) i)) ((sym o.own i).kind ∷ []))
           ∙ ap (λ q. run next q (g.row.kind ∷ [])) c.run ∙ m.move ∙ ap Some at;
@@ -185,7 +185,8 @@ end_tokens text h =
     let c = runs_on g.front (g.row ∷ g.back) start (subst (Runs start) parts (module_runs text h)) in
     let m = runs_next c.state g.row g.back c.runs in
     let (before, over) = end_moves c.state m.state (ap (next c.state) (sym (end_is g.row.kind g.passes)) ∙ m.move) in
-    let found : g.row ≡ e.last = (one_last g.front (e.front ++ e.mark ∷ []) g.row e.last (only g.front (e.front ++ e.mark ∷ []) g.row e.last g.back m.state over m.runs (sym g.is))).1 in
+    let found : g.row ≡ e.last
+    = (one_last g.front (e.front ++ e.mark ∷ []) g.row e.last (only g.front (e.front ++ e.mark ∷ []) g.row e.last g.back m.state over m.runs (sym g.is))).1 in
     let rows : rows_of text ≡ e.front ++ e.mark ∷ e.last ∷ [] = e.is ∙ append_assoc e.front (e.mark ∷ []) (e.last ∷ []) in
     let a = rows_cut text (tokens_of text) Start e.front (e.mark ∷ e.last ∷ []) rows in
     let o = next_row text a.back a.there e.mark (e.last ∷ []) a.others in
@@ -206,7 +207,7 @@ end_tokens text h =
           ap (λ q. unwrap_or (option_map (λ (r : Row). r.from) q) 0) (ap (find (λ r. is EndModule r.kind)) e.is ∙ g.found ∙ ap Some found)
           ∙ ap (λ (r : Row). r.from) l.own;
       comes =
-          ap (run next (Some start)) (map_append (kind_in text) a.front (o.token ∷ []))
+          ap (run next (Some start)) (map-append (kind_in text) a.front (o.token ∷ []))
           ∙ (λ i. run next (Some start) ((sym (kinds_from text a.front Start) ∙ ap kinds_in (sym a.rows)) i ++ (sym o.own i).kind ∷ []))
           ∙ ap (run next (Some start)) (sym (kinds_append e.front (e.mark ∷ []))) ∙ e.comes;
     }
@@ -215,6 +216,7 @@ end_tokens text h =
     none [] q f = refl
     none (t ∷ ts) q f = absurd (cc)
 
-    only : (xs ys : List Row) (x y : Row) (back : List Row) (t : State) → t ≡ state (AtItem Over) → Runs t back → xs ++ x ∷ back ≡ ys ++ y ∷ [] → xs ++ x ∷ [] ≡ ys ++ y ∷ []
+    only : (xs ys : List Row) (x y : Row) (back : List Row) (t : State) → t ≡ state (AtItem Over) → Runs t back → xs ++ x ∷ back ≡ ys ++ y ∷ []
+        → xs ++ x ∷ [] ≡ ys ++ y ∷ []
     only xs ys x y [] t over r f = f
     only xs ys x y (b ∷ back) t over r f = let n = runs_next t b back r in absurd (over_stops b.kind n.state (ap (λ s. next s b.kind) (sym over) ∙ n.move))

@@ -1,4 +1,5 @@
 -- The text of a changed netlist is a module.
+use Rattle.std.proofs.lemmas.List.{map-append}
 use Rattle.std.proofs.Common.{◌≡◌, ℕ, ◌≤◌, ◌^◌, ◌==◌, Bool, true, false, List, [], ◌∷◌, ◌++◌, map, Option, Some, None, refl, sym, ap, ◌∙◌, subst, arith, append_assoc, ◌⊎◌, inl, inr}
 use Rattle.std.specs.Prelude.{IfSome, codes, find, nat_lt}
 use Rattle.std.specs.Fmt.{decimal}
@@ -28,7 +29,6 @@ use Rattle.ver_words.proofs.PatchLemmas.{EndsIn, end_located, located}
 use Rattle.ver_again.proofs.RunLemmas.{is_over}
 use Rattle.ver_again.proofs.StateLemmas.{run_append, start, state, stopped}
 use Rattle.ver_words.proofs.TextLemmas.{Each, net_named}
-use Rattle.ver_words.proofs.WordLemmas.{map_append}
 
 -- the kinds of some words
 abbrev pub word_kinds : List Word → List Kind
@@ -91,16 +91,17 @@ wires_run [] ks = refl
 wires_run (name ∷ names) ks = wires_run names ks
 
 pin_kinds : (pin : List ℕ) (net : List Word) → word_kinds (pin_words pin net) ≡ Dot ∷ Identifier ∷ Open ∷ (word_kinds net ++ Close ∷ [])
-pin_kinds pin net = ap (λ ks. Dot ∷ Identifier ∷ Open ∷ ks) (map_append (λ (w : Word). w.kind) net (word Close (codes ")") ∷ []))
+pin_kinds pin net = ap (λ ks. Dot ∷ Identifier ∷ Open ∷ ks) (map-append (λ (w : Word). w.kind) net (word Close (codes ")") ∷ []))
 
 cell_kinds : (c : NewCell) → word_kinds (cell_words c)
     ≡ Identifier ∷ Identifier ∷ Open ∷ ((Dot ∷ Identifier ∷ Open ∷ (word_kinds (words_of c.from) ++ Close ∷ []))
     ++ Comma ∷ ((Dot ∷ Identifier ∷ Open ∷ (word_kinds (words_of c.to) ++ Close ∷ [])) ++ Close ∷ Semicolon ∷ []))
 cell_kinds c =
     ap (λ ks. Identifier ∷ Identifier ∷ Open ∷ ks)
-    (map_append (λ (w : Word). w.kind) (pin_words c.input (words_of c.from))
+    (map-append (λ (w : Word). w.kind) (pin_words c.input (words_of c.from))
     (word Comma (codes ",") ∷ (pin_words c.output (words_of c.to) ++ word Close (codes ")") ∷ word Semicolon (codes ";") ∷ []))
-    ∙ (λ i. pin_kinds c.input (words_of c.from) i ++ Comma ∷ (map_append (λ (w : Word). w.kind) (pin_words c.output (words_of c.to)) (word Close (codes ")") ∷ word Semicolon (codes ";") ∷ [])
+    ∙ (λ i. pin_kinds c.input (words_of c.from) i ++ Comma ∷ (map-append (λ (w : Word). w.kind) (pin_words c.output (words_of c.to))
+    (word Close (codes ")") ∷ word Semicolon (codes ";") ∷ [])
     ∙ ap (λ ks. ks ++ Close ∷ Semicolon ∷ []) (pin_kinds c.output (words_of c.to))) i))
 
 cell_runs : (c : NewCell) → IsNewCell c → (ks : List Kind) → run next (Some at_item) (word_kinds (cell_words c) ++ ks) ≡ run next (Some at_item) ks
@@ -120,7 +121,7 @@ cells_run : (cells : List NewCell) → Each IsNewCell cells → (ks : List Kind)
     → run next (Some at_item) (word_kinds (flat_map cell_words cells) ++ ks) ≡ run next (Some at_item) ks
 cells_run [] h ks = refl
 cells_run (c ∷ cells) h ks =
-    ap (λ js. run next (Some at_item) (js ++ ks)) (map_append (λ (w : Word). w.kind) (cell_words c) (flat_map cell_words cells))
+    ap (λ js. run next (Some at_item) (js ++ ks)) (map-append (λ (w : Word). w.kind) (cell_words c) (flat_map cell_words cells))
     ∙ ap (run next (Some at_item)) (append_assoc (word_kinds (cell_words c)) (word_kinds (flat_map cell_words cells)) ks)
     ∙ cell_runs c h.0 (word_kinds (flat_map cell_words cells) ++ ks)
     ∙ cells_run cells h.1 ks
@@ -138,25 +139,27 @@ on : (text : List ℕ) (done front : List Token) (s t : State) → run next (Som
 on text done front s t e f =
     ap (λ o. run next o (map (kind_in text) front)) (sym e)
     ∙ sym (run_append (Some start) (map (kind_in text) done) (map (kind_in text) front))
-    ∙ ap (run next (Some start)) (sym (map_append (kind_in text) done front)) ∙ f
+    ∙ ap (run next (Some start)) (sym (map-append (kind_in text) done front)) ∙ f
 
 -- it goes over kept words and then over others
 pub over_kept : (text : List ℕ) (front : List Token) (ws : List Word) (s t : State) → run next (Some s) (map (kind_in text) front) ≡ Some t
     → run next (Some s) (word_kinds (map (word_in text) front ++ ws)) ≡ run next (Some t) (word_kinds ws)
 over_kept text front ws s t e =
-    ap (run next (Some s)) (map_append (λ (w : Word). w.kind) (map (word_in text) front) ws)
+    ap (run next (Some s)) (map-append (λ (w : Word). w.kind) (map (word_in text) front) ws)
     ∙ run_append (Some s) (word_kinds (map (word_in text) front)) (word_kinds ws)
     ∙ ap (λ ks. run next (run next (Some s) ks) (word_kinds ws)) (kinds_are text front)
     ∙ ap (λ o. run next o (word_kinds ws)) e
 
-first_kept : (text : List ℕ) (front : List Token) (m : Token) (ws : List Word) (ts back : List Token) → ts ≡ (front ++ m ∷ []) ++ back → (c : Token) (rest : List Token)
+first_kept : (text : List ℕ) (front : List Token) (m : Token) (ws : List Word) (ts back : List Token) → ts ≡ (front ++ m ∷ []) ++ back
+    → (c : Token) (rest : List Token)
     → ts ≡ c ∷ rest → (vs : List Word) × (map (word_in text) (front ++ m ∷ []) ++ ws ≡ word_in text c ∷ vs)
 first_kept text [] m ws ts back e c rest f = let same : m ≡ c = cc in (ws, ap (λ t. word_in text t ∷ ws) same)
 first_kept text (x ∷ front) m ws ts back e c rest f =
     let same : x ≡ c = cc in (map (word_in text) (front ++ m ∷ []) ++ ws, ap (λ t. word_in text t ∷ (map (word_in text) (front ++ m ∷ []) ++ ws)) same)
 
 module _ (text : List ℕ) where
-  pub goes_end : (at : ℕ) (done ts before : List Token) (mark last : Token) (cells : List NewCell) (s : State) → StandsAt text at done ts → EndsIn text before mark last
+  pub goes_end : (at : ℕ) (done ts before : List Token) (mark last : Token) (cells : List NewCell) (s : State) → StandsAt text at done ts
+      → EndsIn text before mark last
       → at ≤ last.from → Each IsNewCell cells → kind_in text last ≡ EndModule
       → run next (Some start) (map (kind_in text) (before ++ mark ∷ [])) ≡ Some at_item → run next (Some start) (map (kind_in text) done) ≡ Some s
       → Goes text ts (record { from = last.from; to = last.from; words = flat_map cell_words cells } ∷ []) s
@@ -169,7 +172,7 @@ module _ (text : List ℕ) where
             ap is_over
             (ap (λ xs. run next (Some s) (word_kinds xs)) (l.words ws)
             ∙ over_kept text l.front (ws ++ map (word_in text) (last ∷ [])) s at_item reach
-            ∙ ap (run next (Some at_item)) (map_append (λ (w : Word). w.kind) ws (map (word_in text) (last ∷ [])))
+            ∙ ap (run next (Some at_item)) (map-append (λ (w : Word). w.kind) ws (map (word_in text) (last ∷ [])))
             ∙ cells_run cells made (kind_in text last ∷ [])
             ∙ ap (λ k. run next (Some at_item) (k ∷ [])) kind);
         head = λ c rest m f k.
@@ -182,7 +185,8 @@ module _ (text : List ℕ) where
       }
 
   -- the machine before the bracket that ends a connection
-  pub before_close : (ks : List Kind) (k : Kind) (s t : State) → run next (Some s) (ks ++ k ∷ []) ≡ Some t → (u : State) × (run next (Some s) ks ≡ Some u) × (next u k ≡ Some t)
+  pub before_close : (ks : List Kind) (k : Kind) (s t : State) → run next (Some s) (ks ++ k ∷ []) ≡ Some t
+      → (u : State) × (run next (Some s) ks ≡ Some u) × (next u k ≡ Some t)
   before_close ks k s t e = by_state (run next (Some s) ks) refl
     where
       by_state : (o : Option State) → run next (Some s) ks ≡ o → (u : State) × (run next (Some s) ks ≡ Some u) × (next u k ≡ Some t)
@@ -199,23 +203,24 @@ module _ (text : List ℕ) where
   goes_more at done ts from to new changes s here p behind n closing comes runs there later =
       let l = located text at done ts from to here p behind in
       let (u, before, leaves) = before_close (map (kind_in text) (p.name ∷ p.more)) (kind_in text p.close) in_connection at_pin_end
-      (ap (run next (Some in_connection)) (sym (map_append (kind_in text) (p.name ∷ p.more) (p.close ∷ []))) ∙ runs) in
+      (ap (run next (Some in_connection)) (sym (map-append (kind_in text) (p.name ∷ p.more) (p.close ∷ []))) ∙ runs) in
       let far : run next (Some start) (map (kind_in text) (p.before ++ p.bracket ∷ (p.name ∷ p.more))) ≡ Some u
       = ap (λ xs. run next (Some start) (map (kind_in text) xs)) (sym (append_assoc p.before (p.bracket ∷ []) (p.name ∷ p.more)))
-      ∙ ap (run next (Some start)) (map_append (kind_in text) (p.before ++ p.bracket ∷ []) (p.name ∷ p.more))
+      ∙ ap (run next (Some start)) (map-append (kind_in text) (p.before ++ p.bracket ∷ []) (p.name ∷ p.more))
       ∙ run_append (Some start) (map (kind_in text) (p.before ++ p.bracket ∷ [])) (map (kind_in text) (p.name ∷ p.more))
       ∙ ap (λ o. run next o (map (kind_in text) (p.name ∷ p.more))) comes ∙ before in
       let g = later u far in
       let (ws, first) = g.head p.close p.after p.mark refl p.closes in
       let reach = on text done (l.front ++ p.bracket ∷ []) s in_connection there
-      (ap (λ xs. run next (Some start) (map (kind_in text) xs)) (sym (append_assoc done l.front (p.bracket ∷ [])) ∙ ap (λ xs. xs ++ p.bracket ∷ []) (sym l.before_is)) ∙ comes) in
+      (ap (λ xs. run next (Some start) (map (kind_in text) xs)) (sym (append_assoc done l.front (p.bracket ∷ []))
+      ∙ ap (λ xs. xs ++ p.bracket ∷ []) (sym l.before_is)) ∙ comes) in
       record {
         over =
             ap is_over
             (ap (λ xs. run next (Some s) (word_kinds xs)) (l.words (words_of new) changes)
             ∙ over_kept text (l.front ++ p.bracket ∷ []) (words_of new ++ words_with text changes (p.close ∷ p.after)) s in_connection reach
             ∙ ap (λ xs. run next (Some in_connection) (word_kinds (words_of new ++ xs))) first
-            ∙ ap (run next (Some in_connection)) (map_append (λ (w : Word). w.kind) (words_of new) (word_in text p.close ∷ ws))
+            ∙ ap (run next (Some in_connection)) (map-append (λ (w : Word). w.kind) (words_of new) (word_in text p.close ∷ ws))
             ∙ ap (λ k. run next (Some in_connection) (word_kinds (words_of new) ++ k ∷ word_kinds ws)) closing
             ∙ text_runs new n (word_kinds ws)
             ∙ ap (λ o. run next o (word_kinds ws)) (sym leaves)
@@ -233,7 +238,8 @@ no_bad text [] s e = refl
 no_bad text (t ∷ ts) s e =
     let (u, g, h) = by_next (next s (kind_in text t)) refl in by_bad (is_bad t) refl u g (no_bad text ts u h)
   where
-    by_next : (o : Option State) → next s (kind_in text t) ≡ o → (u : State) × (next s (kind_in text t) ≡ Some u) × (is_over (run next (Some u) (map (kind_in text) ts)) ≡ true)
+    by_next : (o : Option State) → next s (kind_in text t) ≡ o
+        → (u : State) × (next s (kind_in text t) ≡ Some u) × (is_over (run next (Some u) (map (kind_in text) ts)) ≡ true)
     by_next None f =
         let g : is_over None ≡ true = ap is_over (sym (ap (λ o. run next o (map (kind_in text) ts)) f ∙ stopped (map (kind_in text) ts))) ∙ e in absurd (cc)
     by_next (Some u) f = (u, f, ap (λ o. is_over (run next o (map (kind_in text) ts))) (sym f) ∙ e)

@@ -1,4 +1,5 @@
 -- The words of the text of a changed netlist.
+use Rattle.std.proofs.lemmas.List.{map-append}
 use Rattle.std.proofs.Common.{◌≡◌, ℕ, suc, ◌≤◌, true, List, [], ◌∷◌, ◌++◌, map, Some, sym, ap, ◌∙◌, subst, arith}
 use Rattle.std.specs.Prelude.{slice_get}
 use Rattle.std.specs.List.{All, AllPairs, flat_map}
@@ -33,7 +34,6 @@ use Rattle.ver_again.proofs.GrammarLemmas.{Goes, at_item, goes_end, goes_more, k
 use Rattle.ver_again.proofs.PinLemmas.{shaped_pin}
 use Rattle.ver_again.proofs.RunLemmas.{ended_modules, is_over}
 use Rattle.ver_again.proofs.StateLemmas.{start}
-use Rattle.ver_words.proofs.WordLemmas.{map_append}
 use Rattle.vg_grammar.specs.Machines.{run}
 use Rattle.ver_syntax.specs.Moves.{State, next}
 use Rattle.ver_text.specs.Kinds.{kind_in, kinds_of}
@@ -82,7 +82,8 @@ module _ (text : List ℕ) (netlist : Netlist) (d : Denotes text netlist) (cells
   -- new names one after another, and the new instances
   pub chained : (rewires : List Rewire) (at : ℕ) (done ts : List Token) → StandsAt text at done ts → Each (λ r. IsOnOneNet netlist r.at) rewires
       → Each (λ r. IsNetText r.net) rewires → AllPairs (λ a b. IsBefore a.at b.at) rewires → Each (λ r. at ≤ (span_at netlist r.at).from) rewires
-      → at ≤ netlist.end_at → Chained text at ts (map (rewired netlist) rewires ++ end_edits netlist cells) (map (rewired_words netlist) rewires ++ end_changes netlist cells)
+      → at ≤ netlist.end_at
+      → Chained text at ts (map (rewired netlist) rewires ++ end_edits netlist cells) (map (rewired_words netlist) rewires ++ end_changes netlist cells)
   chained [] at done ts here linked named before low up =
       let e = end_tokens text d.grammar in
       let place : netlist.end_at ≡ e.last.from = ap (λ (n : Netlist). n.end_at) d.is ∙ e.place in
@@ -143,7 +144,8 @@ module _ (text : List ℕ) (netlist : Netlist) (d : Denotes text netlist) (cells
       let span = span_at netlist r.at in
       let p = pin_stands text netlist d r.at linked.0 in
       let stands = spans_stand stand_in_order items_stand text netlist r.at d linked.0 in
-      goes_more text at done ts span.from span.to r.net (map (rewired_words netlist) rest ++ end_changes netlist cells) s here p.stands low.0 named.0 p.closing p.comes p.runs there
+      goes_more text at done ts span.from span.to r.net (map (rewired_words netlist) rest ++ end_changes netlist cells) s here
+      p.stands low.0 named.0 p.closing p.comes p.runs there
       (λ t e. goes rest span.to (p.stands.before ++ p.stands.bracket ∷ (p.stands.name ∷ p.stands.more)) (p.stands.close ∷ p.stands.after) t
       (stands_behind text span.from span.to p.stands) linked.1 named.1 (tail_pairs (λ a b. IsBefore a.at b.at) r rest before)
       (spans_behind text netlist d r linked.0 rest (head_pairs (λ a b. IsBefore a.at b.at) r rest before) linked.1) stands.before e)
@@ -172,7 +174,7 @@ modules_stay text netlist rewires cells wires new c =
     = ap is_over
     (ap (run next (Some start)) (sym (kinds_are new (tokens_of new)) ∙ ap word_kinds words)
     ∙ over_kept text (h.front ++ h.mark ∷ []) (flat_map wire_words wires ++ words_with text changes h.back) start at_item h.comes
-    ∙ ap (run next (Some at_item)) (map_append (λ (w : Word). w.kind) (flat_map wire_words wires) (words_with text changes h.back))
+    ∙ ap (run next (Some at_item)) (map-append (λ (w : Word). w.kind) (flat_map wire_words wires) (words_with text changes h.back))
     ∙ wires_run wires (word_kinds (words_with text changes h.back)))
     ∙ g.over in
     (no_bad new (tokens_of new) start over, ended_modules (kinds_of new) over)

@@ -175,7 +175,8 @@ module _ (text : List ℕ) where
     where
       by_conn : (conn rest : List Row) → xs ≡ conn ++ rest → EachRow (λ r. stands_in InConnection r ≡ true) conn → Quits (rest ++ after)
           → (m : Moves s b (xs ++ after)) → is Open b.kind ≡ true → m.state ≡ state (AtInstance Connection)
-          → run next (Some start) (kinds_in ((before ++ h ∷ []) ++ b ∷ [])) ≡ Some m.state → link_of text (expression_in conn) ≡ One net → IsShapedPin text (span_of conn)
+          → run next (Some start) (kinds_in ((before ++ h ∷ []) ++ b ∷ [])) ≡ Some m.state → link_of text (expression_in conn) ≡ One net
+          → IsShapedPin text (span_of conn)
       by_conn [] rest e each quit m opens there far l = absurd (no_link [] net refl l)
       by_conn (x ∷ conn) rest e each quit m opens there far l =
           let here : Runs m.state (x ∷ (conn ++ (rest ++ after)))

@@ -1,4 +1,5 @@
 -- A pin that is linked to one net, by tokens.
+use Rattle.std.proofs.lemmas.List.{map-append}
 use Rattle.std.proofs.Common.{◌≡◌, ℕ, true, false, List, [], ◌∷◌, ◌++◌, length, map, Some, refl, sym, ap, ◌∙◌, subst, arith, append_assoc, length-append}
 use Rattle.ver_items.specs.Sections.{is_place, stands_in}
 use Rattle.vg_grammar.specs.Machines.{run}
@@ -23,7 +24,6 @@ use Rattle.ver_again.proofs.KindLemmas.{close_mark, identifier_token, open_mark}
 use Rattle.ver_again.proofs.PinLemmas.{IsShapedPin, last_to}
 use Rattle.ver_again.proofs.RunLemmas.{EachRow}
 use Rattle.ver_again.proofs.StateLemmas.{start, state}
-use Rattle.ver_words.proofs.WordLemmas.{map_append}
 
 -- ---- rows and tokens
 
@@ -93,7 +93,8 @@ last_is text q t place (u ∷ ts) = last_is text place u (place_after place (kin
 not_open : (text : List ℕ) (t : Token) → is Open (kind_in text t) ≡ false → t.kind ≡ Mark 40 → ⊥
 not_open text t e f = let g : is Open (kind_in text t) ≡ true = rw f refl in absurd (cc)
 
-all_shut : (text : List ℕ) (t : Token) (ts : List Token) (q place : Place) → EachRow (λ r. is Open r.kind ≡ false) (row text q t ∷ rows_from text place ts) → IsShut (t ∷ ts)
+all_shut : (text : List ℕ) (t : Token) (ts : List Token) (q place : Place) → EachRow (λ r. is Open r.kind ≡ false) (row text q t ∷ rows_from text place ts)
+    → IsShut (t ∷ ts)
 unfolding rows_from
 all_shut text t [] q place h = not_open text t h.0
 all_shut text t (u ∷ ts) q place h = all_shut text u ts place (place_after place (kind_in text u)) h.1
@@ -141,12 +142,12 @@ pin_place text span s =
     let before : kinds_in s.before ≡ map (kind_in text) a.front = ap kinds_in a.rows ∙ kinds_from text a.front Start in
     let more : kinds_in s.more ≡ map (kind_in text) m.front = ap kinds_in m.rows ∙ kinds_from text m.front n.there in
     let front : map (kind_in text) (a.front ++ o.token ∷ []) ≡ kinds_in (s.before ++ s.bracket ∷ [])
-    = map_append (kind_in text) a.front (o.token ∷ [])
-    ∙ (λ i. sym before i ++ (sym o.own i).kind ∷ []) ∙ sym (map_append (λ (r : Row). r.kind) s.before (s.bracket ∷ [])) in
+    = map-append (kind_in text) a.front (o.token ∷ [])
+    ∙ (λ i. sym before i ++ (sym o.own i).kind ∷ []) ∙ sym (map-append (λ (r : Row). r.kind) s.before (s.bracket ∷ [])) in
     let behind : map (kind_in text) (n.token ∷ (m.front ++ c.token ∷ [])) ≡ kinds_in (s.first ∷ (s.more ++ s.close ∷ []))
-    = ap (λ ks. kind_in text n.token ∷ ks) (map_append (kind_in text) m.front (c.token ∷ []))
+    = ap (λ ks. kind_in text n.token ∷ ks) (map-append (kind_in text) m.front (c.token ∷ []))
     ∙ (λ i. (sym n.own i).kind ∷ (sym more i ++ (sym c.own i).kind ∷ []))
-    ∙ ap (λ ks. s.first.kind ∷ ks) (sym (map_append (λ (r : Row). r.kind) s.more (s.close ∷ []))) in
+    ∙ ap (λ ks. s.first.kind ∷ ks) (sym (map-append (λ (r : Row). r.kind) s.more (s.close ∷ []))) in
     let counts : length (s.first ∷ (s.more ++ s.close ∷ [])) ≡ length (n.token ∷ (m.front ++ c.token ∷ []))
     = omega (arith, length-append s.more (s.close ∷ []), length-append m.front (c.token ∷ []), ap length m.rows, rows_count text m.front n.there) in
     let whole : (s.first ∷ (s.more ++ s.close ∷ [])) ++ s.after ≡ rows_from text o.there ((n.token ∷ (m.front ++ c.token ∷ [])) ++ c.back)

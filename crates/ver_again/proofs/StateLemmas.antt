@@ -175,7 +175,9 @@ name_leads = each_kind (λ k. not (is_some_state (move (AtInstance PinName) k []
 pub name_moves : (k : Kind) (t : State) → next (state (AtInstance PinName)) k ≡ Some t → (is Open k ≡ true) × (t ≡ state (AtInstance Connection))
 unfolding is_some_state
 name_moves k t e =
-    let h = or_false (is_some_state (next (state (AtInstance PinName)) k)) (is Open k && leads is_connection (next (state (AtInstance PinName)) k)) (name_leads k) (rw e refl) in
+    let h =
+    or_false (is_some_state (next (state (AtInstance PinName)) k))
+    (is Open k && leads is_connection (next (state (AtInstance PinName)) k)) (name_leads k) (rw e refl) in
     let (f, g) = both_true (is Open k) (leads is_connection (next (state (AtInstance PinName)) k)) h in
     (f, led is_connection (AtInstance Connection) connection_is t (rw e at g))
 

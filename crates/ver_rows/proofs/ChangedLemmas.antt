@@ -3,7 +3,7 @@ use Rattle.std.proofs.Common.{◌≡◌, ℕ, ◌≤◌, true, false, List, [], 
 use Rattle.std.specs.Prelude.{⊤}
 use Rattle.std.specs.Fmt.{decimal}
 use Rattle.std.specs.List.{flat_map}
-use Rattle.std.proofs.lemmas.List.{append-nil}
+use Rattle.std.proofs.lemmas.List.{append-nil, map-append}
 use Rattle.vg_grammar.specs.Machines.{run}
 use Rattle.ver_text.specs.declared.kind.Kind.{Kind}
 use Rattle.ver_text.specs.declared.kind.Kind.TheVariants.{Close, Module, Semicolon}
@@ -32,7 +32,6 @@ use Rattle.ver_words.proofs.PatchLemmas.{EndsIn, end_located, located}
 use Rattle.ver_again.proofs.RunLemmas.{EachRow}
 use Rattle.ver_again.proofs.StateLemmas.{connection_place, item_place, ran_places, start, start_place, state}
 use Rattle.ver_words.proofs.TextLemmas.{net_named}
-use Rattle.ver_words.proofs.WordLemmas.{map_append}
 
 -- ---- rows of two texts
 
@@ -182,20 +181,22 @@ pub at_item_place : (ks : List Kind) → run next (Some start) ks ≡ Some (stat
 at_item_place ks e = ap (λ p. place_after_all p ks) (sym start_place) ∙ ran_places ks start (state (AtItem ItemStart)) e ∙ item_place
 
 module _ (text new : List ℕ) (cells : List NewCell) where
-  pub rows_end : (at : ℕ) (done ts before : List Token) (mark last : Token) (p : Place) (others : List Token) → StandsAt text at done ts → EndsIn text before mark last
+  pub rows_end : (at : ℕ) (done ts before : List Token) (mark last : Token) (p : Place) (others : List Token) → StandsAt text at done ts
+      → EndsIn text before mark last
       → at ≤ last.from → run next (Some start) (map (kind_in text) (before ++ mark ∷ [])) ≡ Some (state (AtItem ItemStart))
       → place_after_all InStart (map (kind_in text) done) ≡ p
       → map (word_in new) others ≡ words_with text (record { from = last.from; to = last.from; words = flat_map cell_words cells } ∷ []) ts
       → RowsGo text new last cells p ts others
   rows_end at done ts before mark last p others here e behind comes there words =
       let l = end_located text at done ts before mark last here e behind in
-      let c = map_cut (word_in new) others (map (word_in text) l.front) (flat_map cell_words cells ++ map (word_in text) (last ∷ [])) (words ∙ l.words (flat_map cell_words cells)) in
+      let c = map_cut (word_in new) others (map (word_in text) l.front) (flat_map cell_words cells ++ map (word_in text) (last ∷ [])) (words
+      ∙ l.words (flat_map cell_words cells)) in
       let k = map_cut (word_in new) c.back (flat_map cell_words cells) (map (word_in text) (last ∷ [])) c.backs in
       let (end, one, same) = map_one (word_in new) k.back (word_in text last) k.backs in
       let ends : place_after_all p (map (kind_in text) l.front) ≡ InStart
       = ap (λ q. place_after_all q (map (kind_in text) l.front)) (sym there)
       ∙ sym (place_append InStart (map (kind_in text) done) (map (kind_in text) l.front))
-      ∙ ap (place_after_all InStart) (sym (map_append (kind_in text) done l.front) ∙ ap (map (kind_in text)) (sym l.before_is))
+      ∙ ap (place_after_all InStart) (sym (map-append (kind_in text) done l.front) ∙ ap (map (kind_in text)) (sym l.before_is))
       ∙ at_item_place (map (kind_in text) (before ++ mark ∷ [])) comes in
       record {
         old = l.front;
@@ -226,7 +227,8 @@ module _ (text new : List ℕ) (cells : List NewCell) where
   rows_more at done ts from to net changes p last others here s behind n comes inside there later words =
       let l = located text at done ts from to here s behind in
       let front = l.front ++ s.bracket ∷ [] in
-      let c = map_cut (word_in new) others (map (word_in text) front) (words_of net ++ words_with text changes (s.close ∷ s.after)) (words ∙ l.words (words_of net) changes) in
+      let c = map_cut (word_in new) others (map (word_in text) front) (words_of net ++ words_with text changes (s.close ∷ s.after)) (words
+      ∙ l.words (words_of net) changes) in
       let k = map_cut (word_in new) c.back (words_of net) (words_with text changes (s.close ∷ s.after)) c.backs in
       let (each, stays) = inside_front text (s.name ∷ s.more) s.close InConnection inside in
       let bracket_place : place_after_all InStart (map (kind_in text) (s.before ++ s.bracket ∷ [])) ≡ InConnection
@@ -234,21 +236,23 @@ module _ (text new : List ℕ) (cells : List NewCell) where
       ∙ ran_places (map (kind_in text) (s.before ++ s.bracket ∷ [])) start (state (AtInstance Connection)) comes ∙ connection_place in
       let name_place : place_after_all InStart (map (kind_in text) (s.before ++ s.bracket ∷ (s.name ∷ s.more))) ≡ InConnection
       = ap (λ ts. place_after_all InStart (map (kind_in text) ts)) (sym (append_assoc s.before (s.bracket ∷ []) (s.name ∷ s.more)))
-      ∙ ap (place_after_all InStart) (map_append (kind_in text) (s.before ++ s.bracket ∷ []) (s.name ∷ s.more))
+      ∙ ap (place_after_all InStart) (map-append (kind_in text) (s.before ++ s.bracket ∷ []) (s.name ∷ s.more))
       ∙ place_append InStart (map (kind_in text) (s.before ++ s.bracket ∷ [])) (map (kind_in text) (s.name ∷ s.more))
       ∙ ap (λ q. place_after_all q (map (kind_in text) (s.name ∷ s.more))) bracket_place ∙ stays in
       let g = later k.back name_place k.backs in
       let here_place : place_after_all p (map (kind_in text) front) ≡ InConnection
       = ap (λ q. place_after_all q (map (kind_in text) front)) (sym there)
       ∙ sym (place_append InStart (map (kind_in text) done) (map (kind_in text) front))
-      ∙ ap (place_after_all InStart) (sym (map_append (kind_in text) done front)
+      ∙ ap (place_after_all InStart) (sym (map-append (kind_in text) done front)
       ∙ ap (map (kind_in text)) (sym (append_assoc done l.front (s.bracket ∷ [])) ∙ ap (λ ts. ts ++ s.bracket ∷ []) (sym l.before_is)))
       ∙ bracket_place in
-      let new_place : place_after_all p (map (kind_in new) c.front) ≡ InConnection = ap (place_after_all p) (kinds_same text new front c.front c.fronts) ∙ here_place in
+      let new_place : place_after_all p (map (kind_in new) c.front) ≡ InConnection = ap (place_after_all p) (kinds_same text new front c.front c.fronts)
+      ∙ here_place in
       let stay : Stay (map (kind_in new) k.front)
       = subst Stay (sym (word_kinds_of new k.front (words_of net) k.fronts ∙ ap word_kinds (net_named net n))) (net_stays n.net) in
       let stays' = place_stays (map (kind_in new) k.front) stay in
-      let old_rows : rows_from text p (front ++ ((s.name ∷ s.more) ++ g.old)) ≡ rows_from text p front ++ (rows_from text InConnection (s.name ∷ s.more) ++ rows_from text InConnection g.old)
+      let old_rows : rows_from text p (front ++ ((s.name ∷ s.more) ++ g.old))
+      ≡ rows_from text p front ++ (rows_from text InConnection (s.name ∷ s.more) ++ rows_from text InConnection g.old)
       = rows_append text front ((s.name ∷ s.more) ++ g.old) p
       ∙ ap (λ q. rows_from text p front ++ rows_from text q ((s.name ∷ s.more) ++ g.old)) here_place
       ∙ ap (λ rs. rows_from text p front ++ rs) (rows_append text (s.name ∷ s.more) g.old InConnection
@@ -269,21 +273,24 @@ module _ (text new : List ℕ) (cells : List NewCell) where
         made_is =
             c.parts ∙ ap (λ ts. c.front ++ ts) (k.parts ∙ ap (λ ts. k.front ++ ts) g.made_is) ∙ sym (regroup c.front k.front g.made (g.put ++ g.end ∷ []));
         changed =
-            (let h = kept_rows text new front c.front p _ _ c.fronts (replaced (rows_from text InConnection (s.name ∷ s.more)) (rows_from new InConnection k.front) (rows_from text InConnection g.old) (rows_from new InConnection g.made) each (rows_stay new k.front stay) g.changed) in
+            (let h =
+            kept_rows text new front c.front p _ _ c.fronts
+            (replaced (rows_from text InConnection (s.name ∷ s.more)) (rows_from new InConnection k.front)
+            (rows_from text InConnection g.old) (rows_from new InConnection g.made) each (rows_stay new k.front stay) g.changed) in
             subst (λ rs. AreChanged text new rs (rows_from new p (c.front ++ (k.front ++ g.made)))) (sym old_rows)
             (subst (AreChanged text new (rows_from text p front ++ (rows_from text InConnection (s.name ∷ s.more) ++ rows_from text InConnection g.old))) (sym new_rows) h));
         old_ends =
-            ap (place_after_all p) (map_append (kind_in text) front ((s.name ∷ s.more) ++ g.old))
+            ap (place_after_all p) (map-append (kind_in text) front ((s.name ∷ s.more) ++ g.old))
             ∙ place_append p (map (kind_in text) front) (map (kind_in text) ((s.name ∷ s.more) ++ g.old))
             ∙ ap (λ q. place_after_all q (map (kind_in text) ((s.name ∷ s.more) ++ g.old))) here_place
-            ∙ ap (place_after_all InConnection) (map_append (kind_in text) (s.name ∷ s.more) g.old)
+            ∙ ap (place_after_all InConnection) (map-append (kind_in text) (s.name ∷ s.more) g.old)
             ∙ place_append InConnection (map (kind_in text) (s.name ∷ s.more)) (map (kind_in text) g.old)
             ∙ ap (λ q. place_after_all q (map (kind_in text) g.old)) stays ∙ g.old_ends;
         made_ends =
-            ap (place_after_all p) (map_append (kind_in new) c.front (k.front ++ g.made))
+            ap (place_after_all p) (map-append (kind_in new) c.front (k.front ++ g.made))
             ∙ place_append p (map (kind_in new) c.front) (map (kind_in new) (k.front ++ g.made))
             ∙ ap (λ q. place_after_all q (map (kind_in new) (k.front ++ g.made))) new_place
-            ∙ ap (place_after_all InConnection) (map_append (kind_in new) k.front g.made)
+            ∙ ap (place_after_all InConnection) (map-append (kind_in new) k.front g.made)
             ∙ place_append InConnection (map (kind_in new) k.front) (map (kind_in new) g.made)
             ∙ ap (λ q. place_after_all q (map (kind_in new) g.made)) stays' ∙ g.made_ends;
         cells_are = g.cells_are;

@@ -1,7 +1,7 @@
 -- The instances of the text of a changed netlist.
 use Rattle.std.proofs.Common.{◌≡◌, ℕ, ◌≤◌, List, [], ◌∷◌, ◌++◌, map, refl, sym, ap, ◌∙◌, subst, arith, append_assoc}
 use Rattle.std.specs.List.{AllPairs, flat_map}
-use Rattle.std.proofs.lemmas.List.{append-nil}
+use Rattle.std.proofs.lemmas.List.{append-nil, map-append}
 use Rattle.std.proofs.lemmas.List.Sorted.{All-permutation}
 use Rattle.ver_text.specs.declared.token.Token.{Token}
 use Rattle.ver_text.specs.Kinds.{kind_in}
@@ -33,7 +33,6 @@ use Rattle.ver_again.proofs.LawLemmas.{all_low, each_of, end_changes, head_pairs
 use Rattle.ver_words.proofs.PatchLemmas.{head_words, stands_behind_mark}
 use Rattle.ver_again.proofs.SectionLemmas.{Next}
 use Rattle.ver_words.proofs.TextLemmas.{Each}
-use Rattle.ver_words.proofs.WordLemmas.{map_append}
 use Rattle.ver_rows.specs.Laws.{InstancesStay}
 use Rattle.ver_rows.specs.Shapes.{Shape, new_shape, shape_of}
 use Rattle.ver_rows.proofs.ChangedLemmas.{AreChanged, RowsGo, at_item_place, kept_rows, kinds_same, map_cut, rows_append, rows_end, rows_more, word_kinds_of}
@@ -76,7 +75,7 @@ module _ (text : List ℕ) where
   shapes_append xs ys next =
       ap (λ ss. map shape_of (flat_map (instances_by text) ss)) (sections_append (stands_in InStart) xs ys next)
       ∙ ap (map shape_of) (flat_map-append (instances_by text) (sections (stands_in InStart) xs) (sections (stands_in InStart) ys))
-      ∙ map_append shape_of (flat_map (instances_by text) (sections (stands_in InStart) xs)) (flat_map (instances_by text) (sections (stands_in InStart) ys))
+      ∙ map-append shape_of (flat_map (instances_by text) (sections (stands_in InStart) xs)) (flat_map (instances_by text) (sections (stands_in InStart) ys))
 
   next_rows : (ts : List Token) → Next (stands_in InStart) (rows_from text InStart ts)
   unfolding rows_from
@@ -88,7 +87,8 @@ module _ (text : List ℕ) where
   unfolding shapes rows_from
   alone t =
       ap (λ ss. map shape_of (flat_map (instances_by text) ss))
-      (one_section (stands_in InStart) (row text InStart t) [] [] refl tt tt ∙ ap (λ ss. record { head = row text InStart t; body = [] } ∷ ss) (no_sections (stands_in InStart)))
+      (one_section (stands_in InStart) (row text InStart t) [] [] refl tt tt
+      ∙ ap (λ ss. record { head = row text InStart t; body = [] } ∷ ss) (no_sections (stands_in InStart)))
       ∙ ap (λ ss. map shape_of (map (instance_of text (row text InStart t)) ss ++ [])) (no_sections (is_name_in Instances))
 
   rows_from_start : (us vs : List Token) → place_after_all InStart (map (kind_in text) us) ≡ InStart
@@ -121,7 +121,8 @@ instances_stay text netlist rewires cells wires new c =
     rows_go text new netlist d cells e p.ordered h.mark.to head h.back InStart l.back (stands_behind_mark text h.front h.mark h.back h.is h.marks)
     linked named p.rising (subst (λ n. Each (λ q. n ≤ (span_at netlist q.at).from) p.ordered) place (all_low text netlist d p.ordered linked))
     (subst (λ n. n ≤ netlist.end_at) place (heads_end_first stand_in_order items_stand text netlist d).rise) head_place l.backs in
-    let new_head_place : place_after_all InStart (map (kind_in new) k.front) ≡ InStart = ap (place_after_all InStart) (kinds_same text new head k.front k.fronts) ∙ head_place in
+    let new_head_place : place_after_all InStart (map (kind_in new) k.front) ≡ InStart
+    = ap (place_after_all InStart) (kinds_same text new head k.front k.fronts) ∙ head_place in
     let wire_place : place_after_all InStart (map (kind_in new) l.front) ≡ InStart
     = ap (place_after_all InStart) (word_kinds_of new l.front (flat_map wire_words wires) l.fronts) ∙ wires_place wires in
     let cell_place : place_after_all InStart (map (kind_in new) g.put) ≡ InStart
@@ -133,7 +134,8 @@ instances_stay text netlist rewires cells wires new c =
     let same_heads : shapes text (rows_from text InStart head) ≡ shapes new (rows_from new InStart k.front)
     = rows_same text new (rows_from text InStart head) (rows_from new InStart k.front)
     (subst (λ rs. AreChanged text new rs (rows_from new InStart k.front)) (append-nil (rows_from text InStart head))
-    (subst (AreChanged text new (rows_from text InStart head ++ [])) (append-nil (rows_from new InStart k.front)) (kept_rows text new head k.front InStart [] [] k.fronts none))) in
+    (subst (AreChanged text new (rows_from text InStart head ++ [])) (append-nil (rows_from new InStart k.front))
+    (kept_rows text new head k.front InStart [] [] k.fronts none))) in
     let same_middles : shapes text (rows_from text InStart g.old) ≡ shapes new (rows_from new InStart g.made)
     = rows_same text new (rows_from text InStart g.old) (rows_from new InStart g.made) g.changed in
     let olds : shapes text (rows_of text) ≡ shapes text (rows_from text InStart head) ++ shapes text (rows_from text InStart g.old)
@@ -157,7 +159,8 @@ instances_stay text netlist rewires cells wires new c =
     ∙ shapes_append new (rows_from new InStart k.front) (rows_from new InStart (l.front ++ rest)) (next_rows new (l.front ++ rest))
     ∙ ap (λ ss. shapes new (rows_from new InStart k.front) ++ ss)
     (ap (shapes new) (rows_from_start new l.front rest wire_place)
-    ∙ ap (map shape_of) (wires_none new wires (rows_from new InStart l.front) (rows_from new InStart rest) (rows_are new l.front InStart (flat_map wire_words wires) l.fronts) (next_rows new rest))
+    ∙ ap (map shape_of) (wires_none new wires (rows_from new InStart l.front) (rows_from new InStart rest)
+    (rows_are new l.front InStart (flat_map wire_words wires) l.fronts) (next_rows new rest))
     ∙ ap (shapes new) (rows_from_start new g.made (g.put ++ g.end ∷ []) g.made_ends)
     ∙ shapes_append new (rows_from new InStart g.made) (rows_from new InStart (g.put ++ g.end ∷ [])) (next_rows new (g.put ++ g.end ∷ []))
     ∙ ap (λ ss. shapes new (rows_from new InStart g.made) ++ ss) ends) in

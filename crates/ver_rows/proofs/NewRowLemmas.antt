@@ -2,7 +2,7 @@
 use Rattle.std.proofs.Common.{◌≡◌, ℕ, Bool, true, false, ◌&&◌, ◌==◌, not, List, [], ◌∷◌, ◌++◌, map, refl, sym, ap, ◌∙◌, subst, append_assoc, arith}
 use Rattle.std.specs.Prelude.{codes}
 use Rattle.std.specs.List.{before_first, flat_map, list_all}
-use Rattle.std.proofs.lemmas.List.{append-nil}
+use Rattle.std.proofs.lemmas.List.{append-nil, map-append}
 use Rattle.std.proofs.lemmas.Bool.{and_parts}
 use Rattle.std.proofs.lemmas.Bool.Decides.{nat_tests}
 use Rattle.ver_text.specs.declared.kind.Kind.TheVariants.{Close, Comma, Identifier, Semicolon}
@@ -28,7 +28,6 @@ use Rattle.ver_again.proofs.GrammarLemmas.{word_kinds}
 use Rattle.ver_again.proofs.RunLemmas.{EachRow}
 use Rattle.ver_again.proofs.SectionLemmas.{Next}
 use Rattle.ver_words.proofs.TextLemmas.{Each, net_named}
-use Rattle.ver_words.proofs.WordLemmas.{map_append}
 use Rattle.ver_rows.specs.Shapes.{new_shape, shape_of}
 use Rattle.ver_rows.proofs.ChangedLemmas.{InOne, Stay, net_stays, place_append, place_stays}
 use Rattle.ver_rows.proofs.SectionLemmas.{before_skip, names_off, sections_append, sections_skip, starts_off}
@@ -213,12 +212,13 @@ module _ (new : List ℕ) where
 
   pin_place : (pin net : List ℕ) → IsNetText net → place_after_all Pins (word_kinds (pin_words pin (words_of net))) ≡ Pins
   pin_place pin net t =
-      ap (place_after_all InConnection) (map_append (λ (w : Word). w.kind) (words_of net) (word Close (codes ")") ∷ []))
+      ap (place_after_all InConnection) (map-append (λ (w : Word). w.kind) (words_of net) (word Close (codes ")") ∷ []))
       ∙ place_append InConnection (word_kinds (words_of net)) (Close ∷ [])
       ∙ ap (λ p. place_after_all p (Close ∷ [])) (place_stays (word_kinds (words_of net)) (net_stay net t))
 
   -- the two pins of a new instance
-  two_pins : (a d1 n1 : Row) (t1 : List Row) (co d2 n2 : Row) (t2 rest : List Row) → is_name_in Pins a ≡ false → is_name_in Pins d1 ≡ false → is_name_in Pins n1 ≡ true
+  two_pins : (a d1 n1 : Row) (t1 : List Row) (co d2 n2 : Row) (t2 rest : List Row) → is_name_in Pins a ≡ false → is_name_in Pins d1 ≡ false
+      → is_name_in Pins n1 ≡ true
       → EachRow (λ r. is_name_in Pins r ≡ false) t1 → is_name_in Pins co ≡ false → is_name_in Pins d2 ≡ false → is_name_in Pins n2 ≡ true
       → EachRow (λ r. is_name_in Pins r ≡ false) t2 → EachRow (λ r. is_name_in Pins r ≡ false) rest
       → sections (is_name_in Pins) (a ∷ ((d1 ∷ n1 ∷ t1) ++ co ∷ ((d2 ∷ n2 ∷ t2) ++ rest)))
@@ -237,13 +237,17 @@ module _ (new : List ℕ) where
       → map shape_of (flat_map (instances_by new) (sections (stands_in Start) (rows ++ more)))
       ≡ new_shape c ∷ map shape_of (flat_map (instances_by new) (sections (stands_in Start) more))
   cell_shape c h rows more (a, m1, e1, ha, (b, m2, e2, hb, (o, m3, e3, ho, rest))) next =
-      let k = rows_cut (pin_words c.input (words_of c.from)) (word Comma (codes ",") ∷ (pin_words c.output (words_of c.to) ++ word Close (codes ")") ∷ word Semicolon (codes ";") ∷ [])) Pins m3 rest in
+      let k =
+      rows_cut (pin_words c.input (words_of c.from))
+      (word Comma (codes ",") ∷ (pin_words c.output (words_of c.to) ++ word Close (codes ")") ∷ word Semicolon (codes ";") ∷ [])) Pins m3 rest in
       let p = pin_rows c.input c.from k.front h.from k.fronts in
-      let (co, m4, e4, hco, rest2) = subst (λ q. RowsAre q (word Comma (codes ",") ∷ (pin_words c.output (words_of c.to) ++ word Close (codes ")") ∷ word Semicolon (codes ";") ∷ [])) k.back)
+      let (co, m4, e4, hco, rest2) =
+      subst (λ q. RowsAre q (word Comma (codes ",") ∷ (pin_words c.output (words_of c.to) ++ word Close (codes ")") ∷ word Semicolon (codes ";") ∷ [])) k.back)
       (pin_place c.input c.from h.from) k.backs in
       let l = rows_cut (pin_words c.output (words_of c.to)) (word Close (codes ")") ∷ word Semicolon (codes ";") ∷ []) Pins m4 rest2 in
       let q = pin_rows c.output c.to l.front h.to l.fronts in
-      let (cl, m5, e5, hcl, (se, m6, e6, hse, e7)) = subst (λ r. RowsAre r (word Close (codes ")") ∷ word Semicolon (codes ";") ∷ []) l.back) (pin_place c.output c.to h.to) l.backs in
+      let (cl, m5, e5, hcl, (se, m6, e6, hse, e7)) =
+      subst (λ r. RowsAre r (word Close (codes ")") ∷ word Semicolon (codes ";") ∷ []) l.back) (pin_place c.output c.to h.to) l.backs in
       let ends : List Row = cl ∷ se ∷ [] in
       let tail = o ∷ (k.front ++ co ∷ (l.front ++ ends)) in
       let whole : rows ≡ a ∷ (b ∷ tail)
@@ -254,7 +258,10 @@ module _ (new : List ℕ) where
         (starts Instances _ o ho, names Instances Instances _ o ho),
         each_append IsInner k.front (co ∷ (l.front ++ ends)) p.inner (
           (starts Pins _ co hco, names Instances Pins _ co hco),
-          each_append IsInner l.front ends q.inner ((starts Pins _ cl hcl, names Instances Pins _ cl hcl), ((starts Instances _ se hse, names Instances Instances _ se hse), tt)),
+          each_append IsInner l.front ends q.inner (
+            (starts Pins _ cl hcl, names Instances Pins _ cl hcl),
+            ((starts Instances _ se hse, names Instances Instances _ se hse), tt),
+          ),
         ),
       ) in
       let item : sections (stands_in Start) (rows ++ more) ≡ record { head = a; body = b ∷ tail } ∷ sections (stands_in Start) more
@@ -279,16 +286,17 @@ module _ (new : List ℕ) where
 
   cell_place : (d : NewCell) → IsNewCell d → place_after_all Start (word_kinds (cell_words d)) ≡ Start
   cell_place d i =
-      ap (place_after_all Pins) (map_append (λ (w : Word). w.kind) (pin_words d.input (words_of d.from))
+      ap (place_after_all Pins) (map-append (λ (w : Word). w.kind) (pin_words d.input (words_of d.from))
       (word Comma (codes ",") ∷ (pin_words d.output (words_of d.to) ++ word Close (codes ")") ∷ word Semicolon (codes ";") ∷ [])))
       ∙ place_append Pins (word_kinds (pin_words d.input (words_of d.from))) _
       ∙ ap (λ p. place_after_all p (word_kinds (word Comma (codes ",") ∷ (pin_words d.output (words_of d.to) ++ word Close (codes ")") ∷ word Semicolon (codes ";") ∷ []))))
       (pin_place d.input d.from i.from)
-      ∙ ap (place_after_all Pins) (map_append (λ (w : Word). w.kind) (pin_words d.output (words_of d.to)) (word Close (codes ")") ∷ word Semicolon (codes ";") ∷ []))
+      ∙ ap (place_after_all Pins) (map-append (λ (w : Word). w.kind) (pin_words d.output (words_of d.to)) (word Close (codes ")") ∷ word Semicolon (codes ";") ∷ []))
       ∙ place_append Pins (word_kinds (pin_words d.output (words_of d.to))) (Close ∷ Semicolon ∷ [])
       ∙ ap (λ p. place_after_all p (Close ∷ Semicolon ∷ [])) (pin_place d.output d.to i.to)
 
-  pub cells_shapes : (cells : List NewCell) → Each IsNewCell cells → (rows more : List Row) → RowsAre Start (flat_map cell_words cells) rows → Next (stands_in Start) more
+  pub cells_shapes : (cells : List NewCell) → Each IsNewCell cells → (rows more : List Row) → RowsAre Start (flat_map cell_words cells) rows
+      → Next (stands_in Start) more
       → map shape_of (flat_map (instances_by new) (sections (stands_in Start) (rows ++ more)))
       ≡ map new_shape cells ++ map shape_of (flat_map (instances_by new) (sections (stands_in Start) more))
   cells_shapes [] h rows more e next = ap (λ rs. map shape_of (flat_map (instances_by new) (sections (stands_in Start) (rs ++ more)))) e
@@ -302,7 +310,7 @@ module _ (new : List ℕ) where
   pub cells_place : (cells : List NewCell) → Each IsNewCell cells → place_after_all Start (word_kinds (flat_map cell_words cells)) ≡ Start
   cells_place [] h = refl
   cells_place (c ∷ cells) h =
-      ap (place_after_all Start) (map_append (λ (w : Word). w.kind) (cell_words c) (flat_map cell_words cells))
+      ap (place_after_all Start) (map-append (λ (w : Word). w.kind) (cell_words c) (flat_map cell_words cells))
       ∙ place_append Start (word_kinds (cell_words c)) (word_kinds (flat_map cell_words cells))
       ∙ ap (λ p. place_after_all p (word_kinds (flat_map cell_words cells))) (cell_place c h.0)
       ∙ cells_place cells h.1

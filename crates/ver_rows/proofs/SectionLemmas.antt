@@ -1,11 +1,11 @@
 -- The sections of rows in which connections are replaced.
+use Rattle.std.proofs.lemmas.List.{map-append}
 use Rattle.std.proofs.Common.{◌≡◌, ℕ, Bool, true, false, cond, List, [], ◌∷◌, ◌++◌, map, refl, sym, ap, ◌∙◌, subst, ◌&&◌}
 use Rattle.std.specs.Prelude.{⊤}
 use Rattle.std.specs.List.{before_first, flat_map}
 use Rattle.ver_text.specs.Names.{name_of}
 use Rattle.ver_text.specs.declared.kind.Kind.TheVariants.{Identifier}
 use Rattle.ver_syntax.specs.Grammar.{is}
-use Rattle.ver_words.proofs.WordLemmas.{map_append}
 use Rattle.ver_rows.proofs.ChangedLemmas.AreChanged.{none, kept, replaced}
 use Rattle.ver_syntax.specs.declared.row.Place.{Place}
 use Rattle.ver_syntax.specs.declared.row.Place.TheVariants.{Start, Instances, Pins, Connection as InConnection}
@@ -76,7 +76,8 @@ module _ (text new : List ℕ) where
             (subst (AreChanged text new []) (sym (before_others test q others true (sym (alike r q same.place same.kind) ∙ t))) none)
         by_test false t h =
             subst (λ xs. AreChanged text new xs (before_first test (q ∷ others))) (sym (before_others test r rows false t))
-            (subst (AreChanged text new (r ∷ before_first test rows)) (sym (before_others test q others false (sym (alike r q same.place same.kind) ∙ t))) (kept same h))
+            (subst (AreChanged text new (r ∷ before_first test rows)) (sym (before_others test q others false (sym (alike r q same.place same.kind)
+            ∙ t))) (kept same h))
     before_changed _ _ (replaced old made rows others each each' more) =
         subst (λ xs. AreChanged text new xs (before_first test (made ++ others))) (sym (before_skip test old rows (all_off old each)))
         (subst (AreChanged text new (old ++ before_first test rows)) (sym (before_skip test made others (all_off made each')))
@@ -159,10 +160,10 @@ module _ (text new : List ℕ) where
   items_same [] (t ∷ ts) h = absurd h
   items_same (s ∷ ss) [] h = absurd h
   items_same (s ∷ ss) (t ∷ ts) h =
-      map_append shape_of (instances_by text s) (flat_map (instances_by text) ss)
+      map-append shape_of (instances_by text s) (flat_map (instances_by text) ss)
       ∙ (λ i. shapes_same s.head t.head h.0 (instances_in s) (instances_in t)
       (sections_changed text new (is_name_in Instances) (names_alike Instances) (names_off Instances refl) s.body t.body h.1) i ++ items_same ss ts h.2 i)
-      ∙ sym (map_append shape_of (instances_by new t) (flat_map (instances_by new) ts))
+      ∙ sym (map-append shape_of (instances_by new t) (flat_map (instances_by new) ts))
 
   pub rows_same : (rows others : List Row) → AreChanged text new rows others
       → map shape_of (flat_map (instances_by text) (sections (stands_in Start) rows)) ≡ map shape_of (flat_map (instances_by new) (sections (stands_in Start) others))

@@ -5,4 +5,4 @@
 
 mod laws;
 
-pub use laws::instances_stay;
+pub use laws::{instances_differ, instances_stay};

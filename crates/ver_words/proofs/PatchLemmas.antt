@@ -1,7 +1,7 @@
 -- The words of a text with new declarations, new names and new instances.
 use Rattle.std.proofs.Common.{◌≡◌, ℕ, zero, suc, ◌+◌, ◌-◌, ◌<◌, ◌≤◌, false, List, [], ◌∷◌, ◌++◌, length, map, take, drop, Some, refl, sym, ap, ◌∙◌, subst, arith, length-append, append_assoc, ◌⊎◌, inl, inr, take-append-drop}
 use Rattle.std.proofs.Math.Seq.{drop-append_seam, take-append_seam}
-use Rattle.std.proofs.lemmas.List.{append_cancel_left, append_cancel_right}
+use Rattle.std.proofs.lemmas.List.{append_cancel_left, append_cancel_right, map-append}
 use Rattle.vg_scan.specs.Lines.{part}
 use Rattle.vg_patch.specs.Edits.{Edit, patched_from, patched}
 use Rattle.ver_text.specs.declared.token.Token.{Token}
@@ -17,7 +17,7 @@ use Rattle.ver_words.proofs.PlaceLemmas.{BeginsName, directive_same}
 use Rattle.ver_words.proofs.ChainLemmas.{Chained, IsNewName, NameStands, StandsAt, each_front, has_last, locate, no_word, shut_append, stand_at}
 use Rattle.ver_words.proofs.ReachLemmas.{IsName, Reached, name_begins, reached_at_once, reached_behind, words_reached}
 use Rattle.ver_words.proofs.ScanLemmas.{Found, found, holds_before_stop, holds_words, left, left_within, tokens_in, words_from, words_in}
-use Rattle.ver_words.proofs.WordLemmas.{first_byte, map_append, words_are, words_in_are, words_of_are}
+use Rattle.ver_words.proofs.WordLemmas.{first_byte, words_are, words_in_are, words_of_are}
 
 length_take : (n : ℕ) (xs : List ℕ) → n ≤ length xs → length (take n xs) ≡ n
 length_take zero xs h = refl
@@ -86,7 +86,8 @@ module _ (text : List ℕ) where
 
   pub located : (at : ℕ) (done ts : List Token) (from to : ℕ) → StandsAt text at done ts → (s : NameStands text from to) → at ≤ from → Located at ts done from to s
   located at done ts from to here s behind =
-      let (front, ts_are, before_is) = locate text at done ts s.before s.bracket s.name (s.more ++ s.close ∷ s.after) (sym here.split ∙ s.is) here.low here.shut s.opens
+      let (front, ts_are, before_is) = locate text at done ts s.before s.bracket s.name (s.more ++ s.close ∷ s.after) (sym here.split
+      ∙ s.is) here.low here.shut s.opens
       (omega (arith, behind, s.begins)) in
       let tail = s.more ++ s.close ∷ s.after in
       let whole : tokens_of text ≡ (s.before ++ s.bracket ∷ []) ++ s.name ∷ tail = s.is ∙ sym (append_assoc s.before (s.bracket ∷ []) (s.name ∷ tail)) in
@@ -104,8 +105,11 @@ module _ (text : List ℕ) where
       (subst (λ m. Each (λ t. t.from < m) (s.before ++ s.bracket ∷ [])) (sym s.begins) a.before))).1 in
       let up : s.name.from < to = up_to (s.name) (s.more) (l.front) (l.last) l.is (b.before) (b.some) last_to in
       let inside : Each (λ t. (from ≤ t.from) × (t.from < to)) (s.name ∷ s.more)
-      = each_both (s.name ∷ s.more) from to
-      (omega (arith, s.begins), each_from s.more s.name.to from (let x = a.some in omega (arith, s.begins, x)) (each_front (λ t. s.name.to ≤ t.from) s.more (s.close ∷ s.after) a.behind).0)
+      = each_both (s.name ∷ s.more) from to (
+        omega (arith, s.begins),
+        each_from s.more s.name.to from (let x = a.some in omega (arith, s.begins, x))
+            (each_front (λ t. s.name.to ≤ t.from) s.more (s.close ∷ s.after) a.behind).0,
+      )
       (subst (Each (λ t. t.from < to)) (sym l.is)
       (each_append (λ t. t.from < to) l.front (l.last ∷ [])
       (each_up l.front l.last.from to (let x = b.some in omega (arith, x, last_to)) (each_front (λ t. t.from < l.last.from) (s.before ++ s.bracket ∷ []) l.front b.before).1)
@@ -134,7 +138,8 @@ module _ (text : List ℕ) where
       each_both [] m n h k = tt
       each_both (x ∷ xs) m n h k = ((h.0, k.0), each_both xs m n h.1 k.1)
 
-      up_to : (t : Token) (ts front : List Token) (last : Token) → t ∷ ts ≡ front ++ last ∷ [] → Each (λ x. x.from < last.from) ((s.before ++ s.bracket ∷ []) ++ front)
+      up_to : (t : Token) (ts front : List Token) (last : Token) → t ∷ ts ≡ front ++ last ∷ []
+          → Each (λ x. x.from < last.from) ((s.before ++ s.bracket ∷ []) ++ front)
           → last.from < last.to → last.to ≡ to → t.from < to
       up_to t ts [] last e h some is = let same : t ≡ last = cc in let f : t.from ≡ last.from = ap (λ (x : Token). x.from) same in omega (arith, f, some, is)
       up_to t ts (x ∷ front) last e h some is =
@@ -163,7 +168,8 @@ module _ (text : List ℕ) where
             ∙ ap (λ xs. words_from 0 (r.place.us ++ (xs ++ gone))) n.is
             ∙ words_reached pre (drop at text) at (l.front ++ s.bracket ∷ []) s.name tail r n.first (n.more ++ gone) far n.begins
             ∙ (λ i. map (word_in (whole_at at i)) (l.front ++ s.bracket ∷ []) ++ words_from 0 (sym n.is i ++ gone))
-            ∙ ap (λ ws. map (word_in text) (l.front ++ s.bracket ∷ []) ++ ws) (n.reads gone (later.shut s.close s.after s.mark refl s.closes) ∙ ap (λ ws. words ++ ws) later.words)
+            ∙ ap (λ ws. map (word_in text) (l.front ++ s.bracket ∷ []) ++ ws) (n.reads gone (later.shut s.close s.after s.mark refl s.closes)
+            ∙ ap (λ ws. words ++ ws) later.words)
             ∙ sym (l.words words changes);
         shut = λ c rest m e k.
             ap (λ (j : ℕ). begins_with is_word_byte (part text at j ++ (new ++ gone))) s.begins
@@ -267,7 +273,7 @@ module _ (text : List ℕ) where
       = sym (words_are (drop at text) pre 0 at far) ∙ (λ i. map (word_in (whole_at at i)) (here.rest.tokens i)) in
       let last_word : words_from 0 (p.b ∷ p.bs) ≡ map (word_in text) (last ∷ [])
       = append_cancel_left (map (word_in text) l.front) (words_from 0 (p.b ∷ p.bs)) (map (word_in text) (last ∷ []))
-      (sym old ∙ all ∙ ap (map (word_in text)) l.ts_are ∙ map_append (word_in text) l.front (last ∷ [])) in
+      (sym old ∙ all ∙ ap (map (word_in text)) l.ts_are ∙ map-append (word_in text) l.front (last ∷ [])) in
       record {
         words =
             (λ i. words_from 0 (us_are i ++ (new ++ rest_is i)))
@@ -300,7 +306,8 @@ module _ (text : List ℕ) where
       each_up (x ∷ xs) m n low h = (omega (arith, low, h.0), each_up xs m n low h.1)
 
   -- the words behind the head
-  pub head_words : (front : List Token) (h : Token) (back : List Token) (words : List Word) (changes : List WordEdit) → tokens_of text ≡ front ++ h ∷ back → h.kind ≡ Mark 59
+  pub head_words : (front : List Token) (h : Token) (back : List Token) (words : List Word) (changes : List WordEdit) → tokens_of text ≡ front ++ h ∷ back
+      → h.kind ≡ Mark 59
       → words_with text (record { from = h.to; to = h.to; words = words } ∷ changes) (tokens_of text)
       ≡ map (word_in text) (front ++ h ∷ []) ++ (words ++ words_with text changes back)
   head_words front h back words changes e k =
@@ -343,7 +350,7 @@ module _ (text : List ℕ) where
       ∙ holds_words d p.us (59 ∷ p.bs) (59 ∷ p.bs) (holds_before_stop 59 semicolon_stops p.us p.bs p.bs d ends) ∙ ap (λ ws. ws ++ words_from 0 (59 ∷ p.bs)) fronts in
       let one : word_in text h ∷ map (word_in text) back ≡ record { kind = Semicolon; bytes = 59 ∷ [] } ∷ words_from 0 p.bs
       = append_cancel_left (map (word_in text) front) (map (word_in text) (h ∷ back)) (words_from 0 (59 ∷ p.bs))
-      (sym (map_append (word_in text) front (h ∷ back)) ∙ ap (map (word_in text)) (sym e) ∙ old) in
+      (sym (map-append (word_in text) front (h ∷ back)) ∙ ap (map (word_in text)) (sym e) ∙ old) in
       let mark : record { kind = Semicolon; bytes = 59 ∷ [] } ≡ word_in text h = cc in
       words_of_are (patched text (record { from = h.to; to = h.to; text = new } ∷ edits))
       ∙ (λ i. words_from (directive_length (made i)) (made i))
@@ -351,5 +358,5 @@ module _ (text : List ℕ) where
       ∙ holds_words d p.us (59 ∷ p.bs) (59 ∷ rest) (holds_before_stop 59 semicolon_stops p.us p.bs rest d ends)
       ∙ (λ i. fronts i ++ mark i ∷ (reads gone ∙ ap (λ ws. words ++ ws) later.words) i)
       ∙ sym (append_assoc (map (word_in text) front) (word_in text h ∷ []) (words ++ words_with text changes back))
-      ∙ ap (λ ws. ws ++ (words ++ words_with text changes back)) (sym (map_append (word_in text) front (h ∷ [])))
+      ∙ ap (λ ws. ws ++ (words ++ words_with text changes back)) (sym (map-append (word_in text) front (h ∷ [])))
       ∙ sym (head_words front h back words changes e k)

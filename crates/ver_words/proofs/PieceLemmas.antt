@@ -94,7 +94,9 @@ open_stops = record {
   tick = refl;
   feed = refl;
   based = λ bs. refl;
-  digits = λ b us vs vs'. runs_same is_digit_of 40 us vs vs' _ _ _ _ refl refl refl refl ((b == 98) || (b == 66)) ((b == 111) || (b == 79)) ((b == 100) || (b == 68)) ((b == 104) || (b == 72));
+  digits = λ b us vs vs'.
+      runs_same is_digit_of 40 us vs vs' _ _ _ _ refl refl refl refl
+      ((b == 98) || (b == 66)) ((b == 111) || (b == 79)) ((b == 100) || (b == 68)) ((b == 104) || (b == 72));
 }
 
 pub semicolon_stops : IsStop 59
@@ -111,5 +113,7 @@ semicolon_stops = record {
   tick = refl;
   feed = refl;
   based = λ bs. refl;
-  digits = λ b us vs vs'. runs_same is_digit_of 59 us vs vs' _ _ _ _ refl refl refl refl ((b == 98) || (b == 66)) ((b == 111) || (b == 79)) ((b == 100) || (b == 68)) ((b == 104) || (b == 72));
+  digits = λ b us vs vs'.
+      runs_same is_digit_of 59 us vs vs' _ _ _ _ refl refl refl refl
+      ((b == 98) || (b == 66)) ((b == 111) || (b == 79)) ((b == 100) || (b == 68)) ((b == 104) || (b == 72));
 }

@@ -52,7 +52,8 @@ directive_same us vs vs' y y' a a' b b' c h =
     let one : drop n (us ++ y ∷ vs) ≡ drop n us ++ y ∷ vs = drop_within n us (y ∷ vs) low in
     let two : drop n (us ++ y' ∷ vs') ≡ drop n us ++ y' ∷ vs' = drop_within n us (y' ∷ vs') low in
     let both : begins 96 (drop (prefix_len is_blank (us ++ y' ∷ vs')) (us ++ y' ∷ vs')) ≡ begins 96 (drop n (us ++ y ∷ vs))
-    = ap (λ (k : ℕ). begins 96 (drop k (us ++ y' ∷ vs'))) same ∙ ap (begins 96) two ∙ begins_same 96 (drop n us) vs vs' y y' (b ∙ sym b') ∙ ap (begins 96) (sym one) in
+    = ap (λ (k : ℕ). begins 96 (drop k (us ++ y' ∷ vs'))) same ∙ ap (begins 96) two ∙ begins_same 96 (drop n us) vs vs' y y' (b ∙ sym b')
+    ∙ ap (begins 96) (sym one) in
     ap (λ t. cond t (prefix_len is_in_line (us ++ y' ∷ vs')) 0) both
     ∙ same_if (begins 96 (drop n (us ++ y ∷ vs))) (prefix_len is_in_line (us ++ y ∷ vs)) (prefix_len is_in_line (us ++ y' ∷ vs')) 0 0
     (λ e. run_same is_in_line us vs vs' y y' c (rw e at h)) (λ e. refl)

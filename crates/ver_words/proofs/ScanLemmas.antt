@@ -40,7 +40,8 @@ words_split [] vs skip = refl
 words_split (b ∷ us) vs (suc skip) = words_split us vs skip
 words_split (b ∷ us) vs zero =
     ap (λ ws. word_by (piece b (us ++ vs)).kind (take (1 + (piece b (us ++ vs)).more) (b ∷ us ++ vs)) ++ ws) (words_split us vs (piece b (us ++ vs)).more)
-    ∙ sym (append_assoc (word_by (piece b (us ++ vs)).kind (take (1 + (piece b (us ++ vs)).more) (b ∷ us ++ vs))) (words_in (piece b (us ++ vs)).more us vs) (words_from (left (piece b (us ++ vs)).more us vs) vs))
+    ∙ sym (append_assoc (word_by (piece b (us ++ vs)).kind (take (1 + (piece b (us ++ vs)).more) (b ∷ us ++ vs)))
+    (words_in (piece b (us ++ vs)).more us vs) (words_from (left (piece b (us ++ vs)).more us vs) vs))
 
 -- nothing reaches over the end of a front where nothing is left of it
 pub left_within : (us vs : List ℕ) (skip : ℕ) → left skip us vs ≡ 0 → skip ≤ length us

@@ -112,9 +112,9 @@ identifier_first false name plain = word_first name (and_parts (is_word name) (i
 
 -- ---- nets
 
-mark_word : (b : ℕ) (rest : List ℕ) → words_from 0 (91 ∷ rest) ≡ word OpenSquare (91 ∷ []) ∷ words_from 0 rest
+square_word : (rest : List ℕ) → words_from 0 (91 ∷ rest) ≡ word OpenSquare (91 ∷ []) ∷ words_from 0 rest
 unfolding words_from
-mark_word b rest = refl
+square_word rest = refl
 
 close_word : (rest : List ℕ) → words_from 0 (93 ∷ rest) ≡ word CloseSquare (93 ∷ []) ∷ words_from 0 rest
 unfolding words_from
@@ -129,7 +129,7 @@ digits_word bit rest few =
 select_read : (bit : Option ℕ) → IfSome bit (λ k. k < 2 ^ 32) → (rest : List ℕ) → words_from 0 (select_text bit ++ rest) ≡ select_words bit ++ words_from 0 rest
 select_read None few rest = refl
 select_read (Some bit) few rest =
-    mark_word 91 ((decimal bit ++ 93 ∷ []) ++ rest)
+    square_word ((decimal bit ++ 93 ∷ []) ++ rest)
     ∙ ap (λ ws. word OpenSquare (91 ∷ []) ∷ ws)
     (ap (words_from 0) (append_assoc (decimal bit) (93 ∷ []) rest) ∙ digits_word bit rest few
     ∙ ap (λ ws. word (digits_kind (decimal bit)) (decimal bit) ∷ ws) (close_word rest))
@@ -171,7 +171,8 @@ net_is_new text t =
       more = ys ++ select_text t.net.bit;
       is = t.is ∙ ap (λ xs. xs ++ select_text t.net.bit) is;
       begins = s;
-      reads = λ rest ends. ap (λ xs. words_from 0 (xs ++ rest)) t.is ∙ net_read t.net t.writable rest ends ∙ ap (λ ws. ws ++ words_from 0 rest) (sym (net_named text t));
+      reads = λ rest ends. ap (λ xs. words_from 0 (xs ++ rest)) t.is ∙ net_read t.net t.writable rest ends
+          ∙ ap (λ ws. ws ++ words_from 0 rest) (sym (net_named text t));
     }
 
 -- ---- declarations
@@ -227,7 +228,8 @@ line_end : (b : ℕ) (bs : List ℕ) → BeginsName b → words_from 0 (10 ∷ b
 unfolding words_from
 line_end b bs s = ap (λ (n : ℕ). words_from n (b ∷ bs)) (no_directive b bs s)
 
-pin_read : (pin net : List ℕ) → IsPrinted pin → IsNetText net → (rest : List ℕ) → words_from 0 (pin_text pin net ++ rest) ≡ pin_words pin (words_of net) ++ words_from 0 rest
+pin_read : (pin net : List ℕ) → IsPrinted pin → IsNetText net → (rest : List ℕ)
+    → words_from 0 (pin_text pin net ++ rest) ≡ pin_words pin (words_of net) ++ words_from 0 rest
 pin_read pin net p t rest =
     let n = net_is_new net t in
     ap (words_from 0) (regroup (46 ∷ []) (printed pin) (40 ∷ []) net (41 ∷ []) rest)
@@ -267,7 +269,8 @@ cell_read c h rest =
     ∙ ap (λ ws. word Comma (44 ∷ []) ∷ ws)
     (pin_read c.output c.to h.output h.to tail
     ∙ ap (λ ws. pin_words c.output (words_of c.to) ++ ws) (shut_word (59 ∷ 10 ∷ rest) ∙ ap (λ ws. word Close (41 ∷ []) ∷ ws) (semicolon_word (10 ∷ rest)))))
-    ∙ words_regroup (pin_words c.input (words_of c.from)) (word Comma (44 ∷ [])) (pin_words c.output (words_of c.to)) (word Close (41 ∷ [])) (word Semicolon (59 ∷ [])) (words_from 0 (10 ∷ rest)))))
+    ∙ words_regroup (pin_words c.input (words_of c.from)) (word Comma (44 ∷ [])) (pin_words c.output (words_of c.to))
+    (word Close (41 ∷ [])) (word Semicolon (59 ∷ [])) (words_from 0 (10 ∷ rest)))))
   where
     pin_rest : (pin net more : List ℕ) → List ℕ
     pin_rest pin net more = (((printed pin ++ 40 ∷ []) ++ net) ++ 41 ∷ []) ++ more
@@ -275,7 +278,8 @@ cell_read c h rest =
     dotted : (pin net more : List ℕ) → pin_text pin net ++ more ≡ 46 ∷ pin_rest pin net more
     dotted pin net more = refl
 
-    regroup : (a b c d e f g i rest : List ℕ) → (((((((a ++ b) ++ c) ++ d) ++ e) ++ f) ++ g) ++ i) ++ rest ≡ a ++ (b ++ (c ++ (d ++ (e ++ (f ++ (g ++ (i ++ rest)))))))
+    regroup : (a b c d e f g i rest : List ℕ)
+        → (((((((a ++ b) ++ c) ++ d) ++ e) ++ f) ++ g) ++ i) ++ rest ≡ a ++ (b ++ (c ++ (d ++ (e ++ (f ++ (g ++ (i ++ rest)))))))
     regroup a b c d e f g i rest = simp append_assoc
 
     words_regroup : (a : List Word) (x : Word) (b : List Word) (y z : Word) (rest : List Word)
@@ -294,7 +298,8 @@ cells_begin : (cells : List NewCell) (b : ℕ) (bs : List ℕ) → BeginsName b 
 cells_begin [] b bs s = (b, bs, s, refl)
 cells_begin (c ∷ cells) b bs s =
     let (y, ys, is, t) = printed_first c.cell in
-    let after : List ℕ = codes " " ++ (c.name ++ (codes " (" ++ (pin_text c.input c.from ++ (codes ", " ++ (pin_text c.output c.to ++ (codes ");\n" ++ (cell_texts cells ++ b ∷ bs))))))) in (
+    let after : List ℕ
+    = codes " " ++ (c.name ++ (codes " (" ++ (pin_text c.input c.from ++ (codes ", " ++ (pin_text c.output c.to ++ (codes ");\n" ++ (cell_texts cells ++ b ∷ bs))))))) in (
       y,
       ys ++ after,
       t,

@@ -1,4 +1,5 @@
 -- The words of tokens, and the first bytes of marks and names.
+use Rattle.std.proofs.lemmas.List.{map-append}
 use Rattle.std.proofs.Common.{◌≡◌, ℕ, zero, suc, ◌+◌, ◌-◌, Bool, true, false, ◌&&◌, ◌==◌, List, [], ◌∷◌, ◌++◌, length, map, take, drop, Option, Some, None, refl, sym, ap, ◌∙◌, subst, arith, length-append, append_assoc, if◌then◌else◌, ◌⊎◌, inl, inr}
 use Rattle.std.specs.Prelude.{⊤}
 use Rattle.std.proofs.lemmas.Bool.Decides.{nat_tests}
@@ -26,10 +27,6 @@ word_here : (pre bs : List ℕ) (at n to : ℕ) (kind : Option TokenKind) → at
 word_here pre bs at n to None e f = refl
 word_here pre bs at n to (Some kind) e f = let p = part_here pre bs at n to e f in λ i. record { kind = grammar_kind kind (p i); bytes = p i } ∷ []
 
-pub map_append : {X Y : Type 0} (f : X → Y) (xs ys : List X) → map f (xs ++ ys) ≡ map f xs ++ map f ys
-map_append f [] ys = refl
-map_append f (x ∷ xs) ys = ap (λ zs. f x ∷ zs) (map_append f xs ys)
-
 pub words_are : (bs pre : List ℕ) (skip at : ℕ) → at ≡ length pre → map (word_in (pre ++ bs)) (tokens_from skip at bs) ≡ words_from skip bs
 unfolding tokens_from words_from
 words_are [] pre skip at e = refl
@@ -38,7 +35,7 @@ words_are (b ∷ bs) pre (suc skip) at e =
     ∙ words_are bs (pre ++ b ∷ []) skip (at + 1) (omega (arith, e, length-append pre (b ∷ [])))
 words_are (b ∷ bs) pre zero at e =
     let n = (piece b bs).more in
-    map_append (word_in (pre ++ b ∷ bs)) (token_at at (piece b bs)) (tokens_from n (at + 1) bs)
+    map-append (word_in (pre ++ b ∷ bs)) (token_at at (piece b bs)) (tokens_from n (at + 1) bs)
     ∙ ap (λ ws. ws ++ map (word_in (pre ++ b ∷ bs)) (tokens_from n (at + 1) bs))
     (word_here pre (b ∷ bs) at (1 + n) (at + 1 + n) (piece b bs).kind e (omega arith))
     ∙ ap (λ ws. word_by (piece b bs).kind (take (1 + n) (b ∷ bs)) ++ ws)
@@ -53,7 +50,7 @@ words_in_are (b ∷ us) vs pre (suc skip) at e =
     ∙ words_in_are us vs (pre ++ b ∷ []) skip (at + 1) (omega (arith, e, length-append pre (b ∷ [])))
 words_in_are (b ∷ us) vs pre zero at e =
     let n = (piece b (us ++ vs)).more in
-    map_append (word_in (pre ++ b ∷ (us ++ vs))) (token_at at (piece b (us ++ vs))) (tokens_in n (at + 1) us vs)
+    map-append (word_in (pre ++ b ∷ (us ++ vs))) (token_at at (piece b (us ++ vs))) (tokens_in n (at + 1) us vs)
     ∙ ap (λ ws. ws ++ map (word_in (pre ++ b ∷ (us ++ vs))) (tokens_in n (at + 1) us vs))
     (word_here pre (b ∷ (us ++ vs)) at (1 + n) (at + 1 + n) (piece b (us ++ vs)).kind e (omega arith))
     ∙ ap (λ ws. word_by (piece b (us ++ vs)).kind (take (1 + n) (b ∷ (us ++ vs))) ++ ws)
