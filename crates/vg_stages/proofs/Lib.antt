@@ -1,1 +1,1 @@
-mod StageLists
+pub mod StageLists

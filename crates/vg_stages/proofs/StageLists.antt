@@ -26,15 +26,15 @@ nodes_more : (n : ℕ) → nodes (n + 1) ≡ nodes n ++ n ∷ []
 nodes_more n =
     sym (map-id (nodes (n + 1))) ∙ map-range_with_len_more (λ i. i) 0 n n (omega arith) ∙ ap (λ (l : List ℕ). l ++ n ∷ []) (map-id (nodes n))
 
-filter_more : (p : ℕ → Bool) (n : ℕ) → filter p (nodes (n + 1)) ≡ filter p (nodes n) ++ cond (p n) (n ∷ []) []
+pub filter_more : (p : ℕ → Bool) (n : ℕ) → filter p (nodes (n + 1)) ≡ filter p (nodes n) ++ cond (p n) (n ∷ []) []
 filter_more p n = ap (filter p) (nodes_more n) ∙ filter-append p (nodes n) (n ∷ [])
 
-nodes_rise : (n : ℕ) → AllPairs (λ a b. a < b) (nodes n)
+pub nodes_rise : (n : ℕ) → AllPairs (λ a b. a < b) (nodes n)
 nodes_rise n i j d i_j j_n =
     let j_low : j < n = omega (arith, j_n, length-range_with_len 0 n) in
     omega (arith, i_j, get_or-range_with_len 0 n i d (omega (arith, i_j, j_low)), get_or-range_with_len 0 n j d j_low)
 
-nodes_below : (n : ℕ) → All (λ w. w < n) (nodes n)
+pub nodes_below : (n : ℕ) → All (λ w. w < n) (nodes n)
 nodes_below n i d low =
     let i_n : i < n = omega (arith, low, length-range_with_len 0 n) in
     omega (arith, i_n, get_or-range_with_len 0 n i d i_n)
@@ -47,7 +47,7 @@ head_is f i k low = filter_passes (is_head f.cell) (nodes i) k 0 low
 pub head_below : (f : Forest) (i k : ℕ) → k < length (heads_to f i) → slice_index (heads_to f i) k < i
 head_below f i k low = All-filter (is_head f.cell) (λ w. w < i) (nodes i) (nodes_below i) k 0 low
 
-heads_differ : (f : Forest) (i j k : ℕ) → j < length (heads_to f i) → k < length (heads_to f i) → j ≢ k
+pub heads_differ : (f : Forest) (i j k : ℕ) → j < length (heads_to f i) → k < length (heads_to f i) → j ≢ k
     → slice_index (heads_to f i) j ≢ slice_index (heads_to f i) k
 heads_differ f i j k j_low k_low other e =
     let rise : AllPairs (λ a b. a < b) (heads_to f i) = AllPairs-filter (λ a b. a < b) (is_head f.cell) (nodes i) (nodes_rise i) in
