@@ -1,0 +1,14 @@
+mod NodeListLemmas
+mod StageNumberLemmas
+mod SplitLemmas
+mod MemberLemmas
+mod NumberedLemmas
+mod PlaceLemmas
+mod NewNameLemmas
+mod NoteLemmas
+mod KindLemmas
+mod SoundLemmas
+mod ConnLemmas
+mod ValueLemmas
+mod CapLemmas
+mod StageNetLemmas

@@ -1,0 +1,5 @@
+pub mod NewNames
+pub mod Splits
+pub mod Conditions
+pub mod NodeLists
+pub mod Steps

@@ -1,0 +1,15 @@
+//! A net with cells, split into a net for each stage, as parasitics name their parts (IEEE Std 1481-1999).
+//!
+//! Resistances are whole milliohms (mΩ), capacitances whole attofarads (aF).
+#![tactic(auto)]
+
+mod names;
+mod nodes;
+mod scratch;
+mod split;
+mod stage;
+
+pub use names::{push_cell_name, push_net_name};
+pub use scratch::Scratch;
+pub use split::Split;
+pub use stage::stage_net;
