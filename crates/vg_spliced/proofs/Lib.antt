@@ -1,0 +1,15 @@
+pub mod StepLemmas
+pub mod FaultLemmas
+pub mod PassLemmas
+pub mod KeptLemmas
+pub mod TextLemmas
+pub mod SpliceLemmas
+pub mod FileLemmas
+pub mod PatchLemmas
+pub mod BlankLemmas
+pub mod WrittenLemmas
+pub mod SectionLemmas
+pub mod ChangeLemmas
+pub mod InnerLemmas
+pub mod ReadLemmas
+pub mod QuietLemmas

@@ -1,0 +1,64 @@
+//! Laws of spliced texts. Their functions do nothing: each one's contract is the law, which a proof may cite.
+
+ghost use Rattle.vg_spliced.specs.FileLaws.{FilesAreSpliced};
+ghost use Rattle.vg_spliced.specs.PatchLaws.{EndsKeepComments, PatchesKeepComments};
+ghost use Rattle.vg_spliced.specs.RunLaws.{LinesAreReadElsewhere, NetsAreRead};
+ghost use Rattle.vg_spliced.specs.SectionLaws.{TextsHaveChanges, WritableNetsAreWritten, WrittenSectionsAreQuiet, WrittenTextsAreRead};
+
+/// Let the header of a file be over after some lines, and let the next line stand in no net. Let the lines of a net follow:
+/// a head `*D_NET` with a name that no net before has, lines that are no heads and no ends, and `*END`. Then none of them has
+/// a fault, whatever follows, and they say this net and nothing else.
+pub fn nets_are_read()
+    ensures { NetsAreRead }
+{}
+
+/// Let the lines before others say the same of the header and the name map as lines elsewhere, but perhaps other nets, and let
+/// the others be read without a fault. Then they say the same elsewhere, and add the same nets. They have no fault there
+/// either, if no net before them there has the name of one that they add.
+pub fn lines_are_read_elsewhere()
+    ensures { LinesAreReadElsewhere }
+{}
+
+/// Let a text be a file without a fault. Replace the lines of some of its nets, each from the head to `*END`, by those of one
+/// or more nets. Then the text is a file without a fault that says the same of the header and the name map, if no two of its
+/// nets have the same name then. Its nets are those of the file in their order, each with the lines that it had, but the new
+/// ones stand in place of those that they replace.
+pub fn files_are_spliced()
+    ensures { FilesAreSpliced }
+{}
+
+/// Let `*END` be the first word of a line of a text without its comments. Then the text may be cut behind it.
+pub fn ends_keep_comments()
+    ensures { EndsKeepComments }
+{}
+
+/// Let a text have parts, one after another, at both ends of which it may be cut. Replace them by texts that stay as they are
+/// where comments are made blank, and behind which any text has the comments that it has alone. Then what stands between the
+/// parts has the comments that it had.
+pub fn patches_keep_comments()
+    ensures { PatchesKeepComments }
+{}
+
+/// Let sections of a text, from the head to `*END`, stand one after another. Replace each by the sections of one or more nets
+/// that can be written, the last one without a newline. Then the text has the lines that it had, without its comments, but
+/// those of the written nets in place of the lines of the nets that they replace.
+pub fn texts_have_changes()
+    ensures { TextsHaveChanges }
+{}
+
+/// No line of the section of a net that can be written, between its first line and its end, is the head or the end of a net.
+pub fn writable_nets_are_written()
+    ensures { WritableNetsAreWritten }
+{}
+
+/// Let a file's names and numbers be meant as a header says. Then the lines of a net that can be written, as they are written
+/// by this header, have no fault in the file, and what is read of them is the net again.
+pub fn written_texts_are_read()
+    ensures { WrittenTextsAreRead }
+{}
+
+/// Let the notes of some nets' nodes stay as they are where comments are made blank, each with a newline behind it, and let
+/// whatever text follows have the comments that it has alone. Then so it is of the nets' sections, one after another.
+pub fn written_sections_are_quiet()
+    ensures { WrittenSectionsAreQuiet }
+{}

@@ -1,0 +1,11 @@
+//! Texts of parasitics of which sections of nets are replaced by written ones are read again.
+//!
+//! A theory alone: `vg_patch` and `vg_written` have the code.
+#![tactic(auto)]
+
+mod laws;
+
+pub use laws::{
+    ends_keep_comments, files_are_spliced, lines_are_read_elsewhere, nets_are_read,
+    patches_keep_comments, texts_have_changes, writable_nets_are_written, written_texts_are_read,
+};
