@@ -42,11 +42,11 @@ use Rattle.ver_links.proofs.ItemLemmas.{Paired, changed_items}
 use Rattle.ver_links.proofs.CellLemmas.{IsCellSection, cell_sections, simple_name, starts_next}
 use Rattle.ver_links.proofs.SameLemmas.{AreSame, IsSameSection, filter_same, name_same, number_same, pairs_equal, pairs_flat_equal, sections_same}
 
-map-map : {X Y Z : Type 0} (g : Y → Z) (f : X → Y) (xs : List X) → map g (map f xs) ≡ map (λ x. g (f x)) xs
+pub map-map : {X Y Z : Type 0} (g : Y → Z) (f : X → Y) (xs : List X) → map g (map f xs) ≡ map (λ x. g (f x)) xs
 map-map g f [] = refl
 map-map g f (x ∷ xs) = ap (λ ys. g (f x) ∷ ys) (map-map g f xs)
 
-map-flat : {X Y Z : Type 0} (g : Y → Z) (f : X → List Y) (xs : List X) → map g (flat_map f xs) ≡ flat_map (λ x. map g (f x)) xs
+pub map-flat : {X Y Z : Type 0} (g : Y → Z) (f : X → List Y) (xs : List X) → map g (flat_map f xs) ≡ flat_map (λ x. map g (f x)) xs
 map-flat g f [] = refl
 map-flat g f (x ∷ xs) = map-append g (f x) (flat_map f xs) ∙ ap (λ ys. map g (f x) ++ ys) (map-flat g f xs)
 
@@ -340,7 +340,7 @@ module _ (new : List ℕ) where
 
 -- ---- the law
 
-module_items : (text : List ℕ) → IsModule text → Each IsItem (items text)
+pub module_items : (text : List ℕ) → IsModule text → Each IsItem (items text)
 module_items text h =
     let runs = module_runs text h in
     items_are Start (rows_of text) (subst (λ p. Follow p (rows_of text)) start_place runs.follow) (plain_rows (rows_of text) start runs)

@@ -5,3 +5,8 @@ pub mod SameLemmas
 pub mod DeclareLemmas
 pub mod ConnectionLemmas
 pub mod CellLemmas
+pub mod NameLemmas
+pub mod RangeLemmas
+pub mod PinLemmas
+pub mod LinkLemmas
+pub mod LawLemmas

@@ -53,7 +53,7 @@ pub data AreRelinked (text new : List ℕ) (Free : ℕ → Type 0) (Becomes : Li
   replaced : (old made rows others : List Row) → IsReplaced Becomes old made rows others → AreRelinked text new Free Becomes rows others
       → AreRelinked text new Free Becomes (old ++ rows) (made ++ others)
 
-quits_before : (test : Row → Bool) (rows : List Row) → Quits rows → Quits (before_first test rows)
+pub quits_before : (test : Row → Bool) (rows : List Row) → Quits rows → Quits (before_first test rows)
 quits_before test [] h = tt
 quits_before test (r ∷ rows) h = by_test (test r) refl
   where
