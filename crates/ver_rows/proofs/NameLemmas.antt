@@ -12,7 +12,7 @@ use Rattle.ver_patch.specs.declared.text.NewCell.{NewCell}
 use Rattle.ver_file.specs.Flaws.{Named, clashes, flaws_at, grammar_flaws, instance_flaws, named, repeated, unless}
 use Rattle.ver_file.specs.Netlists.{instance_of, instances_by, instances_of}
 use Rattle.ver_rows.specs.Laws.{InstancesDiffer}
-use Rattle.ver_rows.specs.Names.{AreNew}
+use Rattle.vg_names.specs.Distinct.{AreNew}
 use Rattle.ver_rows.specs.Shapes.{Shape, new_shape, shape_of}
 use Rattle.ver_rows.proofs.LawLemmas.{instances_stay}
 

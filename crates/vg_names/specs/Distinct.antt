@@ -1,5 +1,5 @@
 -- Distinct names and their numbers.
-use Rattle.std.specs.Prelude.{ℕ, ◌++◌, List, [], ◌∷◌, Option, if◌then◌else◌}
+use Rattle.std.specs.Prelude.{◌≡◌, ℕ, false, ◌++◌, List, [], ◌∷◌, Option, if◌then◌else◌, ⊤}
 use Rattle.std.specs.List.{list_any, position, position_or_len}
 use Rattle.std.specs.Str.{bytes_eq}
 
@@ -14,3 +14,8 @@ number_in names name = position_or_len (bytes_eq name) names
 -- the names, with this one last where it is new
 abbrev pub with_name : List (List ℕ) → List ℕ → List (List ℕ)
 with_name names name = if list_any (bytes_eq name) names then names else names ++ name ∷ []
+
+-- none of these names stands twice, nor is one of those before
+abbrev pub AreNew : List (List ℕ) → List (List ℕ) → Type 0
+AreNew before [] = ⊤
+AreNew before (name ∷ names) = (list_any (bytes_eq name) before ≡ false) × AreNew (before ++ name ∷ []) names
