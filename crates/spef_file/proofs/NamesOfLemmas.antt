@@ -37,7 +37,7 @@ all_listed P None xs p h = h
 all_listed P (Some x) xs p h = all_cons P x xs (p x refl) h
 
 -- what lines add is such, where what each adds is
-gathered_all : {A : Type 0} (P : A → Type 0) (add : List Line → Line → Option A) (before later : List Line)
+pub gathered_all : {A : Type 0} (P : A → Type 0) (add : List Line → Line → Option A) (before later : List Line)
     → ((i : ℕ) (x : A) → i < length later → add (before ++ take i later) (get_or later i []) ≡ Some x → P x) → All P (gathered add before later)
 gathered_all P add before [] h = all_nil P
 gathered_all P add before (line ∷ later) h =

@@ -88,13 +88,13 @@ one_line text some none = elim (found_or_none (position is_newline text)) as (λ
 ]
 
 -- where the last line of a text begins
-record HasLast (text : List ℕ) : Type 0 where
+pub record HasLast (text : List ℕ) : Type 0 where
   at : ℕ
   within : at < length text
   begins : 0 < at → get_or text (at - 1) 0 ≡ 10
   one : IsOneLine (drop at text)
 
-last_at : (n : ℕ) (text : List ℕ) → length text ≤ n → 0 < length text → HasLast text
+pub last_at : (n : ℕ) (text : List ℕ) → length text ≤ n → 0 < length text → HasLast text
 last_at zero text l some = absurd (omega arith)
 last_at (suc n) text l some = elim (found_or_none (position is_newline text)) as (λ _. HasLast text) [
   | inl nowhere ↦ record { at = 0; within = some; begins = λ h. absurd (omega arith); one = record { line = text; is = last_line text some nowhere } }

@@ -1,6 +1,7 @@
 //! The name map of a SPEF file.
 
-ghost use Rattle.std.specs.Prelude.{◌≡◌, ◌==◌, ◌-◌, ◌<◌, ◌^◌, ◌++◌, ◌∷◌, [], not, true, length, option_map, IfOk, OnErr};
+ghost use Rattle.std.specs.Prelude.{◌≡◌, ◌==◌, ◌-◌, ◌<◌, ◌^◌, ◌++◌, ◌∷◌, [], not, true, length, option_map, Some, IfOk, OnErr};
+ghost use Rattle.std.specs.List.{slice_get};
 ghost use Rattle.spef_file.specs.Rows.{mapped, is_mapped};
 
 use std::alloc::Global;
@@ -60,6 +61,14 @@ impl NameMap {
             None => None,
             Some(row) => Some(self.names.get(row as usize)),
         }
+    }
+
+    /// The name of the row at a place.
+    pub fn name(&self, at: usize) -> &[u8]
+        requires { at < length self.now }
+        ensures { option_map (λ row. row.1) (slice_get self.now at) ≡ Some result.now }
+    {
+        self.names.get(at)
     }
 
     /// Puts a row last where its index is new, and says whether it was. Answers `Memory` where there is no room.

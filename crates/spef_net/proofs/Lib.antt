@@ -19,3 +19,4 @@ pub mod InnerLemmas
 pub mod PartLemmas
 pub mod PassLemmas
 pub mod ValueLemmas
+pub mod OtherLemmas

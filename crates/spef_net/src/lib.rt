@@ -18,7 +18,7 @@ mod value;
 
 pub use coordinates::position;
 pub use fault::{NetFault, NetKind};
-pub use laws::one_net;
+pub use laws::{one_net, other_nets_count_not};
 pub use net::{ConnKind, Direction, ParConn, ParNet};
 pub use section::read_net;
 pub use spef_nodes::Nodes;
