@@ -8,11 +8,12 @@ use Rattle.vg_wire.specs.declared.refusal.Refusal.TheVariants.{TooLarge, Unconst
 use Rattle.vg_design.proofs.NameLemmas.{bare_17, bare_large, first_for, joined_once, passes_for}
 use Rattle.vg_design.proofs.PassLemmas.{not_past, passes_16, passes_17}
 use Rattle.vg_design.specs.Designs.{Design, Joined}
-use Rattle.vg_design.specs.Nets.{names_of, IsNetProblem}
+use Rattle.vg_design.specs.Nets.{names_of, IsNetProblem, IsPosedNet}
 use Rattle.vg_design.specs.Parts.{IsProblemOf, IsWithinLimits}
-use Rattle.vg_design.specs.Refusals.{Holds, IsFirstBareRefusal, IsFirstConn, IsFirstRefusal, PassesBareUpTo, is_unconstrained}
+use Rattle.vg_design.specs.Refusals.{Holds, IsFirstBareRefusal, IsFirstConn, IsFirstRefusal, PassesBareUpTo, PassesUpTo, is_unconstrained}
 use Rattle.vg_design.specs.Steps.{IsAccepted, IsReady, PassesNet}
 use Rattle.vg_design.specs.declared.net_problem.NetProblem.{NetProblem}
+use Rattle.vg_design.specs.declared.net_problem.PosedNet.{PosedNet}
 
 module _ (d : Design) (name : List ℕ) (n : Joined) where
   pub unconstrained : (sink : NodeName) → IsAccepted 15 d name n → IsFirstConn n.par (is_unconstrained d.rows n.par) sink → IsFirstRefusal d name (Unconstrained sink)
@@ -38,14 +39,19 @@ module _ (d : Design) (name : List ℕ) (n : Joined) where
       pub past_limits : (IsWithinLimits d n tree order → ⊥) → IsFirstRefusal d name TooLarge
       past_limits past = first_for d name n accepted.joined TooLarge (record { holds = large past; first = constrained })
 
-      pub problem_is : (found : NetProblem) → IsProblemOf d n tree order found.problem × IsWithinLimits d n tree order → found.names ≡ names_of n.par order → IsNetProblem d name found
-      problem_is found made names = record {
-        accepted = passes_for d name n accepted.joined 17 (passes_17 d n constrained (not_past d n tree order ready.a_tree made.1));
-        net = n;
-        joined = accepted.joined;
-        tree = tree;
-        order = order;
-        a_tree = ready.a_tree;
-        problem = made.0;
-        names = names;
-      }
+      pub nothing_refuses : IsWithinLimits d n tree order → PassesUpTo 17 d name
+      nothing_refuses within = passes_for d name n accepted.joined 17 (passes_17 d n constrained (not_past d n tree order ready.a_tree within))
+
+-- the problem of a posed net is that of the net
+pub problem_is : (d : Design) (name : List ℕ) (posed : PosedNet) (found : NetProblem) → IsPosedNet d name posed → found.problem ≡ posed.problem
+    → found.names ≡ names_of posed.ready.pinned.net.par posed.ready.order → IsNetProblem d name found
+problem_is d name posed found is same names = record {
+  accepted = is.accepted;
+  net = posed.ready.pinned.net;
+  joined = is.joined;
+  tree = posed.ready.tree.nodes;
+  order = posed.ready.order;
+  a_tree = is.ready.a_tree;
+  problem = subst (IsProblemOf d posed.ready.pinned.net posed.ready.tree.nodes posed.ready.order) (sym same) is.problem;
+  names = names;
+}

@@ -13,7 +13,9 @@ use Rattle.vg_wire.specs.declared.refusal.Refused.TheVariants.{Net, Memory}
 use Rattle.vg_design.specs.Designs.{Design, Joined, NO_NODE, name_of}
 use Rattle.vg_design.specs.Parts.{loaded_tree, driver_of, IsProblemOf}
 use Rattle.vg_design.specs.Refusals.{IsJoined, PassesUpTo, PassesBareUpTo, IsFirstRefusal, IsFirstBareRefusal}
+use Rattle.vg_design.specs.Steps.{IsReady}
 use Rattle.vg_design.specs.declared.net_problem.NetProblem.{NetProblem}
+use Rattle.vg_design.specs.declared.net_problem.PosedNet.{PosedNet}
 use Rattle.vg_design.specs.declared.bare.BareNet.{BareNet}
 use Rattle.vg_design.specs.declared.time.Timed.{Timed}
 
@@ -36,6 +38,13 @@ pub record IsNetProblem (d : Design) (name : List ℕ) (found : NetProblem) : Ty
   pub a_tree : IsNetTree net.par tree order
   pub problem : IsProblemOf d net tree order found.problem
   pub names : found.names ≡ names_of net.par order
+
+-- the net of this name, which nothing refuses, with its pins, its tree and its problem
+pub record IsPosedNet (d : Design) (name : List ℕ) (posed : PosedNet) : Type 0 where
+  pub accepted : PassesUpTo 17 d name
+  pub joined : IsJoined d name posed.ready.pinned.net
+  pub ready : IsReady d posed.ready.pinned.net posed.ready.pinned.pins posed.ready.tree.nodes posed.ready.order
+  pub problem : IsProblemOf d posed.ready.pinned.net posed.ready.tree.nodes posed.ready.order posed.problem
 
 -- the sinks as nodes of the tree, in tree order
 abbrev pub sink_nodes : ParNet → List ℕ → List ℕ

@@ -100,6 +100,13 @@ impl Design {
         self.index.sections.name(at)
     }
 
+    /// The index of the SPEF file.
+    pub fn index(&self) -> &SpefIndex
+        ensures { IsIndexOf self.now.spef result.now }
+    {
+        &self.index
+    }
+
     /// The repeaters of the library, in the order in which problems number them. It takes no memory.
     pub fn repeaters(&self) -> &[Repeater]
         ensures { result.now ≡ self.now.library.repeaters }

@@ -23,7 +23,7 @@ pub use design::Design;
 pub use joined::JoinedNet;
 pub use laws::one_problem;
 pub use names::TreeNames;
-pub use net_problem::{NetProblem, is_unconstrained, problem, problem_of};
+pub use net_problem::{NetProblem, PosedNet, is_unconstrained, posed_net, problem, problem_of};
 pub use pins::PinnedNet;
 pub use ready::{ReadyNet, ready_net};
 pub use time::{Timed, time_net};

@@ -1,8 +1,9 @@
 //! The problem of a net.
 
 ghost use Rattle.std.specs.Prelude.{◌≡◌, ◌<◌, ◌≤◌, find, length, IfOk, IfErr};
+ghost use Rattle.std.specs.List.{All};
 ghost use Rattle.vg_wire.specs.Refusals.{most_capacitors};
-ghost use Rattle.vg_design.specs.Nets.{IsNetProblem, IsRefused};
+ghost use Rattle.vg_design.specs.Nets.{names_of, IsNetProblem, IsPosedNet, IsRefused};
 ghost use Rattle.vg_design.specs.Parts.{loaded_tree as loaded_in};
 ghost use Rattle.vg_wire.specs.Wires.{AreMarks};
 ghost use Rattle.vg_design.specs.Refusals.{is_unconstrained};
@@ -27,6 +28,13 @@ use vg_wire::{MOST_CAPACITORS, Refusal, Refused, is_sink, sink_marks};
 pub struct NetProblem {
     pub problem: Problem,
     pub names: TreeNames,
+}
+
+/// A net with its pins, its tree and its problem.
+#[derive(Drop)]
+pub struct PosedNet {
+    pub ready: ReadyNet,
+    pub problem: Problem,
 }
 
 /// Whether a connection is a sink without a required time. Answers `Memory` where there is no room.
@@ -142,13 +150,27 @@ pub fn problem_of(
     Ok(made)
 }
 
-/// The problem of the net of a name in a design, and the names of its nodes. The net is refused by the first reason of `Refusal`
-/// that holds. Answers `Memory` where there is no room.
+impl PosedNet {
+    /// The problem, and the names of the tree's nodes.
+    pub fn into_problem(self) -> NetProblem
+        requires { All (λ v. v < length self.ready.pinned.net.par.nodes) self.ready.order }
+        ensures problem { result.problem ≡ self.problem }
+        ensures names { result.names ≡ names_of self.ready.pinned.net.par self.ready.order }
+    {
+        NetProblem {
+            problem: self.problem,
+            names: self.ready.into_names(),
+        }
+    }
+}
+
+/// The net of a name in a design with its pins, its tree and its problem. The net is refused by the first reason of `Refusal` that
+/// holds. Answers `Memory` where there is no room.
 ///
 /// Resistances are in mΩ, capacitances in aF, times in zs. The sinks' pins and ports are loads beside the capacitors. A node may
 /// have a cell where it is no connection, a sink is strictly below it, and neither a `block` row nor a box blocks it.
-pub fn problem(alloc: Global, design: &Design, net: &Name) -> Result<NetProblem, Refused>
-    ensures problem { IfOk result (IsNetProblem design.now net.now) }
+pub fn posed_net(alloc: Global, design: &Design, net: &Name) -> Result<PosedNet, Refused>
+    ensures posed { IfOk result (IsPosedNet design.now net.now) }
     ensures refused { IfErr result (IsRefused design.now net.now) }
 {
     let ready = ready_net(alloc, design, net)?;
@@ -158,8 +180,14 @@ pub fn problem(alloc: Global, design: &Design, net: &Name) -> Result<NetProblem,
     let Some(problem) = problem_of(alloc, design, &ready)? else {
         return Err(Refused::Net(Refusal::TooLarge));
     };
-    Ok(NetProblem {
-        problem,
-        names: ready.into_names(),
-    })
+    Ok(PosedNet { ready, problem })
+}
+
+/// The problem of the net of a name in a design, and the names of its nodes, as `posed_net` has them.
+pub fn problem(alloc: Global, design: &Design, net: &Name) -> Result<NetProblem, Refused>
+    ensures problem { IfOk result (IsNetProblem design.now net.now) }
+    ensures refused { IfErr result (IsRefused design.now net.now) }
+{
+    let posed = posed_net(alloc, design, net)?;
+    Ok(posed.into_problem())
 }

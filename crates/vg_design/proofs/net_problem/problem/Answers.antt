@@ -1,28 +1,12 @@
-use Rattle.vg_design.proofs.AcceptLemmas.{past_limits, problem_is, unconstrained}
-use Rattle.vg_design.proofs.ReadyLemmas.{none_there}
-use Rattle.vg_design.specs.Steps.{FindsUnconstrained, MakesProblem}
+use Rattle.vg_design.proofs.AcceptLemmas.{problem_is}
 use Rattle.vg_design.proofs.PartLemmas.{order_within}
 use Rattle.vg_design.proofs.net_problem.problem.Goals as goal
 
-pub returns-in-Some-clause-refused : goal.returns-in-Some-clause-refused
-returns-in-Some-clause-refused c =
-    unconstrained c.args.design.now c.args.net.now c.in_ok-ready.ready.pinned.net c.in-Some.sink c.in_ok-ready.ensures.accepted (rw c.in-Some.is at c.in_ok-sink.ensures)
-
-pub returns-in_default-2-clause-refused : goal.returns-in_default-2-clause-refused
-returns-in_default-2-clause-refused c =
-    let ready = c.in_ok-ready.ready in
-    past_limits c.args.design.now c.args.net.now ready.pinned.net ready.pinned.pins ready.tree.nodes ready.order c.in_ok-ready.ensures.accepted c.in_ok-ready.ensures.ready
-    (none_there (FindsUnconstrained c.args.design.now.rows ready.pinned.net.par) c.in_ok-sink.field-0 c.in_default.not-Some c.in_ok-sink.ensures)
-    (none_there (MakesProblem c.args.design.now ready.pinned.net ready.tree.nodes ready.order) c.in_ok-problem.field-0 c.in_default-2.not-Some c.in_ok-problem.ensures)
-
-pub into_names-requires : goal.into_names-requires
-into_names-requires c =
-    let ready = c.in_ok-ready.ready in
-    order_within c.args.design.now ready.pinned.net ready.pinned.pins ready.tree.nodes ready.order c.in_ok-ready.ensures.ready
+pub into_problem-requires : goal.into_problem-requires
+into_problem-requires c =
+    let ready = c.in_ok-posed.posed.ready in
+    order_within c.args.design.now ready.pinned.net ready.pinned.pins ready.tree.nodes ready.order c.in_ok-posed.ensures.posed.ready
 
 pub returns-clause-problem : goal.returns-clause-problem
 returns-clause-problem c =
-    let ready = c.in_ok-ready.ready in
-    problem_is c.args.design.now c.args.net.now ready.pinned.net ready.pinned.pins ready.tree.nodes ready.order c.in_ok-ready.ensures.accepted c.in_ok-ready.ensures.ready
-    (none_there (FindsUnconstrained c.args.design.now.rows ready.pinned.net.par) c.in_ok-sink.field-0 c.in_default.not-Some c.in_ok-sink.ensures)
-    (record { problem = c.in-Some-2.problem; names = c.into_names.result }) (rw c.in-Some-2.is at c.in_ok-problem.ensures) c.into_names.ensures
+    problem_is c.args.design.now c.args.net.now c.in_ok-posed.posed c.into_problem.result c.in_ok-posed.ensures.posed c.into_problem.ensures.problem c.into_problem.ensures.names
