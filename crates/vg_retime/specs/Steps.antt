@@ -5,10 +5,10 @@ use Rattle.elmore.specs.Problems.{IsDriverWithin, IsSmall}
 use Rattle.elmore.specs.Trees.{IsTree, IsWithinLimits}
 use Rattle.elmore.specs.declared.parts.Driver.{Driver}
 use Rattle.ver_net.specs.Connections.{has}
-use Rattle.vg_cut.specs.Walks.{End, nothing, sink, passes, Signal, passed_on, reached}
+use Rattle.vg_cut.specs.Walks.{End, nothing, sink, passes, Signal, TimedNet, late_at, passed, passed_on, reached}
 use Rattle.vg_design.specs.Designs.{Design}
 use Rattle.vg_scan.specs.declared.name.NodeName.{NodeName}
-use Rattle.vg_retime.specs.Times.{lefts_in, lefts_of, IsLeastOf, IsTime}
+use Rattle.vg_retime.specs.Times.{lefts_in, lefts_of, IsLeastOf, IsLeastWith, IsTime}
 use Rattle.vg_retime.specs.WalkNets.{WalkNet, timed, IsNetIn}
 use Rattle.vg_retime.specs.Ways.{Nets, begins, first_wrong, timed_nets, wrong_in}
 use Rattle.vg_retime.specs.declared.climb.First.{First}
@@ -70,12 +70,16 @@ abbrev pub first_of : Option NodeName → Option NodeName → Option NodeName
 first_of None wrong = wrong
 first_of (Some first) wrong = Some first
 
+-- the signal behind what stands at a node, where this one comes late there
+abbrev pub IsPassedAt : Signal → End → ℕ → Option Signal → Type 0
+IsPassedAt s end late next = (net : TimedNet) (w : ℕ) → late ≡ late_at net s w → next ≡ passed net s w end
+
 -- a signal came to a net: its sinks are met, and it is passed on
 pub record IsVisited (net : WalkNet) (s : Signal) (old new : Walk) : Type 0 where
   pub first : new.first ≡ old.first
   pub come : new.come ≡ old.come
   pub signals : signals_of new ≡ signals_of old ++ passed_on (timed net) s
-  pub least : (times : List ℤ) → IsLeastOf times old.least → IsLeastOf (times ++ lefts_in (timed net) s) new.least
+  pub least : IsLeastWith (lefts_in (timed net) s) old.least new.least
   pub small : IfSome old.least IsTime → IfSome new.least IsTime
   pub wrong : new.wrong ≡ first_of old.wrong (wrong_in net s)
 

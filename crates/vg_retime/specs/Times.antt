@@ -1,5 +1,5 @@
 -- What is left at the sinks that the signals of a walk come to.
-use Rattle.std.specs.Prelude.{◌≡◌, ℕ, ◌^◌, List, [], map, length, ℤ, pos, ◌-ℤ◌, ◌≤ℤ◌, Option, Some, None}
+use Rattle.std.specs.Prelude.{◌≡◌, ℕ, ◌^◌, List, [], ◌++◌, map, length, ℤ, pos, ◌-ℤ◌, ◌≤ℤ◌, Option, Some, None}
 use Rattle.std.specs.List.{All, Contains, filter_map, flat_map}
 use Rattle.elmore.specs.Path.{nodes as node_numbers}
 use Rattle.vg_cut.specs.Walks.{End, sink, Signal, TimedNet, end_at, late_at}
@@ -25,6 +25,10 @@ lefts_of nets signals = flat_map (λ s. lefts_in (nets s.net) s) signals
 abbrev pub IsLeastOf : List ℤ → Option ℤ → Type 0
 IsLeastOf times None = times ≡ []
 IsLeastOf times (Some x) = Contains times x × All (λ y. x ≤ℤ y) times
+
+-- the least of these times and of those before, whatever they were
+abbrev pub IsLeastWith : List ℤ → Option ℤ → Option ℤ → Type 0
+IsLeastWith times before least = (old : List ℤ) → IsLeastOf old before → IsLeastOf (old ++ times) least
 
 -- a time that can be computed
 pub record IsTime (x : ℤ) : Type 0 where

@@ -4,11 +4,11 @@ ghost use Rattle.std.specs.Prelude.{◌≡◌, ◌<◌, ◌≤◌, ◌^◌, ◌+
 ghost use Rattle.elmore.specs.Problems.{IsSmall};
 ghost use Rattle.elmore.specs.Steps.{IsSum};
 ghost use Rattle.elmore.specs.Trees.{total_capacitance};
-ghost use Rattle.vg_cut.specs.Walks.{Signal as SignalSpec, TimedNet, late_at, passed as passed_in, passed_on};
-ghost use Rattle.vg_retime.specs.Times.{lates_in, lefts_in, IsLeastOf, IsTime};
+ghost use Rattle.vg_cut.specs.Walks.{Signal as SignalSpec, passed_on};
+ghost use Rattle.vg_retime.specs.Times.{lates_in, lefts_in, IsLeastWith, IsTime};
 ghost use Rattle.vg_retime.specs.WalkNets.{timed, walk_end};
 ghost use Rattle.vg_retime.specs.Ways.{is_wrong, wrong_in};
-ghost use Rattle.vg_retime.specs.Steps.{IsSizedEnd, IsSizedNet, IsSizedSignal, signal_of};
+ghost use Rattle.vg_retime.specs.Steps.{IsPassedAt, IsSizedEnd, IsSizedNet, IsSizedSignal, signal_of};
 
 use crate::walk_net::{End, WalkNet};
 use elmore::{Node, Scratch, Sink, wire_delays};
@@ -74,7 +74,7 @@ fn passed(signal: &Signal, end: End, late: u128) -> Option<Signal>
     requires end { IsSizedEnd (2 ^ 32) (walk_end end) }
     requires late { late ≤ 2 ^ 33 * 10 ^ 24 }
     requires inverters { signal.now.inverters ≤ 2 ^ 32 }
-    ensures { (net : TimedNet) (w : ℕ) → late ≡ late_at net (signal_of signal.now) w → option_map signal_of result ≡ passed_in net (signal_of signal.now) w (walk_end end) }
+    ensures { IsPassedAt (signal_of signal.now) (walk_end end) late (option_map signal_of result) }
 {
     match end {
         End::Passes(rep, Some(next)) => Some(Signal {
@@ -110,7 +110,7 @@ pub(crate) fn pass_on(
 
 /// The lesser of what was least before, and of what is left here (zs).
 fn lesser(least: Option<i128>, left: i128) -> Option<i128>
-    ensures least { (times : List ℤ) → IsLeastOf times least → IsLeastOf (times ++ left ∷ []) result }
+    ensures least { IsLeastWith (left ∷ []) least result }
     ensures small { IfSome least IsTime → IsTime left → IfSome result IsTime }
 {
     match least {
@@ -140,7 +140,7 @@ pub(crate) fn least_in(net: &WalkNet, lates: &[u128], before: Option<i128>) -> O
     requires net { IsSizedNet (2 ^ 32) net.now }
     requires small { (i : ℕ) → slice_index lates.now i ≤ 2 ^ 33 * 10 ^ 24 }
     requires one_each { length lates.now ≡ length net.now.tree }
-    ensures least { (s : SignalSpec) (times : List ℤ) → lates.now ≡ lates_in (timed net.now) s → IsLeastOf times before → IsLeastOf (times ++ lefts_in (timed net.now) s) result }
+    ensures least { (s : SignalSpec) → lates.now ≡ lates_in (timed net.now) s → IsLeastWith (lefts_in (timed net.now) s) before result }
     ensures small { IfSome before IsTime → IfSome result IsTime }
 {
     let mut least = before;

@@ -13,7 +13,7 @@ returns c = record {
   first = refl;
   come = refl;
   signals = c.in_ok-pass_on.ensures;
-  least = λ times is. c.least_in-walk.ensures.least (signal_of c.args.signal.now) times (c.deref.ensures.value ∙ c.in_ok-lates.ensures.lates) is;
+  least = c.least_in-walk.ensures.least (signal_of c.args.signal.now) (c.deref.ensures.value ∙ c.in_ok-lates.ensures.lates);
   small = c.least_in-walk.ensures.small;
   wrong = c.in_ok-note_wrong.ensures;
 }

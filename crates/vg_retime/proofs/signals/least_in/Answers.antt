@@ -80,4 +80,4 @@ returns-clause-least c =
     let high = c.node-test.false in
     let end = c.node.auto.i-end in
     let same : c.node.i ≡ length c.args.net.now.tree = omega (arith, lates, high, end) in
-    λ s times is before. subst (λ (k : ℕ). IsLeastOf (times ++ filter_map (λ (w : ℕ). left_by (end_at (timed c.args.net.now) w) (late_at (timed c.args.net.now) s w)) (range_with_len 0 k)) c.node.least) same (c.node.invariant.least s times is before)
+    λ s is times before. subst (λ (k : ℕ). IsLeastOf (times ++ filter_map (λ (w : ℕ). left_by (end_at (timed c.args.net.now) w) (late_at (timed c.args.net.now) s w)) (range_with_len 0 k)) c.node.least) same (c.node.invariant.least s times is before)
