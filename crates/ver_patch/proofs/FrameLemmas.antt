@@ -31,7 +31,7 @@ unfolding rows_from
 rows_follow text [] place = tt
 rows_follow text (t ∷ ts) place = (refl, rows_follow text ts (place_after place (kind_in text t)))
 
-rows_stand : (text : List ℕ) (ts : List Token) (place : Place) (from to : ℕ) → StandBetween from to ts → Stand from to (rows_from text place ts)
+pub rows_stand : (text : List ℕ) (ts : List Token) (place : Place) (from to : ℕ) → StandBetween from to ts → Stand from to (rows_from text place ts)
 unfolding rows_from
 rows_stand text [] place from to h = h
 rows_stand text (t ∷ ts) place from to h = (h.0, h.1, rows_stand text ts (place_after place (kind_in text t)) t.to to h.2)

@@ -1,14 +1,15 @@
-mod NodeListLemmas
-mod StageNumberLemmas
-mod SplitLemmas
-mod MemberLemmas
-mod NumberedLemmas
-mod PlaceLemmas
-mod NewNameLemmas
-mod NoteLemmas
-mod KindLemmas
-mod SoundLemmas
-mod ConnLemmas
-mod ValueLemmas
-mod CapLemmas
-mod StageNetLemmas
+pub mod NodeListLemmas
+pub mod StageNumberLemmas
+pub mod SplitLemmas
+pub mod MemberLemmas
+pub mod NumberedLemmas
+pub mod PlaceLemmas
+pub mod NewNameLemmas
+pub mod NoteLemmas
+pub mod KindLemmas
+pub mod SoundLemmas
+pub mod ConnLemmas
+pub mod ValueLemmas
+pub mod CapLemmas
+pub mod StageNetLemmas
+pub mod ChargeLemmas

@@ -4,14 +4,14 @@ use Rattle.std.proofs.lemmas.Bool.{cases_eq, false≢true}
 use Rattle.std.proofs.lemmas.List.{get_or_default}
 use Rattle.elmore.specs.Cells.{rep_of}
 use Rattle.elmore.specs.Path.{Falls}
-use Rattle.elmore.proofs.HeadLemmas.{head_cell}
+use Rattle.elmore.proofs.HeadLemmas.{head_cell, head_other}
 use Rattle.elmore.proofs.TreeLemmas.{tree_falls}
-use Rattle.vg_stages.specs.Stages.{heads, AreStages}
+use Rattle.vg_stages.specs.Stages.{heads, heads_to, AreStages}
 use Rattle.vg_stages.specs.declared.stages.Stages.{Stages}
-use Rattle.vg_stages.proofs.StageLists.{few_heads, head_below}
+use Rattle.vg_stages.proofs.StageLists.{few_heads, head_below, head_is}
 use Rattle.vg_split.specs.Conditions.{IsSplit}
 use Rattle.vg_split.specs.Splits.{Split, forest, head, is_celled, stage_from}
-use Rattle.vg_split.proofs.StageNumberLemmas.{number_below, number_head, number_some, own_number}
+use Rattle.vg_split.proofs.StageNumberLemmas.{head_number, number_below, number_head, number_some, own_number}
 
 pub falls : (x : Split) → Falls (forest x).parent
 falls x = tree_falls x.problem.tree.nodes x.problem.tree.a_tree
@@ -43,6 +43,12 @@ from_some x is w has = number_some (forest x) w (cell_below x is w has)
 pub cell_stage : (x : Split) (stages : Stages) → AreStages (forest x) stages → (w : ℕ) → w < length x.problem.tree.nodes → is_celled x w ≡ true
     → slice_index stages.stage_of.items w ≡ stage_from x w
 cell_stage x stages are w low has = own_number (forest x) (falls x) (slice_index stages.stage_of.items w) w low has (are.each w low)
+
+-- a stage behind the root's begins at a cell
+pub head_celled : (x : Split) (k : ℕ) → 0 < k → k < length (heads (forest x)) → is_celled x (head x k) ≡ true
+head_celled x k some low =
+    head_other (forest x).cell (head x k) (head_is (forest x) (forest x).n k low)
+    (λ e. absurd (omega (arith, some, head_number (forest x) k low, ap (λ v. length (heads_to (forest x) v)) e)))
 
 -- the numbers of cells are those of a machine
 pub number_fits : (x : Split) → IsSplit x → (k : ℕ) → k < length (heads (forest x)) → x.first + (k - 1) < 2 ^ 64

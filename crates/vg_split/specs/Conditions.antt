@@ -1,5 +1,5 @@
 -- What a net that is split into stages keeps.
-use Rattle.std.specs.Prelude.{◌≡◌, ℕ, ◌+◌, ◌-◌, ◌<◌, ◌≤◌, ◌^◌, ◌==◌, false, List, length, slice_index, slice_index_or, Some, None}
+use Rattle.std.specs.Prelude.{◌≡◌, ℕ, ◌+◌, ◌-◌, ◌<◌, ◌≤◌, ◌^◌, ◌==◌, true, false, List, length, slice_index, slice_index_or, Some, None}
 use Rattle.std.specs.List.{All, AllPass, starts_with}
 use Rattle.lib_linear.specs.declared.repeater.Repeater.{Repeater}
 use Rattle.rc_tree.specs.Answers.{ListsAll}
@@ -7,7 +7,7 @@ use Rattle.spef_net.specs.Lines.{is_space}
 use Rattle.vg_scan.specs.Printed.{is_solid, IsPrintable}
 use Rattle.vg_stages.specs.Stages.{heads}
 use Rattle.vg_written.specs.Sections.{total}
-use Rattle.vg_split.specs.Splits.{Split, forest}
+use Rattle.vg_split.specs.Splits.{Split, forest, is_celled, old_node}
 
 -- the names of a repeater can be words; a note ends with the cell's, and so it has no carriage return at its end
 pub record IsNamed (r : Repeater) : Type 0 where
@@ -26,13 +26,14 @@ pub record AreNewNames (x : Split) : Type 0 where
   pub name : IsOld x.prefix x.par.name
   pub owners : All (λ node. IsOld x.prefix node.name.owner) x.par.nodes
 
--- the net's tree has all its nodes; cells stand below its root, each a repeater by its number
+-- the net's tree has all its nodes; cells stand at inner nodes below its root, each a repeater by its number
 pub record IsSplit (x : Split) : Type 0 where
   pub order : ListsAll (length x.par.nodes) x.order
   pub tree : length x.problem.tree.nodes ≡ length x.par.nodes
   pub one_each : length x.cells ≡ length x.par.nodes
   pub root : slice_index_or x.cells 0 None ≡ None
   pub numbered : (w b : ℕ) → slice_index_or x.cells w None ≡ Some b → b < length x.repeaters
+  pub inner : (w : ℕ) → is_celled x w ≡ true → (old_node x w).inner ≡ true
   pub repeaters : All IsNamed x.repeaters
   pub keeper : x.keeper < length (heads (forest x))
   pub few : x.first + length x.cells < 2 ^ 64

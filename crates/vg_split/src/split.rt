@@ -1,9 +1,9 @@
 //! A net that cells split into stages.
 
-ghost use Rattle.std.specs.Prelude.{◌≡◌, ◌==◌, ℕ, ◌++◌, ◌<◌, true, false, length, drop, slice_index, MatchOption, OnOk};
+ghost use Rattle.std.specs.Prelude.{◌≡◌, ◌==◌, ℕ, ◌++◌, ◌<◌, true, false, length, drop, slice_index, MatchOption, OnErr, OnOk};
 ghost use Rattle.elmore.specs.Trees.{parent_of, resistance};
 ghost use Rattle.vg_split.specs.Splits.{forest, head, is_celled, is_end, net_of, number_of, old_conn, repeater_at, stage_from};
-ghost use Rattle.vg_stages.specs.Stages.{heads, members};
+ghost use Rattle.vg_stages.specs.Stages.{heads, members, IsInStage};
 ghost use Rattle.vg_written.specs.Sections.{total_at};
 
 use crate::names::push_net_name;
@@ -72,7 +72,7 @@ impl<'a> Model for Split<'a> {
 
 impl<'a> Split<'a> {
     /// The number of a node of the tree in the net.
-    pub(crate) fn old(&self, node: usize) -> usize
+    pub fn old(&self, node: usize) -> usize
         requires { node < length self.now.problem.tree.nodes }
         ensures is { result ≡ slice_index self.now.order node }
         ensures within { result < length self.now.par.nodes }
@@ -82,7 +82,7 @@ impl<'a> Split<'a> {
     }
 
     /// Whether a cell is put at a node of the tree.
-    pub(crate) fn has_cell(&self, node: usize) -> bool
+    pub fn has_cell(&self, node: usize) -> bool
         requires { node < length self.now.problem.tree.nodes }
         ensures { result ≡ is_celled self.now node }
     {
@@ -90,7 +90,7 @@ impl<'a> Split<'a> {
     }
 
     /// Whether a node of the tree is a connection of its stages: a cell is there, or a pin or port of the net.
-    pub(crate) fn is_end(&self, node: usize) -> bool
+    pub fn is_end(&self, node: usize) -> bool
         requires { node < length self.now.problem.tree.nodes }
         ensures { result ≡ is_end self.now node }
     {
@@ -116,7 +116,7 @@ impl<'a> Split<'a> {
     }
 
     /// The node above a node of the tree, and the resistance between them.
-    pub(crate) fn above(&self, node: usize) -> (usize, u64)
+    pub fn above(&self, node: usize) -> (usize, u64)
         requires { node < length self.now.problem.tree.nodes }
         ensures parent { result.0 ≡ parent_of self.now.problem.tree.nodes node }
         ensures within { result.0 < length self.now.problem.tree.nodes }
@@ -127,7 +127,7 @@ impl<'a> Split<'a> {
     }
 
     /// The repeater that is put at a node of the tree, if one is.
-    pub(crate) fn repeater_at(&self, node: usize) -> Option<&Repeater>
+    pub fn repeater_at(&self, node: usize) -> Option<&Repeater>
         requires { node < length self.now.problem.tree.nodes }
         ensures some { MatchOption result (is_celled self.now node ≡ false)
             (λ repeater. (is_celled self.now node ≡ true) × (repeater.now ≡ repeater_at self.now node)) }
@@ -137,7 +137,7 @@ impl<'a> Split<'a> {
     }
 
     /// The nodes of a stage, and those whose cells end it, in tree order.
-    pub(crate) fn members(&self, stage: usize) -> &[u32]
+    pub fn members(&self, stage: usize) -> &[u32]
         requires { stage < length (heads (forest self.now)) }
         ensures are { result.now ≡ members (forest self.now) (head self.now stage) }
         ensures within { (i : ℕ) → i < length result.now → slice_index result.now i < length self.now.problem.tree.nodes }
@@ -164,7 +164,7 @@ impl<'a> Split<'a> {
     }
 
     /// The number of the cell at a node.
-    pub(crate) fn number_at(&self, node: usize) -> u64
+    pub fn number_at(&self, node: usize) -> u64
         requires node { node < length self.now.problem.tree.nodes }
         requires cell { is_celled self.now node ≡ true }
         ensures { result ≡ number_of self.now (stage_from self.now node) }
@@ -172,10 +172,39 @@ impl<'a> Split<'a> {
         self.first + u64::from(self.stages.stage_of[node] - 1)
     }
 
-    /// Puts the name of the net of a stage behind a text. Answers `Memory` where there is no room.
+    /// How many stages there are.
+    pub fn count(&self) -> usize
+        ensures { result ≡ length (heads (forest self.now)) }
+    {
+        self.stages.nodes.len()
+    }
+
+    /// The repeater at which a stage begins.
+    pub fn repeater_of(&self, stage: usize) -> &Repeater
+        requires some { 0 < stage }
+        requires stage { stage < length (heads (forest self.now)) }
+        ensures { result.now ≡ repeater_at self.now (head self.now stage) }
+    {
+        let head = self.members(stage)[0] as usize;
+        let Some(repeater) = self.repeater_at(head) else {
+            unreachable!()
+        };
+        repeater
+    }
+
+    /// The number of the stage that a node of the tree is in; where it has a cell, of the cell's own.
+    pub fn stage_of(&self, node: usize) -> usize
+        requires { node < length self.now.problem.tree.nodes }
+        ensures { IsInStage (forest self.now) (heads (forest self.now)) result node }
+    {
+        self.stages.stage_of[node] as usize
+    }
+
+    /// Puts the name of the net of a stage behind a text. Answers `Memory` where there is no room, and then `to` is as before.
     pub fn push_net(&self, stage: usize, to: &mut Vec<u8>) -> Result<(), Memory>
         requires { stage < length (heads (forest self.now)) }
-        ensures { OnOk result (to.new.items ≡ to.old.items ++ net_of self.now stage) }
+        ensures pushed { OnOk result (to.new.items ≡ to.old.items ++ net_of self.now stage) }
+        ensures unchanged { OnErr result (to.new.items ≡ to.old.items) }
     {
         let keeper = self.keeper as usize;
         if stage == keeper {
@@ -183,7 +212,6 @@ impl<'a> Split<'a> {
             return Ok(());
         }
         let cell = if stage == 0 { keeper } else { stage };
-        push_net_name(self.prefix, self.first + (cell - 1) as u64, to)?;
-        Ok(())
+        push_net_name(self.prefix, self.first + (cell - 1) as u64, to)
     }
 }

@@ -1,10 +1,11 @@
 //! The net of a stage.
 
-ghost use Rattle.std.specs.Prelude.{◌≡◌, ◌||◌, ◌++◌, ◌∷◌, [], ◌<◌, ◌^◌, true, length, map, filter, drop, slice_set, IfOk, OnOk};
+ghost use Rattle.std.specs.Prelude.{◌≡◌, ◌||◌, ◌++◌, ◌∷◌, [], ◌<◌, ◌≤◌, ◌^◌, true, length, map, filter, drop, slice_set, IfOk, OnOk};
 ghost use Rattle.vg_scan.specs.Printed.{IsPrintable};
 ghost use Rattle.vg_split.specs.Splits.{forest, head, is_celled, is_end, node_in, with_cell, ends_in, inner_in, nodes_in, net_of, res_in, IsStageNet, repeater_at};
 ghost use Rattle.vg_split.specs.Steps.{is_own, cap_row, conn_of, inner_node, AreConns, AreNumbered, AreParts};
 ghost use Rattle.vg_stages.specs.Stages.{heads, members};
+ghost use Rattle.vg_written.specs.Sections.{total};
 
 use crate::names::push_cell_name;
 use crate::nodes::NodeList;
@@ -326,6 +327,7 @@ pub fn stage_net(
     requires stage { stage < length (heads (forest x.now)) }
     requires places { length scratch.old.places.items ≡ length x.now.problem.tree.nodes }
     ensures net { IfOk result (IsStageNet chars.now x.now stage) }
+    ensures charge { IfOk result (λ net. total net.caps ≤ 10 ^ 15) }
     ensures places { length scratch.new.places.items ≡ length x.now.problem.tree.nodes }
 {
     // What a split net keeps is known where a part of it is used.

@@ -46,7 +46,7 @@ headed_all P head [] p all = All-nil P
 headed_all P head (l ∷ ls) p all = All-cons P head (l ∷ ls) p all
 
 -- what each line of a section is, all are
-record AreLines (P : List ℕ → Type 0) (header : Header) (net : ParNet) : Type 0 where
+pub record AreLines (P : List ℕ → Type 0) (header : Header) (net : ParNet) : Type 0 where
   pub first : P (head_line header net)
   pub conn_head : P (codes "*CONN")
   pub cap_head : P (codes "*CAP")
@@ -56,7 +56,7 @@ record AreLines (P : List ℕ → Type 0) (header : Header) (net : ParNet) : Typ
   pub caps : All (λ cap. (k : ℕ) → k < 10 ^ 64 → P (cap_text header net.nodes k cap)) (charged net)
   pub ress : All (λ res. (k : ℕ) → k < 10 ^ 64 → P (res_text header net.nodes k res)) net.ress
 
-all_lines : (P : List ℕ → Type 0) (header : Header) (net : ParNet) → IsWritable net → AreLines P header net → All P (head_line header net ∷ inner_lines header net)
+pub all_lines : (P : List ℕ → Type 0) (header : Header) (net : ParNet) → IsWritable net → AreLines P header net → All P (head_line header net ∷ inner_lines header net)
 all_lines P header net writable are =
     let caps = headed (codes "*CAP") (numbered (cap_text header net.nodes) 1 (charged net)) in
     let ress = headed (codes "*RES") (numbered (res_text header net.nodes) 1 net.ress) in

@@ -368,7 +368,7 @@ pub cuts_keep_comments : CutsKeepComments
 cuts_keep_comments text from h l = cut (length text) text h.line from (omega arith) l (starts text from l h)
 
 -- SECTIONS
-end_quiet : IsQuiet (codes "*END")
+pub end_quiet : IsQuiet (codes "*END")
 end_quiet =
     quiet_both (42 ∷ []) (69 ∷ 78 ∷ 68 ∷ []) (own 42 refl)
     (quiet_both (69 ∷ []) (78 ∷ 68 ∷ []) (own 69 refl) (quiet_both (78 ∷ []) (68 ∷ []) (own 78 refl) (own 68 refl)))

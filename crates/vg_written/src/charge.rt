@@ -39,8 +39,8 @@ pub(crate) fn charge_of(caps: &[(u32, u64)]) -> u64
     sum
 }
 
-/// The capacitance at each of so many nodes, in one pass. Answers `Memory` where there is no room.
-fn sums(alloc: Global, count: usize, caps: &[(u32, u64)]) -> Result<Vec<u64>, Memory>
+/// The capacitance at each of so many nodes (aF), in one pass. Answers `Memory` where there is no room.
+pub fn sums(alloc: Global, count: usize, caps: &[(u32, u64)]) -> Result<Vec<u64>, Memory>
     requires within { All (IsCapOf count) caps.now }
     requires few { total caps.now ≤ 10 ^ 15 }
     ensures { IfOk result (λ sums. AreSums count caps.now sums.items) }

@@ -8,7 +8,7 @@ mod laws;
 mod line;
 mod write;
 
-pub use charge::has_small_charge;
+pub use charge::{has_small_charge, sums};
 pub use laws::{
     caps_again, conns_again, cuts_keep_comments, heads_name_nets, inner_lines_say, lines_again,
     lines_are_quiet, names_are_quiet, nodes_again, nodes_are_quiet, notes_again, numbers_again,
