@@ -11,7 +11,7 @@ use Rattle.vg_scan.proofs.LineLemmas.{first_at, first_none, ended_line, last_lin
 no_newline : (b : ℕ) → is_blank b ≡ true → is_newline b ≡ false
 no_newline b e = grind (arith, nat_tests)
 
-found_or_none : (o : Option ℕ) → (o ≡ None) ⊎ ((e : ℕ) × (o ≡ Some e))
+pub found_or_none : (o : Option ℕ) → (o ≡ None) ⊎ ((e : ℕ) × (o ≡ Some e))
 found_or_none None = inl refl
 found_or_none (Some e) = inr (e, refl)
 

@@ -37,6 +37,7 @@ no_tails text header from to at =
       old = hb.whole ∙ ap (λ ls. hb.first ∷ ls) (sym (append-nil hb.rest));
       new = ap lines (sym d) ∙ hb.behind ∙ ap (λ ls. hb.bare ∷ ls) (sym (append-nil hb.rest));
       same = sym hb.same;
+      heads = refl;
       news = refl;
       are = tt;
     }
@@ -98,6 +99,7 @@ more_tails text header from to at c cs is behind next =
           ∙ both_lines word (blanks ++ new) (λ l. part_ends text (to - 4) start (omega (arith, order)) within ten)
           ∙ ap (λ ls. ls ++ lines (blanks ++ new)) (ap lines (sym d) ∙ hb.behind) ∙ ap (λ ls. (hb.bare ∷ hb.rest) ++ ls) next.is;
       same = sym hb.same;
+      heads = next.heads;
       news = next.news;
       are =
           subst (λ before. AreSplices before next.splices)
@@ -147,6 +149,7 @@ first_change text header c cs clear is cleared rise all =
         some = s.some;
         splices_are = subst (λ before. AreSplices before s.splices) (words_are (take start clear)) s.are;
       };
+      heads = s.heads ∙ ap (λ t. map (λ (c : Change). length (lines (drop c.from t))) (c ∷ cs)) is;
       nets = s.news;
     }
 

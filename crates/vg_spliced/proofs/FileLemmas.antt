@@ -10,7 +10,8 @@ use Rattle.spef_file.specs.Regions.{is_net_head}
 use Rattle.spef_file.specs.Statements.{gathered, net_in, nets_of}
 use Rattle.spef_file.specs.Faults.{fault_of, fault_at}
 use Rattle.spef_file.specs.Files.{File, file_lines, said_by}
-use Rattle.vg_spliced.specs.Runs.{IsRun, SaysSame, IsAlike, AreNew, names_of}
+use Rattle.vg_names.specs.Distinct.{AreNew}
+use Rattle.vg_spliced.specs.Runs.{IsRun, SaysSame, IsAlike, names_of}
 use Rattle.vg_spliced.specs.NetTexts.{NetText, text_at, texts_in, text_names, Splice, old_lines, spliced_lines, AreSplices, Place, stays, places, all_places, new_texts, old_texts}
 use Rattle.vg_spliced.specs.FileLaws.{lines_in, FilesAreSpliced}
 use Rattle.vg_spliced.proofs.StepLemmas.{over_is}
@@ -22,7 +23,7 @@ use Rattle.vg_spliced.proofs.SpliceLemmas.{spliced, old_ends, new_ends, flat_bot
 
 -- ---- runs and lines without a fault
 
-run_of : (before lines : List Line) → ((i : ℕ) → i < length lines → fault_of (before ++ take i lines) (get_or lines i []) (drop (i + 1) lines) ≡ None) → IsRun before lines []
+pub run_of : (before lines : List Line) → ((i : ℕ) → i < length lines → fault_of (before ++ take i lines) (get_or lines i []) (drop (i + 1) lines) ≡ None) → IsRun before lines []
 run_of before [] h = tt
 run_of before (line ∷ lines) h = (
   ap (fault_of before line) (append-nil lines) ∙ ap (λ front. fault_of front line lines) (sym (append-nil before)) ∙ h 0 (omega arith),
@@ -61,7 +62,7 @@ run_ends before (line ∷ lines) later other e run =
 
 -- ---- all nets of a text
 
-texts_all : (all : List (List ℕ)) → map (text_at all) (nets_of (map words all)) ≡ texts_in [] all []
+pub texts_all : (all : List (List ℕ)) → map (text_at all) (nets_of (map words all)) ≡ texts_in [] all []
 unfolding nets_of
 texts_all all = sym (texts_are [] all)
 
@@ -69,11 +70,11 @@ nets_gathered : (all : List Line) → nets_of all ≡ gathered net_in [] all
 unfolding nets_of
 nets_gathered all = refl
 
-lines_are : (text : List ℕ) (front more : List (List ℕ)) → lines_in text ≡ front ++ more → file_lines text ≡ map words front ++ map words more
+pub lines_are : (text : List ℕ) (front more : List (List ℕ)) → lines_in text ≡ front ++ more → file_lines text ≡ map words front ++ map words more
 unfolding lines_of
 lines_are text front more e = ap (map words) e ∙ map-append words front more
 
-file_is : (text : List ℕ) → file_lines text ≡ map words (lines_in text)
+pub file_is : (text : List ℕ) → file_lines text ≡ map words (lines_in text)
 unfolding lines_of
 file_is text = refl
 

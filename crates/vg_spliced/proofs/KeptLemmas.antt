@@ -10,7 +10,8 @@ use Rattle.spef_file.specs.Regions.{place_after, is_net_head}
 use Rattle.spef_file.specs.Statements.{listed, row_in, rows_of, name_in, net_in, nets_of}
 use Rattle.spef_file.specs.Faults.{is_some_and, fault_of}
 use Rattle.spef_file.proofs.MoreLemmas.{place_more, rows_more, nets_more}
-use Rattle.vg_spliced.specs.Runs.{IsAlike, AreNew, names_of, shifted, Add}
+use Rattle.vg_names.specs.Distinct.{AreNew}
+use Rattle.vg_spliced.specs.Runs.{IsAlike, names_of, shifted, Add}
 use Rattle.vg_spliced.specs.RunLaws.{AreKept, LinesAreReadElsewhere}
 use Rattle.vg_spliced.proofs.StepLemmas.{header_stays}
 use Rattle.vg_spliced.proofs.FaultLemmas.{kept_fault}

@@ -9,8 +9,8 @@ use Rattle.vg_scan.specs.Lines.{words, lines_of, part, is_blank}
 use Rattle.vg_scan.proofs.CutLemmas.{get_part}
 use Rattle.spef_file.specs.Nets.{is_end}
 use Rattle.spef_file.specs.declared.header.Header.{Header}
-use Rattle.spef_file.proofs.TextLemmas.{lines_split}
-use Rattle.vg_spliced.specs.NetTexts.{NewNet, LinesOfNet, whole, new_text, new_lines, Splice, old_lines, spliced_lines, AreSplices}
+use Rattle.spef_file.proofs.TextLemmas.{get_drop, lines_split}
+use Rattle.vg_spliced.specs.NetTexts.{NewNet, LinesOfNet, whole, new_text, new_lines, Splice, old_lines, spliced_lines, lines_from, AreSplices}
 use Rattle.vg_spliced.specs.Sections.{sections_text, Change, edit_of, written_text, IsChange}
 use Rattle.vg_spliced.proofs.BlankLemmas.{has_blanks}
 use Rattle.vg_spliced.proofs.PatchLemmas.{take_part}
@@ -81,6 +81,7 @@ pub record Tails (text : List ℕ) (header : Header) (last to : ℕ) (cs : List 
   pub old : lines (drop last text) ≡ end ∷ (kept ++ old_lines splices)
   pub new : lines (codes "*END" ++ patched_from to text (map (edit_of header) cs)) ≡ new_end ∷ (kept ++ spliced_lines splices)
   pub same : words new_end ≡ words end
+  pub heads : lines_from splices ≡ map (λ (c : Change). length (lines (drop c.from text))) cs
   pub news : map (λ s. map new_text s.new) splices ≡ map (λ c. map (written_text header) c.nets) cs
   pub are : AreSplices (lines_of (take last text) ++ map words (end ∷ kept)) splices
 
@@ -90,6 +91,7 @@ pub record Sections (text : List ℕ) (header : Header) (start from : ℕ) (new 
   pub some : 0 < length splices
   pub old : lines (drop start text) ≡ old_lines splices
   pub is : lines (part text start from ++ new) ≡ spliced_lines splices
+  pub heads : lines_from splices ≡ map (λ (c : Change). length (lines (drop c.from text))) cs
   pub news : map (λ s. map new_text s.new) splices ≡ map (λ c. map (written_text header) c.nets) cs
   pub are : AreSplices (lines_of (take start text)) splices
 
@@ -103,6 +105,15 @@ first_of x y xs ys e = ap (λ ls. get_or ls 0 []) e
 some_new : (nets : List NewNet) (more : List (List ℕ)) → 0 < length nets → (x : List ℕ) × (rest : List (List ℕ)) × (new_lines nets ++ more ≡ x ∷ rest)
 some_new [] more l = absurd (omega arith)
 some_new (net ∷ nets) more l = (net.lines.head, ((net.lines.inner ++ net.lines.end ∷ []) ++ new_lines nets) ++ more, refl)
+
+-- blanks before a head make no line
+same_count : (text : List ℕ) (start from : ℕ) → start ≤ from → from < length text → ((k : ℕ) → start ≤ k → k < from → is_blank (get_or text k 0) ≡ true)
+    → length (lines (drop start text)) ≡ length (lines (drop from text))
+same_count text start from l within blank =
+    let k = from - start in
+    let hb = has_blanks (drop start text) k (omega (arith, l, within, length-drop start text)) (λ j m. ap is_blank (get_drop text start j) ∙ blank (start + j) (omega arith) (omega (arith, l, m))) in
+    let d : drop k (drop start text) ≡ drop from text = drop-drop k start text ∙ ap (λ n. drop n text) (let e : start + k ≡ from = omega (arith, l) in e) in
+    ap length hb.whole ∙ ap length (sym hb.behind) ∙ ap (λ t. length (lines t)) d
 
 pub section_then : (text : List ℕ) (header : Header) (c : Change) (cs : List Change) (is : IsChange text header c) → Tails text header is.section.at.last c.to cs
     → Sections text header is.section.at.start c.from (sections_text header c.nets ++ patched_from c.to text (map (edit_of header) cs)) (c ∷ cs)
@@ -130,16 +141,20 @@ section_then text header c cs is tails =
     let old_net : LinesOfNet = record { head = at.head; inner = at.inner; end = tails.end } in
     let splice : Splice = record { old = old_net; new = heads; kept = tails.kept } in
     let before = lines_of (take start text) in
+    let old : lines (drop start text) ≡ old_lines (splice ∷ tails.splices) =
+    ap lines (sym (part_then text start last (omega (arith, at.order))))
+    ∙ both_lines (part text start last) (drop last text) (λ l. part_ends text start last (omega (arith, at.order)) (omega (arith, at.order)) at.ends)
+    ∙ ap (λ ls. ls ++ lines (drop last text)) at.lines_are
+    ∙ ap (λ ls. (at.head ∷ at.inner) ++ ls) tails.old
+    ∙ sym (append_assoc (at.head ∷ at.inner) (tails.end ∷ []) (tails.kept ++ old_lines tails.splices))
+    ∙ sym (append_assoc (whole old_net) tails.kept (old_lines tails.splices)) in
+    let count : length (old_lines (splice ∷ tails.splices)) ≡ length (lines (drop c.from text)) =
+    ap length (sym old) ∙ same_count text start c.from at.order.0 (omega (arith, at.order)) at.blank.0 in
     record {
       splices = splice ∷ tails.splices;
       some = omega arith;
-      old =
-          ap lines (sym (part_then text start last (omega (arith, at.order))))
-          ∙ both_lines (part text start last) (drop last text) (λ l. part_ends text start last (omega (arith, at.order)) (omega (arith, at.order)) at.ends)
-          ∙ ap (λ ls. ls ++ lines (drop last text)) at.lines_are
-          ∙ ap (λ ls. (at.head ∷ at.inner) ++ ls) tails.old
-          ∙ sym (append_assoc (at.head ∷ at.inner) (tails.end ∷ []) (tails.kept ++ old_lines tails.splices))
-          ∙ sym (append_assoc (whole old_net) tails.kept (old_lines tails.splices));
+      old = old;
+      heads = λ i. count i ∷ tails.heads i;
       is =
           hb.whole
           ∙ with_head-lines hb.first hb.bare nets hb.rest more (written-some header c.nets tails.new_end is.some) bare

@@ -10,7 +10,8 @@ use Rattle.spef_file.specs.Nets.{NetHead, end_at, is_head}
 use Rattle.spef_file.specs.HeaderLines.{chars_of}
 use Rattle.spef_file.specs.Regions.{outside, is_net, place_of}
 use Rattle.spef_file.specs.Statements.{gathered, net_in, nets_of}
-use Rattle.vg_spliced.specs.Runs.{IsRun, SaysSame, IsAlike, MayBegin, head_in, all_of, AreNew, names_of, shifted}
+use Rattle.vg_names.specs.Distinct.{AreNew}
+use Rattle.vg_spliced.specs.Runs.{IsRun, SaysSame, IsAlike, MayBegin, head_in, all_of, names_of, shifted}
 use Rattle.vg_spliced.specs.RunLaws.{IsPassed, head_behind}
 use Rattle.vg_spliced.specs.NetTexts.{NetText, texts_in, text_names, whole, as_words, NewNet, new_text, new_lines, IsNew, Splice, old_lines, spliced_lines, IsSplice, AreSplices, Place, stays, places}
 use Rattle.vg_spliced.proofs.StepLemmas.{opens}
@@ -183,7 +184,7 @@ map_swaps new (t ∷ texts) = ap (λ ts. t ∷ ts) (map_swaps new texts)
 
 module _ (old : List Line) (s : Splice) (splices : List Splice) where
   -- all places, by those of the first splice
-  places_new : IsSplice old s → flat_map (λ (p : Place). p.new) (places old (s ∷ splices))
+  pub places_new : IsSplice old s → flat_map (λ (p : Place). p.new) (places old (s ∷ splices))
       ≡ map new_text s.new ++ (texts_in (old ++ map words (whole s.old)) s.kept (old_lines splices)
       ++ flat_map (λ (p : Place). p.new) (places (old ++ map words (whole s.old ++ s.kept)) splices))
   places_new is =

@@ -95,11 +95,11 @@ end_within : (lines later : List Line) (n : ℕ) → end_at later ≡ None → e
 end_within [] later n none e = absurd (let f : None ≡ Some n = sym none ∙ e in cc)
 end_within (line ∷ lines) later n none e = within_step (is_end line) (is_head line) (end_at (lines ++ later)) n (length lines) e (λ m f. end_within lines later m none f)
 
-some_is : (o : Option ℕ) → is_some o ≡ true → (n : ℕ) × (o ≡ Some n)
+pub some_is : (o : Option ℕ) → is_some o ≡ true → (n : ℕ) × (o ≡ Some n)
 some_is None e = absurd (cc)
 some_is (Some n) e = (n, refl)
 
-take_front : (n : ℕ) (xs ys : List (List ℕ)) → n ≤ length xs → take n (xs ++ ys) ≡ take n xs
+pub take_front : {A : Type 0} (n : ℕ) (xs ys : List A) → n ≤ length xs → take n (xs ++ ys) ≡ take n xs
 take_front zero xs ys l = refl
 take_front (suc n) [] ys l = absurd (omega arith)
 take_front (suc n) (x ∷ xs) ys l = ap (λ zs. x ∷ zs) (take_front n xs ys (omega arith))
@@ -125,7 +125,7 @@ first_kept : (t : Bool) (name : List ℕ) (reduced : Bool) (m n : ℕ) (xs ys : 
 first_kept true name reduced m n xs ys h = ap (λ ls. record { name = name; reduced = reduced; lines = ls } ∷ []) (h refl)
 first_kept false name reduced m n xs ys h = refl
 
-and_not : (t : Bool) (o : Option ℕ) → (t && not (is_some o)) ≡ false → t ≡ true → is_some o ≡ true
+pub and_not : (t : Bool) (o : Option ℕ) → (t && not (is_some o)) ≡ false → t ≡ true → is_some o ≡ true
 and_not true None e f = absurd (cc)
 and_not true (Some n) e f = refl
 and_not false o e f = absurd (cc)

@@ -42,10 +42,10 @@ written-some header (net ∷ next ∷ nets) end l = omega arith
 
 -- ---- they are new nets
 
-all_none : {X : Type 0} (P : X → Type 0) → All P []
+pub all_none : {X : Type 0} (P : X → Type 0) → All P []
 all_none P k d l = absurd (omega arith)
 
-all_more : {X : Type 0} (P : X → Type 0) (x : X) (xs : List X) → P x → All P xs → All P (x ∷ xs)
+pub all_more : {X : Type 0} (P : X → Type 0) (x : X) (xs : List X) → P x → All P xs → All P (x ∷ xs)
 all_more P x xs p h zero d l = p
 all_more P x xs p h (suc k) d l = h k d (omega arith)
 

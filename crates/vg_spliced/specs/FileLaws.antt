@@ -6,7 +6,7 @@ use Rattle.vg_scan.specs.Lines.{words}
 use Rattle.vg_scan.specs.declared.comments.Comments.TheVariants.{Spef}
 use Rattle.spef_file.specs.Nets.{NetHead}
 use Rattle.spef_file.specs.Files.{File, IsFileOf}
-use Rattle.vg_spliced.specs.Runs.{AreNew}
+use Rattle.vg_names.specs.Distinct.{AreNew}
 use Rattle.vg_spliced.specs.NetTexts.{text_at, text_names, Splice, old_lines, spliced_lines, AreSplices, Place, all_places, new_texts, old_texts}
 
 -- the lines of a text without its comments

@@ -5,3 +5,6 @@ pub mod FileLaws
 pub mod PatchLaws
 pub mod Sections
 pub mod SectionLaws
+pub mod Replacements
+pub mod ReplacementLaws
+pub mod NoteLaws

@@ -74,6 +74,11 @@ old_lines splices = flat_map (λ s. whole s.old ++ s.kept) splices
 abbrev pub spliced_lines : List Splice → List (List ℕ)
 spliced_lines splices = flat_map (λ s. new_lines s.new ++ s.kept) splices
 
+-- how many lines there are from each of these nets' heads on
+abbrev pub lines_from : List Splice → List ℕ
+lines_from [] = []
+lines_from (s ∷ splices) = length (old_lines (s ∷ splices)) ∷ lines_from splices
+
 -- the net may begin after these lines, and one or more others may stand there
 pub record IsSplice (before : List Line) (s : Splice) : Type 0 where
   pub may : MayBegin before

@@ -4,7 +4,8 @@ use Rattle.vg_scan.specs.Lines.{Line}
 use Rattle.spef_file.specs.Nets.{NetHead, end_at, is_taken}
 use Rattle.spef_file.specs.Regions.{outside, place_of}
 use Rattle.spef_file.specs.Statements.{nets_of}
-use Rattle.vg_spliced.specs.Runs.{IsRun, SaysSame, IsAlike, MayBegin, NetLines, all_of, AreNetLines, IsHeadOf, AreNew, Add, names_of}
+use Rattle.vg_names.specs.Distinct.{AreNew}
+use Rattle.vg_spliced.specs.Runs.{IsRun, SaysSame, IsAlike, MayBegin, NetLines, all_of, AreNetLines, IsHeadOf, Add, names_of}
 
 -- after the lines of a net nothing else is said than before them, but the net
 pub record IsPassed (before after : List Line) (head : NetHead) : Type 0 where

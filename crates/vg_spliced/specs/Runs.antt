@@ -1,6 +1,6 @@
 -- Lines of a file, as a part of them stands after some lines and before others.
 use Rattle.std.specs.Prelude.{◌≡◌, ℕ, true, false, List, [], ◌∷◌, ◌++◌, ◌+◌, length, map, unwrap_or, codes, Some, None}
-use Rattle.std.specs.List.{All, list_any}
+use Rattle.std.specs.List.{All}
 use Rattle.std.specs.Str.{bytes_eq}
 use Rattle.vg_scan.specs.Lines.{Line}
 use Rattle.vg_scan.specs.Names.{canonical}
@@ -69,11 +69,6 @@ pub record IsHeadOf (before : List Line) (line : Line) (name : List ℕ) : Type 
   pub opens : first_word line ≡ codes "*D_NET"
   pub plain : is_reference (second_word line) ≡ false
   pub named : canonical (chars_of before) (second_word line) ≡ Some name
-
--- none of these names is one of those before it, nor one of the others before all
-abbrev pub AreNew : List (List ℕ) → List (List ℕ) → Type 0
-AreNew before [] = Unit {0}
-AreNew before (name ∷ names) = (list_any (bytes_eq name) before ≡ false) × AreNew (before ++ name ∷ []) names
 
 abbrev pub names_of : List NetHead → List (List ℕ)
 names_of heads = map (λ head. head.name) heads

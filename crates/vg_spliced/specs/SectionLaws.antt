@@ -1,6 +1,7 @@
 -- A text of which sections are replaced has the lines of a text with splices.
-use Rattle.std.specs.Prelude.{◌≡◌, ◌<◌, ℕ, List, [], length, map, if◌then◌else◌}
+use Rattle.std.specs.Prelude.{◌≡◌, ◌<◌, ℕ, List, [], length, drop, map, if◌then◌else◌}
 use Rattle.std.specs.List.{All}
+use Rattle.std.specs.Str.Lines.{lines}
 use Rattle.vg_patch.specs.Edits.{Rise, patched}
 use Rattle.vg_scan.specs.Comments.{without_comments}
 use Rattle.vg_scan.specs.declared.comments.Comments.TheVariants.{Spef}
@@ -15,7 +16,7 @@ use Rattle.spef_nodes.specs.Nodes.{ParNode}
 use Rattle.vg_written.specs.Texts.{IsQuiet, IsQuietLine}
 use Rattle.vg_written.specs.Sections.{IsWritable}
 use Rattle.vg_spliced.specs.FileLaws.{HasSplices}
-use Rattle.vg_spliced.specs.NetTexts.{NetText, Splice, new_text}
+use Rattle.vg_spliced.specs.NetTexts.{NetText, Splice, lines_from, new_text}
 use Rattle.vg_spliced.specs.PatchLaws.{IsQuietEdit}
 use Rattle.vg_spliced.specs.Sections.{Change, sections_text, edit_of, written_text, IsChange, IsWrittenNet}
 
@@ -26,11 +27,12 @@ pub record MayChange (text : List ℕ) (header : Header) (changes : List Change)
   pub quiet : All (IsQuietEdit text) (map (edit_of header) changes)
   pub changes_are : All (IsChange (without_comments Spef text) header) changes
 
--- another text has these nets in their place, and all other lines of the text
+-- another text has these nets in place of those whose heads stand where the changes begin, and all other lines of the text
 pub record HasChanges (text new : List ℕ) (header : Header) (changes : List Change) : Type 0 where
   pub front : List (List ℕ)
   pub splices : List Splice
   pub has : HasSplices text new front splices
+  pub heads : lines_from splices ≡ map (λ c. length (lines (drop c.from (without_comments Spef text)))) changes
   pub nets : map (λ s. map new_text s.new) splices ≡ map (λ c. map (written_text header) c.nets) changes
 
 -- so it is of the text with these edits

@@ -1,7 +1,10 @@
 //! Laws of spliced texts. Their functions do nothing: each one's contract is the law, which a proof may cite.
 
 ghost use Rattle.vg_spliced.specs.FileLaws.{FilesAreSpliced};
+ghost use Rattle.vg_spliced.specs.NoteLaws.{NamedNotesAreQuiet, NotesWithCellsAreQuiet, ReadNotesAreQuiet};
 ghost use Rattle.vg_spliced.specs.PatchLaws.{EndsKeepComments, PatchesKeepComments};
+ghost use Rattle.vg_spliced.specs.Replacements.{SectionsMayChange};
+ghost use Rattle.vg_spliced.specs.ReplacementLaws.{OwnNamesAreFree, ReplacementsAreRead};
 ghost use Rattle.vg_spliced.specs.RunLaws.{LinesAreReadElsewhere, NetsAreRead};
 ghost use Rattle.vg_spliced.specs.SectionLaws.{TextsHaveChanges, WritableNetsAreWritten, WrittenSectionsAreQuiet, WrittenTextsAreRead};
 
@@ -41,7 +44,7 @@ pub fn patches_keep_comments()
 
 /// Let sections of a text, from the head to `*END`, stand one after another. Replace each by the sections of one or more nets
 /// that can be written, the last one without a newline. Then the text has the lines that it had, without its comments, but
-/// those of the written nets in place of the lines of the nets that they replace.
+/// those of the written nets in place of the lines of the nets that they replace, whose heads stand where the sections begin.
 pub fn texts_have_changes()
     ensures { TextsHaveChanges }
 {}
@@ -61,4 +64,42 @@ pub fn written_texts_are_read()
 /// whatever text follows have the comments that it has alone. Then so it is of the nets' sections, one after another.
 pub fn written_sections_are_quiet()
     ensures { WrittenSectionsAreQuiet }
+{}
+
+/// Let a text have an index, and let one or more sections of it, by rising numbers, be replaced each by one or more nets that
+/// can be written, the notes of whose nodes stay as they are where comments are made blank. Then the sections stand in the text where
+/// the index says, one after another, and may be replaced there.
+pub fn sections_may_change()
+    ensures { SectionsMayChange }
+{}
+
+/// Let sections of an index be replaced by nets of which each has the name of its section, or one that no net of the file has.
+/// Let no two nets in place of one section have one name, and no two in place of different sections one that is new. Then no
+/// two of all these nets have one name, and none has that of a net that stays.
+pub fn own_names_are_free()
+    ensures { OwnNamesAreFree }
+{}
+
+/// Let a text have an index, and let sections of it, by rising numbers, be replaced each by one or more nets that can be
+/// written, the notes of whose nodes stay as they are where comments are made blank. Let no two of the written nets have one
+/// name, and let the file have a net of a written net's name only where its section is replaced. Then the text with these
+/// sections is a file without a fault that says the same of the header and the name map. By each written net's name it has a
+/// net, without a fault, which is the written net again. By all other names, but those of nets whose sections are replaced, it
+/// has the net that it had, or none where it had none.
+pub fn replacements_are_read()
+    ensures { ReplacementsAreRead }
+{}
+
+/// Let a note stay as it is where comments are made blank, with a newline behind it, and let whatever text follows have the
+/// comments that it has alone. Then so it is of the note with `*D` and the printed name of a cell behind it, after a blank where
+/// the note is not empty.
+pub fn notes_with_cells_are_quiet()
+    ensures { NotesWithCellsAreQuiet }
+{}
+
+/// The notes of a net that is read from a text, by its head or by its name, stay as they are where comments are made blank,
+/// each with a newline behind it, and whatever text follows has the comments that it has alone.
+pub fn read_notes_are_quiet()
+    ensures net { ReadNotesAreQuiet }
+    ensures named { NamedNotesAreQuiet }
 {}
