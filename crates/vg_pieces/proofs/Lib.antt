@@ -1,0 +1,14 @@
+pub mod ListLemmas
+pub mod NameLemmas
+pub mod AgainLemmas
+pub mod MemberLemmas
+pub mod KindLemmas
+pub mod NumberLemmas
+pub mod StageLemmas
+pub mod StagePieceLemmas
+pub mod StageConnLemmas
+pub mod ReadLemmas
+pub mod ConnLemmas
+pub mod ReadPassLemmas
+pub mod ReadPieceLemmas
+pub mod CutLemmas

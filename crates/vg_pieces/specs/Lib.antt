@@ -1,0 +1,4 @@
+pub mod StagePieces
+pub mod ReadNets
+pub mod ReadPieces
+pub mod Cuts
