@@ -1,0 +1,206 @@
+-- Where the pins of a changed text come from, and what stands in their connections.
+use Rattle.std.proofs.Common.{◌⊎◌, ◌≡◌, ℕ, zero, suc, ◌+◌, List, [], ◌∷◌, ◌++◌, map, length, Some, refl, sym, ap, ◌∙◌, subst, arith, append_assoc, ◌&&◌, false, inl, inr, Bool, true}
+use Rattle.std.specs.Prelude.{drop, slice_get, nat_eq}
+use Rattle.std.specs.List.{flat_map}
+use Rattle.std.proofs.lemmas.List.{append-nil, length-map}
+use Rattle.std.proofs.lemmas.List.Sorted.{All-permutation}
+use Rattle.std.proofs.lemmas.Option.{none-some, same_Some}
+use Rattle.ver_syntax.specs.declared.row.Place.{Place}
+use Rattle.ver_syntax.specs.declared.row.Place.TheVariants.{Start, Instances, Pins, Connection}
+use Rattle.ver_syntax.specs.declared.row.Row.{Row}
+use Rattle.ver_syntax.specs.Grammar.{is}
+use Rattle.ver_text.specs.declared.kind.Kind.TheVariants.{Identifier}
+use Rattle.ver_items.specs.Connections.{connection_of, expression_of}
+use Rattle.ver_items.specs.Sections.{Section, instances_in, is_name_in, is_place, items, pins_in, sections, stands_in}
+use Rattle.ver_module.specs.Netlists.{Instance, Netlist}
+use Rattle.ver_file.specs.Netlists.{instances_by, pin_of, netlist_of, instances_of}
+use Rattle.ver_file.proofs.ListLemmas.{flat_map-append}
+use Rattle.ver_file.proofs.NetLemmas.{no_mapped}
+use Rattle.ver_net.specs.declared.pin_ref.PinRef.{PinRef}
+use Rattle.ver_patch.specs.Pins.{IsOnOneNet, span_at}
+use Rattle.ver_patch.specs.declared.text.NewCell.{NewCell}
+use Rattle.ver_patch.specs.declared.text.Rewire.{Rewire}
+use Rattle.ver_patch.proofs.StandLemmas.{no_sections}
+use Rattle.ver_words.specs.Texts.{IsNewCell}
+use Rattle.ver_words.specs.Words.{words_of}
+use Rattle.ver_words.proofs.TextLemmas.{Each}
+use Rattle.ver_again.proofs.LawLemmas.{each_of}
+use Rattle.ver_rows.proofs.NewRowLemmas.{wires_none}
+use Rattle.ver_rows.proofs.SectionLemmas.{names_off}
+use Rattle.ver_links.proofs.CellLemmas.{IsCellSection, cell_sections}
+use Rattle.ver_links.proofs.ConnectionLemmas.{HasNet}
+use Rattle.ver_links.proofs.DeclareLemmas.{module_items}
+use Rattle.ver_links.proofs.ItemLemmas.{AreItems, Paired, changed_items}
+use Rattle.ver_links.proofs.LinkLemmas.{conn_kept, conn_made, drop_first, expression_same, one_section_at, pairs_length, pin_free, same_rewire}
+use Rattle.ver_links.proofs.PinLemmas.{IsPin, instances_pins, pin_quits, pin_sections, pins_by}
+use Rattle.ver_links.proofs.RelinkedLemmas.{ArePairs, In, each_in, sections_relinked}
+use Rattle.ver_links.proofs.SameLemmas.{pairs_append, pairs_flat, pairs_map, AreSame}
+use Rattle.ver_links.proofs.WalkLemmas.{IsFree, IsNewNet}
+use Rattle.ver_links.proofs.LawLemmas.{ArePins, IsCellPins}
+use Rattle.std.proofs.lemmas.Bool.Decides.{nat_tests}
+use Rattle.ver_again.specs.Laws.{IsChanged}
+use Rattle.ver_renewed.specs.Renewed.{new_pin}
+
+-- ---- the pins of two texts
+
+names_alike : (place : Place) (r q : Row) → r.place ≡ q.place → r.kind ≡ q.kind → is_name_in place r ≡ is_name_in place q
+names_alike place r q e f = λ i. is Identifier (f i) && is_place place (e i)
+
+cells_pins : (new : List ℕ) (ss : List Section) (cells : List NewCell) → ArePairs (IsCellSection new) ss cells → ArePairs (IsCellPins new) cells (pin_sections ss)
+cells_pins new _ _ ArePairs.done = ArePairs.done
+cells_pins new _ _ (ArePairs.pair {x = s} {y = c} {xs = ss} {ys = cells} p h) =
+    subst (λ ps. ArePairs (IsCellPins new) (c ∷ cells) (map pins_in ps ++ pin_sections ss)) (sym p.instances)
+    (ArePairs.pair (record { input = p.input; output = p.output; pins_are = p.pins; from = p.from; to = p.to }) (cells_pins new ss cells h))
+
+module _ (text new : List ℕ) (netlist : Netlist) (all : List Rewire) (cells : List NewCell) (wires : List (List ℕ)) where
+  item_pins : (s t : Section) → Paired text new netlist all cells wires s t → ArePairs (ArePairs (Paired text new netlist all cells wires)) (pins_by s) (pins_by t)
+  item_pins s t p =
+      let relinked = λ (place : Place) (off : is_place place Connection ≡ false) (rows others : List Row).
+      sections_relinked text new (IsFree netlist all) (IsNewNet text new netlist all) (is_name_in place) (names_alike place) (names_off place off) rows others in
+      pairs_map (Paired text new netlist all cells wires) (ArePairs (Paired text new netlist all cells wires)) pins_in pins_in
+      (λ i j h. relinked Pins refl i.body j.body h.body) (instances_in s) (instances_in t) (relinked Instances refl s.body t.body p.body)
+
+  items_pins : (ss ts : List Section) → ArePairs (Paired text new netlist all cells wires) ss ts
+      → ArePairs (ArePairs (Paired text new netlist all cells wires)) (pin_sections ss) (pin_sections ts)
+  items_pins ss ts h =
+      pairs_flat (Paired text new netlist all cells wires) (ArePairs (Paired text new netlist all cells wires)) pins_by pins_by item_pins ss ts h
+
+  no_pins : (ss : List Section) → flat_map (instances_by new) ss ≡ [] → pin_sections ss ≡ []
+  no_pins ss e = no_mapped (map (pin_of new)) (pin_sections ss) (sym (instances_pins new ss) ∙ ap (map (λ (i : Instance). i.pins)) e)
+
+  pins_are : Each IsNewCell cells → AreItems text new netlist all cells wires → ArePins text new netlist all cells wires
+  pins_are made i =
+      let put = sections (stands_in Start) i.put in
+      let wired = sections (stands_in Start) i.wired in
+      let last : Section = record { head = i.last; body = [] } in
+      let end : Section = record { head = i.end; body = [] } in
+      let alone : (r : Row) → pin_sections (record { head = r; body = [] } ∷ []) ≡ [] = λ r. ap (λ ss. map pins_in ss ++ []) (no_sections (is_name_in Instances)) in
+      let none : pin_sections wired ≡ []
+      = no_pins wired (ap (λ rs. flat_map (instances_by new) (sections (stands_in Start) rs)) (sym (append-nil i.wired))
+      ∙ wires_none new wires i.wired [] i.wires_are tt ∙ ap (flat_map (instances_by new)) (no_sections (stands_in Start))) in
+      let olds : pin_sections (items text) ≡ pin_sections i.heads ++ pin_sections i.middles
+      = ap pin_sections i.items_are ∙ flat_map-append pins_by i.heads (i.middles ++ last ∷ [])
+      ∙ ap (λ ps. pin_sections i.heads ++ ps) (flat_map-append pins_by i.middles (last ∷ []) ∙ ap (λ ps. pin_sections i.middles ++ ps) (alone i.last)
+      ∙ append-nil (pin_sections i.middles)) in
+      let news : pin_sections (items new) ≡ pin_sections i.heads_now ++ (pin_sections i.middles_now ++ pin_sections put)
+      = ap pin_sections i.items_now ∙ flat_map-append pins_by i.heads_now (wired ++ (i.middles_now ++ (put ++ end ∷ [])))
+      ∙ ap (λ ps. pin_sections i.heads_now ++ ps) (flat_map-append pins_by wired (i.middles_now ++ (put ++ end ∷ []))
+      ∙ ap (λ ps. ps ++ pin_sections (i.middles_now ++ (put ++ end ∷ []))) none
+      ∙ flat_map-append pins_by i.middles_now (put ++ end ∷ [])
+      ∙ ap (λ ps. pin_sections i.middles_now ++ ps) (flat_map-append pins_by put (end ∷ []) ∙ ap (λ ps. pin_sections put ++ ps) (alone i.end)
+      ∙ append-nil (pin_sections put))) in
+      record {
+        now = pin_sections i.heads_now ++ pin_sections i.middles_now;
+        put = pin_sections put;
+        paired =
+            subst (λ ps. ArePairs (ArePairs (Paired text new netlist all cells wires)) ps (pin_sections i.heads_now ++ pin_sections i.middles_now)) (sym olds)
+            (pairs_append (ArePairs (Paired text new netlist all cells wires)) (pin_sections i.heads) (pin_sections i.heads_now) (pin_sections i.middles) (pin_sections i.middles_now)
+            (items_pins i.heads i.heads_now i.heads_paired) (items_pins i.middles i.middles_now i.middles_paired));
+        all_now = news ∙ sym (append_assoc (pin_sections i.heads_now) (pin_sections i.middles_now) (pin_sections put));
+        cells_are = cells_pins new put cells (cell_sections new cells made i.put i.cells_are);
+      }
+
+-- ---- pins by their places
+
+pair_back : {X Y : Type 0} (R : X → Y → Type 0) (xs : List X) (ys : List Y) (k : ℕ) (y : Y) → ArePairs R xs ys → slice_get ys k ≡ Some y
+    → (x : X) × (slice_get xs k ≡ Some x) × R x y
+pair_back R _ _ k y ArePairs.done e = absurd (none-some y e)
+pair_back R _ _ zero z (ArePairs.pair {x} {y} {xs} {ys} r h) e = (x, refl, subst (R x) (same_Some y z e) r)
+pair_back R _ _ (suc k) z (ArePairs.pair {x} {y} {xs} {ys} r h) e = pair_back R xs ys k z h e
+
+pub get_either : {X : Type 0} (xs ys : List X) (k : ℕ) (x : X) → slice_get (xs ++ ys) k ≡ Some x
+    → (slice_get xs k ≡ Some x) ⊎ ((j : ℕ) × (k ≡ length xs + j) × (slice_get ys j ≡ Some x))
+get_either [] ys k x e = inr (k, omega arith, e)
+get_either (y ∷ xs) ys zero x e = inl e
+get_either (y ∷ xs) ys (suc k) x e = elim (get_either xs ys k x e) [ inl f ↦ inl f | inr (j, f, g) ↦ inr (j, omega (arith, f), g) ]
+
+same_nat : (m n : ℕ) → (m ≡ n) ⊎ (m ≡ n → ⊥)
+same_nat m n = by_test (nat_eq m n) refl
+  where
+    by_test : (b : Bool) → nat_eq m n ≡ b → (m ≡ n) ⊎ (m ≡ n → ⊥)
+    by_test true t = inl (grind (arith, nat_tests, t))
+    by_test false t = inr (λ e. grind (arith, nat_tests, t, e))
+
+same_pin : (a b : PinRef) → (a ≡ b) ⊎ (a ≡ b → ⊥)
+same_pin a b =
+    elim (same_nat a.instance b.instance) [
+      | inl e ↦ elim (same_nat a.pin b.pin) [ inl f ↦ inl (λ i. record { instance = e i; pin = f i }) | inr n ↦ inr (λ g. n (ap (λ (x : PinRef). x.pin) g)) ]
+      | inr n ↦ inr (λ g. n (ap (λ (x : PinRef). x.instance) g))
+    ]
+
+-- one of these is of this pin, or none is
+which : (at : PinRef) (rs : List Rewire) → ((r : Rewire) × In r rs × (r.at ≡ at)) ⊎ Each (λ r. r.at ≡ at → ⊥) rs
+which at [] = inr tt
+which at (r ∷ rs) =
+    elim (same_pin r.at at) [
+      | inl e ↦ inl (r, inl refl, e)
+      | inr n ↦ elim (which at rs) [ inl (q, i, e) ↦ inl (q, inr i, e) | inr h ↦ inr (n, h) ]
+    ]
+
+-- the expression of a pin is that of the text, or what is written
+pub data PinFrom (text new : List ℕ) (netlist : Netlist) (all : List Rewire) (cells : List NewCell) (at : PinRef) (t : Section) : Type 0 where
+  stays : (s : Section) → IsPin (pin_sections (items text)) at s → Each (λ r. r.at ≡ at → ⊥) all → AreSame text new (expression_of s) (expression_of t)
+      → PinFrom text new netlist all cells at t
+  made : (r : Rewire) → In r all → r.at ≡ at → HasNet new r.net t → PinFrom text new netlist all cells at t
+  input : (k : ℕ) (x : NewCell) → slice_get cells k ≡ Some x → at ≡ new_pin netlist k 0 → HasNet new x.from t → PinFrom text new netlist all cells at t
+  output : (k : ℕ) (x : NewCell) → slice_get cells k ≡ Some x → at ≡ new_pin netlist k 1 → HasNet new x.to t → PinFrom text new netlist all cells at t
+
+module _ (text : List ℕ) (rewires : List Rewire) (cells : List NewCell) (wires : List (List ℕ)) (new : List ℕ)
+    (c : IsChanged text (netlist_of text) rewires cells wires new) where
+  pins_here : ArePins text new (netlist_of text) c.patched.ordered cells wires
+  pins_here =
+      pins_are text new (netlist_of text) c.patched.ordered cells wires (each_of IsNewCell cells c.written.made)
+      (changed_items text (netlist_of text) rewires cells wires new c)
+
+  linked : Each (λ r. IsOnOneNet (netlist_of text) r.at) c.patched.ordered
+  linked =
+      each_of (λ (r : Rewire). IsOnOneNet (netlist_of text) r.at) c.patched.ordered
+      (All-permutation (λ (r : Rewire). IsOnOneNet (netlist_of text) r.at) rewires c.patched.ordered c.patched.same c.rewirable.linked)
+
+  old_pin : (at : PinRef) (s t : Section) → IsPin (pin_sections (items text)) at s → Paired text new (netlist_of text) c.patched.ordered cells wires s t
+      → PinFrom text new (netlist_of text) c.patched.ordered cells at t
+  old_pin at s t q p =
+      let d = c.denotes in
+      let rs = c.patched.ordered in
+      let n = netlist_of text in
+      let drops = drop_first text new n rs s.body t.body p.body (pin_quits (items text) (module_items text d.grammar) at s q) in
+      elim (which at rs) [
+        | inl (r, i, e) ↦ (let o = one_section_at text n d at (subst (IsOnOneNet n) e (each_in (λ r. IsOnOneNet n r.at) rs r linked i)) in
+            let pins : q.pins ≡ o.is_pin.pins = same_Some q.pins o.is_pin.pins (sym q.instance ∙ o.is_pin.instance) in
+            let one : s ≡ o.section = same_Some s o.section (sym q.pin ∙ ap (λ ps. slice_get ps at.pin) pins ∙ o.is_pin.pin) in
+            let m = conn_made text new n rs (drop 1 s.body) (drop 1 t.body) drops o.first o.more (ap connection_of one ∙ o.parts) r i
+            (ap (λ a. (span_at n a).from) e ∙ o.begins) in
+            let same = same_rewire text n d rs linked c.patched.rising m.rewire r m.own i (m.begins ∙ sym o.begins ∙ ap (λ a. (span_at n a).from) (sym e)) in
+            PinFrom.made r i e (m.words ∙ ap (λ (x : Rewire). words_of x.net) same))
+        | inr others ↦ PinFrom.stays s q others
+            (expression_same text new (connection_of s) (connection_of t)
+            (conn_kept text new n rs (drop 1 s.body) (drop 1 t.body) drops (pin_free text n d rs linked at s q others)))
+      ]
+
+  count : length (pins_here.now) ≡ length (instances_of text)
+  count =
+      sym (pairs_length (ArePairs (Paired text new (netlist_of text) c.patched.ordered cells wires)) (pin_sections (items text)) pins_here.now pins_here.paired)
+      ∙ sym (length-map (pin_sections (items text)) (map (pin_of text))) ∙ ap length (sym (instances_pins text (items text)))
+      ∙ length-map (instances_of text) (λ (i : Instance). i.pins)
+
+  new_pins : (at : PinRef) (k : ℕ) (ps : List Section) (t : Section) (x : NewCell) → at.instance ≡ length (instances_of text) + k → IsCellPins new x ps → slice_get cells k ≡ Some x
+      → slice_get ps at.pin ≡ Some t → PinFrom text new (netlist_of text) c.patched.ordered cells at t
+  new_pins at k ps t x e h f g = by_pin at.pin refl (ap (λ xs. slice_get xs at.pin) (sym h.pins_are) ∙ g)
+    where
+      by_pin : (p : ℕ) → at.pin ≡ p → slice_get (h.input ∷ h.output ∷ []) p ≡ Some t → PinFrom text new (netlist_of text) c.patched.ordered cells at t
+      by_pin zero i u =
+          PinFrom.input k x f (λ j. record { instance = e j; pin = i j }) (subst (HasNet new x.from) (same_Some h.input t u) h.from)
+      by_pin (suc zero) i u =
+          PinFrom.output k x f (λ j. record { instance = e j; pin = i j }) (subst (HasNet new x.to) (same_Some h.output t u) h.to)
+      by_pin (suc (suc p)) i u = absurd (none-some t u)
+
+  pub pin_from : (at : PinRef) (t : Section) → IsPin (pin_sections (items new)) at t → PinFrom text new (netlist_of text) c.patched.ordered cells at t
+  pin_from at t p =
+      let a = pins_here in
+      elim (get_either a.now a.put at.instance p.pins (ap (λ ps. slice_get ps at.instance) (sym a.all_now) ∙ p.instance)) [
+        | inl e ↦ (let (qs, f, h) = pair_back (ArePairs (Paired text new (netlist_of text) c.patched.ordered cells wires)) (pin_sections (items text)) a.now at.instance p.pins a.paired e in
+            let (s, g, k) = pair_back (Paired text new (netlist_of text) c.patched.ordered cells wires) qs p.pins at.pin t h p.pin in
+            old_pin at s t (record { pins = qs; instance = f; pin = g }) k)
+        | inr (j, e, f) ↦ (let (x, g, h) = pair_back (IsCellPins new) cells a.put j p.pins a.cells_are f in
+            new_pins at j p.pins t x (e ∙ ap (λ n. n + j) count) h g p.pin)
+      ]
