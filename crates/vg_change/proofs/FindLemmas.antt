@@ -1,0 +1,49 @@
+-- The first of a list that passes a test, sought from the front.
+use Rattle.std.proofs.Common.{◌≡◌, ℕ, zero, suc, ◌+◌, Bool, true, false, cond, List, [], ◌∷◌, ◌++◌, take, find, refl, sym, ap, ◌∙◌, arith, Some, None}
+use Rattle.std.specs.List.{slice_get}
+
+module _ {X : Type 0} (test : X → Bool) where
+  -- none of the first i passes
+  pub none_more : (xs : List X) (i : ℕ) (x : X) → slice_get xs i ≡ Some x → test x ≡ false → find test (take i xs) ≡ None → find test (take (i + 1) xs) ≡ None
+  none_more [] i x at misses none = absurd (cc)
+  none_more (y ∷ ys) zero x at misses none = ap (λ b. cond b (Some y) None) (ap test (some_is y x at) ∙ misses)
+    where
+      some_is : (a b : X) → Some a ≡ Some b → a ≡ b
+      some_is a b e = cc
+  none_more (y ∷ ys) (suc i) x at misses none =
+      ap (λ k. find test (take k (y ∷ ys))) (let e : suc i + 1 ≡ suc (i + 1) = omega arith in e) ∙ either (test y) refl (none_more ys i x at misses)
+    where
+      either : (t : Bool) → test y ≡ t → (find test (take i ys) ≡ None → find test (take (i + 1) ys) ≡ None) → cond t (Some y) (find test (take (i + 1) ys)) ≡ None
+      either true e more = absurd (let h : Some y ≡ None = sym (ap (λ b. cond b (Some y) (find test (take i ys))) e) ∙ none in cc)
+      either false e more = more (sym (ap (λ b. cond b (Some y) (find test (take i ys))) e) ∙ none)
+
+  -- the next one does, and is the first
+  pub found_next : (xs : List X) (i : ℕ) (x : X) → slice_get xs i ≡ Some x → test x ≡ true → find test (take i xs) ≡ None → find test xs ≡ Some x
+  found_next [] i x at has none = absurd (cc)
+  found_next (y ∷ ys) zero x at has none = ap (λ b. cond b (Some y) (find test ys)) (ap test (some_is y x at) ∙ has) ∙ at
+    where
+      some_is : (a b : X) → Some a ≡ Some b → a ≡ b
+      some_is a b e = cc
+  found_next (y ∷ ys) (suc i) x at has none = either (test y) refl (found_next ys i x at has)
+    where
+      either : (t : Bool) → test y ≡ t → (find test (take i ys) ≡ None → find test ys ≡ Some x) → cond t (Some y) (find test ys) ≡ Some x
+      either true e more = absurd (let h : Some y ≡ None = sym (ap (λ b. cond b (Some y) (find test (take i ys))) e) ∙ none in cc)
+      either false e more = more (sym (ap (λ b. cond b (Some y) (find test (take i ys))) e) ∙ none)
+
+  -- what is found in the front is found in all
+  pub found_front : (xs ys : List X) (x : X) → find test xs ≡ Some x → find test (xs ++ ys) ≡ Some x
+  found_front [] ys x found = absurd (cc)
+  found_front (z ∷ xs) ys x found = either (test z) refl (found_front xs ys x)
+    where
+      either : (t : Bool) → test z ≡ t → (find test xs ≡ Some x → find test (xs ++ ys) ≡ Some x) → cond t (Some z) (find test (xs ++ ys)) ≡ Some x
+      either true e more = sym (ap (λ b. cond b (Some z) (find test xs)) e) ∙ found
+      either false e more = more (sym (ap (λ b. cond b (Some z) (find test xs)) e) ∙ found)
+
+  -- where none of the front passes, the rest counts
+  pub found_behind : (xs ys : List X) → find test xs ≡ None → find test (xs ++ ys) ≡ find test ys
+  found_behind [] ys none = refl
+  found_behind (z ∷ xs) ys none = either (test z) refl (found_behind xs ys)
+    where
+      either : (t : Bool) → test z ≡ t → (find test xs ≡ None → find test (xs ++ ys) ≡ find test ys) → cond t (Some z) (find test (xs ++ ys)) ≡ find test ys
+      either true e more = absurd (let h : Some z ≡ None = sym (ap (λ b. cond b (Some z) (find test xs)) e) ∙ none in cc)
+      either false e more = more (sym (ap (λ b. cond b (Some z) (find test xs)) e) ∙ none)

@@ -1,0 +1,12 @@
+pub mod FindLemmas
+pub mod SectionLemmas
+pub mod ChargeLemmas
+pub mod PosedLemmas
+pub mod NameLemmas
+pub mod StageLemmas
+pub mod ListLemmas
+pub mod RowLemmas
+pub mod RewireLemmas
+pub mod PairLemmas
+pub mod RewirableLemmas
+pub mod PutLemmas

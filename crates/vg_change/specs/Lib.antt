@@ -1,0 +1,4 @@
+pub mod Taken
+pub mod Placed
+pub mod Changes
+pub mod Steps

@@ -1,0 +1,222 @@
+//! The change of a design, net by net.
+
+ghost use Rattle.std.specs.Prelude.{◌≡◌, ◌<◌, true, None, Some, length, List, ℕ, IfOk, IfErr};
+ghost use Rattle.std.specs.List.{All, AllPass, Contains};
+ghost use Rattle.elmore.specs.Legal.{IsPlaced};
+ghost use Rattle.elmore.specs.Placements.{IsPlacement};
+ghost use Rattle.spef_file.specs.Tables.{is_section};
+ghost use Rattle.spef_file.specs.declared.section.Section.{Section};
+ghost use Rattle.ver_file.specs.Modules.{Denotes};
+ghost use Rattle.ver_patch.specs.Patches.{IsPatched};
+ghost use Rattle.vg_change.specs.Changes.{nothing, HasPut, IsBehind, IsFresh};
+ghost use Rattle.vg_change.specs.Steps.{placed_by, placed_net, IsSplitOf};
+ghost use Rattle.vg_change.specs.Taken.{taken};
+ghost use Rattle.vg_design.specs.Nets.{IsPosedNet};
+ghost use Rattle.vg_design.specs.Refusals.{IsJoined};
+ghost use Rattle.vg_design.specs.Steps.{ArePins};
+ghost use Rattle.vg_patch.specs.Edits.{patched};
+ghost use Rattle.vg_scan.specs.Printed.{is_solid};
+ghost use Rattle.vg_split.specs.Conditions.{IsNamed};
+
+use crate::cells::{push_cells, push_wires};
+use crate::keeper::port_or_root;
+use crate::prefix::taken;
+use crate::rewires::push_rewires;
+use crate::sections::sections_text;
+use elmore::Placement;
+use spef_file::SpefIndex;
+use spef_net::ParNet;
+use std::alloc::Global;
+use std::marker::Model;
+use ver_patch::{NewCell, Rewire, patch};
+use vg_design::{Design, PinnedNet, PosedNet};
+use vg_num::Memory;
+use vg_patch::Patch;
+use vg_scan::{Name, Span};
+use vg_split::Split;
+use vg_stages::Stages;
+use vg_written::sums;
+
+/// What changes in a design when cells are put into nets: sections of its parasitics (SPEF, IEEE Std 1481), connections of its
+/// netlist (Verilog, IEEE Std 1364), new cells and new nets.
+#[derive(Drop)]
+pub struct Changes<'a> {
+    design: &'a Design,
+    prefix: &'a [u8],
+    sections: Patch,
+    rewires: Vec<Rewire>,
+    cells: Vec<NewCell>,
+    wires: Vec<Name>,
+}
+
+impl<'a> Model for Changes<'a> {
+    ghost use Rattle.vg_change.specs.Changes.{Changes as ChangesSpec, IsChange};
+
+    ghost Value = { ChangesSpec };
+
+    ghost view = { λ c. record {
+      design = c.design.now;
+      prefix = c.prefix.now;
+      sections = c.sections;
+      rewires = c.rewires.items;
+      cells = c.cells.items;
+      wires = c.wires.items;
+    } };
+
+    ghost invariant = { λ c. IsChange (record {
+      design = c.design.now;
+      prefix = c.prefix.now;
+      sections = c.sections;
+      rewires = c.rewires.items;
+      cells = c.cells.items;
+      wires = c.wires.items;
+    }) };
+}
+
+/// Where the section of the net of a name stands in the parasitics.
+fn span_of(index: &SpefIndex, name: &[u8]) -> Span
+    requires { is_section index.now.sections name.now ≡ true }
+    ensures { (section : Section) × Contains index.now.sections (name.now, section) × (result ≡ record { from = section.from; to = section.to }) }
+{
+    let Some(at) = index.sections.find(name) else {
+        unreachable!()
+    };
+    let section = index.sections.get(at);
+    Span {
+        from: section.from as usize,
+        to: section.to as usize,
+    }
+}
+
+/// The parasitics of a posed net.
+fn par_of(net: &PosedNet) -> &ParNet
+    ensures { result.now ≡ net.now.ready.pinned.net.par }
+{
+    &net.ready.pinned.net.par
+}
+
+impl<'a> Changes<'a> {
+    /// No change of a design yet. The names of new cells and nets are to begin with this prefix.
+    ///
+    /// A name of the design that begins with the prefix is the error, since a new one could be the same: the first one of the
+    /// instances of the netlist, its nets, the names that the SPEF file maps, and its nets, each in the order of its file.
+    pub fn new(alloc: Global, design: &'a Design, prefix: &'a [u8]) -> Result<Changes<'a>, &'a [u8]>
+        requires prefix { AllPass is_solid prefix.now }
+        requires repeaters { All IsNamed design.now.library.repeaters }
+        ensures made { IfOk result (λ changes. changes ≡ nothing design.now prefix.now) }
+        ensures free { IfOk result (λ _. taken design.now prefix.now ≡ None) }
+        ensures taken { IfErr result (λ name. taken design.now prefix.now ≡ Some name.now) }
+    {
+        if let Some(name) = taken(design, prefix) {
+            return Err(name);
+        }
+        Ok(Changes {
+            design,
+            prefix,
+            sections: Patch::new(alloc),
+            rewires: Vec::new(alloc),
+            cells: Vec::new(alloc),
+            wires: Vec::new(alloc),
+        })
+    }
+
+    /// Besides what changed before, splits a net into stages.
+    fn put_split(
+        self,
+        alloc: Global,
+        x: &Split<'_>,
+        pinned: &PinnedNet,
+    ) -> Result<Changes<'a>, Memory>
+        requires split { IsSplitOf self pinned.now.net x.now }
+        requires joined { (name : List ℕ) × IsJoined self.design name pinned.now.net }
+        requires pins { ArePins self.design pinned.now.net pinned.now.pins }
+        requires behind { IsBehind self x.now.par.name }
+        requires fresh { IsFresh self pinned.now.net.id }
+        ensures { IfOk result (HasPut self.entry (placed_by pinned.now.net x.now)) }
+    {
+        let Changes {
+            design,
+            prefix,
+            mut sections,
+            mut rewires,
+            mut cells,
+            mut wires,
+        } = self;
+        let index = design.index();
+        let text = sections_text(alloc, x, &index.header)?;
+        sections.replace(span_of(index, x.par.name.as_bytes()), &text)?;
+        push_rewires(alloc, design, pinned, x, &mut rewires)?;
+        push_cells(alloc, design.netlist(), pinned.net.id, x, &mut cells)?;
+        push_wires(alloc, x, &mut wires)?;
+        Ok(Changes {
+            design,
+            prefix,
+            sections,
+            rewires,
+            cells,
+            wires,
+        })
+    }
+
+    /// Besides what changed before, puts the cells of a placement into a net: its section is replaced by those of its stages, each
+    /// of its pins that is in a stage with a new net is linked to that net, and each cell is put in with its new net. Cells are numbered over
+    /// all nets from 0, those of a net in tree order. Answers `Memory` where there is no room.
+    pub fn put(
+        self,
+        alloc: Global,
+        net: &PosedNet,
+        placement: &Placement,
+    ) -> Result<Changes<'a>, Memory>
+        requires posed { (name : List ℕ) × IsPosedNet self.design name net.now }
+        requires placement { IsPlacement net.now.problem placement.now.cells }
+        requires placed { IsPlaced net.now.problem placement.now.cells }
+        requires behind { IsBehind self net.now.ready.pinned.net.par.name }
+        requires fresh { IsFresh self net.now.ready.pinned.net.id }
+        ensures { IfOk result (HasPut self.entry (placed_net net.now placement.now.cells)) }
+    {
+        let par = par_of(net);
+        let order = net.ready.order.as_slice();
+        let cells = placement.cells.as_slice();
+        let stages = Stages::of(alloc, &net.problem, cells)?;
+        let sums = sums(alloc, par.nodes.len(), par.caps.as_slice())?;
+        let port = port_or_root(par, order);
+        let split = Split {
+            par,
+            order,
+            problem: &net.problem,
+            cells,
+            repeaters: self.design.repeaters(),
+            stages: &stages,
+            sums: &sums,
+            prefix: self.prefix,
+            first: self.cells.len() as u64,
+            keeper: stages.stage_of[port],
+        };
+        self.put_split(alloc, &split, &net.ready.pinned)
+    }
+
+    /// The text of the changed parasitics, made of the text of the design's: sections of changed nets are replaced, and all other bytes are as
+    /// they were. Answers `Memory` where there is no room.
+    pub fn parasitics(&self, alloc: Global, spef: &[u8]) -> Result<Vec<u8>, Memory>
+        requires { length spef.now ≡ length self.now.design.spef }
+        ensures { IfOk result (λ text. text.items ≡ patched spef.now self.now.sections) }
+    {
+        self.sections.apply(alloc, spef)
+    }
+
+    /// The text of the changed netlist, made of the text of the design's: new nets stand behind the head of the module, connections are
+    /// replaced, new cells stand before its end, and all other bytes are as they were. Answers `Memory` where there is no room.
+    pub fn netlist(&self, alloc: Global, verilog: &[u8]) -> Result<Vec<u8>, Memory>
+        requires { Denotes verilog.now self.now.design.netlist }
+        ensures { IfOk result (λ text. IsPatched verilog.now self.now.design.netlist self.now.rewires self.now.cells self.now.wires text.items) }
+    {
+        patch(
+            alloc,
+            verilog,
+            self.design.netlist(),
+            &self.rewires,
+            &self.cells,
+            &self.wires,
+        )
+    }
+}

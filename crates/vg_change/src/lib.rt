@@ -1,0 +1,13 @@
+//! The changed netlist and parasitics of a design in which cells are put into nets.
+//!
+//! Resistances are whole milliohms (mΩ), capacitances whole attofarads (aF).
+#![tactic(auto)]
+
+mod cells;
+mod changes;
+mod keeper;
+mod prefix;
+mod rewires;
+mod sections;
+
+pub use changes::Changes;

@@ -1,0 +1,92 @@
+//! The pins of a net that are linked to new nets.
+
+ghost use Rattle.std.specs.Prelude.{◌≡◌, ℕ, ◌++◌, ◌<◌, length, OnOk};
+ghost use Rattle.vg_change.specs.Placed.{is_old_end, rewires_at, rewires_in, rewires_of};
+ghost use Rattle.vg_change.specs.Steps.{placed_by};
+ghost use Rattle.vg_design.specs.Steps.{ArePins};
+ghost use Rattle.vg_split.specs.Splits.{forest, net_of};
+ghost use Rattle.vg_stages.specs.Stages.{heads};
+
+use std::alloc::Global;
+use ver_patch::Rewire;
+use vg_design::{Design, PinnedNet};
+use vg_num::Memory;
+use vg_scan::Name;
+use vg_split::Split;
+
+/// Whether a node is a pin or a port of the net.
+fn is_old_end(x: &Split<'_>, node: usize) -> bool
+    requires { node < length x.now.problem.tree.nodes }
+    ensures { result ≡ is_old_end x.now node }
+{
+    x.is_end(node) && !x.has_cell(node)
+}
+
+/// Puts the pin at a node of a stage last, linked to this net, if it is one of the net's.
+fn push_rewire(
+    alloc: Global,
+    design: &Design,
+    pinned: &PinnedNet,
+    x: &Split<'_>,
+    node: usize,
+    net: &[u8],
+    to: &mut Vec<Rewire>,
+) -> Result<(), Memory>
+    requires pins { ArePins design.now pinned.now.net pinned.now.pins }
+    requires par { x.now.par ≡ pinned.now.net.par }
+    requires node { node < length x.now.problem.tree.nodes }
+    ensures { OnOk result ((k : ℕ) → net.now ≡ net_of x.now k
+        → to.new.items ≡ to.old.items ++ rewires_at design.now.netlist (placed_by pinned.now.net x.now) x.now k node) }
+{
+    if !is_old_end(x, node) {
+        return Ok(());
+    }
+    if let Some(at) = pinned.pins.as_slice()[x.old(node)] {
+        let net = Name::from_bytes(alloc, net)?;
+        to.push(Rewire { at, net })?;
+    }
+    Ok(())
+}
+
+/// Puts the net's pins in a stage last, if it has a new net.
+fn push_rewires_in(
+    alloc: Global,
+    design: &Design,
+    pinned: &PinnedNet,
+    x: &Split<'_>,
+    stage: usize,
+    to: &mut Vec<Rewire>,
+) -> Result<(), Memory>
+    requires pins { ArePins design.now pinned.now.net pinned.now.pins }
+    requires par { x.now.par ≡ pinned.now.net.par }
+    requires stage { stage < length (heads (forest x.now)) }
+    ensures { OnOk result (to.new.items ≡ to.old.items ++ rewires_in design.now.netlist (placed_by pinned.now.net x.now) x.now stage) }
+{
+    if stage == x.keeper as usize {
+        return Ok(());
+    }
+    let mut net = Vec::new(alloc);
+    x.push_net(stage, &mut net)?;
+    'node: for node in x.members(stage) {
+        push_rewire(alloc, design, pinned, x, *node as usize, &net, to)?;
+    }
+    Ok(())
+}
+
+/// Puts the net's pins last that are linked to new nets, stage by stage.
+pub(crate) fn push_rewires(
+    alloc: Global,
+    design: &Design,
+    pinned: &PinnedNet,
+    x: &Split<'_>,
+    to: &mut Vec<Rewire>,
+) -> Result<(), Memory>
+    requires pins { ArePins design.now pinned.now.net pinned.now.pins }
+    requires par { x.now.par ≡ pinned.now.net.par }
+    ensures { OnOk result (to.new.items ≡ to.old.items ++ rewires_of design.now.netlist (placed_by pinned.now.net x.now) x.now) }
+{
+    'stage: for stage in 0..x.count() {
+        push_rewires_in(alloc, design, pinned, x, stage, to)?;
+    }
+    Ok(())
+}

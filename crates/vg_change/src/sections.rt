@@ -1,0 +1,52 @@
+//! The sections of a net that is split into stages.
+
+ghost use Rattle.std.specs.Prelude.{◌≡◌, ◌+◌, ◌<◌, length, IfOk, OnOk};
+ghost use Rattle.vg_change.specs.Steps.{SaysStages};
+ghost use Rattle.vg_split.specs.Splits.{forest};
+ghost use Rattle.vg_stages.specs.Stages.{heads};
+
+use spef_file::Header;
+use std::alloc::Global;
+use vg_num::Memory;
+use vg_split::{Scratch, Split, stage_net};
+use vg_written::write_net;
+
+/// Puts the section of a stage behind a text, behind a line's end where it is not the first.
+fn push_section(
+    alloc: Global,
+    x: &Split<'_>,
+    stage: usize,
+    header: &Header,
+    scratch: &mut Scratch,
+    to: &mut Vec<u8>,
+) -> Result<(), Memory>
+    requires stage { stage < length (heads (forest x.now)) }
+    requires places { length scratch.old.places.items ≡ length x.now.problem.tree.nodes }
+    requires said { SaysStages header.now x.now stage to.old.items }
+    ensures places { length scratch.new.places.items ≡ length x.now.problem.tree.nodes }
+    ensures said { OnOk result (SaysStages header.now x.now (stage + 1) to.new.items) }
+{
+    if stage > 0 {
+        to.push(b'\n')?;
+    }
+    let net = stage_net(alloc, x, stage, &header.chars, scratch)?;
+    write_net(alloc, &net, header, to)?;
+    Ok(())
+}
+
+/// The sections of the stages, one after another, without a newline behind the last one.
+pub(crate) fn sections_text(
+    alloc: Global,
+    x: &Split<'_>,
+    header: &Header,
+) -> Result<Vec<u8>, Memory>
+    ensures { IfOk result (λ text. SaysStages header.now x.now (length (heads (forest x.now))) text.items) }
+{
+    let count = x.count();
+    let mut scratch = Scratch::new(alloc, x.order.len())?;
+    let mut text = Vec::new(alloc);
+    'stage: for stage in 0..count {
+        push_section(alloc, x, stage, header, &mut scratch, &mut text)?;
+    }
+    Ok(text)
+}
