@@ -1,0 +1,12 @@
+pub mod RepeaterLemmas
+pub mod PassageLemmas
+pub mod OldLemmas
+pub mod EndLemmas
+pub mod PinLemmas
+pub mod AcceptLemmas
+pub mod LoadLemmas
+pub mod NameLemmas
+pub mod TimedLemmas
+pub mod NetLemmas
+pub mod WayLemmas
+pub mod RetimeLemmas

@@ -1,0 +1,2 @@
+pub mod NewStages
+pub mod Laws

@@ -1,0 +1,12 @@
+pub mod ClearLemmas
+pub mod SpanLemmas
+pub mod IndexLemmas
+pub mod QuietLemmas
+pub mod SplitLemmas
+pub mod EditLemmas
+pub mod FewLemmas
+pub mod NameLemmas
+pub mod OwnLemmas
+pub mod ReplacedLemmas
+pub mod ReadLemmas
+pub mod PieceLemmas

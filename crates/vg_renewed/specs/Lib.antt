@@ -1,0 +1,4 @@
+pub mod Put
+pub mod NewStages
+pub mod Others
+pub mod Laws
