@@ -14,3 +14,4 @@ pub mod WayLemmas
 pub mod RangeLemmas
 pub mod SignalLemmas
 pub mod LawLemmas
+pub mod OneTimingLemmas

@@ -12,5 +12,5 @@ mod retiming;
 mod signals;
 mod walk_net;
 
-pub use laws::retimed_or_refused;
+pub use laws::{one_timing, retimed_or_refused};
 pub use retiming::retime;
