@@ -1,5 +1,5 @@
 -- A net in which cells are put re-times to the slack of the placement, and none of its sinks is wrong.
-use Rattle.std.proofs.Common.{◌≡◌, ℕ, Bool, true, false, not, cond, List, [], ◌∷◌, length, refl, sym, ap, ◌∙◌, All, Contains, ℤ, Option, None, Some, option_map, ◌<◌, subst}
+use Rattle.std.proofs.Common.{◌≡◌, ◌≤◌, arith, ℕ, Bool, true, false, not, cond, List, [], ◌∷◌, length, refl, sym, ap, ◌∙◌, All, Contains, ℤ, Option, None, Some, option_map, ◌<◌, subst}
 use Rattle.std.specs.List.{cons_option, filter_map, find, slice_get}
 use Rattle.std.proofs.lemmas.List.Elements.{All-contains_itself, All-head, All-tail}
 use Rattle.elmore.specs.Delay.{is_odd}
@@ -11,13 +11,18 @@ use Rattle.vg_cut.specs.Walks.{End, nothing, sink, passes, HavePolarity, Signal,
 use Rattle.vg_design.specs.Designs.{Design, Joined}
 use Rattle.vg_design.specs.Nets.{name_at}
 use Rattle.vg_retime.specs.Retimings.{Retimes}
+use Rattle.vg_retime.proofs.LawLemmas.{retimed_not_refused}
+use Rattle.vg_retime.proofs.OneTimingLemmas.{one_timing}
+use Rattle.vg_wire.specs.Refusals.{number_of}
+use Rattle.vg_wire.specs.declared.refusal.Refusal.{Refusal}
+use Rattle.vg_wire.specs.declared.refusal.Refusal.TheVariants.{TooLarge}
 use Rattle.vg_retime.specs.WalkNets.{timed}
 use Rattle.vg_retime.specs.Ways.{Nets, first_wrong, is_wrong, timed_nets, wrong_in}
 use Rattle.spef_net.specs.declared.net.ParNet.{ParNet}
 use Rattle.vg_split.specs.Splits.{Split, forest, net_of}
 use Rattle.vg_stages.specs.Stages.{heads}
 use Rattle.vg_chain.proofs.NameLemmas.{keeper_name, own_name}
-use Rattle.vg_chain.specs.Laws.{AreNetsOf, PlacedNetsRetime, StagesRetime}
+use Rattle.vg_chain.specs.Laws.{AreNetsOf, PlacedNetsAreRefused, PlacedNetsRetime, PlacedNetsTime, StagesRetime}
 use Rattle.vg_chain.specs.NewStages.{HasStages, IsPut}
 use Rattle.vg_chain.proofs.NetLemmas.{have_nets}
 use Rattle.vg_chain.proofs.WayLemmas.{asked, asked_named, climbs, cut, met_down, pieces}
@@ -96,3 +101,19 @@ pub placed_nets_retime : PlacedNetsRetime
 placed_nets_retime d n x new put has slack is wanted =
     subst (λ name. Retimes 16 new x.prefix name (record { slack = slack; wrong = None })) (kept_name d n x put)
     (stages_retime d n x new put has slack is wanted x.keeper put.split.split.keeper)
+
+-- ---- what mode `time` tells
+
+pub placed_nets_time : PlacedNetsTime
+placed_nets_time d n x new put has slack is wanted timed timed_is =
+    one_timing 17 16 new x.prefix put.name timed (record { slack = slack; wrong = None }) timed_is (placed_nets_retime d n x new put has slack is wanted)
+
+-- a refusal of a number from 16 on is that by size
+by_size : (r : Refusal) → 16 ≤ number_of r → r ≡ TooLarge
+by_size TooLarge late = refl
+by_size r late = absurd (omega (arith, late))
+
+pub placed_nets_are_refused : PlacedNetsAreRefused
+placed_nets_are_refused d n x new put has slack is wanted r refused =
+    by_size r
+    (retimed_not_refused 16 new x.prefix put.name (record { slack = slack; wrong = None }) r (placed_nets_retime d n x new put has slack is wanted) refused)

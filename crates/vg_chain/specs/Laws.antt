@@ -1,12 +1,15 @@
 -- A net in which cells are put is, in the new design, a chain of nets that re-times to the slack of the placement.
-use Rattle.std.specs.Prelude.{ℕ, ◌<◌, length, ℤ, None}
+use Rattle.std.specs.Prelude.{◌≡◌, ℕ, ◌<◌, length, ℤ, None}
 use Rattle.elmore.specs.Placements.{IsSlack, HasPolarity}
 use Rattle.vg_cut.specs.CutNets.{AreCut}
 use Rattle.vg_design.specs.Designs.{Design, Joined}
 use Rattle.vg_pieces.specs.Cuts.{AreTimedStages, StageNets, pieces_of}
 use Rattle.vg_pieces.specs.ReadPieces.{HasLoadsOf}
 use Rattle.vg_retime.specs.Refusals.{PassesHere}
-use Rattle.vg_retime.specs.Retimings.{Retimes}
+use Rattle.vg_design.specs.declared.time.Timed.{Timed}
+use Rattle.vg_retime.specs.Retimings.{IsFirstRefusal, Retimes}
+use Rattle.vg_wire.specs.declared.refusal.Refusal.{Refusal}
+use Rattle.vg_wire.specs.declared.refusal.Refusal.TheVariants.{TooLarge}
 use Rattle.vg_retime.specs.WalkNets.{IsNetIn}
 use Rattle.vg_retime.specs.Ways.{Nets, timed_nets}
 use Rattle.vg_split.specs.Splits.{Split, forest, net_of}
@@ -58,3 +61,15 @@ abbrev pub PlacedNetsRetime : Type 0
 PlacedNetsRetime = (d : Design) (n : Joined) (x : Split) (new : Design) → (put : IsPut d n x) → HasStages d n x new
     → (slack : ℤ) → IsSlack x.problem x.cells slack → ((w : ℕ) → HasPolarity x.problem x.cells w)
     → Retimes 16 new x.prefix put.name (record { slack = slack; wrong = None })
+
+-- so this is what mode `time` tells of it
+abbrev pub PlacedNetsTime : Type 0
+PlacedNetsTime = (d : Design) (n : Joined) (x : Split) (new : Design) → (put : IsPut d n x) → HasStages d n x new
+    → (slack : ℤ) → IsSlack x.problem x.cells slack → ((w : ℕ) → HasPolarity x.problem x.cells w)
+    → (timed : Timed) → Retimes 17 new x.prefix put.name timed → timed ≡ record { slack = slack; wrong = None }
+
+-- or else that a net on the way is too large
+abbrev pub PlacedNetsAreRefused : Type 0
+PlacedNetsAreRefused = (d : Design) (n : Joined) (x : Split) (new : Design) → (put : IsPut d n x) → HasStages d n x new
+    → (slack : ℤ) → IsSlack x.problem x.cells slack → ((w : ℕ) → HasPolarity x.problem x.cells w)
+    → (refusal : Refusal) → IsFirstRefusal new x.prefix put.name refusal → refusal ≡ TooLarge

@@ -1,7 +1,7 @@
 //! Laws of a net that is split, in a new design that has a net for each of its stages. Their functions do nothing: each one's
 //! contract is the law, which a proof may cite.
 
-ghost use Rattle.vg_chain.specs.Laws.{NewNetsAreCut, PlacedNetsRetime, StagesAreAccepted, StagesAreTimed, StagesHaveLoads, StagesHaveNets, StagesRetime};
+ghost use Rattle.vg_chain.specs.Laws.{NewNetsAreCut, PlacedNetsAreRefused, PlacedNetsRetime, PlacedNetsTime, StagesAreAccepted, StagesAreTimed, StagesHaveLoads, StagesHaveNets, StagesRetime};
 
 /// Let a net that is accepted be split by the cells of a placement, and let a new design have a net for each stage, with the
 /// stage's parasitics and the stage's ends. Then nothing refuses the net of a stage on a walk, but perhaps its size.
@@ -41,4 +41,15 @@ pub fn stages_retime()
 /// So does the net of the old name: what was asked of it before the change, is answered by the slack of the placement.
 pub fn placed_nets_retime()
     ensures { PlacedNetsRetime }
+{}
+
+/// So whatever slack and wrong sink mode `time` tells of the net of the old name in the new design, are the slack of the
+/// placement, and no sink.
+pub fn placed_nets_time()
+    ensures { PlacedNetsTime }
+{}
+
+/// And where it refuses the net, a net on the way is too large.
+pub fn placed_nets_are_refused()
+    ensures { PlacedNetsAreRefused }
 {}
