@@ -136,7 +136,7 @@ module _ (net : Asked) (texts : Input → Bytes) where
       let same : d.design ≡ r.design = one_is (design_texts texts) d.design r.design d.design_of r.design_of in
       let refused : IsFirstOnWay d.design net.prefix net.net r.refusal
       = subst (λ (design : Design). IsFirstOnWay design net.prefix net.net r.refusal) (sym same) r.refused in
-      retimed_not_refused d.design net.prefix net.net d.timed r.refusal d.timed_of refused
+      omega (arith, few_refusals r.refusal, retimed_not_refused 17 d.design net.prefix net.net d.timed r.refusal d.timed_of refused)
 
   report_not_refusal : (mode : Mode) (t u : Bytes) → IsReportFor mode texts net t → IsRefusalFor mode texts net u → ⊥
   report_not_refusal Wire t u d r = passed_is (texts Spef) net.net d.wire_of.net 17 r.refusal d.wire_of.named d.wire_of.accepted (omega arith) r.refused (few_refusals r.refusal)
