@@ -1,0 +1,10 @@
+pub mod LibraryLemmas
+pub mod FewLemmas
+pub mod OneLemmas
+pub mod DesignLemmas
+pub mod PlacingLemmas
+pub mod RetimeLemmas
+pub mod BestLemmas
+pub mod SameLemmas
+pub mod OtherLemmas
+pub mod BareLemmas

@@ -1,0 +1,12 @@
+//! The written files of a design into which cells are put, read and timed again.
+//!
+//! A theory alone: it puts together what `vg_change_nets` says of the parasitics, `vg_renewed` of the netlist and `vg_chain` of the
+//! slack.
+#![tactic(auto)]
+
+mod laws;
+
+pub use laws::{
+    best_nets_retime, changed_texts_are_a_design, other_nets_time_as_before,
+    placed_nets_retime_in_texts,
+};
