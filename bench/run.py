@@ -13,9 +13,8 @@
 
 The sizes are those of the SPEF files in modes `design` and `time` (1, 16, 64 and 256 MB if none is given), of the netlists
 (256 MB) and of the libraries (64 MB). With `--beside OTHER` each row but those of `rows` and `library` also tells the seconds
-and the memory of another program with the same arguments, run right after; in mode `best` the other one is also told where to
-write the changed files. Seconds are the least of five runs of the whole
-process, peak memory is what GNU time tells, 1 MB is 2^20 bytes.
+and the memory of another program with the same arguments, run right after. In mode `best` the changed files are written, too.
+Seconds are the least of five runs of the whole process, peak memory is what GNU time tells, 1 MB is 2^20 bytes.
 """
 import argparse
 import os
@@ -176,15 +175,14 @@ def run_library(programs, *sizes):
 def run_best(programs, *sizes):
     head("net", "nodes", "repeaters", "printed cells", *titles(programs))
     files = ["--spef", "net.spef", "--lib", "made.lib", "--verilog", "net.v", "--cons", "net.cons"]
-    words = ["--mode", "best", *files, "--net", "n"]
-    written = ["--out-spef", "out.spef", "--out-verilog", "out.v"]
+    words = ["--mode", "best", *files, "--net", "n", "--out-spef", "out.spef", "--out-verilog", "out.v"]
     for nodes in sizes or ["1024", "8192", "65536"]:
         for shape in ["chain", "tree", "fan"]:
             for part, path in [("spef", "net.spef"), ("netlist", "net.v"), ("constraints", "net.cons")]:
                 make("best_net.py", [nodes, shape, part], path)
             for repeaters in ["2", "16", "64", "256"]:
                 make("repeaters.py", [repeaters], "made.lib")
-                runs = [measure_good([program, *words, *more]) for program, more in zip(programs, [[], written])]
+                runs = [measure_good([program, *words]) for program in programs]
                 if any(run[0] != runs[0][0] for run in runs):
                     print("run.py: the programs print different reports", file=sys.stderr)
                 cells = [cell for _, seconds, peak in runs for cell in (f"{seconds:.3f}", mb(peak))]

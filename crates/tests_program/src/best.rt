@@ -4,8 +4,8 @@ use crate::changes::{Base, Change, Cons, Lib, Row, Spef, Verilog, Words, is_so};
 use crate::texts::{CONS, NET, NETLIST};
 use std::test::Fail;
 
-static BASE: Base = Base {
-    words: "--mode best --spef a.spef --lib l.lib --verilog v.v --cons c.txt --net n1",
+pub(crate) static BASE: Base = Base {
+    words: "--mode best --spef a.spef --lib l.lib --verilog v.v --cons c.txt --net n1 --out-spef o.spef --out-verilog o.v",
     section: NET,
     verilog: NETLIST,
     cons: CONS,
@@ -49,7 +49,7 @@ const BARE: &str = "net n1 slack -116000000000 cost 0 cells 0\n";
 const NONE: &str = "net n1 none\n";
 
 /// Best placements of nets: a buffer, no cell, an inverter, of a fork, beside a dead branch, without wire, at the greatest capacitance.
-static PLACED: [Row; 8] = [
+pub(crate) static PLACED: [Row; 8] = [
     (&[], 0, BUFFERED),
     (&[(Cons, "400\n", "400\nblock n1:1\n")], 0, BARE),
     (
@@ -112,7 +112,7 @@ static PLACED: [Row; 8] = [
 ];
 
 /// Limits of what is driven, what a node allows, and boxes that nodes are in.
-static LIMITED: [Row; 6] = [
+pub(crate) static LIMITED: [Row; 6] = [
     (
         &[(
             Lib,
@@ -160,7 +160,7 @@ static LIMITED: [Row; 6] = [
 ];
 
 /// Nets on which no placement is good: the only place is a buffer's, or lies above sinks that want different signals.
-static NONE_GOOD: [Row; 2] = [
+pub(crate) static NONE_GOOD: [Row; 2] = [
     (&[WANTED_INVERTED], 1, NONE),
     (
         &[
@@ -181,7 +181,7 @@ static NONE_GOOD: [Row; 2] = [
 ];
 
 /// Nets that are refused, as in mode `time`, and faults.
-static REFUSED: [Row; 8] = [
+pub(crate) static REFUSED: [Row; 10] = [
     (
         &[(Words, "--net n1", "--net n7")],
         2,
@@ -220,6 +220,16 @@ static REFUSED: [Row; 8] = [
         &[(Words, " --lib l.lib", "")],
         3,
         "vginsert: words refused: missing option --lib\n",
+    ),
+    (
+        &[(Words, " --out-verilog o.v", "")],
+        3,
+        "vginsert: words refused: missing option --out-verilog\n",
+    ),
+    (
+        &[(Words, "--out-spef o.spef", "--out-spef a.spef")],
+        3,
+        "vginsert: words refused: equal names --spef --out-spef\n",
     ),
     (
         &[(Words, "--lib l.lib", "--lib a.spef")],

@@ -1,7 +1,7 @@
 //! Runs of modes that read the four files of a design, with changes of what they are given.
 ghost use Rattle.std.specs.Prelude.{◌≤◌};
 
-use crate::runs::{ending, ends_over};
+use crate::runs::{Ending, ending, ends_over};
 use crate::texts::{HEADER, LIB, words_of};
 use std::alloc::Global;
 use std::test::Fail;
@@ -56,7 +56,12 @@ pub(crate) type Change = (Part, &'static str, &'static str);
 pub(crate) type Row = (&'static [Change], u8, &'static str);
 
 /// The text of a part with its changes.
-fn changed(alloc: Global, base: &Base, part: Part, changes: &[Change]) -> Result<String, Fail> {
+pub(crate) fn changed(
+    alloc: Global,
+    base: &Base,
+    part: Part,
+    changes: &[Change],
+) -> Result<String, Fail> {
     let mut text = base.text(alloc, part)?;
     for (of, old, new) in changes {
         if *of == part {
@@ -66,21 +71,35 @@ fn changed(alloc: Global, base: &Base, part: Part, changes: &[Change]) -> Result
     Ok(text)
 }
 
-/// The files with these changes, which give so many bytes a call.
-fn changed_files(
+/// The files with these changes, which move so many bytes a call, and of which these calls fail.
+pub(crate) fn changed_files(
     alloc: Global,
     base: &Base,
     changes: &[Change],
     chunk: usize,
+    failing: &[u64],
 ) -> Result<MemFiles, Fail>
     requires { 1 ≤ chunk }
 {
-    let mut files = MemFiles::new(alloc, chunk, &[])?;
+    let mut files = MemFiles::new(alloc, chunk, failing)?;
     for (part, name) in &FILES {
         let text = changed(alloc, base, *part, changes)?;
         files.add(name, text.as_bytes())?;
     }
     Ok(files)
+}
+
+/// Whether a run with these changes over these files ends so, where the outputs move 64 bytes a call.
+pub(crate) fn ends_changed(
+    alloc: Global,
+    base: &Base,
+    changes: &[Change],
+    files: &mut MemFiles,
+    wanted: Ending<'_>,
+) -> Result<bool, Fail> {
+    let line = changed(alloc, base, Words, changes)?;
+    let words = words_of(alloc, line.as_str())?;
+    ends_over(alloc, &words, files, 64, (&[], &[]), wanted)
 }
 
 /// Whether a run with these changes ends with this status and this text.
@@ -96,7 +115,7 @@ pub(crate) fn is_so(
 {
     let line = changed(alloc, base, Words, changes)?;
     let words = words_of(alloc, line.as_str())?;
-    let mut files = changed_files(alloc, base, changes, chunk)?;
+    let mut files = changed_files(alloc, base, changes, chunk, &[])?;
     ends_over(
         alloc,
         &words,

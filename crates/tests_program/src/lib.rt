@@ -8,6 +8,8 @@ mod changes;
 #[cfg(test)]
 mod design;
 #[cfg(test)]
+mod faults;
+#[cfg(test)]
 mod program;
 #[cfg(test)]
 mod runs;
@@ -21,3 +23,5 @@ mod walks;
 mod wire;
 #[cfg(test)]
 mod words;
+#[cfg(test)]
+mod written;

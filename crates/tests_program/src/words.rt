@@ -33,7 +33,7 @@ static REQUESTS: [Request; 6] = [
         Some("-c"),
     ),
     (
-        "--mode best --spef a --lib l --verilog v --cons c --net n",
+        "--mode best --spef a --lib l --verilog v --cons c --net n --out-spef o --out-verilog w",
         Mode::Best,
         Some("l"),
         Some("v"),
@@ -78,8 +78,58 @@ fn reads_each_spelling(rt: HostRuntime) -> Result<(), Fail> {
     Ok(())
 }
 
+/// The files that are written, by the words.
+static OUTPUTS: [(&str, Option<&'static str>, Option<&'static str>); 4] = [
+    (
+        "--mode best --spef a --lib l --verilog v --cons c --net n --out-spef o --out-verilog w",
+        Some("o"),
+        Some("w"),
+    ),
+    (
+        "--out-verilog=--out-spef --mode best --spef a --lib l --out-spef=-o --verilog v --cons c --net n",
+        Some("-o"),
+        Some("--out-spef"),
+    ),
+    (
+        "--mode time --spef a --lib l --verilog v --cons c --net n",
+        None,
+        None,
+    ),
+    ("--mode wire --spef a --net n", None, None),
+];
+
+/// Whether the words name these files to be written.
+fn asks_outputs(
+    alloc: Global,
+    line: &str,
+    spef: Option<&str>,
+    verilog: Option<&str>,
+) -> Result<bool, Fail> {
+    let words = words_of(alloc, line)?;
+    let Ok(ask) = read_words(alloc, &words) else {
+        return Ok(false);
+    };
+    Ok(is_value(&ask.out_spef, spef) && is_value(&ask.out_verilog, verilog))
+}
+
+#[test]
+fn reads_outputs(rt: HostRuntime) -> Result<(), Fail> {
+    for (line, spef, verilog) in &OUTPUTS {
+        assert!(rt; asks_outputs(rt.alloc(), line, *spef, *verilog)?, "{line}");
+    }
+    Ok(())
+}
+
 /// What the names of cells that were put in begin with, by the words.
-static PREFIXES: [(&str, &str); 3] = [
+static PREFIXES: [(&str, &str); 5] = [
+    (
+        "--mode best --spef a --lib l --verilog v --cons c --net n --out-spef o --out-verilog w",
+        "vgi_",
+    ),
+    (
+        "--mode best --prefix w_ --spef a --lib l --verilog v --cons c --net n --out-spef o --out-verilog w",
+        "w_",
+    ),
     (
         "--mode time --spef a --lib l --verilog v --cons c --net n",
         "vgi_",
@@ -111,13 +161,9 @@ fn reads_prefixes(rt: HostRuntime) -> Result<(), Fail> {
     Ok(())
 }
 
-static FAULTY: [(&str, WordFault); 36] = [
+static FAULTY: [(&str, WordFault); 35] = [
     (
         "--mode wire --spef a --net n --prefix w_",
-        WordFault::Excluded(Opt::Prefix),
-    ),
-    (
-        "--mode best --spef a --lib l --verilog v --cons c --net n --prefix w_",
         WordFault::Excluded(Opt::Prefix),
     ),
     (
@@ -213,6 +259,86 @@ static FAULTY: [(&str, WordFault); 36] = [
     ),
 ];
 
+/// Faults of the words that name files to be written, and of those of mode `best`.
+static FAULTY_OUTPUTS: [(&str, WordFault); 19] = [
+    (
+        "--mode best --spef a --lib l --verilog v --cons c --net n",
+        WordFault::Missing(Opt::OutSpef),
+    ),
+    (
+        "--mode best --spef a --lib l --verilog v --cons c --net n --out-verilog w --prefix 9w",
+        WordFault::Missing(Opt::OutSpef),
+    ),
+    (
+        "--mode best --spef a --lib l --verilog v --cons c --net n --out-spef a",
+        WordFault::Missing(Opt::OutVerilog),
+    ),
+    (
+        "--mode best --spef a --lib l --verilog v --cons c --out-spef o --out-verilog w",
+        WordFault::Missing(Opt::Net),
+    ),
+    (
+        "--mode wire --spef a --net n --out-spef o",
+        WordFault::Excluded(Opt::OutSpef),
+    ),
+    (
+        "--mode wire --spef a --net n --out-verilog w",
+        WordFault::Excluded(Opt::OutVerilog),
+    ),
+    (
+        "--mode time --spef a --lib l --verilog v --cons c --net n --out-verilog a --out-spef a",
+        WordFault::Excluded(Opt::OutSpef),
+    ),
+    (
+        "--mode time --spef a --lib l --verilog v --cons c --net n --prefix 9w --out-verilog w",
+        WordFault::Excluded(Opt::OutVerilog),
+    ),
+    (
+        "--mode best --spef a --lib l --verilog v --cons c --net n --out-spef= --out-verilog ~",
+        WordFault::BadValue(Opt::OutSpef),
+    ),
+    (
+        "--mode best --spef a --lib l --verilog v --cons c --net n --out-spef a --out-verilog= --prefix=",
+        WordFault::BadValue(Opt::OutVerilog),
+    ),
+    (
+        "--mode best --spef a --lib l --verilog v --cons c --net n --out-spef o --out-verilog w --prefix=",
+        WordFault::BadValue(Opt::Prefix),
+    ),
+    (
+        "--mode best --spef a --lib l --verilog v --cons c --net n --out-spef a --out-verilog v --prefix w.",
+        WordFault::BadValue(Opt::Prefix),
+    ),
+    (
+        "--mode best --spef a --lib l --verilog v --cons c --net n --out-spef o --out-verilog w --out-spef p",
+        WordFault::Unread,
+    ),
+    (
+        "--mode best --spef a --lib l --verilog v --cons c --net n --out-spef a --out-verilog w",
+        WordFault::Equal(Opt::Spef, Opt::OutSpef),
+    ),
+    (
+        "--mode best --spef a --lib l --verilog v --cons c --net n --out-spef o --out-verilog a",
+        WordFault::Equal(Opt::Spef, Opt::OutVerilog),
+    ),
+    (
+        "--mode best --spef a --lib l --verilog v --cons c --net n --out-spef o --out-verilog v",
+        WordFault::Equal(Opt::Verilog, Opt::OutVerilog),
+    ),
+    (
+        "--mode best --spef a --lib l --verilog v --cons c --net n --out-spef l --out-verilog l",
+        WordFault::Equal(Opt::Lib, Opt::OutSpef),
+    ),
+    (
+        "--mode best --spef a --lib l --verilog v --cons c --net n --out-spef c --out-verilog c",
+        WordFault::Equal(Opt::Cons, Opt::OutSpef),
+    ),
+    (
+        "--mode best --spef a --lib l --verilog v --cons c --net n --out-spef o --out-verilog=o",
+        WordFault::Equal(Opt::OutSpef, Opt::OutVerilog),
+    ),
+];
+
 fn fault_of(alloc: Global, line: &str) -> Result<Option<WordFault>, Fail> {
     let words = words_of(alloc, line)?;
     Ok(read_words(alloc, &words).err())
@@ -220,7 +346,7 @@ fn fault_of(alloc: Global, line: &str) -> Result<Option<WordFault>, Fail> {
 
 #[test]
 fn refuses_in_order(rt: HostRuntime) -> Result<(), Fail> {
-    for (line, fault) in &FAULTY {
+    for (line, fault) in FAULTY.iter().chain(&FAULTY_OUTPUTS) {
         assert!(rt; fault_of(rt.alloc(), line)? == Some(*fault), "{line}");
     }
     let fault = read_words(rt.alloc(), &[]).err();

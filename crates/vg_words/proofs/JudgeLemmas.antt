@@ -9,7 +9,7 @@ use Rattle.vg_words.specs.declared.ask.Ask.{Ask}
 use Rattle.vg_words.specs.Options.{options, file_options, required, mode_of, mode_name}
 use Rattle.vg_words.specs.Request.{Setting, Sets, Values, values_in, value_of, IsRequest, is_unset, is_excluded, is_bad, or_else, of_first, of_pair, first_equal, fault_in, fault_of_mode, fault_of_name, fault_of, HasMode, IsRefused, ReadsWords, value}
 use Rattle.vg_words.specs.declared.option.Opt.{Opt}
-use Rattle.vg_words.specs.declared.option.Opt.TheVariants.{Mode, Spef, Lib, Verilog, Cons, Net, Prefix}
+use Rattle.vg_words.specs.declared.option.Opt.TheVariants.{Mode, Spef, Lib, Verilog, Cons, Net, OutSpef, OutVerilog, Prefix}
 use Rattle.vg_words.specs.declared.ask.Mode.{Mode as ModeSpec}
 use Rattle.vg_words.specs.declared.ask.Mode.TheVariants.{Wire, Time, Best}
 use Rattle.vg_words.specs.declared.ask.WordFault.{WordFault}
@@ -79,15 +79,17 @@ refused words ss fault g e = refused_for words ss fault (subst IsTold e (told (v
 some_mode : (a b : ModeSpec) → Some a ≡ Some b → a ≡ b
 some_mode a b e = cc
 
-requested_values : (values : Values) (ask : Ask) → values Mode ≡ Some (mode_name ask.mode) → values Spef ≡ ask.spef → values Lib ≡ ask.lib → values Verilog ≡ ask.verilog → values Cons ≡ ask.cons → values Net ≡ ask.net → values Prefix ≡ ask.prefix
+requested_values : (values : Values) (ask : Ask) → values Mode ≡ Some (mode_name ask.mode) → values Spef ≡ ask.spef → values Lib ≡ ask.lib → values Verilog ≡ ask.verilog → values Cons ≡ ask.cons → values Net ≡ ask.net → values OutSpef ≡ ask.out_spef → values OutVerilog ≡ ask.out_verilog → values Prefix ≡ ask.prefix
     → (option : Opt) → values option ≡ value ask option
-requested_values values ask m s l v c n p Mode = m
-requested_values values ask m s l v c n p Spef = s
-requested_values values ask m s l v c n p Lib = l
-requested_values values ask m s l v c n p Verilog = v
-requested_values values ask m s l v c n p Cons = c
-requested_values values ask m s l v c n p Net = n
-requested_values values ask m s l v c n p Prefix = p
+requested_values values ask m s l v c n os ov p Mode = m
+requested_values values ask m s l v c n os ov p Spef = s
+requested_values values ask m s l v c n os ov p Lib = l
+requested_values values ask m s l v c n os ov p Verilog = v
+requested_values values ask m s l v c n os ov p Cons = c
+requested_values values ask m s l v c n os ov p Net = n
+requested_values values ask m s l v c n os ov p OutSpef = os
+requested_values values ask m s l v c n os ov p OutVerilog = ov
+requested_values values ask m s l v c n os ov p Prefix = p
 
 -- a text that is the name of one mode, or else names another
 named_or : (text : List ℕ) (own mode : ModeSpec) (rest : Option ModeSpec) → (if bytes_eq text (mode_name own) then Some own else rest) ≡ Some mode
@@ -112,12 +114,12 @@ mode_given (Some name) mode h = ap (λ text. Some text) (mode_named name mode h)
 -- what is kept of the given values is the request
 pub requested : (words : List (List ℕ)) (ss : List Setting) (mode : ModeSpec) (ask : Ask) → Sets words ss → (fault_of (values_in ss) ≡ None) × HasMode (value_of Mode ss) mode
     → ask.mode ≡ mode → ask.spef ≡ value_of Spef ss → ask.lib ≡ value_of Lib ss → ask.verilog ≡ value_of Verilog ss → ask.cons ≡ value_of Cons ss → ask.net ≡ value_of Net ss
-    → ask.prefix ≡ value_of Prefix ss → IsRequest words ask
-requested words ss mode ask g (e, h) m s l v c n p = record {
+    → ask.out_spef ≡ value_of OutSpef ss → ask.out_verilog ≡ value_of OutVerilog ss → ask.prefix ≡ value_of Prefix ss → IsRequest words ask
+requested words ss mode ask g (e, h) m s l v c n os ov p = record {
   settings = ss;
   set = g;
   faultless = e;
-  values = requested_values (values_in ss) ask (mode_given (value_of Mode ss) mode h ∙ ap (λ x. Some (mode_name x)) (sym m)) (sym s) (sym l) (sym v) (sym c) (sym n) (sym p);
+  values = requested_values (values_in ss) ask (mode_given (value_of Mode ss) mode h ∙ ap (λ x. Some (mode_name x)) (sym m)) (sym s) (sym l) (sym v) (sym c) (sym n) (sym os) (sym ov) (sym p);
 }
 
 -- memory may be wanted
@@ -144,7 +146,7 @@ one words a b x y =
     let same : x.settings ≡ y.settings = sym u ∙ v in
     let values : (option : Opt) → value a option ≡ value b option = λ option. sym (x.values option) ∙ ap (value_of option) same ∙ y.values option in
     let mode = one_mode a.mode b.mode (some_text (mode_name a.mode) (mode_name b.mode) (values Mode)) in
-    λ i. record { mode = mode i; spef = values Spef i; lib = values Lib i; verilog = values Verilog i; cons = values Cons i; net = values Net i; prefix = values Prefix i }
+    λ i. record { mode = mode i; spef = values Spef i; lib = values Lib i; verilog = values Verilog i; cons = values Cons i; net = values Net i; out_spef = values OutSpef i; out_verilog = values OutVerilog i; prefix = values Prefix i }
 
 -- words that are refused are no request
 fault_apart : (words : List (List ℕ)) (fault : WordFault) → (ss : List Setting) × Sets words ss × (fault_of (values_in ss) ≡ Some fault) → (request : Ask) → IsRequest words request → ⊥

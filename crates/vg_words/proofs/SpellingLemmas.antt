@@ -9,7 +9,7 @@ use Rattle.vg_words.specs.Options.{name_of, option_of}
 use Rattle.vg_words.specs.Request.{Setting, Spells, AreSpelled, Sets, are_once}
 use Rattle.vg_words.specs.Settings.{is_equals, with_value, joined, apart, one_more, one_or_two, one_or_two_spelled, settings, is_spelled}
 use Rattle.vg_words.specs.declared.option.Opt.{Opt}
-use Rattle.vg_words.specs.declared.option.Opt.TheVariants.{Mode, Spef, Lib, Verilog, Cons, Net, Prefix}
+use Rattle.vg_words.specs.declared.option.Opt.TheVariants.{Mode, Spef, Lib, Verilog, Cons, Net, OutSpef, OutVerilog, Prefix}
 
 -- a word with a `=` is what stands before the first and after it
 part_more : (x : ℕ) (xs : List ℕ) (b : Bool) → is_equals x ≡ b → list_any is_equals (x ∷ xs) ≡ true
@@ -31,29 +31,38 @@ parts (x ∷ xs) e = part_more x xs (is_equals x) refl e (parts xs)
 bytes_are : (v w : List ℕ) → bytes_eq v w ≡ true → v ≡ w
 bytes_are v w = (bytes_eq-Decides v w).0
 
-abbrev or_mode : Option Opt → Opt
-or_mode None = Mode
-or_mode (Some o) = o
+some_option : (a b : Opt) → Some a ≡ Some b → a ≡ b
+some_option a b e = cc
+
+-- a word that is the name of one option, or else names another
+named_or : (w : List ℕ) (own o : Opt) (rest : Option Opt) → (if bytes_eq w (name_of own) then Some own else rest) ≡ Some o → (rest ≡ Some o → w ≡ name_of o)
+    → w ≡ name_of o
+named_or w own o rest e later =
+    elim (bytes_eq w (name_of own)) as (λ t. bytes_eq w (name_of own) ≡ t → (if t then Some own else rest) ≡ Some o → w ≡ name_of o) [
+      | true ↦ λ is same. bytes_are w (name_of own) is ∙ ap name_of (some_option own o same)
+      | false ↦ λ _ same. later same
+    ] refl e
 
 -- the word that names an option
-chosen : (w : List ℕ) (o : Opt) (a b l v c d p : Bool) → bytes_eq w (codes "--mode") ≡ a → bytes_eq w (codes "--spef") ≡ b → bytes_eq w (codes "--lib") ≡ l → bytes_eq w (codes "--verilog") ≡ v
-    → bytes_eq w (codes "--cons") ≡ c → bytes_eq w (codes "--net") ≡ d → bytes_eq w (codes "--prefix") ≡ p
-    → (if a then Some Mode else (if b then Some Spef else (if l then Some Lib else (if v then Some Verilog else (if c then Some Cons else (if d then Some Net
-    else (if p then Some Prefix else None))))))) ≡ Some o
-    → w ≡ name_of o
-chosen w o true b l v c d p ea eb el ev ec ed ep e = bytes_are w (codes "--mode") ea ∙ ap (λ x. name_of (or_mode x)) e
-chosen w o false true l v c d p ea eb el ev ec ed ep e = bytes_are w (codes "--spef") eb ∙ ap (λ x. name_of (or_mode x)) e
-chosen w o false false true v c d p ea eb el ev ec ed ep e = bytes_are w (codes "--lib") el ∙ ap (λ x. name_of (or_mode x)) e
-chosen w o false false false true c d p ea eb el ev ec ed ep e = bytes_are w (codes "--verilog") ev ∙ ap (λ x. name_of (or_mode x)) e
-chosen w o false false false false true d p ea eb el ev ec ed ep e = bytes_are w (codes "--cons") ec ∙ ap (λ x. name_of (or_mode x)) e
-chosen w o false false false false false true p ea eb el ev ec ed ep e = bytes_are w (codes "--net") ed ∙ ap (λ x. name_of (or_mode x)) e
-chosen w o false false false false false false true ea eb el ev ec ed ep e = bytes_are w (codes "--prefix") ep ∙ ap (λ x. name_of (or_mode x)) e
-chosen w o false false false false false false false ea eb el ev ec ed ep e = absurd (cc)
-
 named : (w : List ℕ) (o : Opt) → option_of w ≡ Some o → w ≡ name_of o
 named w o e =
-    chosen w o (bytes_eq w (codes "--mode")) (bytes_eq w (codes "--spef")) (bytes_eq w (codes "--lib")) (bytes_eq w (codes "--verilog")) (bytes_eq w (codes "--cons")) (bytes_eq w (codes "--net"))
-    (bytes_eq w (codes "--prefix")) refl refl refl refl refl refl refl e
+    let prefix : Option Opt = if bytes_eq w (codes "--prefix") then Some Prefix else None in
+    let out_verilog : Option Opt = if bytes_eq w (codes "--out-verilog") then Some OutVerilog else prefix in
+    let out_spef : Option Opt = if bytes_eq w (codes "--out-spef") then Some OutSpef else out_verilog in
+    let net : Option Opt = if bytes_eq w (codes "--net") then Some Net else out_spef in
+    let cons : Option Opt = if bytes_eq w (codes "--cons") then Some Cons else net in
+    let verilog : Option Opt = if bytes_eq w (codes "--verilog") then Some Verilog else cons in
+    let lib : Option Opt = if bytes_eq w (codes "--lib") then Some Lib else verilog in
+    let spef : Option Opt = if bytes_eq w (codes "--spef") then Some Spef else lib in
+    named_or w Mode o spef e
+    (λ e. named_or w Spef o lib e
+    (λ e. named_or w Lib o verilog e
+    (λ e. named_or w Verilog o cons e
+    (λ e. named_or w Cons o net e
+    (λ e. named_or w Net o out_spef e
+    (λ e. named_or w OutSpef o out_verilog e
+    (λ e. named_or w OutVerilog o prefix e
+    (λ e. named_or w Prefix o None e (λ none. absurd (cc))))))))))
 
 valued : (v u : List ℕ) (p : Option Opt) (o : Opt) → with_value v p ≡ Some (o, u) → (p ≡ Some o) × (u ≡ v)
 valued v u None o e = absurd (cc)
@@ -98,6 +107,8 @@ joined_read Lib v = refl
 joined_read Verilog v = refl
 joined_read Cons v = refl
 joined_read Net v = refl
+joined_read OutSpef v = refl
+joined_read OutVerilog v = refl
 joined_read Prefix v = refl
 
 joined_not : (o : Opt) → joined (name_of o) ≡ None
@@ -108,6 +119,8 @@ joined_not Lib = refl
 joined_not Verilog = refl
 joined_not Cons = refl
 joined_not Net = refl
+joined_not OutSpef = refl
+joined_not OutVerilog = refl
 joined_not Prefix = refl
 
 apart_read : (o : Opt) (v : List ℕ) → starts_with_minus v ≡ false → apart (name_of o) v ≡ Some (o, v)
@@ -118,6 +131,8 @@ apart_read Lib v e = rw e refl
 apart_read Verilog v e = rw e refl
 apart_read Cons v e = rw e refl
 apart_read Net v e = rw e refl
+apart_read OutSpef v e = rw e refl
+apart_read OutVerilog v e = rw e refl
 apart_read Prefix v e = rw e refl
 
 -- words that are settings whole spell what is read of them

@@ -2,7 +2,7 @@
 use Rattle.std.specs.Prelude.{ℕ, ◌==◌, Bool, List, [], ◌∷◌, ◌++◌, codes, Option, Some, None, if◌then◌else◌}
 use Rattle.std.specs.Str.{bytes_eq}
 use Rattle.vg_words.specs.declared.option.Opt.{Opt}
-use Rattle.vg_words.specs.declared.option.Opt.TheVariants.{Mode, Spef, Lib, Verilog, Cons, Net, Prefix}
+use Rattle.vg_words.specs.declared.option.Opt.TheVariants.{Mode, Spef, Lib, Verilog, Cons, Net, OutSpef, OutVerilog, Prefix}
 use Rattle.vg_words.specs.declared.ask.Mode.{Mode as ModeSpec}
 use Rattle.vg_words.specs.declared.ask.Mode.TheVariants.{Wire, Time, Best}
 
@@ -13,6 +13,8 @@ name_of Lib = codes "--lib"
 name_of Verilog = codes "--verilog"
 name_of Cons = codes "--cons"
 name_of Net = codes "--net"
+name_of OutSpef = codes "--out-spef"
+name_of OutVerilog = codes "--out-verilog"
 name_of Prefix = codes "--prefix"
 
 -- the option that a word names
@@ -24,7 +26,9 @@ option_of word =
     else (if bytes_eq word (codes "--verilog") then Some Verilog
     else (if bytes_eq word (codes "--cons") then Some Cons
     else (if bytes_eq word (codes "--net") then Some Net
-    else (if bytes_eq word (codes "--prefix") then Some Prefix else None))))))
+    else (if bytes_eq word (codes "--out-spef") then Some OutSpef
+    else (if bytes_eq word (codes "--out-verilog") then Some OutVerilog
+    else (if bytes_eq word (codes "--prefix") then Some Prefix else None))))))))
 
 -- the place of an option in the order of options
 abbrev pub place_of : Opt → ℕ
@@ -34,17 +38,19 @@ place_of Lib = 2
 place_of Verilog = 3
 place_of Cons = 4
 place_of Net = 5
-place_of Prefix = 6
+place_of OutSpef = 6
+place_of OutVerilog = 7
+place_of Prefix = 8
 
 abbrev pub is_same : Opt → Opt → Bool
 is_same a b = place_of a == place_of b
 
 abbrev pub options : List Opt
-options = Mode ∷ Spef ∷ Lib ∷ Verilog ∷ Cons ∷ Net ∷ Prefix ∷ []
+options = Mode ∷ Spef ∷ Lib ∷ Verilog ∷ Cons ∷ Net ∷ OutSpef ∷ OutVerilog ∷ Prefix ∷ []
 
 -- the options that name files
 abbrev pub file_options : List Opt
-file_options = Spef ∷ Lib ∷ Verilog ∷ Cons ∷ []
+file_options = Spef ∷ Lib ∷ Verilog ∷ Cons ∷ OutSpef ∷ OutVerilog ∷ []
 
 -- the mode that a text names
 abbrev pub mode_of : List ℕ → Option ModeSpec
@@ -62,12 +68,13 @@ mode_name Best = codes "best"
 abbrev pub required : ModeSpec → List Opt
 required Wire = Spef ∷ Net ∷ []
 required Time = Spef ∷ Lib ∷ Verilog ∷ Cons ∷ Net ∷ []
-required Best = Spef ∷ Lib ∷ Verilog ∷ Cons ∷ Net ∷ []
+required Best = Spef ∷ Lib ∷ Verilog ∷ Cons ∷ Net ∷ OutSpef ∷ OutVerilog ∷ []
 
 -- those that it may be given besides
 abbrev pub optional : ModeSpec → List Opt
+optional Wire = []
 optional Time = Prefix ∷ []
-optional mode = []
+optional Best = Prefix ∷ []
 
 -- those that it may be given; it has no use for others
 abbrev pub allowed : ModeSpec → List Opt

@@ -6,7 +6,7 @@ use Rattle.std.specs.Str.Parse.{starts_with_minus}
 use Rattle.std.specs.declared.alloc.Global.{Global}
 use Rattle.vg_words.specs.Options.{name_of, mode_of, mode_name, is_same, options, file_options, required, allowed}
 use Rattle.vg_words.specs.declared.option.Opt.{Opt}
-use Rattle.vg_words.specs.declared.option.Opt.TheVariants.{Mode, Spef, Lib, Verilog, Cons, Net, Prefix}
+use Rattle.vg_words.specs.declared.option.Opt.TheVariants.{Mode, Spef, Lib, Verilog, Cons, Net, OutSpef, OutVerilog, Prefix}
 use Rattle.vg_words.specs.declared.ask.Mode.{Mode as ModeSpec}
 use Rattle.vg_words.specs.declared.ask.Ask.{Ask}
 use Rattle.vg_words.specs.declared.ask.WordFault.{WordFault}
@@ -145,13 +145,15 @@ value ask Lib = ask.lib
 value ask Verilog = ask.verilog
 value ask Cons = ask.cons
 value ask Net = ask.net
+value ask OutSpef = ask.out_spef
+value ask OutVerilog = ask.out_verilog
 value ask Prefix = ask.prefix
 
 -- that value as a text, empty where there is none
 abbrev pub text_for : Ask → Opt → List ℕ
 text_for ask option = unwrap_or (value ask option) []
 
--- what the names of cells that were put in begin with
+-- what the names of cells that are put in begin with
 abbrev pub prefix_of : Ask → List ℕ
 prefix_of ask = unwrap_or ask.prefix (codes "vgi_")
 

@@ -14,13 +14,23 @@ pub enum Mode {
     Wire,
     /// Prints the slack of one net through the cells that were put in, and whether its sinks have their wanted polarity.
     Time,
-    /// Prints a best placement of repeaters on one net, and its slack.
+    /// Prints a best placement of repeaters on one net, and its slack, and writes the netlist and the parasitics with its cells.
     Best,
 }
 
 const WIRE_OPTIONS: [Opt; 2] = [Opt::Spef, Opt::Net];
 
 const DESIGN_OPTIONS: [Opt; 5] = [Opt::Spef, Opt::Lib, Opt::Verilog, Opt::Cons, Opt::Net];
+
+const CHANGE_OPTIONS: [Opt; 7] = [
+    Opt::Spef,
+    Opt::Lib,
+    Opt::Verilog,
+    Opt::Cons,
+    Opt::Net,
+    Opt::OutSpef,
+    Opt::OutVerilog,
+];
 
 impl Mode {
     /// The options that the mode asks for.
@@ -29,7 +39,8 @@ impl Mode {
     {
         match self {
             Mode::Wire => &WIRE_OPTIONS,
-            Mode::Time | Mode::Best => &DESIGN_OPTIONS,
+            Mode::Time => &DESIGN_OPTIONS,
+            Mode::Best => &CHANGE_OPTIONS,
         }
     }
 
@@ -39,7 +50,7 @@ impl Mode {
     {
         option == Opt::Mode
             || option.is_among(self.required_options())
-            || (self == Mode::Time && option == Opt::Prefix)
+            || (self != Mode::Wire && option == Opt::Prefix)
     }
 
     /// The mode's name in the words.
@@ -68,11 +79,15 @@ pub struct Ask {
     pub cons: Option<Text>,
     /// The name of the net.
     pub net: Option<Text>,
-    /// What the names of cells that were put in begin with.
+    /// The name of the SPEF file that is written.
+    pub out_spef: Option<Text>,
+    /// The name of the netlist that is written.
+    pub out_verilog: Option<Text>,
+    /// What the names of cells that are put in begin with.
     pub prefix: Option<Text>,
 }
 
-/// What the names of cells that were put in begin with, where the words do not say.
+/// What the names of cells that are put in begin with, where the words do not say.
 const PREFIX: &str = "vgi_";
 
 impl Ask {
@@ -87,6 +102,8 @@ impl Ask {
             Opt::Verilog => &self.verilog,
             Opt::Cons => &self.cons,
             Opt::Net => &self.net,
+            Opt::OutSpef => &self.out_spef,
+            Opt::OutVerilog => &self.out_verilog,
             Opt::Prefix => &self.prefix,
         };
         match value {
@@ -97,7 +114,7 @@ impl Ask {
 }
 
 impl Ask {
-    /// What the names of cells that were put in begin with: the value of its option, or `vgi_`.
+    /// What the names of cells that are put in begin with: the value of its option, or `vgi_`.
     pub fn prefix(&self) -> &str
         ensures { result.now ≡ prefix_of self.now }
     {

@@ -205,6 +205,8 @@ fn ask_of(alloc: Global, mode: Mode, given: &Given<'_>) -> Result<Ask, Memory>
     ensures verilog { IfOk result (λ ask. ask.verilog ≡ given_by given.now Opt.Verilog) }
     ensures cons { IfOk result (λ ask. ask.cons ≡ given_by given.now Opt.Cons) }
     ensures net { IfOk result (λ ask. ask.net ≡ given_by given.now Opt.Net) }
+    ensures out_spef { IfOk result (λ ask. ask.out_spef ≡ given_by given.now Opt.OutSpef) }
+    ensures out_verilog { IfOk result (λ ask. ask.out_verilog ≡ given_by given.now Opt.OutVerilog) }
     ensures prefix { IfOk result (λ ask. ask.prefix ≡ given_by given.now Opt.Prefix) }
 {
     let spef = text_of(alloc, given.get(Opt::Spef))?;
@@ -212,6 +214,8 @@ fn ask_of(alloc: Global, mode: Mode, given: &Given<'_>) -> Result<Ask, Memory>
     let verilog = text_of(alloc, given.get(Opt::Verilog))?;
     let cons = text_of(alloc, given.get(Opt::Cons))?;
     let net = text_of(alloc, given.get(Opt::Net))?;
+    let out_spef = text_of(alloc, given.get(Opt::OutSpef))?;
+    let out_verilog = text_of(alloc, given.get(Opt::OutVerilog))?;
     let prefix = text_of(alloc, given.get(Opt::Prefix))?;
     Ok(Ask {
         mode,
@@ -220,6 +224,8 @@ fn ask_of(alloc: Global, mode: Mode, given: &Given<'_>) -> Result<Ask, Memory>
         verilog,
         cons,
         net,
+        out_spef,
+        out_verilog,
         prefix,
     })
 }
@@ -227,8 +233,9 @@ fn ask_of(alloc: Global, mode: Mode, given: &Given<'_>) -> Result<Ask, Memory>
 /// Reads the words of the command line, without the program's own name.
 ///
 /// Each option is `--name value` or `--name=value`, in any order, at most once; a value that stands in a word of its
-/// own does not begin with `-`. Mode `wire` asks for `--spef` and `--net`, modes `time` and `best` for `--lib`,
-/// `--verilog` and `--cons` too. Mode `time` may be given `--prefix`. The faults come in the order of `WordFault`, and of one kind the first option in the order of `Opt`. Answers `Memory` where
+/// own does not begin with `-`. Mode `wire` asks for `--spef` and `--net`, mode `time` for `--lib`, `--verilog` and `--cons` too, and mode
+/// `best` besides for `--out-spef` and `--out-verilog`. Modes `time` and `best` may be given `--prefix`. The faults come in the order of
+/// `WordFault`, and of one kind the first option in the order of `Opt`. Answers `Memory` where
 /// there is no room.
 pub fn read_words(alloc: Global, words: &[String]) -> Result<Ask, WordFault>
     ensures { ReadsWords result (texts words.now) }

@@ -17,23 +17,36 @@ pub enum Opt {
     Cons,
     /// The name of the net.
     Net,
+    /// The name of the SPEF file that is written.
+    OutSpef,
+    /// The name of the netlist that is written.
+    OutVerilog,
     /// What the names of cells that were put in begin with.
     Prefix,
 }
 
 /// All options, in order.
-pub const OPTIONS: [Opt; 7] = [
+pub const OPTIONS: [Opt; 9] = [
     Opt::Mode,
     Opt::Spef,
     Opt::Lib,
     Opt::Verilog,
     Opt::Cons,
     Opt::Net,
+    Opt::OutSpef,
+    Opt::OutVerilog,
     Opt::Prefix,
 ];
 
 /// Those that name files.
-pub const FILE_OPTIONS: [Opt; 4] = [Opt::Spef, Opt::Lib, Opt::Verilog, Opt::Cons];
+pub const FILE_OPTIONS: [Opt; 6] = [
+    Opt::Spef,
+    Opt::Lib,
+    Opt::Verilog,
+    Opt::Cons,
+    Opt::OutSpef,
+    Opt::OutVerilog,
+];
 
 impl Opt {
     /// The option as a word.
@@ -47,6 +60,8 @@ impl Opt {
             Opt::Verilog => "--verilog",
             Opt::Cons => "--cons",
             Opt::Net => "--net",
+            Opt::OutSpef => "--out-spef",
+            Opt::OutVerilog => "--out-verilog",
             Opt::Prefix => "--prefix",
         }
     }
@@ -81,6 +96,10 @@ impl Opt {
             Some(Opt::Cons)
         } else if word == "--net" {
             Some(Opt::Net)
+        } else if word == "--out-spef" {
+            Some(Opt::OutSpef)
+        } else if word == "--out-verilog" {
+            Some(Opt::OutVerilog)
         } else if word == "--prefix" {
             Some(Opt::Prefix)
         } else {

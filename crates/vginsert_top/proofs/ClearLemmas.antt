@@ -22,13 +22,13 @@ use Rattle.vg_wire.specs.declared.refusal.Refusal.{Refusal}
 use Rattle.vg_wire.specs.declared.refusal.Refusal.TheVariants.{UnknownNet, Section as Faulty, Reduced, Inductive, Bidirectional, NoDriver, ManyDrivers, Mismatch, Tied, NoDrive, NoLoad, Floating, Loop, NoSink, Unconstrained, TooLarge}
 use Rattle.vg_wire.specs.declared.wire.WireNet.{WireNet}
 use Rattle.vg_words.specs.declared.ask.Mode.TheVariants.{Wire}
-use Rattle.vginsert_top.specs.Answer.{AnswersFor, IsAnswerFor, texts_of}
-use Rattle.vginsert_top.specs.Results.{Asked, IsSpefFault}
+use Rattle.vginsert_top.specs.Answer.{AnswersFor, IsAnswerFor, said_by, texts_of}
+use Rattle.vginsert_top.specs.Results.{Asked, Said, IsSpefFault}
 use Rattle.vginsert_top.specs.declared.answer.Answer.{Answer}
 use Rattle.vginsert_top.specs.declared.answer.AnswerKind.{AnswerKind}
 use Rattle.vginsert_top.specs.declared.answer.AnswerKind.TheVariants.{Report, NoneGood, Refusal as Refused}
 use Rattle.vginsert_top.specs.declared.answer.NoAnswer.{NoAnswer}
-use Rattle.vginsert_top.specs.declared.answer.NoAnswer.TheVariants.{Faulty as FaultyInput, Memory}
+use Rattle.vginsert_top.specs.declared.answer.NoAnswer.TheVariants.{Faulty as FaultyInput, Taken, Memory}
 
 module _ (raw clear : List ℕ) (same : without_comments Spef clear ≡ without_comments Spef raw) where
   file_same : (file : File) → IsFileOf clear file → IsFileOf raw file
@@ -86,13 +86,14 @@ module _ (raw clear : List ℕ) (same : without_comments Spef clear ≡ without_
   spef_same line h = record { fault = h.fault; found = fault_of_file_same h.fault h.found; text_is = h.text_is }
 
   -- an answer of the one is an answer of the other
-  wire_kind : (lib verilog cons : List ℕ) (name : Asked) (text : List ℕ) (kind : AnswerKind) → IsAnswerFor kind Wire (texts_of clear [] [] []) name text → IsAnswerFor kind Wire (texts_of raw lib verilog cons) name text
-  wire_kind lib verilog cons name text Report h = record { wire = h.wire; wire_of = wire_same name.net h.wire h.wire_of; text_is = h.text_is }
-  wire_kind lib verilog cons name text NoneGood h = h
-  wire_kind lib verilog cons name text Refused h = record { refusal = h.refusal; refused = refusal_same name.net h.refusal h.refused; text_is = h.text_is }
+  wire_kind : (lib verilog cons : List ℕ) (name : Asked) (said : Said) (kind : AnswerKind) → IsAnswerFor kind Wire (texts_of clear [] [] []) name said → IsAnswerFor kind Wire (texts_of raw lib verilog cons) name said
+  wire_kind lib verilog cons name said Report (h, none) = (record { wire = h.wire; wire_of = wire_same name.net h.wire h.wire_of; text_is = h.text_is }, none)
+  wire_kind lib verilog cons name said NoneGood h = h
+  wire_kind lib verilog cons name said Refused (h, none) = (record { refusal = h.refusal; refused = refusal_same name.net h.refusal h.refused; text_is = h.text_is }, none)
 
   pub wire_answers : (lib verilog cons : List ℕ) (name : Asked) (result : Result Answer NoAnswer) → AnswersFor Wire (texts_of clear [] [] []) name result → AnswersFor Wire (texts_of raw lib verilog cons) name result
-  wire_answers lib verilog cons name (Ok answer) h = wire_kind lib verilog cons name answer.text.items answer.kind h
+  wire_answers lib verilog cons name (Ok answer) h = wire_kind lib verilog cons name (said_by answer) answer.kind h
   wire_answers lib verilog cons name (Err (FaultyInput input line)) (inl (is, fault)) = inl (is, spef_same line fault)
   wire_answers lib verilog cons name (Err (FaultyInput input line)) (inr (good, none)) = absurd none
+  wire_answers lib verilog cons name (Err (Taken taken)) h = absurd h
   wire_answers lib verilog cons name (Err Memory) h = tt

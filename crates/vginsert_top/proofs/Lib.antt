@@ -1,5 +1,8 @@
 pub mod GainLemmas
 pub mod InputLemmas
+pub mod BestLemmas
+pub mod RequestLemmas
+pub mod DeliverLemmas
 pub mod ApartLemmas
 pub mod RunLemmas
 pub mod AnswerLemmas

@@ -1,9 +1,9 @@
 -- What a status tells of a run.
-use Rattle.std.proofs.Common.{◌≡◌, ◌≢◌, ◌⊎◌, inl, inr, ℕ, ◌^◌, ◌<◌, List, length, refl, sym, ap, ◌∙◌, subst, arith, Option, Some, IfSome, Err}
+use Rattle.std.proofs.Common.{◌≡◌, ◌≢◌, ◌⊎◌, inl, inr, ℕ, ◌^◌, ◌<◌, List, length, refl, sym, ap, ◌∙◌, subst, arith, Option, Some, IfSome, Err, true}
 use Rattle.std.specs.List.{All}
 use Rattle.vg_store.specs.Causes.{Rose}
 use Rattle.vg_store.specs.Reading.{FilesState}
-use Rattle.vg_store.specs.Writing.{OutState, Gains, GainsPrefix}
+use Rattle.vg_store.specs.Writing.{OutState, Gains}
 use Rattle.vg_words.specs.Request.{IsRequest, IsRefused, ReadsWords}
 use Rattle.vg_words.specs.declared.ask.Ask.{Ask}
 use Rattle.vg_words.specs.declared.ask.Mode.{Mode}
@@ -11,10 +11,10 @@ use Rattle.vg_words.specs.declared.ask.Mode.TheVariants.{Wire, Time, Best}
 use Rattle.vg_words.specs.declared.ask.WordFault.{WordFault}
 use Rattle.vg_words.specs.declared.ask.WordFault.TheVariants.{Unread, Missing, Excluded, BadValue, Equal, Memory as NoRoom}
 use Rattle.vg_words.proofs.JudgeLemmas.{refused_none, one}
-use Rattle.vginsert_top.specs.Answer.{IsAnswerFor, texts_of}
+use Rattle.vginsert_top.specs.Answer.{IsAnswerFor, IsTakenFor, texts_of}
 use Rattle.vginsert_top.specs.Inputs.{design_inputs, inputs, told, Change, IsShort, IsLong, IsRead, IsFirstFault}
-use Rattle.vginsert_top.specs.Results.{Asked}
-use Rattle.vginsert_top.specs.Run.{asked_by, AreTold, AreShort, IsExact, IsStatusFor, Prints, PrintsSome, Says, TellsFlaw, status_for}
+use Rattle.vginsert_top.specs.Results.{Asked, Said}
+use Rattle.vginsert_top.specs.Run.{asked_by, AllStay, AreTold, AreShort, IsExact, IsStatusFor, Prints, Says, TellsFlaw, TellsRefusedInput, TellsWriteFault, prints_nothing, status_for}
 use Rattle.vginsert_top.specs.Outcomes.{Ends, IsStatusOf, Tells, status_of, fault_status}
 use Rattle.vginsert_top.specs.declared.answer.AnswerKind.{AnswerKind}
 use Rattle.vginsert_top.specs.declared.answer.AnswerKind.TheVariants.{Report, NoneGood, Refusal}
@@ -22,8 +22,8 @@ use Rattle.vginsert_top.specs.declared.input.Input.{Input}
 use Rattle.vginsert_top.specs.declared.input.Input.TheVariants.{Spef, Lib, Verilog, Cons}
 use Rattle.vginsert_top.specs.declared.input.Flaw.TheVariants.{Failed, TooLong, Faulty}
 use Rattle.vginsert_top.specs.declared.outcome.Outcome.{Outcome}
-use Rattle.vginsert_top.specs.declared.outcome.Outcome.TheVariants.{Printed, Flawed, WriteFault, Memory}
-use Rattle.vginsert_top.proofs.ApartLemmas.{not_faulty, one_kind}
+use Rattle.vginsert_top.specs.declared.outcome.Outcome.TheVariants.{Printed, Flawed, Taken, Unwritten, WriteFault, Memory}
+use Rattle.vginsert_top.proofs.ApartLemmas.{not_faulty, not_taken, one_kind}
 use Rattle.vginsert_top.proofs.InputLemmas.{all_one, all_four, none_first}
 
 abbrev Bytes : Type 0
@@ -47,10 +47,11 @@ fault_two (Equal a b) = inl refl
 fault_two NoRoom = inr refl
 
 module _ (ask : Ask) (texts : Input → Bytes) where
-  answer_status : AreShort ask texts → (kind : AnswerKind) (t : Bytes) → IsAnswerFor kind ask.mode texts (asked_by ask) t → IsStatusFor ask texts (status_for kind)
+  answer_status : AreShort ask texts → (kind : AnswerKind) (t : Said) → IsAnswerFor kind ask.mode texts (asked_by ask) t → IsStatusFor ask texts (status_for kind)
   answer_status short kind t is = record {
     too_long = λ long. absurd (long short);
     faulty = λ _ line input f. absurd (not_faulty (asked_by ask) texts kind ask.mode t line input is f);
+    taken = λ _ name r. absurd (not_taken (asked_by ask) texts kind ask.mode t name is r);
     answer = λ _ other u r. ap status_for (one_kind (asked_by ask) texts ask.mode kind other t u is r);
   }
 
@@ -58,13 +59,23 @@ module _ (ask : Ask) (texts : Input → Bytes) where
   faulty_status line input is = record {
     too_long = λ _. refl;
     faulty = λ _ _ _ _. refl;
+    taken = λ _ _ _. refl;
     answer = λ _ kind t r. absurd (not_faulty (asked_by ask) texts kind ask.mode t line input r is);
+  }
+
+  taken_status : (name : Bytes) → IsTakenFor ask.mode texts (asked_by ask) name → IsStatusFor ask texts 4
+  taken_status name is = record {
+    too_long = λ _. refl;
+    faulty = λ _ _ _ _. refl;
+    taken = λ _ _ _. refl;
+    answer = λ _ kind t r. absurd (not_taken (asked_by ask) texts kind ask.mode t name r is);
   }
 
   long_status : (AreShort ask texts → ⊥) → IsStatusFor ask texts 4
   long_status long = record {
     too_long = λ _. refl;
-    faulty = λ short _ _ _. refl;
+    faulty = λ _ _ _ _. refl;
+    taken = λ _ _ _. refl;
     answer = λ short _ _ _. absurd (long short);
   }
 
@@ -100,7 +111,7 @@ along P a b (s, l, v, c) p =
     (subst (λ (verilog : Bytes). P (texts_of (b Spef) (b Lib) verilog (a Cons))) v
     (subst (λ (lib : Bytes). P (texts_of (b Spef) lib (a Verilog) (a Cons))) l (subst (λ (spef : Bytes). P (texts_of spef (a Lib) (a Verilog) (a Cons))) s p)))
 
-answer_as : (kind : AnswerKind) (mode : Mode) (a b : Input → Bytes) (net : Asked) (t : Bytes) → Agree mode a b → IsAnswerFor kind mode a net t → IsAnswerFor kind mode b net t
+answer_as : (kind : AnswerKind) (mode : Mode) (a b : Input → Bytes) (net : Asked) (t : Said) → Agree mode a b → IsAnswerFor kind mode a net t → IsAnswerFor kind mode b net t
 answer_as Report Wire a b net t e is = subst (λ (s : Bytes). IsAnswerFor Report Wire (texts_of s (b Lib) (b Verilog) (b Cons)) net t) e is
 answer_as Report Time a b net t e is = along (λ texts. IsAnswerFor Report Time texts net t) a b e is
 answer_as Report Best a b net t e is = along (λ texts. IsAnswerFor Report Best texts net t) a b e is
@@ -110,6 +121,11 @@ answer_as NoneGood Best a b net t e is = along (λ texts. IsAnswerFor NoneGood B
 answer_as Refusal Wire a b net t e is = subst (λ (s : Bytes). IsAnswerFor Refusal Wire (texts_of s (b Lib) (b Verilog) (b Cons)) net t) e is
 answer_as Refusal Time a b net t e is = along (λ texts. IsAnswerFor Refusal Time texts net t) a b e is
 answer_as Refusal Best a b net t e is = along (λ texts. IsAnswerFor Refusal Best texts net t) a b e is
+
+taken_as : (mode : Mode) (a b : Input → Bytes) (net : Asked) (name : Bytes) → Agree mode a b → IsTakenFor mode a net name → IsTakenFor mode b net name
+taken_as Wire a b net name e is = is
+taken_as Time a b net name e is = is
+taken_as Best a b net name e is = along (λ texts. IsTakenFor Best texts net name) a b e is
 
 faulty_as : (mode : Mode) (a b : Input → Bytes) (line : Bytes) (input : Input) → Agree mode a b → IsFirstFault a (inputs mode) line input → IsFirstFault b (inputs mode) line input
 faulty_as Wire a b line input e is = subst (λ (s : Bytes). IsFirstFault (texts_of s (b Lib) (b Verilog) (b Cons)) (inputs Wire) line input) e is
@@ -156,62 +172,85 @@ kind_by_status Refusal NoneGood e = absurd (omega (arith, e))
 module _ (ask : Ask) (files : Change FilesState) (out : Change OutState) where
   exact_is : (outcome : Outcome) → Ends ask files out outcome → (b : Input → Bytes) → AreTold files.0 ask b
       → status_of outcome ≢ 5 → status_of outcome ≢ 6 → status_of outcome ≢ 7 → IsStatusFor ask b (status_of outcome)
-  exact_is (Printed kind) (a, read, (t, is, _)) b tells five six seven =
+  exact_is (Printed kind) (a, read, (t, is, _, _)) b tells five six seven =
       let e = agree ask.mode (told files.0 ask) a b read tells in
       answer_status ask b (shorts ask.mode (told files.0 ask) a b read e) kind t (answer_as kind ask.mode a b (asked_by ask) t e is)
-  exact_is (Flawed input (Faulty line)) (flawed, _) b tells five six seven =
+  exact_is (Flawed input (Faulty line)) (flawed, _, _) b tells five six seven =
       let e = agree ask.mode (told files.0 ask) flawed.texts b flawed.first.0 tells in
       faulty_status ask b line input (faulty_as ask.mode flawed.texts b line input e flawed.first.1)
-  exact_is (Flawed input TooLong) (flawed, _) b tells five six seven =
+  exact_is (Flawed input TooLong) (flawed, _, _) b tells five six seven =
       long_status ask b (λ short.
       none_first (λ i. IsRead (told files.0 ask i) (flawed.texts i)) (λ i. IsLong (told files.0 ask i)) (λ i. (told files.0 ask i ≡ Some (b i)) × IsShort (b i)) (inputs ask.mode) input flawed.first
       (both (λ i. told files.0 ask i ≡ Some (b i)) (λ i. IsShort (b i)) (inputs ask.mode) tells short) (λ i fine long. not_long (told files.0 ask i) (b i) fine.0 fine.1 long))
   exact_is (Flawed input Failed) ends b tells five six seven = absurd (five refl)
+  exact_is (Taken name) ((a, read, is), _, _) b tells five six seven =
+      let e = agree ask.mode (told files.0 ask) a b read tells in
+      taken_status ask b name (taken_as ask.mode a b (asked_by ask) name e is)
+  exact_is (Unwritten output) ends b tells five six seven = absurd (six refl)
   exact_is WriteFault ends b tells five six seven = absurd (six refl)
   exact_is Memory ends b tells five six seven = absurd (seven refl)
 
-  printed_is : (kind : AnswerKind) (outcome : Outcome) → status_of outcome ≡ status_for kind → Ends ask files out outcome → Prints kind files.0 (Gains out.0 out.1) ask
-  printed_is kind (Printed other) e ends = subst (λ (k : AnswerKind). Prints k files.0 (Gains out.0 out.1) ask) (kind_by_status other kind e) ends
+  printed_is : (kind : AnswerKind) (outcome : Outcome) → status_of outcome ≡ status_for kind → Ends ask files out outcome → Prints kind files (Gains out.0 out.1) ask
+  printed_is kind (Printed other) e ends = subst (λ (k : AnswerKind). Prints k files (Gains out.0 out.1) ask) (kind_by_status other kind e) ends
   printed_is kind (Flawed input Failed) e ends = absurd (omega (arith, e, few_for kind))
   printed_is kind (Flawed input TooLong) e ends = absurd (omega (arith, e, few_for kind))
   printed_is kind (Flawed input (Faulty line)) e ends = absurd (omega (arith, e, few_for kind))
+  printed_is kind (Taken name) e ends = absurd (omega (arith, e, few_for kind))
+  printed_is kind (Unwritten output) e ends = absurd (omega (arith, e, few_for kind))
   printed_is kind WriteFault e ends = absurd (omega (arith, e, few_for kind))
   printed_is kind Memory e ends = absurd (omega (arith, e, few_for kind))
 
-  write_fault_is : (outcome : Outcome) → status_of outcome ≡ 6 → Ends ask files out outcome
-      → Rose out.0.faults out.1.faults × PrintsSome files.0 (GainsPrefix out.0 out.1) ask
-  write_fault_is WriteFault e ends = ends
-  write_fault_is (Printed kind) e ends = absurd (omega (arith, e, few_for kind))
-  write_fault_is (Flawed input Failed) e ends = absurd (omega arith)
-  write_fault_is (Flawed input TooLong) e ends = absurd (omega arith)
-  write_fault_is (Flawed input (Faulty line)) e ends = absurd (omega arith)
-  write_fault_is Memory e ends = absurd (omega arith)
+  all_stay : (outcome : Outcome) → prints_nothing (status_of outcome) ≡ true → Ends ask files out outcome → AllStay files
+  all_stay (Printed Report) e ends = absurd cc
+  all_stay (Printed NoneGood) e ends = absurd cc
+  all_stay (Printed Refusal) e ends = absurd cc
+  all_stay (Flawed input flaw) e (_, stay, _) = stay
+  all_stay (Taken name) e (_, stay, _) = stay
+  all_stay (Unwritten output) e ends = absurd cc
+  all_stay WriteFault e ends = absurd cc
+  all_stay Memory e (stay, _) = stay
 
   not_three : (outcome : Outcome) → status_of outcome ≡ 3 → ⊥
   not_three (Printed kind) e = omega (arith, e, few_for kind)
   not_three (Flawed input Failed) e = omega arith
   not_three (Flawed input TooLong) e = omega arith
   not_three (Flawed input (Faulty line)) e = omega arith
+  not_three (Taken name) e = omega arith
+  not_three (Unwritten output) e = omega arith
   not_three WriteFault e = omega arith
   not_three Memory e = omega arith
 
   module _ (err : Change OutState) where
-    unreadable_is : (outcome : Outcome) → status_of outcome ≡ 4 → Ends ask files out outcome → Tells ask err outcome → TellsFlaw 4 files (Says err.0 err.1) ask
-    unreadable_is (Flawed input TooLong) e (flawed, _) tells = (input, TooLong, refl, flawed, tells)
-    unreadable_is (Flawed input (Faulty line)) e (flawed, _) tells = (input, Faulty line, refl, flawed, tells)
+    unreadable_is : (outcome : Outcome) → status_of outcome ≡ 4 → Ends ask files out outcome → Tells ask err outcome → TellsRefusedInput files (Says err.0 err.1) ask
+    unreadable_is (Flawed input TooLong) e (flawed, _, _) tells = inl (input, TooLong, refl, flawed, tells)
+    unreadable_is (Flawed input (Faulty line)) e (flawed, _, _) tells = inl (input, Faulty line, refl, flawed, tells)
     unreadable_is (Flawed input Failed) e ends tells = absurd (omega arith)
+    unreadable_is (Taken name) e (takes, _, _) tells = inr (name, takes, tells)
     unreadable_is (Printed kind) e ends tells = absurd (omega (arith, e, few_for kind))
+    unreadable_is (Unwritten output) e ends tells = absurd (omega arith)
     unreadable_is WriteFault e ends tells = absurd (omega arith)
     unreadable_is Memory e ends tells = absurd (omega arith)
 
     read_fault_is : (outcome : Outcome) → status_of outcome ≡ 5 → Ends ask files out outcome → Tells ask err outcome
         → Rose files.0.read_faults files.1.read_faults × TellsFlaw 5 files (Says err.0 err.1) ask
-    read_fault_is (Flawed input Failed) e (flawed, _) tells = (flawed.caused.0, (input, Failed, refl, flawed, tells))
+    read_fault_is (Flawed input Failed) e (flawed, _, _) tells = (flawed.caused.0, (input, Failed, refl, flawed, tells))
     read_fault_is (Flawed input TooLong) e ends tells = absurd (omega arith)
     read_fault_is (Flawed input (Faulty line)) e ends tells = absurd (omega arith)
+    read_fault_is (Taken name) e ends tells = absurd (omega arith)
     read_fault_is (Printed kind) e ends tells = absurd (omega (arith, e, few_for kind))
+    read_fault_is (Unwritten output) e ends tells = absurd (omega arith)
     read_fault_is WriteFault e ends tells = absurd (omega arith)
     read_fault_is Memory e ends tells = absurd (omega arith)
+
+    write_fault_is : (outcome : Outcome) → status_of outcome ≡ 6 → Ends ask files out outcome → Tells ask err outcome → TellsWriteFault files out (Says err.0 err.1) ask
+    write_fault_is WriteFault e (rose, prints) tells = inl (rose, prints, tells)
+    write_fault_is (Unwritten output) e (fails, same) tells = inr (output, fails, same, tells)
+    write_fault_is (Printed kind) e ends tells = absurd (omega (arith, e, few_for kind))
+    write_fault_is (Flawed input Failed) e ends tells = absurd (omega arith)
+    write_fault_is (Flawed input TooLong) e ends tells = absurd (omega arith)
+    write_fault_is (Flawed input (Faulty line)) e ends tells = absurd (omega arith)
+    write_fault_is (Taken name) e ends tells = absurd (omega arith)
+    write_fault_is Memory e ends tells = absurd (omega arith)
 
 -- the request is the one that the words denote
 exact_for : (words : List Bytes) (ask : Ask) (files : Change FilesState) (out : Change OutState) (outcome : Outcome) (status : ℕ)
@@ -226,20 +265,23 @@ exact_for words ask files out outcome status is e ends other same read told five
 
 -- what the outcome of a request says of it
 module _ {ask : Ask} {files : Change FilesState} {out err : Change OutState} {status : ℕ} (run : IsStatusOf ask files out err status) where
-  pub run_printed : (kind : AnswerKind) → status ≡ status_for kind → Prints kind files.0 (Gains out.0 out.1) ask
+  pub run_printed : (kind : AnswerKind) → status ≡ status_for kind → Prints kind files (Gains out.0 out.1) ask
   run_printed kind e = printed_is ask files out kind run.outcome (sym run.status_is ∙ e) run.ends
 
   pub run_not_three : status ≡ 3 → ⊥
   run_not_three e = not_three ask files out run.outcome (sym run.status_is ∙ e)
 
-  pub run_unreadable : status ≡ 4 → TellsFlaw 4 files (Says err.0 err.1) ask
+  pub run_unreadable : status ≡ 4 → TellsRefusedInput files (Says err.0 err.1) ask
   run_unreadable e = unreadable_is ask files out err run.outcome (sym run.status_is ∙ e) run.ends run.tells
 
   pub run_read_fault : status ≡ 5 → Rose files.0.read_faults files.1.read_faults × TellsFlaw 5 files (Says err.0 err.1) ask
   run_read_fault e = read_fault_is ask files out err run.outcome (sym run.status_is ∙ e) run.ends run.tells
 
-  pub run_write_fault : status ≡ 6 → Rose out.0.faults out.1.faults × PrintsSome files.0 (GainsPrefix out.0 out.1) ask
-  run_write_fault e = write_fault_is ask files out run.outcome (sym run.status_is ∙ e) run.ends
+  pub run_write_fault : status ≡ 6 → TellsWriteFault files out (Says err.0 err.1) ask
+  run_write_fault e = write_fault_is ask files out err run.outcome (sym run.status_is ∙ e) run.ends run.tells
+
+  pub run_stays : prints_nothing status ≡ true → AllStay files
+  run_stays e = all_stay ask files out run.outcome (ap prints_nothing (sym run.status_is) ∙ e) run.ends
 
   pub run_exact : (words : List Bytes) → IsRequest words ask → IsExact words files.0 status
   run_exact words is = exact_for words ask files out run.outcome status is run.status_is run.ends

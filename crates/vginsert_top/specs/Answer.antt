@@ -1,5 +1,5 @@
 -- What is said of the net that is asked for.
-use Rattle.std.specs.Prelude.{◌≡◌, ℕ, List, Result, Ok, Err}
+use Rattle.std.specs.Prelude.{◌≡◌, ℕ, List, Option, Some, None, Result, Ok, Err}
 use Rattle.spef_file.specs.Indexes.{IsIndexOf}
 use Rattle.spef_file.specs.declared.spef_index.SpefIndex.{SpefIndex}
 use Rattle.vg_inputs.specs.Designs.{Texts}
@@ -9,48 +9,71 @@ use Rattle.vg_words.specs.declared.ask.Mode.{Mode}
 use Rattle.vg_words.specs.declared.ask.Mode.TheVariants.{Wire, Time, Best}
 use Rattle.vginsert_top.specs.Inputs.{inputs, IsFirstFault}
 use Rattle.vginsert_top.specs.Faults.{cons_fault, lib_fault, spef_fault, ver_fault}
-use Rattle.vginsert_top.specs.Results.{Asked, IsBestReport, IsDelays, IsDesignRefusal, IsNoneReport, IsRefusal, IsTimes, IsTimeRefusal, IsSpefFault}
+use Rattle.vginsert_top.specs.Results.{Asked, Files, Said, IsBestReport, IsDelays, IsDesignRefusal, IsNoneReport, IsRefusal, IsTaken, IsTimes, IsTimeRefusal, IsSpefFault}
 use Rattle.vginsert_top.specs.declared.input.Input.{Input}
 use Rattle.vginsert_top.specs.declared.input.Input.TheVariants.{Spef, Lib, Verilog, Cons}
 use Rattle.vginsert_top.specs.declared.input.Texts.{Texts as TextsRead}
 use Rattle.vginsert_top.specs.declared.answer.Answer.{Answer}
 use Rattle.vginsert_top.specs.declared.answer.AnswerKind.{AnswerKind}
 use Rattle.vginsert_top.specs.declared.answer.AnswerKind.TheVariants.{Report, NoneGood, Refusal}
+use Rattle.vginsert_top.specs.declared.answer.Written.{Written}
 use Rattle.vginsert_top.specs.declared.answer.NoAnswer.{NoAnswer}
-use Rattle.vginsert_top.specs.declared.answer.NoAnswer.TheVariants.{Faulty, Memory}
+use Rattle.vginsert_top.specs.declared.answer.NoAnswer.TheVariants.{Faulty, Taken, Memory}
 
 -- the texts of the four files of a design
 abbrev pub design_texts : (Input → List ℕ) → Texts
 design_texts texts = record { spef = texts Spef; lib = texts Lib; verilog = texts Verilog; cons = texts Cons }
 
--- the text is the report that a mode prints
-abbrev pub IsReportFor : Mode → (Input → List ℕ) → Asked → List ℕ → Type 0
-IsReportFor Wire texts asked text = IsDelays (texts Spef) asked.net text
-IsReportFor Time texts asked text = IsTimes (design_texts texts) asked text
-IsReportFor Best texts asked text = IsBestReport (design_texts texts) asked.net text
+-- nothing but the text is said
+abbrev pub IsText : (List ℕ → Type 0) → Said → Type 0
+IsText P said = P said.text × (said.files ≡ None)
 
--- the text says that no placement is good, which mode `best` alone may say
-abbrev pub IsNoneFor : Mode → (Input → List ℕ) → Asked → List ℕ → Type 0
-IsNoneFor Wire texts asked text = ⊥
-IsNoneFor Time texts asked text = ⊥
-IsNoneFor Best texts asked text = IsNoneReport (design_texts texts) asked.net text
+-- this is the report of a mode
+abbrev pub IsReportFor : Mode → (Input → List ℕ) → Asked → Said → Type 0
+IsReportFor Wire texts asked said = IsText (IsDelays (texts Spef) asked.net) said
+IsReportFor Time texts asked said = IsText (IsTimes (design_texts texts) asked) said
+IsReportFor Best texts asked said = IsBestReport (design_texts texts) asked said
 
--- the text refuses the net
-abbrev pub IsRefusalFor : Mode → (Input → List ℕ) → Asked → List ℕ → Type 0
-IsRefusalFor Wire texts asked text = IsRefusal (texts Spef) asked.net text
-IsRefusalFor Time texts asked text = IsTimeRefusal (design_texts texts) asked text
-IsRefusalFor Best texts asked text = IsDesignRefusal (design_texts texts) asked.net text
+-- no placement is good, which mode `best` alone may say
+abbrev pub IsNoneFor : Mode → (Input → List ℕ) → Asked → Said → Type 0
+IsNoneFor Wire texts asked said = ⊥
+IsNoneFor Time texts asked said = ⊥
+IsNoneFor Best texts asked said = IsNoneReport (design_texts texts) asked said
 
--- the text is an answer of this kind
-abbrev pub IsAnswerFor : AnswerKind → Mode → (Input → List ℕ) → Asked → List ℕ → Type 0
-IsAnswerFor Report mode texts asked text = IsReportFor mode texts asked text
-IsAnswerFor NoneGood mode texts asked text = IsNoneFor mode texts asked text
-IsAnswerFor Refusal mode texts asked text = IsRefusalFor mode texts asked text
+-- the net is refused
+abbrev pub IsRefusalFor : Mode → (Input → List ℕ) → Asked → Said → Type 0
+IsRefusalFor Wire texts asked said = IsText (IsRefusal (texts Spef) asked.net) said
+IsRefusalFor Time texts asked said = IsText (IsTimeRefusal (design_texts texts) asked) said
+IsRefusalFor Best texts asked said = IsDesignRefusal (design_texts texts) asked said
 
--- what judging the texts of a mode may answer: an answer, the first fault, or out of memory
+-- this is an answer of this kind
+abbrev pub IsAnswerFor : AnswerKind → Mode → (Input → List ℕ) → Asked → Said → Type 0
+IsAnswerFor Report mode texts asked said = IsReportFor mode texts asked said
+IsAnswerFor NoneGood mode texts asked said = IsNoneFor mode texts asked said
+IsAnswerFor Refusal mode texts asked said = IsRefusalFor mode texts asked said
+
+-- a name of the design begins with the prefix, for which mode `best` alone asks
+abbrev pub IsTakenFor : Mode → (Input → List ℕ) → Asked → List ℕ → Type 0
+IsTakenFor Wire texts asked name = ⊥
+IsTakenFor Time texts asked name = ⊥
+IsTakenFor Best texts asked name = IsTaken (design_texts texts) asked.prefix name
+
+abbrev pub files_by : Written → Files
+files_by written = record { verilog = written.verilog.items; spef = written.spef.items }
+
+-- the files of an answer
+abbrev pub files_in : Option Written → Option Files
+files_in None = None
+files_in (Some written) = Some (files_by written)
+
+abbrev pub said_by : Answer → Said
+said_by answer = record { text = answer.text.items; files = files_in answer.written }
+
+-- what judging the texts of a mode may answer: an answer, the first fault, a name that begins with the prefix, or out of memory
 abbrev pub AnswersFor : Mode → (Input → List ℕ) → Asked → Result Answer NoAnswer → Type 0
-AnswersFor mode texts asked (Ok answer) = IsAnswerFor answer.kind mode texts asked answer.text.items
+AnswersFor mode texts asked (Ok answer) = IsAnswerFor answer.kind mode texts asked (said_by answer)
 AnswersFor mode texts asked (Err (Faulty input line)) = IsFirstFault texts (inputs mode) line input
+AnswersFor mode texts asked (Err (Taken name)) = IsTakenFor mode texts asked name
 AnswersFor mode texts asked (Err Memory) = Unit {0}
 
 -- these texts
@@ -67,10 +90,11 @@ texts_by texts = texts_of texts.spef texts.lib texts.verilog texts.cons
 abbrev pub texts_in : TextsRead → Input → List ℕ
 texts_in texts = texts_of texts.spef.items texts.lib.items texts.verilog.items texts.cons.items
 
--- the answer is of this kind, with this text
+-- the answer is of this kind, with this text, and without files
 pub record IsAnswerWith (kind : AnswerKind) (text : List ℕ) (answer : Answer) : Type 0 where
   pub kind_is : answer.kind ≡ kind
   pub text_is : answer.text.items ≡ text
+  pub no_files : answer.written ≡ None
 
 abbrev pub IsRefusedWith : List ℕ → Answer → Type 0
 IsRefusedWith text answer = IsAnswerWith Refusal text answer
@@ -82,16 +106,19 @@ Indexes (Err (Faulty Spef line)) file = IsSpefFault file line
 Indexes (Err (Faulty Lib line)) file = ⊥
 Indexes (Err (Faulty Verilog line)) file = ⊥
 Indexes (Err (Faulty Cons line)) file = ⊥
+Indexes (Err (Taken name)) file = ⊥
 Indexes (Err Memory) file = Unit {0}
 
 -- why four texts are no design, as an answer tells it
 abbrev pub IsNoDesign : Texts → NoAnswer → Type 0
 IsNoDesign texts (Faulty input line) = IsFirstFault (texts_by texts) (inputs Time) line input
+IsNoDesign texts (Taken name) = ⊥
 IsNoDesign texts Memory = Unit {0}
 
 -- the answer tells this fault, or it is out of memory
 abbrev pub Tells : DesignFault → NoAnswer → Type 0
 Tells fault Memory = Unit {0}
+Tells fault (Taken name) = ⊥
 Tells (SpefFaulty fault) (Faulty input line) = (input ≡ Spef) × (line ≡ spef_fault fault)
 Tells (LibFaulty fault) (Faulty input line) = (input ≡ Lib) × (line ≡ lib_fault fault)
 Tells (VerFaulty fault) (Faulty input line) = (input ≡ Verilog) × (line ≡ ver_fault fault)

@@ -1,5 +1,5 @@
 -- What the inputs say of the net that is asked for.
-use Rattle.std.specs.Prelude.{◌≡◌, ℕ, List}
+use Rattle.std.specs.Prelude.{◌≡◌, ℕ, List, Option, Some, None}
 use Rattle.lib_cells.specs.declared.fault.LibKind.{LibKind}
 use Rattle.lib_linear.specs.Faults.{IsFirstFault as IsFirstLibFault}
 use Rattle.spef_file.specs.Files.{IsFileFault}
@@ -10,7 +10,11 @@ use Rattle.vg_cons.specs.Lines.{lines_of as cons_lines}
 use Rattle.vg_cons.specs.Faults.{IsFaultIn}
 use Rattle.vg_cons.specs.declared.fault.ConsKind.{ConsKind}
 use Rattle.vg_design.specs.Designs.{Design}
-use Rattle.vg_design.specs.Nets.{IsNetProblem}
+use Rattle.vg_change.specs.Changes.{Changes, nothing, HasPut, AreTexts}
+use Rattle.vg_change.specs.Placed.{PlacedNet}
+use Rattle.vg_change.specs.Steps.{placed_net}
+use Rattle.vg_change.specs.Taken.{taken}
+use Rattle.vg_design.specs.Nets.{names_of, IsPosedNet}
 use Rattle.vg_design.specs.Refusals.{IsFirstRefusal}
 use Rattle.vg_design.specs.declared.time.Timed.{Timed}
 use Rattle.vg_inputs.specs.Designs.{Texts, IsDesign}
@@ -23,7 +27,8 @@ use Rattle.vg_wire.specs.declared.wire.WireNet.{WireNet}
 use Rattle.vginsert_top.specs.Faults.{cons_fault, lib_fault, spef_fault, ver_fault}
 use Rattle.vg_design.specs.Parts.{cells_of}
 use Rattle.vg_design.specs.declared.net_problem.NetProblem.{NetProblem}
-use Rattle.vg_slack.specs.Bests.{HasNoGood, IsFound}
+use Rattle.vg_design.specs.declared.net_problem.PosedNet.{PosedNet}
+use Rattle.vg_slack.specs.Bests.{HasNoCell, HasNoGood, IsFound}
 use Rattle.vg_slack.specs.declared.answer.Best.{Best}
 use Rattle.vginsert_top.specs.Reports.{best_report, none_line, wire_report, slack_line, refusal_line}
 
@@ -84,30 +89,77 @@ pub record IsTimeRefusal (texts : Texts) (asked : Asked) (text : List ℕ) : Typ
   pub refused : IsFirstOnWay design asked.prefix asked.net refusal
   pub text_is : text ≡ refusal_line asked.net refusal
 
--- the four texts are a design, its net of this name has a best placement, without a cell where one without a cell is best, and
--- the text reports it
-pub record IsBestReport (texts : Texts) (name text : List ℕ) : Type 0 where
-  pub design : Design
+-- ---- best placements
+
+-- The netlist and the parasitics that are written.
+pub record Files : Type 0 where
+  pub verilog : List ℕ
+  pub spef : List ℕ
+
+-- What is said: a text that is printed, and the files that are written, where any are.
+pub record Said : Type 0 where
+  pub text : List ℕ
+  pub files : Option Files
+
+-- the files as they were read
+abbrev pub kept : Texts → Files
+kept texts = record { verilog = texts.verilog; spef = texts.spef }
+
+-- the four texts are a design, none of whose names begins with the prefix
+pub record IsFreeDesign (texts : Texts) (prefix : List ℕ) (design : Design) : Type 0 where
   pub design_of : IsDesign texts design
-  pub net : NetProblem
-  pub net_of : IsNetProblem design name net
+  pub free : taken design prefix ≡ None
+
+-- the problem of a posed net, and the names of the nodes of its tree
+abbrev pub problem_in : PosedNet → NetProblem
+problem_in posed = record { problem = posed.problem; names = names_of posed.ready.pinned.net.par posed.ready.order }
+
+-- these are the files in which the cells of a placement are put into a net
+pub record AreChanged (read : Files) (design : Design) (prefix : List ℕ) (placed : PlacedNet) (files : Files) : Type 0 where
+  pub changes : Changes
+  pub put : HasPut (nothing design prefix) placed changes
+  pub made : AreTexts changes read.spef read.verilog files.spef files.verilog
+
+-- without a cell the files are as they were read
+pub record AreFilesOf (read : Files) (design : Design) (prefix : List ℕ) (placed : PlacedNet) (files : Files) : Type 0 where
+  pub bare : HasNoCell placed.cells → files ≡ read
+  pub changed : (HasNoCell placed.cells → ⊥) → AreChanged read design prefix placed files
+
+-- the net that is asked for has a best placement, without a cell where one without a cell is best; the text reports it, and the files
+-- have its cells
+pub record IsBestReport (texts : Texts) (asked : Asked) (said : Said) : Type 0 where
+  pub design : Design
+  pub design_of : IsFreeDesign texts asked.prefix design
+  pub net : PosedNet
+  pub net_of : IsPosedNet design asked.net net
   pub best : Best
   pub best_of : IsFound net.problem best
-  pub text_is : text ≡ best_report name (cells_of design.library.repeaters) net best
+  pub text_is : said.text ≡ best_report asked.net (cells_of design.library.repeaters) (problem_in net) best
+  pub files : Files
+  pub files_of : AreFilesOf (kept texts) design asked.prefix (placed_net net best.placement.cells) files
+  pub files_are : said.files ≡ Some files
 
--- no placement of it is good, and the text says so
-pub record IsNoneReport (texts : Texts) (name text : List ℕ) : Type 0 where
+-- no placement of it is good, and the text says so; the files are as they were read
+pub record IsNoneReport (texts : Texts) (asked : Asked) (said : Said) : Type 0 where
   pub design : Design
-  pub design_of : IsDesign texts design
-  pub net : NetProblem
-  pub net_of : IsNetProblem design name net
+  pub design_of : IsFreeDesign texts asked.prefix design
+  pub net : PosedNet
+  pub net_of : IsPosedNet design asked.net net
   pub none : HasNoGood net.problem
-  pub text_is : text ≡ none_line name
+  pub text_is : said.text ≡ none_line asked.net
+  pub files_are : said.files ≡ Some (kept texts)
 
--- it is refused, and the text says why
-pub record IsDesignRefusal (texts : Texts) (name text : List ℕ) : Type 0 where
+-- it is refused, and the text says why; the files are as they were read
+pub record IsDesignRefusal (texts : Texts) (asked : Asked) (said : Said) : Type 0 where
+  pub design : Design
+  pub design_of : IsFreeDesign texts asked.prefix design
+  pub refusal : Refusal
+  pub refused : IsFirstRefusal design asked.net refusal
+  pub text_is : said.text ≡ refusal_line asked.net refusal
+  pub files_are : said.files ≡ Some (kept texts)
+
+-- a name of the design begins with the prefix, and this is the first
+pub record IsTaken (texts : Texts) (prefix name : List ℕ) : Type 0 where
   pub design : Design
   pub design_of : IsDesign texts design
-  pub refusal : Refusal
-  pub refused : IsFirstRefusal design name refusal
-  pub text_is : text ≡ refusal_line name refusal
+  pub first : taken design prefix ≡ Some name

@@ -1,21 +1,23 @@
 -- What a run of the program promises.
-use Rattle.std.specs.Prelude.{◌≡◌, ◌≢◌, ◌⊎◌, ℕ, ◌<◌, List, [], ◌∷◌, ◌++◌, ◌==◌, Bool, codes, Some}
+use Rattle.std.specs.Prelude.{◌≡◌, ◌≢◌, ◌⊎◌, ℕ, ◌<◌, List, [], ◌∷◌, ◌++◌, ◌==◌, Bool, codes, Option, Some, None, IfSome, unwrap_or}
 use Rattle.std.specs.List.{All, list_any}
 use Rattle.vg_store.specs.Causes.{Rose}
 use Rattle.vg_store.specs.Reading.{FilesState}
-use Rattle.vg_store.specs.Writing.{OutState, Gains, GainsPrefix}
+use Rattle.vg_store.specs.Writing.{OutState, Gains, GainsPrefix, StaysOrPrefix, WriteFaultAt}
 use Rattle.vg_words.specs.Options.{name_of as option_name}
 use Rattle.vg_words.specs.Request.{prefix_of, text_for, IsRequest, IsRefused}
 use Rattle.vg_words.specs.declared.ask.Ask.{Ask}
 use Rattle.vg_words.specs.declared.ask.WordFault.{WordFault}
 use Rattle.vg_words.specs.declared.ask.WordFault.TheVariants.{Unread, Missing, Excluded, BadValue, Equal, Memory as NoRoom}
 use Rattle.vg_words.specs.declared.option.Opt.TheVariants.{Net}
-use Rattle.vginsert_top.specs.Answer.{IsAnswerFor}
+use Rattle.vginsert_top.specs.Answer.{IsAnswerFor, IsTakenFor}
 use Rattle.vginsert_top.specs.declared.answer.AnswerKind.{AnswerKind}
 use Rattle.vginsert_top.specs.declared.answer.AnswerKind.TheVariants.{Report, NoneGood, Refusal}
 use Rattle.vginsert_top.specs.Inputs.{inputs, name_of, told, Change, IsShort, AreRead, IsFirstFault, IsFlawed}
-use Rattle.vginsert_top.specs.Results.{Asked}
+use Rattle.vginsert_top.specs.Results.{Asked, Files, Said}
 use Rattle.vginsert_top.specs.declared.input.Input.{Input}
+use Rattle.vginsert_top.specs.declared.output.Output.{Output}
+use Rattle.vginsert_top.specs.declared.output.Output.TheVariants.{Netlist, Parasitics}
 use Rattle.vginsert_top.specs.declared.input.Flaw.{Flaw}
 use Rattle.vginsert_top.specs.declared.input.Flaw.TheVariants.{Failed, TooLong, Faulty}
 
@@ -60,13 +62,72 @@ refused_line (BadValue option) = codes "vginsert: words refused: bad value " ++ 
 refused_line (Equal one other) = codes "vginsert: words refused: equal names " ++ (option_name one ++ (codes " " ++ (option_name other ++ codes "\n")))
 refused_line NoRoom = codes "vginsert: out of memory\n"
 
--- of the texts that were read an output gained an answer of this kind
-abbrev pub Prints : AnswerKind → FilesState → (List ℕ → Type 0) → Ask → Type 0
-Prints kind files Gained ask =
-    (texts : Input → List ℕ) × AreRead files ask texts × ((text : List ℕ) × IsAnswerFor kind ask.mode texts (asked_by ask) text × Gained text)
+-- the words name this file as one that is written
+abbrev pub IsOutput : Ask → List ℕ → Type 0
+IsOutput ask file = (ask.out_spef ≡ Some file) ⊎ (ask.out_verilog ≡ Some file)
 
-abbrev pub PrintsSome : FilesState → (List ℕ → Type 0) → Ask → Type 0
+-- no file is written twice
+abbrev pub AreApart : Ask → Type 0
+AreApart ask = (file : List ℕ) → ask.out_verilog ≡ Some file → ask.out_spef ≡ Some file → ⊥
+
+-- where the words name a file, and files tell what it holds, it holds this text
+abbrev pub HoldsAt : FilesState → Option (List ℕ) → List ℕ → Type 0
+HoldsAt files name text = IfSome name (λ file. IfSome (files.holds file) (λ bytes. bytes ≡ text))
+
+-- the files that the words name hold what was said
+abbrev pub AreWritten : FilesState → Ask → Option Files → Type 0
+AreWritten files ask None = Unit {0}
+AreWritten files ask (Some said) = HoldsAt files ask.out_verilog said.verilog × HoldsAt files ask.out_spef said.spef
+
+-- of the texts that were read an output gained an answer of this kind, and its files were written
+abbrev pub Prints : AnswerKind → Change FilesState → (List ℕ → Type 0) → Ask → Type 0
+Prints kind files Gained ask =
+    (texts : Input → List ℕ) × AreRead files.0 ask texts
+    × ((said : Said) × IsAnswerFor kind ask.mode texts (asked_by ask) said × Gained said.text × AreWritten files.1 ask said.files)
+
+abbrev pub PrintsSome : Change FilesState → (List ℕ → Type 0) → Ask → Type 0
 PrintsSome files Gained ask = (kind : AnswerKind) × Prints kind files Gained ask
+
+-- ---- faults of writing
+
+-- a file that is written stays, or holds a prefix of its text
+abbrev pub StaysOrBegins : Change FilesState → Option (List ℕ) → List ℕ → Type 0
+StaysOrBegins files name text = IfSome name (λ file. StaysOrPrefix (files.0.holds file) (files.1.holds file) text)
+
+-- the name of a file that is written
+abbrev pub output_name : Ask → Output → Option (List ℕ)
+output_name ask Netlist = ask.out_verilog
+output_name ask Parasitics = ask.out_spef
+
+-- what the files hold where writing this one failed: the netlist is written before the parasitics
+abbrev pub HoldAfter : Change FilesState → Ask → Files → Output → Type 0
+HoldAfter files ask said Netlist =
+    StaysOrBegins files ask.out_verilog said.verilog × ((file : List ℕ) → ask.out_spef ≡ Some file → files.1.holds file ≡ files.0.holds file)
+HoldAfter files ask said Parasitics = HoldsAt files.1 ask.out_verilog said.verilog × StaysOrBegins files ask.out_spef said.spef
+
+-- the files of an answer were to be written, and writing this one failed
+pub record FailsToWrite (ask : Ask) (files : Change FilesState) (output : Output) : Type 0 where
+  pub texts : Input → List ℕ
+  pub read : AreRead files.0 ask texts
+  pub kind : AnswerKind
+  pub said : Said
+  pub is : IsAnswerFor kind ask.mode texts (asked_by ask) said
+  pub written : Files
+  pub files_are : said.files ≡ Some written
+  pub hold : HoldAfter files ask written output
+  pub fault : WriteFaultAt files.0 files.1 (λ blamed. output_name ask output ≡ Some blamed)
+
+-- all files hold what they held
+abbrev pub AllStay : Change FilesState → Type 0
+AllStay files = (file : List ℕ) → files.1.holds file ≡ files.0.holds file
+
+-- `vginsert: write failed: FILE`
+abbrev pub write_failed_line : List ℕ → List ℕ
+write_failed_line name = codes "vginsert: write failed: " ++ (name ++ codes "\n")
+
+-- `vginsert: prefix taken: NAME`
+abbrev pub taken_line : List ℕ → List ℕ
+taken_line name = codes "vginsert: prefix taken: " ++ (name ++ codes "\n")
 
 -- the status where an answer of a kind was printed
 abbrev pub status_for : AnswerKind → ℕ
@@ -78,6 +139,20 @@ status_for Refusal = 2
 abbrev pub TellsFlaw : ℕ → Change FilesState → (List ℕ → Type 0) → Ask → Type 0
 TellsFlaw status files Said ask =
     (input : Input) × (flaw : Flaw) × (flaw_status flaw ≡ status) × IsFlawed ask files input flaw × Said (flaw_line (name_of ask input) flaw)
+
+-- of the texts that were read this name begins with the prefix, which mode `best` refuses
+abbrev pub TakesName : FilesState → Ask → List ℕ → Type 0
+TakesName files ask name = (texts : Input → List ℕ) × AreRead files ask texts × IsTakenFor ask.mode texts (asked_by ask) name
+
+-- an input has the first flaw, with status 4, or a name begins with the prefix, and a line tells it
+abbrev pub TellsRefusedInput : Change FilesState → (List ℕ → Type 0) → Ask → Type 0
+TellsRefusedInput files Said ask = TellsFlaw 4 files Said ask ⊎ ((name : List ℕ) × TakesName files.0 ask name × Said (taken_line name))
+
+-- writing standard output failed, after the files were written, or writing one of these did, and a line tells it
+abbrev pub TellsWriteFault : Change FilesState → Change OutState → (List ℕ → Type 0) → Ask → Type 0
+TellsWriteFault files out Said ask =
+    (Rose out.0.faults out.1.faults × PrintsSome files (GainsPrefix out.0 out.1) ask × Said (codes "vginsert: write failed: standard output\n"))
+    ⊎ ((output : Output) × FailsToWrite ask files output × (out.1.written ≡ out.0.written) × Said (write_failed_line (unwrap_or (output_name ask output) [])))
 
 -- the words are a request, one of its inputs has the first flaw, with this status, and standard error gained the line
 -- that tells it
@@ -99,7 +174,8 @@ AreShort ask texts = All (λ input. IsShort (texts input)) (inputs ask.mode)
 pub record IsStatusFor (ask : Ask) (texts : Input → List ℕ) (status : ℕ) : Type 0 where
   pub too_long : (AreShort ask texts → ⊥) → status ≡ 4
   pub faulty : AreShort ask texts → (line : List ℕ) (input : Input) → IsFirstFault texts (inputs ask.mode) line input → status ≡ 4
-  pub answer : AreShort ask texts → (kind : AnswerKind) (text : List ℕ) → IsAnswerFor kind ask.mode texts (asked_by ask) text → status ≡ status_for kind
+  pub taken : AreShort ask texts → (name : List ℕ) → IsTakenFor ask.mode texts (asked_by ask) name → status ≡ 4
+  pub answer : AreShort ask texts → (kind : AnswerKind) (said : Said) → IsAnswerFor kind ask.mode texts (asked_by ask) said → status ≡ status_for kind
 
 -- where nothing failed, the status is exactly the one that the files and the request ask for
 abbrev pub IsExact : List (List ℕ) → FilesState → ℕ → Type 0
@@ -116,7 +192,6 @@ abbrev pub prints_nothing : ℕ → Bool
 prints_nothing status = list_any (λ s. s == status) (3 ∷ 4 ∷ 5 ∷ 7 ∷ [])
 
 -- the fixed lines of standard error, and that it stays as it is after a printed answer
-pub record ErrorLine (status : ℕ) (Said : List ℕ → Type 0) (Same : Type 0) : Type 0 where
+pub record ErrorLine (status : ℕ) (SaysLine : List ℕ → Type 0) (Same : Type 0) : Type 0 where
   pub printed : status < 3 → Same
-  pub write_failed : status ≡ 6 → Said (codes "vginsert: write failed: standard output\n")
-  pub memory : status ≡ 7 → Said (codes "vginsert: out of memory\n")
+  pub memory : status ≡ 7 → SaysLine (codes "vginsert: out of memory\n")

@@ -16,6 +16,7 @@ use std::alloc::Global;
 use vg_design::Design;
 use vg_inputs::{DesignFault, Inputs, read_design};
 use vg_num::{Memory, Row};
+use vg_scan::Name;
 
 /// What an answer is.
 #[derive(Clone, Copy, Debug, PartialEq, Eq)]
@@ -41,11 +42,21 @@ impl AnswerKind {
     }
 }
 
-/// What is said of a net, as text.
+/// The netlist and the parasitics that are written.
+#[derive(Drop)]
+pub struct Written {
+    pub verilog: Vec<u8>,
+    pub spef: Vec<u8>,
+}
+
+/// What is said of a net.
 #[derive(Drop)]
 pub struct Answer {
     pub kind: AnswerKind,
+    /// The text that is printed.
     pub text: Vec<u8>,
+    /// The files that are written, where any are.
+    pub written: Option<Written>,
 }
 
 /// Why nothing is said of a net.
@@ -53,6 +64,8 @@ pub struct Answer {
 pub enum NoAnswer {
     /// An input has a fault: its kind and its line, as text.
     Faulty(Input, Row<u8>),
+    /// A name of the design begins with the prefix.
+    Taken(Name),
     /// Out of memory.
     Memory,
 }
@@ -74,6 +87,7 @@ pub fn refuse_with(alloc: Global, name: &[u8], number: u8, kind: &[u8]) -> Resul
     Ok(Answer {
         kind: AnswerKind::Refusal,
         text,
+        written: None,
     })
 }
 

@@ -1,18 +1,25 @@
 //! The best placement of repeaters on a net, as text.
 
-ghost use Rattle.std.specs.Prelude.{◌≡◌, ◌<◌, ◌≤◌, ◌^◌, ◌++◌, [], length, OnOk, IfOk};
+ghost use Rattle.std.specs.Prelude.{◌≡◌, ℕ, List, ◌<◌, ◌≤◌, ◌^◌, ◌++◌, [], length, OnOk, IfOk};
+ghost use Rattle.std.specs.List.{AllPass};
+ghost use Rattle.elmore.specs.Best.{IsGood};
 ghost use Rattle.elmore.specs.Placed.{IsPlacementOf};
 ghost use Rattle.elmore.specs.Placements.{IsPlacement};
-ghost use Rattle.vg_design.specs.Nets.{IsNetProblem};
+ghost use Rattle.ver_file.specs.Modules.{Denotes as DenotesModule};
+ghost use Rattle.vg_change.specs.Changes.{nothing};
+ghost use Rattle.vg_change.specs.Steps.{placed_net};
+ghost use Rattle.vg_design.specs.Nets.{IsPosedNet};
 ghost use Rattle.vg_design.specs.Parts.{cells_of};
 ghost use Rattle.vg_inputs.specs.Steps.{texts_of};
+ghost use Rattle.vg_scan.specs.Printed.{is_solid};
 ghost use Rattle.vg_slack.specs.Bests.{IsAnswer};
 ghost use Rattle.vg_words.specs.declared.ask.Mode.{Mode};
-ghost use Rattle.vginsert_top.specs.Answer.{AnswersFor, texts_by};
-ghost use Rattle.vginsert_top.specs.Best.{IsBestAnswer};
+ghost use Rattle.vginsert_top.specs.Answer.{AnswersFor, files_by, texts_by};
+ghost use Rattle.vginsert_top.specs.Best.{IsAnswerIn, IsBestAnswer};
 ghost use Rattle.vginsert_top.specs.Reports.{best_report, cell_count, cell_lines};
+ghost use Rattle.vginsert_top.specs.Results.{AreFilesOf};
 
-use crate::answer::{Answer, AnswerKind, NoAnswer, design_of};
+use crate::answer::{Answer, AnswerKind, NoAnswer, Written, design_of};
 use crate::report::{print_at, print_best, print_none};
 use crate::wire::refuse;
 use cand_pool::Steps;
@@ -21,7 +28,8 @@ use lib_linear::Repeater;
 use std::alloc::Global;
 use std::marker::Brand;
 use std::sync::ledger::{Blank, Ledger};
-use vg_design::{Design, NetProblem, TreeNames, problem};
+use vg_change::Changes;
+use vg_design::{Design, NetProblem, PosedNet, TreeNames, posed_net};
 use vg_inputs::Inputs;
 use vg_num::Memory;
 use vg_scan::Name;
@@ -103,45 +111,128 @@ fn report_best(
     Ok(text)
 }
 
-/// What is said of the best placement of a net of a design, which has this problem.
+/// The files in which the cells of a placement are put into a net; without a cell the files as they were read.
+fn written_for(
+    alloc: Global,
+    changes: Changes<'_>,
+    net: &PosedNet,
+    placement: &Placement,
+    read: Written,
+) -> Result<Written, Memory>
+    requires posed { (name : List ℕ) × IsPosedNet changes.design name net.now }
+    requires good { IsGood net.now.problem placement.now.cells }
+    requires none { changes ≡ nothing changes.design changes.prefix }
+    requires spef { length read.spef.items ≡ length changes.design.spef }
+    requires verilog { DenotesModule read.verilog.items changes.design.netlist }
+    ensures { IfOk result (λ written. AreFilesOf (files_by read) changes.entry.design changes.entry.prefix
+        (placed_net net.now placement.now.cells) (files_by written)) }
+{
+    if count_cells(placement) == 0 {
+        return Ok(read);
+    }
+    let changes = changes.put(alloc, net, placement)?;
+    Ok(Written {
+        verilog: changes.netlist(alloc, &read.verilog)?,
+        spef: changes.parasitics(alloc, &read.spef)?,
+    })
+}
+
+/// What is said of the best placement of a posed net of a design of which nothing has changed yet.
 fn answer_best(
     alloc: Global,
-    design: &Design,
+    changes: Changes<'_>,
+    repeaters: &[Repeater],
     name: &[u8],
-    net: &NetProblem,
+    net: PosedNet,
+    read: Written,
 ) -> Result<Answer, Memory>
-    requires { IsNetProblem design.now name.now net.now }
-    ensures { IfOk result (IsBestAnswer design.now name.now net.now) }
+    requires posed { IsPosedNet changes.design name.now net }
+    requires none { changes ≡ nothing changes.design changes.prefix }
+    requires repeaters { repeaters.now ≡ changes.design.library.repeaters }
+    requires spef { length read.spef.items ≡ length changes.design.spef }
+    requires verilog { DenotesModule read.verilog.items changes.design.netlist }
+    ensures { IfOk result (IsBestAnswer (files_by read) changes.entry.design (record { net = name.now; prefix = changes.entry.prefix }) net) }
 {
     match best_of(alloc, &net.problem)? {
-        Some(best) => Ok(Answer {
-            kind: AnswerKind::Report,
-            text: report_best(alloc, name, design.repeaters(), net, &best)?,
-        }),
+        Some(best) => {
+            let written = written_for(alloc, changes, &net, &best.placement, read)?;
+            let net = net.into_problem();
+            let text = report_best(alloc, name, repeaters, &net, &best)?;
+            Ok(Answer {
+                kind: AnswerKind::Report,
+                text,
+                written: Some(written),
+            })
+        }
         None => {
             let mut text = Vec::new(alloc);
             print_none(name, &mut text)?;
             Ok(Answer {
                 kind: AnswerKind::NoneGood,
                 text,
+                written: Some(read),
             })
         }
     }
 }
 
-/// What is said of the best placement of the net of this name in the design of four files.
-pub fn best_for(alloc: Global, inputs: Inputs, name: &[u8]) -> Result<Answer, NoAnswer>
+/// What is said of the best placement of the net of this name in a design of which nothing has changed yet.
+fn answer_in(
+    alloc: Global,
+    changes: Changes<'_>,
+    design: &Design,
+    name: &[u8],
+    read: Written,
+) -> Result<Answer, Memory>
+    requires none { changes ≡ nothing design.now changes.prefix }
+    requires spef { length read.spef.items ≡ length design.now.spef }
+    requires verilog { DenotesModule read.verilog.items design.now.netlist }
+    ensures { IfOk result (IsAnswerIn (files_by read) design.now (record { net = name.now; prefix = changes.entry.prefix })) }
+{
+    let net = Name::from_bytes(alloc, name)?;
+    match posed_net(alloc, design, &net) {
+        Ok(posed) => answer_best(alloc, changes, design.repeaters(), name, posed, read),
+        Err(Refused::Net(refusal)) => {
+            let refused = refuse(alloc, name, &refusal)?;
+            Ok(Answer {
+                kind: refused.kind,
+                text: refused.text,
+                written: Some(read),
+            })
+        }
+        Err(Refused::Memory) => Err(Memory),
+    }
+}
+
+/// A netlist and parasitics as they were read.
+fn copy(alloc: Global, verilog: &[u8], spef: &[u8]) -> Result<Written, Memory>
+    ensures { IfOk result (λ read. files_by read ≡ record { verilog = verilog.now; spef = spef.now }) }
+{
+    Ok(Written {
+        verilog: Vec::from_slice(alloc, verilog)?,
+        spef: Vec::from_slice(alloc, spef)?,
+    })
+}
+
+/// What is said of the best placement of the net of this name in the design of four files, where the names of its cells begin with the
+/// prefix.
+pub fn best_for(
+    alloc: Global,
+    inputs: Inputs,
+    name: &[u8],
+    prefix: &[u8],
+) -> Result<Answer, NoAnswer>
     requires spef { length inputs.spef.items ≤ 2 ^ 28 }
     requires lib { length inputs.lib.items ≤ 2 ^ 28 }
     requires verilog { length inputs.verilog.items ≤ 2 ^ 28 }
     requires cons { length inputs.cons.items ≤ 2 ^ 28 }
-    ensures { AnswersFor Mode.Best (texts_by (texts_of inputs)) (record { net = name.now; prefix = [] }) result }
+    requires prefix { AllPass is_solid prefix.now }
+    ensures { AnswersFor Mode.Best (texts_by (texts_of inputs)) (record { net = name.now; prefix = prefix.now }) result }
 {
+    let read = copy(alloc, &inputs.verilog, &inputs.spef)?;
     let design = design_of(alloc, inputs)?;
-    let net = Name::from_bytes(alloc, name)?;
-    match problem(alloc, &design, &net) {
-        Ok(found) => Ok(answer_best(alloc, &design, name, &found)?),
-        Err(Refused::Net(refusal)) => Ok(refuse(alloc, name, &refusal)?),
-        Err(Refused::Memory) => Err(NoAnswer::Memory),
+    match Changes::new(alloc, &design, prefix) {
+        Ok(changes) => Ok(answer_in(alloc, changes, &design, name, read)?),
+        Err(taken) => Err(NoAnswer::Taken(Name::from_bytes(alloc, taken)?)),
     }
 }

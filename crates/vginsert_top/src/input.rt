@@ -109,6 +109,7 @@ pub fn read_inputs<F: Files>(
     ensures unread { IfErr result (IsUnread ask.now (F.state files.old, F.state files.new)) }
     ensures kept { (file : List ℕ) → (F.state files.new).holds file ≡ (F.state files.old).holds file }
     ensures never_falls { (F.state files.old).read_faults ≤ (F.state files.new).read_faults }
+    ensures writing { (F.state files.new).write_faults ≡ (F.state files.old).write_faults }
 {
     let mut texts = Texts::new(alloc);
     let order = inputs(ask.mode);

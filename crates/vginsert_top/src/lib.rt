@@ -6,6 +6,7 @@ mod best;
 mod faults;
 mod input;
 mod outcome;
+mod output;
 mod program;
 mod report;
 mod tell;

@@ -3,6 +3,8 @@ ghost use Rattle.vginsert_top.specs.Outcomes.{status_of};
 
 use crate::answer::AnswerKind;
 use crate::input::{Flaw, Input};
+use crate::output::Output;
+use vg_scan::Name;
 
 /// How a request ended.
 #[derive(Drop)]
@@ -11,6 +13,10 @@ pub enum Outcome {
     Printed(AnswerKind),
     /// An input has a flaw; those before it have none.
     Flawed(Input, Flaw),
+    /// A name of the design begins with the prefix.
+    Taken(Name),
+    /// Writing this file failed; those before it were written.
+    Unwritten(Output),
     /// Writing standard output failed.
     WriteFault,
     /// Out of memory.
@@ -25,8 +31,9 @@ impl Outcome {
         match self {
             Outcome::Printed(kind) => kind.status(),
             Outcome::Flawed(_, Flaw::TooLong | Flaw::Faulty(_)) => 4,
+            Outcome::Taken(_) => 4,
             Outcome::Flawed(_, Flaw::Failed) => 5,
-            Outcome::WriteFault => 6,
+            Outcome::Unwritten(_) | Outcome::WriteFault => 6,
             Outcome::Memory => 7,
         }
     }

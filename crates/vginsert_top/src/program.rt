@@ -1,29 +1,33 @@
 //! The top call: from the words to the bytes that are written.
-ghost use Rattle.std.specs.Prelude.{[], ◌≡◌, ◌≢◌, ◌⊎◌, ◌≤◌, ◌^◌, length, ℕ, List, IsTrue};
+ghost use Rattle.std.specs.Prelude.{[], ◌≡◌, ◌≢◌, ◌⊎◌, ◌≤◌, ◌^◌, length, ℕ, List, Some, IfErr, OnErr, OnOk, IsTrue};
+ghost use Rattle.std.specs.List.{All, AllPass};
+ghost use Rattle.vg_scan.specs.Printed.{is_solid};
 ghost use Rattle.vg_store.specs.Causes.{Rose};
-ghost use Rattle.vg_store.specs.Writing.{Gains, GainsPrefix};
-ghost use Rattle.vg_words.specs.Request.{texts, IsRequest};
+ghost use Rattle.vg_store.specs.States.{KeepsReading};
+ghost use Rattle.vg_store.specs.Writing.{Gains, GainsPrefix, WriteFaultAt};
+ghost use Rattle.vg_words.specs.Request.{prefix_of, texts, IsRequest};
 ghost use Rattle.vg_words.specs.declared.ask.Ask.{Ask as Request};
-ghost use Rattle.vginsert_top.specs.Answer.{AnswersFor, texts_in, texts_of};
 ghost use Rattle.vg_words.specs.declared.ask.Mode.{Mode as ModeSpec};
+ghost use Rattle.vginsert_top.specs.Answer.{AnswersFor, files_by, texts_in, texts_of};
+ghost use Rattle.vginsert_top.specs.Inputs.{IsShort, inputs};
+ghost use Rattle.vginsert_top.specs.Outcomes.{Ends, IsDelivered, IsPrinted, IsStatusOf, fault_status};
+ghost use Rattle.vginsert_top.specs.Run.{AllStay, AreApart, AreRefused, AreWritten, EndsFlawed, ErrorLine, ForRequest, HoldAfter, HoldsAt, IsExact, IsOutput, Prints, Says, StaysOrBegins};
+ghost use Rattle.vginsert_top.specs.Run.{TellsRefusedInput, TellsWriteFault, is_status, output_name, prints_nothing};
 ghost use Rattle.vginsert_top.specs.declared.answer.AnswerKind.{AnswerKind as Kind};
 ghost use Rattle.vginsert_top.specs.declared.input.Input.{Input};
-ghost use Rattle.vginsert_top.specs.Inputs.{IsShort, inputs};
-ghost use Rattle.std.specs.List.{All};
-ghost use Rattle.vginsert_top.specs.Outcomes.{Ends, IsPrinted, IsStatusOf, fault_status};
-ghost use Rattle.vginsert_top.specs.Run.{AreRefused, EndsFlawed, ErrorLine, ForRequest, IsExact, Prints, PrintsSome, Says, is_status, prints_nothing};
 
-use crate::answer::{Answer, NoAnswer};
+use crate::answer::{Answer, NoAnswer, Written};
 use crate::best::best_for;
 use crate::input::{Flaw, Texts, read_inputs};
 use crate::outcome::Outcome;
+use crate::output::Output;
 use crate::tell::{tell, tell_words};
 use crate::time::time_for;
 use crate::wire::wire_for;
 use spef_file::SpefText;
 use std::alloc::Global;
 use vg_inputs::Inputs;
-use vg_store::{Failed, Files, Out, ReadAll, put_all};
+use vg_store::{Failed, Files, Out, ReadAll, put_all, write_file};
 use vg_words::{Ask, Mode, Opt, WordFault, read_words};
 
 /// What is said of the wire delays of a net of the file of these bytes.
@@ -44,7 +48,8 @@ fn answer(
     net: &[u8],
     prefix: &[u8],
 ) -> Result<Answer, NoAnswer>
-    requires { All (λ input. IsShort (texts_in texts input)) (inputs mode) }
+    requires short { All (λ input. IsShort (texts_in texts input)) (inputs mode) }
+    requires prefix { AllPass is_solid prefix.now }
     ensures { AnswersFor mode (texts_in texts) (record { net = net.now; prefix = prefix.now }) result }
 {
     let Texts {
@@ -62,7 +67,7 @@ fn answer(
     match mode {
         Mode::Wire => wire_in(alloc, inputs.spef, net),
         Mode::Time => time_for(alloc, inputs, net, prefix),
-        Mode::Best => best_for(alloc, inputs, net),
+        Mode::Best => best_for(alloc, inputs, net, prefix),
     }
 }
 
@@ -76,10 +81,63 @@ fn print<O: Out>(out: &mut O, text: &[u8], outcome: Outcome) -> Outcome
     }
 }
 
-/// Reads the inputs of a request, judges them and prints what there is to say.
+/// Writes a text to the file that the words name for an output, if they name one.
+fn write_output<F: Files>(
+    ask: &Ask,
+    output: Output,
+    text: &[u8],
+    files: &mut F,
+) -> Result<(), Failed>
+    ensures whole { OnOk result (HoldsAt (F.state files.new) (output_name ask.now output) text.now) }
+    ensures prefix { OnErr result (StaysOrBegins (F.state files.old, F.state files.new) (output_name ask.now output) text.now) }
+    ensures others { (other : List ℕ) → output_name ask.now output ≢ Some other → (F.state files.new).holds other ≡ (F.state files.old).holds other }
+    ensures failed { OnErr result (WriteFaultAt (F.state files.old) (F.state files.new) (λ blamed. output_name ask.now output ≡ Some blamed)) }
+    ensures reading { KeepsReading (F.state files.old) (F.state files.new) }
+    ensures never_falls { (F.state files.old).write_faults ≤ (F.state files.new).write_faults }
+{
+    match output.name(ask) {
+        None => Ok(()),
+        Some(name) => write_file(files, name, text),
+    }
+}
+
+/// Writes the files of an answer, the netlist first. An error tells at which of them writing failed.
+fn write_files<F: Files>(ask: &Ask, written: &Written, files: &mut F) -> Result<(), Output>
+    requires apart { AreApart ask.now }
+    ensures written { OnOk result (AreWritten (F.state files.new) ask.now (Some (files_by written.now))) }
+    ensures failed { IfErr result (λ output. HoldAfter (F.state files.old, F.state files.new) ask.now (files_by written.now) output) }
+    ensures cause { IfErr result (λ output. WriteFaultAt (F.state files.old) (F.state files.new) (λ blamed. output_name ask.now output ≡ Some blamed)) }
+    ensures others { (file : List ℕ) → (IsOutput ask.now file → ⊥) → (F.state files.new).holds file ≡ (F.state files.old).holds file }
+{
+    let Ok(()) = write_output(ask, Output::Netlist, &written.verilog, files) else {
+        return Err(Output::Netlist);
+    };
+    let Ok(()) = write_output(ask, Output::Parasitics, &written.spef, files) else {
+        return Err(Output::Parasitics);
+    };
+    Ok(())
+}
+
+/// Writes the files of an answer, and prints its text.
+fn deliver<F: Files, O: Out>(ask: &Ask, answer: &Answer, files: &mut F, out: &mut O) -> Outcome
+    requires apart { AreApart ask.now }
+    ensures delivered { IsDelivered ask.now (F.state files.old, F.state files.new) (O.state out.old, O.state out.new) answer.now result }
+    ensures others { (file : List ℕ) → (IsOutput ask.now file → ⊥) → (F.state files.new).holds file ≡ (F.state files.old).holds file }
+{
+    if let Some(written) = &answer.written {
+        if let Err(output) = write_files(ask, written, files) {
+            return Outcome::Unwritten(output);
+        }
+    }
+    print(out, &answer.text, Outcome::Printed(answer.kind))
+}
+
+/// Reads the inputs of a request, judges them, writes files and prints what there is to say.
 fn execute<F: Files, O: Out>(alloc: Global, ask: &Ask, files: &mut F, out: &mut O) -> Outcome
+    requires apart { AreApart ask.now }
+    requires prefix { AllPass is_solid (prefix_of ask.now) }
     ensures ends { Ends ask.now (F.state files.old, F.state files.new) (O.state out.old, O.state out.new) result }
-    ensures kept { (file : List ℕ) → (F.state files.new).holds file ≡ (F.state files.old).holds file }
+    ensures kept { (file : List ℕ) → (IsOutput ask.now file → ⊥) → (F.state files.new).holds file ≡ (F.state files.old).holds file }
 {
     let texts = match read_inputs(alloc, ask, files) {
         Ok(texts) => texts,
@@ -89,8 +147,9 @@ fn execute<F: Files, O: Out>(alloc: Global, ask: &Ask, files: &mut F, out: &mut 
     };
     let net = ask.text(Opt::Net).as_bytes();
     match answer(alloc, ask.mode, texts, net, ask.prefix().as_bytes()) {
-        Ok(answer) => print(out, &answer.text, Outcome::Printed(answer.kind)),
+        Ok(answer) => deliver(ask, &answer, files, out),
         Err(NoAnswer::Faulty(input, line)) => Outcome::Flawed(input, Flaw::Faulty(line)),
+        Err(NoAnswer::Taken(name)) => Outcome::Taken(name),
         Err(NoAnswer::Memory) => Outcome::Memory,
     }
 }
@@ -113,8 +172,10 @@ fn run_request<F: Files, O: Out, E: Out>(
     out: &mut O,
     err: &mut E,
 ) -> u8
+    requires apart { AreApart ask.now }
+    requires prefix { AllPass is_solid (prefix_of ask.now) }
     ensures ends { IsStatusOf ask.now (F.state files.old, F.state files.new) (O.state out.old, O.state out.new) (E.state err.old, E.state err.new) result }
-    ensures kept { (file : List ℕ) → (F.state files.new).holds file ≡ (F.state files.old).holds file }
+    ensures kept { (file : List ℕ) → (IsOutput ask.now file → ⊥) → (F.state files.new).holds file ≡ (F.state files.old).holds file }
 {
     let outcome = execute(alloc, ask, files, out);
     tell(err, ask, &outcome);
@@ -123,8 +184,8 @@ fn run_request<F: Files, O: Out, E: Out>(
 
 /// Does all that the program does, and answers its status.
 ///
-/// The words are those of the command line without the program's own name. What is asked for is read from `files`
-/// and printed to `out`; a line on `err` tells of everything but a printed answer.
+/// The words are those of the command line without the program's own name. What is asked for is read from `files`, written to
+/// `files` where mode `best` names outputs, and printed to `out`; a line on `err` tells of everything but a printed answer.
 ///
 /// | status | comes |
 /// |---|---|
@@ -132,12 +193,15 @@ fn run_request<F: Files, O: Out, E: Out>(
 /// | 1 | mode `best`: that no placement of repeaters on the net is good was printed |
 /// | 2 | a refusal of the net was printed |
 /// | 3 | the words are no request |
-/// | 4 | an input is not in its form, or has more than 2^28 bytes |
+/// | 4 | an input is not in its form, or has more than 2^28 bytes; or, in mode `best`, a name of the design begins with the prefix |
 /// | 5 | reading an input failed |
-/// | 6 | printing failed |
+/// | 6 | writing a file or printing failed |
 /// | 7 | out of memory |
 ///
-/// After 3, 4, 5 and 7 nothing was printed. A fault of `err` never changes the status. No file is changed.
+/// In mode `best` the netlist is written first, then the parasitics, and then the report is printed. A net without a cell keeps both
+/// texts. After 3, 4, 5 and 7 nothing was printed, and no file was created or changed. After 6 the files that were finished before are
+/// whole, the one whose writing failed is as it was or holds a prefix of its text, and later ones are as they were. A fault of `err`
+/// never changes the status. Files that the words do not name as outputs stay.
 pub fn run<F: Files, O: Out, E: Out>(
     alloc: Global,
     words: &[String],
@@ -145,22 +209,25 @@ pub fn run<F: Files, O: Out, E: Out>(
     out: &mut O,
     err: &mut E,
 ) -> u8
-    ensures done { result ≡ 0 → ForRequest (texts words.now) (Prints Kind.Report (F.state files.old) (Gains (O.state out.old) (O.state out.new))) }
-    ensures none_good { result ≡ 1 → ForRequest (texts words.now) (Prints Kind.NoneGood (F.state files.old) (Gains (O.state out.old) (O.state out.new))) }
-    ensures refused { result ≡ 2 → ForRequest (texts words.now) (Prints Kind.Refusal (F.state files.old) (Gains (O.state out.old) (O.state out.new))) }
+    ensures done { result ≡ 0 → ForRequest (texts words.now) (Prints Kind.Report (F.state files.old, F.state files.new) (Gains (O.state out.old) (O.state out.new))) }
+    ensures none_good { result ≡ 1 → ForRequest (texts words.now) (Prints Kind.NoneGood (F.state files.old, F.state files.new) (Gains (O.state out.old) (O.state out.new))) }
+    ensures refused { result ≡ 2 → ForRequest (texts words.now) (Prints Kind.Refusal (F.state files.old, F.state files.new) (Gains (O.state out.old) (O.state out.new))) }
     ensures unread { result ≡ 3 → (request : Request) → IsRequest (texts words.now) request → ⊥ }
     ensures no_request { ((request : Request) → IsRequest (texts words.now) request → ⊥) → (result ≡ 3) ⊎ (result ≡ 7) }
     ensures unread_line { result ≡ 3 → AreRefused (texts words.now) (Says (E.state err.old) (E.state err.new)) }
-    ensures unreadable { result ≡ 4 → EndsFlawed 4 (texts words.now) (F.state files.old, F.state files.new) (E.state err.old, E.state err.new) }
+    ensures unreadable { result ≡ 4 → ForRequest (texts words.now)
+        (TellsRefusedInput (F.state files.old, F.state files.new) (Says (E.state err.old) (E.state err.new))) }
     ensures read_fault { result ≡ 5 → EndsFlawed 5 (texts words.now) (F.state files.old, F.state files.new) (E.state err.old, E.state err.new) }
     ensures read_cause { result ≡ 5 → Rose (F.state files.old).read_faults (F.state files.new).read_faults }
-    ensures write_fault { result ≡ 6 → ForRequest (texts words.now) (PrintsSome (F.state files.old) (GainsPrefix (O.state out.old) (O.state out.new))) }
-    ensures write_cause { result ≡ 6 → Rose (O.state out.old).faults (O.state out.new).faults }
+    ensures write_fault { result ≡ 6 → ForRequest (texts words.now)
+        (TellsWriteFault (F.state files.old, F.state files.new) (O.state out.old, O.state out.new) (Says (E.state err.old) (E.state err.new))) }
     ensures statuses { IsTrue (is_status result) }
     ensures nothing_printed { IsTrue (prints_nothing result) → (O.state out.new).written ≡ (O.state out.old).written }
     // Standard error has exactly its line, or a prefix of it after a fault of its own.
     ensures error_line { ErrorLine result (Says (E.state err.old) (E.state err.new)) ((E.state err.new).written ≡ (E.state err.old).written) }
-    ensures kept { (file : List ℕ) → (F.state files.new).holds file ≡ (F.state files.old).holds file }
+    ensures nothing_written { IsTrue (prints_nothing result) → AllStay (F.state files.old, F.state files.new) }
+    ensures kept { (file : List ℕ) → ((request : Request) → IsRequest (texts words.now) request → IsOutput request file → ⊥)
+        → (F.state files.new).holds file ≡ (F.state files.old).holds file }
     // Where nothing failed, the status is exactly the one that the files and the request ask for.
     ensures exact { IsExact (texts words.now) (F.state files.old) result }
 {

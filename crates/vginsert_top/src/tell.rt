@@ -4,7 +4,7 @@ ghost use Rattle.vg_store.specs.Causes.{HasCause};
 ghost use Rattle.vg_store.specs.Writing.{Gains, GainsPrefix};
 ghost use Rattle.vginsert_top.specs.Inputs.{name_of};
 ghost use Rattle.vginsert_top.specs.Outcomes.{Tells, in_five};
-ghost use Rattle.vginsert_top.specs.Run.{Says, flaw_line, refused_line};
+ghost use Rattle.vginsert_top.specs.Run.{Says, flaw_line, refused_line, taken_line, write_failed_line};
 
 use crate::input::Flaw;
 use crate::outcome::Outcome;
@@ -68,6 +68,21 @@ fn tell_flaw<E: Out>(err: &mut E, name: &str, flaw: &Flaw)
     }
 }
 
+/// Tells standard error of a name that begins with the prefix.
+fn tell_taken<E: Out>(err: &mut E, name: &[u8])
+    ensures { Says (E.state err.old) (E.state err.new) (taken_line name.now) }
+{
+    say(err, b"vginsert: prefix taken: ", name, b"\n", b"", b"");
+}
+
+/// Tells standard error of the file of this name, which could not be written.
+fn tell_unwritten<E: Out>(err: &mut E, name: &str)
+    ensures { Says (E.state err.old) (E.state err.new) (write_failed_line name.now) }
+{
+    let name = name.as_bytes();
+    say(err, b"vginsert: write failed: ", name, b"\n", b"", b"");
+}
+
 /// Tells standard error how a request ended.
 pub fn tell<E: Out>(err: &mut E, ask: &Ask, outcome: &Outcome)
     ensures { Tells ask.now (E.state err.old, E.state err.new) outcome.now }
@@ -75,6 +90,8 @@ pub fn tell<E: Out>(err: &mut E, ask: &Ask, outcome: &Outcome)
     match outcome {
         Outcome::Printed(_) => {}
         Outcome::Flawed(input, flaw) => tell_flaw(err, ask.text(input.option()), flaw),
+        Outcome::Taken(name) => tell_taken(err, name.as_bytes()),
+        Outcome::Unwritten(output) => tell_unwritten(err, output.text(ask)),
         Outcome::WriteFault => say_line(err, b"vginsert: write failed: standard output\n"),
         Outcome::Memory => say_line(err, b"vginsert: out of memory\n"),
     }

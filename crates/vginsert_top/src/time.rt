@@ -52,6 +52,7 @@ pub fn time_for(
         Ok(timed) => Ok(Answer {
             kind: AnswerKind::Report,
             text: report_slack(alloc, name, &timed)?,
+            written: None,
         }),
         Err(Refused::Net(refusal)) => Ok(refuse(alloc, name, &refusal)?),
         Err(Refused::Memory) => Err(NoAnswer::Memory),

@@ -93,6 +93,7 @@ pub fn wire_for(alloc: Global, file: &SpefText, name: &[u8]) -> Result<Answer, N
         Ok(wire) => Ok(Answer {
             kind: AnswerKind::Report,
             text: report_wire(alloc, name, &wire)?,
+            written: None,
         }),
         Err(Refused::Net(refusal)) => Ok(refuse(alloc, name, &refusal)?),
         Err(Refused::Memory) => Err(NoAnswer::Memory),

@@ -32,6 +32,7 @@ input-preserved g c =
       read = reads_next (told before ask) (texts_in c.input.texts) (texts_in c.set.new.self) order i Spef c.in-Ok.text.items low c.input.invariant.read
           (read_as ((g.F.Files.state c.input.files).holds c.text.result.now) (told before ask (get_or order i Spef)) c.in-Ok.text.items held c.in-Ok.ensures.whole short) c.set.ensures.own c.set.ensures.each;
       kept = λ file. c.in-Ok.ensures.kept file ∙ c.input.invariant.kept file;
+      writing = c.in-Ok.ensures.writing.same_faults ∙ c.input.invariant.writing;
       later = omega (arith, c.input.invariant.later, c.in-Ok.ensures.never_falls);
     }
 

@@ -8,5 +8,6 @@ abbrev pub invariant-input : goal.invariant-input
 invariant-input g l = record {
   read : All (λ input. IsRead (told (g.F.Files.state l.fn.files) l.ask input) (texts_in l.texts input)) (take l.input-index l.order);
   kept : (file : List ℕ) → (g.F.Files.state l.files).holds file ≡ (g.F.Files.state l.fn.files).holds file;
+  writing : (g.F.Files.state l.files).write_faults ≡ (g.F.Files.state l.fn.files).write_faults;
   later : (g.F.Files.state l.fn.files).read_faults ≤ (g.F.Files.state l.files).read_faults;
 }

@@ -1,6 +1,7 @@
 use Rattle.std.proofs.Common.{arith, inl, inr, ◌∙◌}
 use Rattle.vg_words.specs.Request.{texts}
-use Rattle.vginsert_top.proofs.RunLemmas.{run_printed, run_not_three, run_unreadable, run_read_fault, run_write_fault, run_exact, fault_two, fault_exact}
+use Rattle.vginsert_top.proofs.RequestLemmas.{outputs_apart, prefix_is_solid}
+use Rattle.vginsert_top.proofs.RunLemmas.{run_printed, run_not_three, run_unreadable, run_read_fault, run_write_fault, run_stays, run_exact, fault_two, fault_exact}
 use Rattle.vginsert_top.specs.declared.answer.AnswerKind.TheVariants.{Report, NoneGood, Refusal}
 use Rattle.vginsert_top.proofs.program.run.Goals as goal
 
@@ -29,10 +30,10 @@ pub returns-in-Ok-clause-read_cause : goal.returns-in-Ok-clause-read_cause
 returns-in-Ok-clause-read_cause g c = λ e. (run_read_fault c.run_request.ensures.ends e).0
 
 pub returns-in-Ok-clause-write_fault : goal.returns-in-Ok-clause-write_fault
-returns-in-Ok-clause-write_fault g c = λ e. (c.in-Ok.ask, c.in-Ok.ensures, (run_write_fault c.run_request.ensures.ends e).1)
+returns-in-Ok-clause-write_fault g c = λ e. (c.in-Ok.ask, c.in-Ok.ensures, run_write_fault c.run_request.ensures.ends e)
 
-pub returns-in-Ok-clause-write_cause : goal.returns-in-Ok-clause-write_cause
-returns-in-Ok-clause-write_cause g c = λ e. (run_write_fault c.run_request.ensures.ends e).0
+pub returns-in-Ok-clause-nothing_written : goal.returns-in-Ok-clause-nothing_written
+returns-in-Ok-clause-nothing_written g c = λ e. run_stays c.run_request.ensures.ends e
 
 pub returns-in-Ok-clause-exact : goal.returns-in-Ok-clause-exact
 returns-in-Ok-clause-exact g c = run_exact c.run_request.ensures.ends (texts c.args.words.now) c.in-Ok.ensures
@@ -50,3 +51,9 @@ returns-in-Err-clause-no_request g c = λ none.
 pub returns-in-Err-clause-exact : goal.returns-in-Err-clause-exact
 returns-in-Err-clause-exact g c = λ request is read told five six seven.
     absurd (fault_exact (texts c.args.words.now) c.in-Err.fault c.in-Err.ensures (λ e. seven (c.fault_status.ensures ∙ e)) request is)
+
+pub run_request-requires-clause-apart : goal.run_request-requires-clause-apart
+run_request-requires-clause-apart g c = outputs_apart (texts c.args.words.now) c.in-Ok.ask c.in-Ok.ensures
+
+pub run_request-requires-clause-prefix : goal.run_request-requires-clause-prefix
+run_request-requires-clause-prefix g c = prefix_is_solid (texts c.args.words.now) c.in-Ok.ask c.in-Ok.ensures

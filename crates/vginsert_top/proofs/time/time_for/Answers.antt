@@ -1,4 +1,4 @@
-use Rattle.std.proofs.Common.{ℕ, List, subst}
+use Rattle.std.proofs.Common.{ℕ, List, refl, subst}
 use Rattle.vg_retime.specs.Retimings.{IsFirstRefusal}
 use Rattle.vg_inputs.specs.Steps.{texts_of}
 use Rattle.vg_words.specs.declared.ask.Mode.TheVariants.{Time}
@@ -23,4 +23,4 @@ returns-in-Err-Net c =
     let texts = texts_of c.args.inputs in
     let asked : Asked = record { net = c.args.name.now; prefix = c.args.prefix.now } in
     answer_with Refused Time (texts_by texts) asked (refusal_line c.args.name.now refusal) c.in_ok-refuse-in-Err-Net.field-0
-    (way_refused texts asked c.in_ok-design.design refusal c.in_ok-design.ensures.design is) c.in_ok-refuse-in-Err-Net.ensures
+    (way_refused texts asked c.in_ok-design.design refusal c.in_ok-design.ensures.design is, refl) c.in_ok-refuse-in-Err-Net.ensures
