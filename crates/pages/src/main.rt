@@ -1,22 +1,45 @@
-//! Compares the runs that pages show with what the program prints.
+//! Compares the runs that pages show with what the program prints, and the slacks of a design with those of the files that are
+//! written, and tries outputs that cannot be written.
 #![tactic(auto)]
 
+mod design;
 mod page;
 mod report;
+mod unwritable;
 
-use crate::report::report_pages;
+use crate::design::report_design;
+use crate::report::{copy_files, report_pages};
+use crate::unwritable::report_unwritable;
 use std::process::ExitCode;
 use vg_store::RealFiles;
 
 /// The pages, by their paths.
 const PAGES: [&str; 2] = ["README.md", "examples/README.md"];
 
+/// The files that the runs on the pages read.
+const EXAMPLES: [&str; 8] = [
+    "examples/cells.lib",
+    "examples/extracted.spef",
+    "examples/fork.spef",
+    "examples/soc.cons",
+    "examples/soc.lib",
+    "examples/soc.spef",
+    "examples/soc.v",
+    "examples/tables.lib",
+];
+
 fn main(rt: HostRuntime) -> ExitCode {
-    let mut files = RealFiles::new(&rt);
+    let mut real = RealFiles::new(&rt);
+    let Ok(mut files) = copy_files(rt.alloc(), &mut real, &[&PAGES, &EXAMPLES]) else {
+        return ExitCode::FAILURE;
+    };
     let mut report = String::new(rt.alloc());
     let compared = report_pages(rt.alloc(), &mut files, &PAGES, &mut report);
+    let retimed = report_design(rt.alloc(), &mut files, &mut report);
+    let refused = report_unwritable(rt.alloc(), &mut real, &mut report);
     let printed = rt.print(report.as_str());
-    if matches!(compared, Ok(true)) && printed.is_ok() {
+    let all = [compared, retimed, refused];
+    if all.iter().all(|each| matches!(each, Ok(true))) && printed.is_ok() {
         ExitCode::SUCCESS
     } else {
         ExitCode::FAILURE

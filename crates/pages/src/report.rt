@@ -4,14 +4,31 @@ use crate::page::{Shown, runs_of};
 use std::alloc::{AllocError, Global};
 use vg_num::Memory;
 use vg_scan::text_at;
-use vg_store::{Files, MemOut, read_all};
+use vg_store::{Files, MemFiles, MemOut, read_all};
 use vginsert_top::run;
 
 /// The most bytes that an output takes at once.
 const CHUNK: usize = 1 << 16;
 
+/// The files of these names, as far as they can be read, in memory: what runs write goes there.
+pub(crate) fn copy_files<F: Files>(
+    alloc: Global,
+    real: &mut F,
+    lists: &[&[&str]],
+) -> Result<MemFiles, Memory> {
+    let mut files = MemFiles::new(alloc, CHUNK, &[])?;
+    for names in lists {
+        for name in *names {
+            if let Ok(bytes) = read_all(alloc, real, name) {
+                files.add(name, &bytes)?;
+            }
+        }
+    }
+    Ok(files)
+}
+
 /// The words of a command, parted at blanks and without their quotes.
-fn words_of(alloc: Global, command: &[u8]) -> Result<Vec<String>, AllocError> {
+pub(crate) fn words_of(alloc: Global, command: &[u8]) -> Result<Vec<String>, AllocError> {
     let command = String::from_utf8_lossy(alloc, command)?;
     let mut words = Vec::new(alloc);
     for word in command.as_str().split_whitespace() {
