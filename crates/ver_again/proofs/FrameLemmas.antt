@@ -20,7 +20,7 @@ use Rattle.ver_syntax.specs.Grammar.{is}
 use Rattle.ver_syntax.specs.Moves.{State, next}
 use Rattle.ver_syntax.specs.Rows.{kinds_in, rows_from, rows_of}
 use Rattle.ver_syntax.specs.Syntax.{IsModule}
-use Rattle.ver_syntax.proofs.PlaceLemmas.{items_stand}
+use Rattle.ver_syntax.proofs.PlaceLemmas.{items_stand, start}
 use Rattle.ver_items.proofs.RowLemmas.{kinds_append}
 use Rattle.ver_file.specs.Netlists.{end_at, head_end}
 use Rattle.ver_patch.proofs.FrameLemmas.{framed}
@@ -28,7 +28,7 @@ use Rattle.ver_again.proofs.KindLemmas.{end_token, semicolon_mark}
 use Rattle.ver_words.proofs.PatchLemmas.{EndsIn}
 use Rattle.ver_again.proofs.PinTokenLemmas.{kinds_from, next_row, rows_cut}
 use Rattle.ver_again.proofs.RunLemmas.{Runs, module_runs, runs_next, runs_on}
-use Rattle.ver_again.proofs.StateLemmas.{end_moves, over_stops, run_append, semicolon_moves, start, start_moves, state}
+use Rattle.ver_again.proofs.StateLemmas.{end_moves, over_stops, run_append, semicolon_moves, start_moves, state}
 
 -- ---- the first token that passes
 

@@ -19,6 +19,7 @@ use Rattle.ver_syntax.specs.Moves.{State, next}
 use Rattle.ver_syntax.specs.Syntax.{is_bad}
 use Rattle.ver_syntax.proofs.FaultLemmas.{no_stray}
 use Rattle.ver_syntax.proofs.ReadLemmas.{stray}
+use Rattle.ver_syntax.proofs.PlaceLemmas.{start, stopped}
 use Rattle.ver_module.specs.Netlists.{Net}
 use Rattle.ver_patch.specs.declared.text.NewCell.{NewCell}
 use Rattle.ver_words.specs.NewWords.{cell_words, net_words, pin_words, select_words, wire_words, word}
@@ -27,7 +28,7 @@ use Rattle.ver_words.specs.Words.{Word, WordEdit, word_in, words_of, words_with}
 use Rattle.ver_words.proofs.ChainLemmas.{NameStands, StandsAt}
 use Rattle.ver_words.proofs.PatchLemmas.{EndsIn, end_located, located}
 use Rattle.ver_again.proofs.RunLemmas.{is_over}
-use Rattle.ver_again.proofs.StateLemmas.{run_append, start, state, stopped}
+use Rattle.ver_again.proofs.StateLemmas.{run_append, state}
 use Rattle.ver_words.proofs.TextLemmas.{Each, net_named}
 
 -- the kinds of some words

@@ -10,7 +10,7 @@ use Rattle.ver_text.specs.declared.token.Token.{Token}
 use Rattle.ver_text.specs.Names.{is_simple}
 use Rattle.ver_text.specs.Tokens.{tokens_of}
 use Rattle.ver_text.proofs.OrderLemmas.{stand_in_order}
-use Rattle.ver_syntax.proofs.PlaceLemmas.{items_stand}
+use Rattle.ver_syntax.proofs.PlaceLemmas.{items_stand, start}
 use Rattle.ver_module.specs.declared.link.Link.TheVariants.{One}
 use Rattle.ver_module.specs.Netlists.{Netlist, Pin}
 use Rattle.ver_file.specs.Modules.{Denotes}
@@ -33,7 +33,6 @@ use Rattle.ver_words.proofs.PatchLemmas.{chain_end, chain_head, chain_more, head
 use Rattle.ver_again.proofs.GrammarLemmas.{Goes, at_item, goes_end, goes_more, kinds_are, no_bad, over_kept, wires_run, word_kinds}
 use Rattle.ver_again.proofs.PinLemmas.{shaped_pin}
 use Rattle.ver_again.proofs.RunLemmas.{ended_modules, is_over}
-use Rattle.ver_again.proofs.StateLemmas.{start}
 use Rattle.vg_grammar.specs.Machines.{run}
 use Rattle.ver_syntax.specs.Moves.{State, next}
 use Rattle.ver_text.specs.Kinds.{kind_in, kinds_of}

@@ -14,13 +14,14 @@ use Rattle.ver_syntax.specs.Grammar.{is}
 use Rattle.ver_syntax.specs.Moves.{State, next}
 use Rattle.ver_syntax.specs.Rows.{kinds_in, rows_of}
 use Rattle.ver_syntax.specs.Syntax.{IsModule}
+use Rattle.ver_syntax.proofs.PlaceLemmas.{place_at, start}
 use Rattle.ver_items.specs.Connections.{end_of, expression_in, span_of}
 use Rattle.ver_items.specs.Sections.{Section, is_identifier, section_before, stands_in}
 use Rattle.ver_module.specs.declared.link.Link.TheVariants.{One}
 use Rattle.ver_file.specs.Netlists.{is_one, link_of, pin_of}
 use Rattle.ver_again.proofs.RunLemmas.{EachRow, IsConnection, Moves, Runs, connection_runs, module_runs, runs_next, runs_on}
 use Rattle.ver_again.proofs.SectionLemmas.{PinRows, Quits, in_pins}
-use Rattle.ver_again.proofs.StateLemmas.{identifier_moves, name_moves, place_at, run_append, start, state}
+use Rattle.ver_again.proofs.StateLemmas.{identifier_moves, name_moves, run_append, state}
 use Rattle.ver_items.proofs.RowLemmas.{kinds_append}
 
 -- ---- kinds

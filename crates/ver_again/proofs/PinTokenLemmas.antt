@@ -19,11 +19,12 @@ use Rattle.ver_syntax.specs.declared.state.Instance.TheVariants.{Connection, Pin
 use Rattle.ver_syntax.specs.Grammar.{is}
 use Rattle.ver_syntax.specs.Moves.{next}
 use Rattle.ver_syntax.specs.Rows.{kinds_in, place_after, row, rows_from}
+use Rattle.ver_syntax.proofs.PlaceLemmas.{start}
 use Rattle.ver_words.proofs.ChainLemmas.{IsShut, NameStands, end_of}
 use Rattle.ver_again.proofs.KindLemmas.{close_mark, identifier_token, open_mark}
 use Rattle.ver_again.proofs.PinLemmas.{IsShapedPin, last_to}
 use Rattle.ver_again.proofs.RunLemmas.{EachRow}
-use Rattle.ver_again.proofs.StateLemmas.{start, state}
+use Rattle.ver_again.proofs.StateLemmas.{state}
 
 -- ---- rows and tokens
 

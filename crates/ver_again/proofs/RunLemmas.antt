@@ -21,10 +21,11 @@ use Rattle.ver_syntax.specs.Rows.{kinds_in, place_after, rows_from, rows_of}
 use Rattle.ver_syntax.specs.Syntax.{AreModule, IsModule}
 use Rattle.ver_syntax.proofs.MoveLemmas.{machine}
 use Rattle.ver_syntax.proofs.RowLemmas.{kinds_kept}
+use Rattle.ver_syntax.proofs.PlaceLemmas.{place_at, place_moves, start, stopped}
 use Rattle.ver_items.specs.Sections.{is_place, stands_in}
 use Rattle.ver_patch.proofs.FrameLemmas.{Follow}
 use Rattle.ver_again.proofs.SectionLemmas.{Quits}
-use Rattle.ver_again.proofs.StateLemmas.{connection_moves, place_at, place_moves, start, state, stopped}
+use Rattle.ver_again.proofs.StateLemmas.{connection_moves, state}
 
 -- ---- whole modules
 

@@ -1,82 +1,18 @@
 -- Where the machine of the grammar stands in pins and between items.
-use Rattle.std.proofs.Common.{◌≡◌, ℕ, Bool, true, false, ◌&&◌, ◌||◌, ◌==◌, not, List, [], ◌∷◌, ◌++◌, Option, Some, None, refl, ap, ◌∙◌, subst, ◌⊎◌, inl, inr}
+use Rattle.std.proofs.Common.{◌≡◌, Bool, true, false, ◌&&◌, ◌||◌, ◌==◌, not, List, [], ◌∷◌, ◌++◌, Option, Some, None, refl, ap, ◌∙◌, subst, ◌⊎◌, inl, inr}
 use Rattle.vg_grammar.specs.Machines.{run}
 use Rattle.ver_text.specs.declared.kind.Kind.{Kind}
 use Rattle.ver_text.specs.declared.kind.Kind.TheVariants.{EndModule, Identifier, Open, Close, Semicolon}
-use Rattle.ver_syntax.specs.declared.row.Place.{Place}
-use Rattle.ver_syntax.specs.declared.row.Place.TheVariants.{Start as InStart, Head as InHead, Ports as InPorts, Declaration, Assignment, Instances, Pins as InPins, Connection as InConnection}
+use Rattle.ver_syntax.specs.declared.row.Place.TheVariants.{Start as InStart, Pins as InPins, Connection as InConnection}
 use Rattle.ver_syntax.specs.Grammar.{is}
 use Rattle.ver_syntax.specs.Moves.{State, move, next}
-use Rattle.ver_syntax.specs.Rows.{place_after}
-use Rattle.ver_syntax.specs.Laws.{place_after_all}
+use Rattle.ver_syntax.proofs.PlaceLemmas.{number, place_at, same, start}
 use Rattle.ver_syntax.proofs.TableLemmas.{both_true, each_kind, each_move, each_state}
-use Rattle.ver_syntax.specs.declared.state.Head.TheVariants.{Start as HeadStart, Module as HeadModule, Name as HeadName, End as HeadEnd}
 use Rattle.ver_syntax.specs.declared.state.Item.TheVariants.{Start as ItemStart, Over}
-use Rattle.ver_syntax.specs.declared.state.Owner.TheVariants.{Port as OfPort, Item as OfItem}
-use Rattle.ver_syntax.specs.declared.state.Instance.TheVariants.{Cell, Comma as InstanceComma, Name as InstanceName, Connection, Pin as PinName, PinEnd, End as InstanceEnd}
-use Rattle.ver_syntax.specs.declared.state.Role.TheVariants.{Pin as OfPin}
+use Rattle.ver_syntax.specs.declared.state.Instance.TheVariants.{Connection, Pin as PinName, PinEnd}
 use Rattle.ver_syntax.specs.declared.state.Brace.{Brace}
 use Rattle.ver_syntax.specs.declared.state.At.{At}
-use Rattle.ver_syntax.specs.declared.state.At.TheVariants.{Head as AtHead, Range as AtRange, Item as AtItem, Instance as AtInstance, Expr as AtExpr}
-
--- what the token stands in that comes where the machine stands
-unfoldable pub place_at : At → Place
-place_at (AtHead HeadStart) = InStart
-place_at (AtHead HeadModule) = InHead
-place_at (AtHead HeadName) = InHead
-place_at (AtHead HeadEnd) = InHead
-place_at (AtHead at) = InPorts
-place_at (AtRange OfPort at) = InPorts
-place_at (AtRange OfItem at) = Declaration
-place_at (AtItem ItemStart) = InStart
-place_at (AtItem Over) = Instances
-place_at (AtItem at) = Declaration
-place_at (AtInstance Cell) = Instances
-place_at (AtInstance InstanceComma) = Instances
-place_at (AtInstance InstanceName) = Instances
-place_at (AtInstance InstanceEnd) = Instances
-place_at (AtInstance Connection) = InConnection
-place_at (AtInstance at) = InPins
-place_at (AtExpr OfPin at) = InConnection
-place_at (AtExpr role at) = Assignment
-
-number : Place → ℕ
-number InStart = 0
-number InHead = 1
-number InPorts = 2
-number Declaration = 3
-number Assignment = 4
-number Instances = 5
-number InPins = 6
-number InConnection = 7
-
-same : (p q : Place) → (number p == number q) ≡ true → p ≡ q
-unfolding number
-same InStart InStart e = refl
-same InHead InHead e = refl
-same InPorts InPorts e = refl
-same Declaration Declaration e = refl
-same Assignment Assignment e = refl
-same Instances Instances e = refl
-same InPins InPins e = refl
-same InConnection InConnection e = refl
-same p q e = absurd (cc)
-
--- ---- the place after a token
-
-follows : Option State → Place → Bool
-follows None p = true
-follows (Some s) p = number p == number (place_at s.at)
-
-move_follows : (at : At) (k : Kind) (bs : List Brace) → follows (move at k bs) (place_after (place_at at) k) ≡ true
-unfolding follows number place_at
-move_follows = each_move (λ at k bs. follows (move at k bs) (place_after (place_at at) k)) (λ bs. refl)
-
-pub place_moves : (s t : State) (k : Kind) → next s k ≡ Some t → place_after (place_at s.at) k ≡ place_at t.at
-unfolding follows
-place_moves s t k e = same (place_after (place_at s.at) k) (place_at t.at) (rw e at (move_follows s.at k s.open_braces))
-
--- ---- states
+use Rattle.ver_syntax.specs.declared.state.At.TheVariants.{Item as AtItem, Instance as AtInstance}
 
 no_braces : List Brace → Bool
 no_braces [] = true
@@ -210,14 +146,7 @@ connection_moves s t k inside e =
     not_true true f = absurd (cc)
     not_true false f = refl
 
-abbrev pub start : State
-start = state (AtHead HeadStart)
-
 -- ---- runs
-
-pub stopped : (ks : List Kind) → run next None ks ≡ None
-stopped [] = refl
-stopped (k ∷ ks) = stopped ks
 
 pub run_append : (o : Option State) (xs ys : List Kind) → run next o (xs ++ ys) ≡ run next (run next o xs) ys
 run_append None [] ys = refl
@@ -267,17 +196,6 @@ start_leads = each_move (λ at k bs. not (comes_to_start (move at k bs)) || is S
 pub start_moves : (s t : State) (k : Kind) → next s k ≡ Some t → t.at ≡ AtItem ItemStart → is Semicolon k ≡ true
 unfolding comes_to_start is_item_start
 start_moves s t k e f = or_false (comes_to_start (next s k)) (is Semicolon k) (start_leads s.at k s.open_braces) (ap comes_to_start e ∙ ap is_item_start f)
-
--- where the machine stands tells what the next token stands in
-pub ran_places : (ks : List Kind) (s t : State) → run next (Some s) ks ≡ Some t → place_after_all (place_at s.at) ks ≡ place_at t.at
-ran_places [] s t e = let same : s ≡ t = cc in ap (λ (x : State). place_at x.at) same
-ran_places (k ∷ ks) s t e = by_move (next s k) refl e (λ (u : State) (g : run next (Some u) ks ≡ Some t). ran_places ks u t g)
-  where
-    by_move : (o : Option State) → next s k ≡ o → run next o ks ≡ Some t
-        → ((u : State) → run next (Some u) ks ≡ Some t → place_after_all (place_at u.at) ks ≡ place_at t.at)
-        → place_after_all (place_after (place_at s.at) k) ks ≡ place_at t.at
-    by_move None f g ih = let h = stopped ks in absurd (cc)
-    by_move (Some u) f g ih = rw (place_moves s u k f) (ih u g)
 
 pub start_place : place_at start.at ≡ InStart
 unfolding place_at

@@ -1,14 +1,9 @@
 -- The sections of new wires and new instances.
-use Rattle.std.proofs.Common.{◌≡◌, ℕ, true, false, ◌&&◌, ◌==◌, List, [], ◌∷◌, ◌++◌, map, refl, sym, ap, ◌∙◌, subst, append_assoc, arith}
+use Rattle.std.proofs.Common.{◌≡◌, ℕ, true, false, ◌&&◌, List, [], ◌∷◌, ◌++◌, map, refl, sym, ap, ◌∙◌, subst, append_assoc}
 use Rattle.std.specs.Prelude.{codes}
-use Rattle.std.specs.List.{flat_map, list_all}
+use Rattle.std.specs.List.{flat_map}
 use Rattle.std.proofs.lemmas.List.{append-nil, map-append}
-use Rattle.std.proofs.lemmas.Bool.{and_parts}
-use Rattle.std.proofs.lemmas.Bool.Decides.{nat_tests}
 use Rattle.ver_text.specs.declared.kind.Kind.TheVariants.{Close, Comma, Identifier, Semicolon}
-use Rattle.ver_text.specs.Bytes.{is_letter, is_word_byte}
-use Rattle.ver_text.specs.Kinds.{word_kind}
-use Rattle.ver_text.specs.Names.{is_identifier as is_identifier_kind, is_simple, is_word, name_of}
 use Rattle.ver_syntax.specs.declared.row.Place.{Place}
 use Rattle.ver_syntax.specs.declared.row.Place.TheVariants.{Start, Instances, Pins, Connection as InConnection}
 use Rattle.ver_syntax.specs.declared.row.Row.{Row}
@@ -26,34 +21,12 @@ use Rattle.ver_again.proofs.GrammarLemmas.{word_kinds}
 use Rattle.ver_again.proofs.RunLemmas.{EachRow}
 use Rattle.ver_again.proofs.SectionLemmas.{Next}
 use Rattle.ver_rows.proofs.ChangedLemmas.{InOne, Stay, net_stays, place_append, place_stays}
-use Rattle.ver_rows.proofs.NewRowLemmas.{IsRow, RowsAre, one_section}
+use Rattle.ver_rows.proofs.NewRowLemmas.{IsRow, RowsAre, each_append, each_weak, one_section}
 use Rattle.ver_rows.proofs.SectionLemmas.{names_off, sections_skip, starts_off}
 use Rattle.ver_links.proofs.ConnectionLemmas.{HasNet, expression_front}
 use Rattle.ver_items.specs.Connections.{expression_of}
 use Rattle.ver_links.proofs.RelinkedLemmas.{ArePairs}
 use Rattle.ver_links.proofs.WalkLemmas.{word_at}
-
--- ---- names
-
-plain_name : (name : List ℕ) → is_word name ≡ true → name_of name ≡ name
-plain_name [] h = absurd (cc)
-plain_name (b ∷ bs) h =
-    let letter = (and_parts (is_letter b) (list_all is_word_byte bs) h).0 in
-    let other : (b == 92) ≡ false = grind (arith, nat_tests) in
-    rw other refl
-
-pub simple_name : (name : List ℕ) → is_simple name ≡ true → name_of name ≡ name
-simple_name name e = plain_name name (and_parts (is_word name) (is_identifier_kind (word_kind name)) e).0
-
--- ---- rows by their words
-
-each_append : (P : Row → Type 0) (xs ys : List Row) → EachRow P xs → EachRow P ys → EachRow P (xs ++ ys)
-each_append P [] ys h k = k
-each_append P (x ∷ xs) ys h k = (h.0, each_append P xs ys h.1 k)
-
-each_weak : (P Q : Row → Type 0) → ((r : Row) → P r → Q r) → (rows : List Row) → EachRow P rows → EachRow Q rows
-each_weak P Q f [] h = tt
-each_weak P Q f (r ∷ rows) h = (f r h.0, each_weak P Q f rows h.1)
 
 module _ (new : List ℕ) where
   record AreCut (p : Place) (ws vs : List Word) (rows : List Row) : Type 0 where

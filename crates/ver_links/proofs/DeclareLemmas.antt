@@ -16,6 +16,7 @@ use Rattle.ver_syntax.specs.Rows.{item_after, place_after, rows_of}
 use Rattle.ver_syntax.specs.Syntax.{IsModule}
 use Rattle.ver_text.specs.Names.{is_simple, name_of}
 use Rattle.ver_syntax.proofs.TableLemmas.{each_kind, each_state}
+use Rattle.ver_syntax.proofs.PlaceLemmas.{place_at, start}
 use Rattle.ver_items.specs.Declarations.{Declared, begins_declaration, declarations_in, declare, declared_by, declared_in, direction_named, heading_of, is_supply, numbers_in, range_of}
 use Rattle.ver_items.specs.Sections.{Section, items, is_net_name, is_net_place, is_place, number_at, sections, stands_in}
 use Rattle.ver_patch.proofs.FrameLemmas.{Follow}
@@ -29,9 +30,9 @@ use Rattle.ver_words.specs.Texts.{IsNewCell}
 use Rattle.ver_words.proofs.TextLemmas.{Each}
 use Rattle.ver_again.proofs.LawLemmas.{each_of, modules_stay}
 use Rattle.ver_again.proofs.SectionLemmas.{Next}
-use Rattle.ver_rows.proofs.NewRowLemmas.{IsRow, RowsAre, one_section}
+use Rattle.ver_rows.proofs.NewRowLemmas.{IsRow, RowsAre, one_section, simple_name}
 use Rattle.ver_again.proofs.RunLemmas.{EachRow, Runs, module_runs, runs_next}
-use Rattle.ver_again.proofs.StateLemmas.{place_at, start, start_place}
+use Rattle.ver_again.proofs.StateLemmas.{start_place}
 use Rattle.ver_rows.proofs.ChangedLemmas.{InOne, IsSame}
 use Rattle.ver_rows.proofs.SectionLemmas.{sections_skip}
 use Rattle.ver_links.specs.Declared.{unplaced, wire_declared}
@@ -39,7 +40,7 @@ use Rattle.ver_links.specs.Laws.{DeclarationsStay}
 use Rattle.ver_links.proofs.RelinkedLemmas.{ArePairs, AreRelinked}
 use Rattle.ver_links.proofs.WalkLemmas.{IsFree, IsNewNet}
 use Rattle.ver_links.proofs.ItemLemmas.{Paired, changed_items}
-use Rattle.ver_links.proofs.CellLemmas.{IsCellSection, cell_sections, simple_name, starts_next}
+use Rattle.ver_links.proofs.CellLemmas.{IsCellSection, cell_sections, starts_next}
 use Rattle.ver_links.proofs.SameLemmas.{AreSame, IsSameSection, filter_same, name_same, number_same, pairs_equal, pairs_flat_equal, sections_same}
 
 pub map-map : {X Y Z : Type 0} (g : Y → Z) (f : X → Y) (xs : List X) → map g (map f xs) ≡ map (λ x. g (f x)) xs

@@ -101,7 +101,7 @@ module _ (text new : List ℕ) (netlist : Netlist) (all : List Rewire) (cells : 
   no_pins : (ss : List Section) → flat_map (instances_by new) ss ≡ [] → pin_sections ss ≡ []
   no_pins ss e = no_mapped (map (pin_of new)) (pin_sections ss) (sym (instances_pins new ss) ∙ ap (map (λ (i : Instance). i.pins)) e)
 
-  pins_are : Each IsNewCell cells → AreItems text new netlist all cells wires → ArePins
+  pub pins_are : Each IsNewCell cells → AreItems text new netlist all cells wires → ArePins
   pins_are made i =
       let put = sections (stands_in Start) i.put in
       let wired = sections (stands_in Start) i.wired in

@@ -25,7 +25,7 @@ use Rattle.ver_rows.proofs.ChangedLemmas.{IsSame}
 use Rattle.ver_rows.proofs.SectionLemmas.{before_skip}
 use Rattle.std.proofs.lemmas.Int.{clamps}
 use Rattle.ver_links.specs.Links.{IsOneNet, NamedLink, name_of_net, named_link, names_in, names_named}
-use Rattle.ver_links.proofs.CellLemmas.{simple_name}
+use Rattle.ver_rows.proofs.NewRowLemmas.{simple_name}
 use Rattle.ver_links.proofs.RelinkedLemmas.{ArePairs}
 use Rattle.ver_links.proofs.SameLemmas.{AreSame, IsSameSection, before_same, name_same, number_same, pairs_flat_equal, sections_same}
 use Rattle.ver_links.proofs.WalkLemmas.{word_at}

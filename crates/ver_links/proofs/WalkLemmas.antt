@@ -17,7 +17,7 @@ use Rattle.ver_syntax.specs.declared.state.Instance.TheVariants.{Connection, Pin
 use Rattle.ver_syntax.specs.Laws.{place_after_all}
 use Rattle.ver_syntax.specs.Moves.{next}
 use Rattle.ver_syntax.specs.Rows.{place_after, row, rows_from}
-use Rattle.ver_syntax.proofs.PlaceLemmas.{items_stand}
+use Rattle.ver_syntax.proofs.PlaceLemmas.{items_stand, place_at, ran_places, start}
 use Rattle.ver_items.specs.Sections.{bytes_at, is_place}
 use Rattle.ver_module.specs.Netlists.{Netlist}
 use Rattle.ver_file.specs.Modules.{Denotes}
@@ -41,7 +41,7 @@ use Rattle.ver_again.proofs.LawLemmas.{end_changes, head_pairs, pin_stands, span
 use Rattle.ver_again.proofs.PinTokenLemmas.{IsPinPlace}
 use Rattle.ver_again.proofs.RunLemmas.{EachRow}
 use Rattle.ver_again.proofs.SectionLemmas.{Quits}
-use Rattle.ver_again.proofs.StateLemmas.{connection_place, place_at, ran_places, start, start_place, state}
+use Rattle.ver_again.proofs.StateLemmas.{connection_place, start_place, state}
 use Rattle.ver_rows.proofs.ChangedLemmas.{InOne, Stay, at_item_place, map_cut, net_stays, place_append, place_stays, rows_append, word_kinds_of}
 use Rattle.ver_links.proofs.RelinkedLemmas.{AreRelinked, In, each_in}
 

@@ -25,9 +25,8 @@ use Rattle.ver_again.proofs.GrammarLemmas.{word_kinds}
 use Rattle.ver_again.proofs.KindLemmas.{no_number}
 use Rattle.ver_again.proofs.RunLemmas.{EachRow}
 use Rattle.ver_rows.proofs.ChangedLemmas.{InOne, IsSame, Stay, net_stays, place_stays}
-use Rattle.ver_rows.proofs.NewRowLemmas.{RowsAre}
+use Rattle.ver_rows.proofs.NewRowLemmas.{RowsAre, simple_name}
 use Rattle.ver_rows.proofs.SectionLemmas.{names_off}
-use Rattle.ver_links.proofs.CellLemmas.{simple_name}
 use Rattle.ver_links.proofs.RelinkedLemmas.{In}
 use Rattle.ver_links.proofs.WalkLemmas.{word_at}
 

@@ -22,6 +22,7 @@ use Rattle.ver_syntax.specs.Moves.{State, move, next}
 use Rattle.ver_syntax.specs.Rows.{item_after, place_after, rows_of}
 use Rattle.ver_syntax.specs.Syntax.{IsModule}
 use Rattle.ver_syntax.proofs.TableLemmas.{each_kind, each_state}
+use Rattle.ver_syntax.proofs.PlaceLemmas.{place_at, start}
 use Rattle.ver_items.specs.declared.bits.Range.{Range}
 use Rattle.ver_items.specs.Bits.{bits_from, bits_of}
 use Rattle.ver_items.specs.Declarations.{Declared, begins_declaration, declarations_in, declare, declared_by, declared_in, declared_of, heading_of, numbers_in, range_in, range_of}
@@ -29,7 +30,6 @@ use Rattle.ver_items.specs.Sections.{Section, bytes_at, is_net_name, is_place, i
 use Rattle.ver_patch.proofs.FrameLemmas.{Follow}
 use Rattle.ver_words.proofs.TextLemmas.{Each}
 use Rattle.ver_again.proofs.RunLemmas.{EachRow, Runs, module_runs, runs_next}
-use Rattle.ver_again.proofs.StateLemmas.{place_at, start}
 use Rattle.ver_links.proofs.DeclareLemmas.{IsItem, is_cell, module_items, nothing_declared}
 use Rattle.ver_links.proofs.RelinkedLemmas.{In, each_in}
 use Rattle.ver_renewed.proofs.AssignedLemmas.{at_assignment, or_other, same_after, sections_none}

@@ -1,104 +1,32 @@
 -- Where the pins of a changed text come from, and what stands in their connections.
-use Rattle.std.proofs.Common.{◌⊎◌, ◌≡◌, ℕ, zero, suc, ◌+◌, List, [], ◌∷◌, ◌++◌, map, length, Some, refl, sym, ap, ◌∙◌, subst, arith, append_assoc, ◌&&◌, false, inl, inr, Bool, true}
+use Rattle.std.proofs.Common.{◌⊎◌, ◌≡◌, ℕ, zero, suc, ◌+◌, List, [], ◌∷◌, ◌++◌, map, length, Some, refl, sym, ap, ◌∙◌, subst, arith, false, inl, inr, Bool, true}
 use Rattle.std.specs.Prelude.{drop, slice_get, nat_eq}
-use Rattle.std.specs.List.{flat_map}
-use Rattle.std.proofs.lemmas.List.{append-nil, length-map}
+use Rattle.std.proofs.lemmas.List.{length-map}
 use Rattle.std.proofs.lemmas.List.Sorted.{All-permutation}
 use Rattle.std.proofs.lemmas.Option.{none-some, same_Some}
-use Rattle.ver_syntax.specs.declared.row.Place.{Place}
-use Rattle.ver_syntax.specs.declared.row.Place.TheVariants.{Start, Instances, Pins, Connection}
-use Rattle.ver_syntax.specs.declared.row.Row.{Row}
-use Rattle.ver_syntax.specs.Grammar.{is}
-use Rattle.ver_text.specs.declared.kind.Kind.TheVariants.{Identifier}
 use Rattle.ver_items.specs.Connections.{connection_of, expression_of}
-use Rattle.ver_items.specs.Sections.{Section, instances_in, is_name_in, is_place, items, pins_in, sections, stands_in}
+use Rattle.ver_items.specs.Sections.{Section, items}
 use Rattle.ver_module.specs.Netlists.{Instance, Netlist}
-use Rattle.ver_file.specs.Netlists.{instances_by, pin_of, netlist_of, instances_of}
-use Rattle.ver_file.proofs.ListLemmas.{flat_map-append}
-use Rattle.ver_file.proofs.NetLemmas.{no_mapped}
+use Rattle.ver_file.specs.Netlists.{pin_of, netlist_of, instances_of}
 use Rattle.ver_net.specs.declared.pin_ref.PinRef.{PinRef}
 use Rattle.ver_patch.specs.Pins.{IsOnOneNet, span_at}
 use Rattle.ver_patch.specs.declared.text.NewCell.{NewCell}
 use Rattle.ver_patch.specs.declared.text.Rewire.{Rewire}
-use Rattle.ver_patch.proofs.StandLemmas.{no_sections}
 use Rattle.ver_words.specs.Texts.{IsNewCell}
 use Rattle.ver_words.specs.Words.{words_of}
 use Rattle.ver_words.proofs.TextLemmas.{Each}
 use Rattle.ver_again.proofs.LawLemmas.{each_of}
-use Rattle.ver_rows.proofs.NewRowLemmas.{wires_none}
-use Rattle.ver_rows.proofs.SectionLemmas.{names_off}
-use Rattle.ver_links.proofs.CellLemmas.{IsCellSection, cell_sections}
 use Rattle.ver_links.proofs.ConnectionLemmas.{HasNet}
 use Rattle.ver_links.proofs.DeclareLemmas.{module_items}
-use Rattle.ver_links.proofs.ItemLemmas.{AreItems, Paired, changed_items}
+use Rattle.ver_links.proofs.ItemLemmas.{Paired, changed_items}
 use Rattle.ver_links.proofs.LinkLemmas.{conn_kept, conn_made, drop_first, expression_same, one_section_at, pairs_length, pin_free, same_rewire}
-use Rattle.ver_links.proofs.PinLemmas.{IsPin, instances_pins, pin_quits, pin_sections, pins_by}
-use Rattle.ver_links.proofs.RelinkedLemmas.{ArePairs, In, each_in, sections_relinked}
-use Rattle.ver_links.proofs.SameLemmas.{pairs_append, pairs_flat, pairs_map, AreSame}
-use Rattle.ver_links.proofs.WalkLemmas.{IsFree, IsNewNet}
-use Rattle.ver_links.proofs.LawLemmas.{ArePins, IsCellPins}
+use Rattle.ver_links.proofs.PinLemmas.{IsPin, instances_pins, pin_quits, pin_sections}
+use Rattle.ver_links.proofs.RelinkedLemmas.{ArePairs, In, each_in}
+use Rattle.ver_links.proofs.SameLemmas.{AreSame}
+use Rattle.ver_links.proofs.LawLemmas.{ArePins, IsCellPins, pins_are}
 use Rattle.std.proofs.lemmas.Bool.Decides.{nat_tests}
 use Rattle.ver_again.specs.Laws.{IsChanged}
 use Rattle.ver_renewed.specs.Renewed.{new_pin}
-
--- ---- the pins of two texts
-
-names_alike : (place : Place) (r q : Row) → r.place ≡ q.place → r.kind ≡ q.kind → is_name_in place r ≡ is_name_in place q
-names_alike place r q e f = λ i. is Identifier (f i) && is_place place (e i)
-
-cells_pins : (new : List ℕ) (ss : List Section) (cells : List NewCell) → ArePairs (IsCellSection new) ss cells → ArePairs (IsCellPins new) cells (pin_sections ss)
-cells_pins new _ _ ArePairs.done = ArePairs.done
-cells_pins new _ _ (ArePairs.pair {x = s} {y = c} {xs = ss} {ys = cells} p h) =
-    subst (λ ps. ArePairs (IsCellPins new) (c ∷ cells) (map pins_in ps ++ pin_sections ss)) (sym p.instances)
-    (ArePairs.pair (record { input = p.input; output = p.output; pins_are = p.pins; from = p.from; to = p.to }) (cells_pins new ss cells h))
-
-module _ (text new : List ℕ) (netlist : Netlist) (all : List Rewire) (cells : List NewCell) (wires : List (List ℕ)) where
-  item_pins : (s t : Section) → Paired text new netlist all cells wires s t → ArePairs (ArePairs (Paired text new netlist all cells wires)) (pins_by s) (pins_by t)
-  item_pins s t p =
-      let relinked = λ (place : Place) (off : is_place place Connection ≡ false) (rows others : List Row).
-      sections_relinked text new (IsFree netlist all) (IsNewNet text new netlist all) (is_name_in place) (names_alike place) (names_off place off) rows others in
-      pairs_map (Paired text new netlist all cells wires) (ArePairs (Paired text new netlist all cells wires)) pins_in pins_in
-      (λ i j h. relinked Pins refl i.body j.body h.body) (instances_in s) (instances_in t) (relinked Instances refl s.body t.body p.body)
-
-  items_pins : (ss ts : List Section) → ArePairs (Paired text new netlist all cells wires) ss ts
-      → ArePairs (ArePairs (Paired text new netlist all cells wires)) (pin_sections ss) (pin_sections ts)
-  items_pins ss ts h =
-      pairs_flat (Paired text new netlist all cells wires) (ArePairs (Paired text new netlist all cells wires)) pins_by pins_by item_pins ss ts h
-
-  no_pins : (ss : List Section) → flat_map (instances_by new) ss ≡ [] → pin_sections ss ≡ []
-  no_pins ss e = no_mapped (map (pin_of new)) (pin_sections ss) (sym (instances_pins new ss) ∙ ap (map (λ (i : Instance). i.pins)) e)
-
-  pins_are : Each IsNewCell cells → AreItems text new netlist all cells wires → ArePins text new netlist all cells wires
-  pins_are made i =
-      let put = sections (stands_in Start) i.put in
-      let wired = sections (stands_in Start) i.wired in
-      let last : Section = record { head = i.last; body = [] } in
-      let end : Section = record { head = i.end; body = [] } in
-      let alone : (r : Row) → pin_sections (record { head = r; body = [] } ∷ []) ≡ [] = λ r. ap (λ ss. map pins_in ss ++ []) (no_sections (is_name_in Instances)) in
-      let none : pin_sections wired ≡ []
-      = no_pins wired (ap (λ rs. flat_map (instances_by new) (sections (stands_in Start) rs)) (sym (append-nil i.wired))
-      ∙ wires_none new wires i.wired [] i.wires_are tt ∙ ap (flat_map (instances_by new)) (no_sections (stands_in Start))) in
-      let olds : pin_sections (items text) ≡ pin_sections i.heads ++ pin_sections i.middles
-      = ap pin_sections i.items_are ∙ flat_map-append pins_by i.heads (i.middles ++ last ∷ [])
-      ∙ ap (λ ps. pin_sections i.heads ++ ps) (flat_map-append pins_by i.middles (last ∷ []) ∙ ap (λ ps. pin_sections i.middles ++ ps) (alone i.last)
-      ∙ append-nil (pin_sections i.middles)) in
-      let news : pin_sections (items new) ≡ pin_sections i.heads_now ++ (pin_sections i.middles_now ++ pin_sections put)
-      = ap pin_sections i.items_now ∙ flat_map-append pins_by i.heads_now (wired ++ (i.middles_now ++ (put ++ end ∷ [])))
-      ∙ ap (λ ps. pin_sections i.heads_now ++ ps) (flat_map-append pins_by wired (i.middles_now ++ (put ++ end ∷ []))
-      ∙ ap (λ ps. ps ++ pin_sections (i.middles_now ++ (put ++ end ∷ []))) none
-      ∙ flat_map-append pins_by i.middles_now (put ++ end ∷ [])
-      ∙ ap (λ ps. pin_sections i.middles_now ++ ps) (flat_map-append pins_by put (end ∷ []) ∙ ap (λ ps. pin_sections put ++ ps) (alone i.end)
-      ∙ append-nil (pin_sections put))) in
-      record {
-        now = pin_sections i.heads_now ++ pin_sections i.middles_now;
-        put = pin_sections put;
-        paired =
-            subst (λ ps. ArePairs (ArePairs (Paired text new netlist all cells wires)) ps (pin_sections i.heads_now ++ pin_sections i.middles_now)) (sym olds)
-            (pairs_append (ArePairs (Paired text new netlist all cells wires)) (pin_sections i.heads) (pin_sections i.heads_now) (pin_sections i.middles) (pin_sections i.middles_now)
-            (items_pins i.heads i.heads_now i.heads_paired) (items_pins i.middles i.middles_now i.middles_paired));
-        all_now = news ∙ sym (append_assoc (pin_sections i.heads_now) (pin_sections i.middles_now) (pin_sections put));
-        cells_are = cells_pins new put cells (cell_sections new cells made i.put i.cells_are);
-      }
 
 -- ---- pins by their places
 

@@ -10,12 +10,12 @@ use Rattle.ver_syntax.specs.Grammar.{is}
 use Rattle.ver_syntax.specs.Moves.{State}
 use Rattle.ver_syntax.specs.Rows.{rows_of}
 use Rattle.ver_syntax.specs.Syntax.{IsModule}
+use Rattle.ver_syntax.proofs.PlaceLemmas.{start}
 use Rattle.ver_items.specs.Sections.{Section, is_place, items, sections, stands_in}
 use Rattle.ver_patch.proofs.StandLemmas.{before_others, no_sections, sections_by}
 use Rattle.ver_words.proofs.TextLemmas.{Each}
 use Rattle.ver_again.proofs.RunLemmas.{Runs, connection_runs, module_runs, runs_next}
 use Rattle.ver_again.proofs.SectionLemmas.{Quits}
-use Rattle.ver_again.proofs.StateLemmas.{start}
 use Rattle.ver_rows.proofs.ChangedLemmas.{InOne}
 
 in_place : (p : Place) → is_place Connection p ≡ true → p ≡ Connection

@@ -19,6 +19,7 @@ use Rattle.ver_syntax.specs.Grammar.{is}
 use Rattle.ver_syntax.specs.Laws.{place_after_all}
 use Rattle.ver_syntax.specs.Moves.{next}
 use Rattle.ver_syntax.specs.Rows.{place_after, row, rows_from}
+use Rattle.ver_syntax.proofs.PlaceLemmas.{ran_places, start}
 use Rattle.ver_items.specs.Sections.{bytes_at, is_place, stands_in}
 use Rattle.ver_module.specs.Netlists.{Net}
 use Rattle.ver_patch.specs.declared.text.NewCell.{NewCell}
@@ -30,7 +31,7 @@ use Rattle.ver_again.proofs.GrammarLemmas.{word_kinds}
 use Rattle.ver_again.proofs.KindLemmas.{no_number}
 use Rattle.ver_words.proofs.PatchLemmas.{EndsIn, end_located, located}
 use Rattle.ver_again.proofs.RunLemmas.{EachRow}
-use Rattle.ver_again.proofs.StateLemmas.{connection_place, item_place, ran_places, start, start_place, state}
+use Rattle.ver_again.proofs.StateLemmas.{connection_place, item_place, start_place, state}
 use Rattle.ver_words.proofs.TextLemmas.{net_named}
 
 -- ---- rows of two texts

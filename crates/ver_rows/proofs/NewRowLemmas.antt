@@ -42,7 +42,7 @@ plain_name (b ∷ bs) h =
     let other : (b == 92) ≡ false = grind (arith, nat_tests) in
     rw other refl
 
-simple_name : (name : List ℕ) → is_simple name ≡ true → name_of name ≡ name
+pub simple_name : (name : List ℕ) → is_simple name ≡ true → name_of name ≡ name
 simple_name name e = plain_name name (and_parts (is_word name) (is_identifier_kind (word_kind name)) e).0
 
 printed_name : (name : List ℕ) → name_of (identifier_bytes (not (is_simple name)) name) ≡ name
@@ -54,11 +54,11 @@ printed_name name = by_test (is_simple name) refl
 
 -- ---- one section
 
-each_append : (P : Row → Type 0) (xs ys : List Row) → EachRow P xs → EachRow P ys → EachRow P (xs ++ ys)
+pub each_append : (P : Row → Type 0) (xs ys : List Row) → EachRow P xs → EachRow P ys → EachRow P (xs ++ ys)
 each_append P [] ys h k = k
 each_append P (x ∷ xs) ys h k = (h.0, each_append P xs ys h.1 k)
 
-each_weak : (P Q : Row → Type 0) → ((r : Row) → P r → Q r) → (rows : List Row) → EachRow P rows → EachRow Q rows
+pub each_weak : (P Q : Row → Type 0) → ((r : Row) → P r → Q r) → (rows : List Row) → EachRow P rows → EachRow Q rows
 each_weak P Q f [] h = tt
 each_weak P Q f (r ∷ rows) h = (f r h.0, each_weak P Q f rows h.1)
 

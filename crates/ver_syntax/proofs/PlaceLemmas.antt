@@ -29,7 +29,7 @@ use Rattle.ver_syntax.specs.declared.state.At.{At}
 use Rattle.ver_syntax.specs.declared.state.At.TheVariants.{Head as AtHead, Range as AtRange, Item as AtItem, Instance as AtInstance, Expr as AtExpr}
 
 -- what the token stands in that comes where the machine stands
-place_at : At → Place
+unfoldable pub place_at : At → Place
 place_at (AtHead HeadStart) = InStart
 place_at (AtHead HeadModule) = InHead
 place_at (AtHead HeadName) = InHead
@@ -53,7 +53,8 @@ is_first : At → Bool
 is_first (AtHead HeadStart) = true
 is_first _ = false
 
-number : Place → ℕ
+-- the places are told apart by numbers
+unfoldable pub number : Place → ℕ
 number InStart = 0
 number InHead = 1
 number InPorts = 2
@@ -63,7 +64,7 @@ number Instances = 5
 number InPins = 6
 number InConnection = 7
 
-same : (p q : Place) → (number p == number q) ≡ true → p ≡ q
+pub same : (p q : Place) → (number p == number q) ≡ true → p ≡ q
 unfolding number
 same InStart InStart e = refl
 same InHead InHead e = refl
@@ -89,17 +90,18 @@ module _ (s s' : State) (k : Kind) (e : next s k ≡ Some s') where
   unfolding follows
   after = both_true (number (place_after (place_at s.at) k) == number (place_at s'.at)) (not (is_first s'.at)) (rw e at (move_follows s.at k s.open_braces))
 
-  place_moves : place_after (place_at s.at) k ≡ place_at s'.at
+  pub place_moves : place_after (place_at s.at) k ≡ place_at s'.at
   place_moves = same (place_after (place_at s.at) k) (place_at s'.at) after.0
 
-stopped : (ks : List Kind) → run next None ks ≡ None
+pub stopped : (ks : List Kind) → run next None ks ≡ None
 stopped [] = refl
 stopped (k ∷ ks) = stopped ks
 
 one_state : (s t : State) → Some s ≡ Some t → s ≡ t
 one_state s t e = (cc)
 
-ran_places : (ks : List Kind) (s s' : State) → run next (Some s) ks ≡ Some s' → place_after_all (place_at s.at) ks ≡ place_at s'.at
+-- where the machine stands tells what the next token stands in
+pub ran_places : (ks : List Kind) (s s' : State) → run next (Some s) ks ≡ Some s' → place_after_all (place_at s.at) ks ≡ place_at s'.at
 ran_places [] s s' e = ap (λ (x : State). place_at x.at) (one_state s s' e)
 ran_places (k ∷ ks) s s' e = by_move (next s k) refl e (λ (t : State) (g : run next (Some t) ks ≡ Some s'). ran_places ks t s' g)
   where
@@ -124,7 +126,7 @@ ran_first (k ∷ ks) s s' n e =
     by_move None f g ih = let h = stopped ks in absurd (cc)
     by_move (Some t) f g ih = ih t (no_first (is_first t.at) (after s t k f).1) g
 
-start : State
+abbrev pub start : State
 start = record { at = AtHead HeadStart; open_braces = [] }
 
 past_first : (ks : List Kind) (s' : State) → 0 < length ks → run next (Some start) ks ≡ Some s' → is_first s'.at ≡ false
@@ -150,7 +152,6 @@ unfolding begins_item agrees number place_at is_first
 starts = each_state begins_item (λ bs. refl)
 
 goes : (ks : List Kind) → (is_some (run next (Some start) ks) ≡ true) ↔ Begins rules module_declaration ks
-unfolding start
 goes ks = goes_on rules ways next is_done machine module_declaration start refl ks
 
 at_start : (p : Place) → p ≡ InStart → (number p == 0) ≡ true
@@ -163,7 +164,7 @@ zero_start p f = f
 
 module _ (before : List Kind) (s : State) (e : run next (Some start) before ≡ Some s) (some : 0 < length before) where
   stands : place_after_all InStart before ≡ place_at s.at
-  unfolding start place_at
+  unfolding place_at
   stands = ran_places before start s e
 
   may : (number (place_at s.at) == 0) ≡ is_some (next s Assign)

@@ -19,7 +19,8 @@ use Rattle.vg_stages.proofs.StageLists.{nodes_below}
 use Rattle.elmore.specs.Path.{nodes}
 use Rattle.std.proofs.lemmas.List.FromFn.{get_or-range_with_len, length-range_with_len}
 use Rattle.vg_chain.specs.Laws.{AreNetsOf, StagesHaveNets}
-use Rattle.vg_chain.specs.NewStages.{HasStages, IsPut, stage_net, stage_number}
+use Rattle.vg_chain.specs.NetlistStages.{stage_number}
+use Rattle.vg_chain.specs.NewStages.{HasStages, IsPut, stage_net}
 use Rattle.vg_chain.proofs.AcceptLemmas.{joined, passes_here, stage}
 use Rattle.vg_chain.proofs.NameLemmas.{numbered_name}
 use Rattle.vg_chain.proofs.TimedLemmas.{number_once}
@@ -73,19 +74,22 @@ module _ (d : Design) (n : Joined) (x : Split) (new : Design) (put : IsPut d n x
 
   -- ---- by its number
 
-  stage_of : ℕ → ℕ
-  stage_of id = unwrap_or (find (λ k. stage_number x new k == id) (nodes count)) 0
+  abbrev number : ℕ → ℕ
+  number = stage_number x new.netlist
 
-  stage_is : (k : ℕ) → k < count → stage_of (stage_number x new k) ≡ k
+  stage_of : ℕ → ℕ
+  stage_of id = unwrap_or (find (λ k. number k == id) (nodes count)) 0
+
+  stage_is : (k : ℕ) → k < count → stage_of (number k) ≡ k
   unfolding stage_of
   stage_is k low =
       let size : k < length (nodes count) = omega (arith, low, length-range_with_len 0 count) in
       let at : get_or (nodes count) k k ≡ k = get_or-range_with_len 0 count k k low ∙ omega arith in
-      let found : IsFirst (λ u. stage_number x new u == stage_number x new k) (nodes count) 0
-      = first (λ u. stage_number x new u == stage_number x new k) (nodes count) k 0 (k, size, at) (eq-eqb (stage_number x new k) (stage_number x new k) refl) in
-      number_once d n x new put has (λ id. no_net) (stage_of (stage_number x new k)) k
-      (All-contains (λ u. u < count) (nodes count) (stage_of (stage_number x new k)) (nodes_below count) found.there) low
-      (eqb-true (stage_number x new (stage_of (stage_number x new k))) (stage_number x new k) found.passes)
+      let found : IsFirst (λ u. number u == number k) (nodes count) 0
+      = first (λ u. number u == number k) (nodes count) k 0 (k, size, at) (eq-eqb (number k) (number k) refl) in
+      number_once d n x new put has (λ id. no_net) (stage_of (number k)) k
+      (All-contains (λ u. u < count) (nodes count) (stage_of (number k)) (nodes_below count) found.there) low
+      (eqb-true (number (stage_of (number k))) (number k) found.passes)
 
   nets : Nets
   nets id = made_if (stage_of id) (cases_lt (stage_of id) count)
@@ -93,8 +97,8 @@ module _ (d : Design) (n : Joined) (x : Split) (new : Design) (put : IsPut d n x
   nets_are : AreNetsOf x new nets
   unfolding nets
   nets_are k low =
-      subst (λ name. IsNetOf 16 new x.prefix name (made_if (stage_of (stage_number x new k)) (cases_lt (stage_of (stage_number x new k)) count)))
-      (sym (numbered_name new (net_of x k) (stage_number x new k) (has.netlist k low).named))
+      subst (λ name. IsNetOf 16 new x.prefix name (made_if (stage_of (number k)) (cases_lt (stage_of (number k)) count)))
+      (sym (numbered_name new (net_of x k) (number k) (has.netlist k low).named))
       (subst (λ u. IsNetOf 16 new x.prefix (net_of x k) (made_if u (cases_lt u count))) (sym (stage_is k low)) (is_made_if k low (cases_lt k count)))
 
   pub have_nets : (nets : Nets) × AreNetsOf x new nets

@@ -24,7 +24,8 @@ use Rattle.vg_split.specs.NewNames.{cell_name}
 use Rattle.vg_split.specs.Splits.{Split, head, is_celled, name_in, net_of, number_of, old_node, pin_in, repeater_at, stage_from}
 use Rattle.vg_split.specs.Splits.{forest}
 use Rattle.vg_stages.specs.Stages.{heads}
-use Rattle.vg_chain.specs.NewStages.{HasCellPin, HasStages, IsPut, stage_net}
+use Rattle.vg_chain.specs.NetlistStages.{HasCellPin}
+use Rattle.vg_chain.specs.NewStages.{HasStages, IsPut, stage_net}
 use Rattle.vg_chain.proofs.RepeaterLemmas.{found_repeater}
 
 -- ---- old pins
@@ -64,7 +65,7 @@ cell_begins prefix m =
     ∙ same_bytes prefix
 
 module _ (d : Design) (n : Joined) (x : Split) (new : Design) (put : IsPut d n x) (has : HasStages d n x new) (k : ℕ) (low : k < length (heads (forest x))) (w : ℕ)
-    (celled : is_celled x w ≡ true) (cell : HasCellPin x new k w) where
+    (celled : is_celled x w ≡ true) (cell : HasCellPin x new.netlist k w) where
   abbrev pub instance : Instance
   instance = instance_at new.netlist cell.pin
 

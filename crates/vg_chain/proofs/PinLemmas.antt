@@ -14,7 +14,8 @@ use Rattle.vg_scan.specs.declared.name.NodeName.{NodeName}
 use Rattle.vg_split.specs.Splits.{Split, ends_in, forest, head, is_celled, name_in, old_conn, old_node, repeater_at}
 use Rattle.vg_stages.specs.Stages.{heads}
 use Rattle.vg_wire.specs.Refusals.{drives_at, is_sink}
-use Rattle.vg_chain.specs.NewStages.{HasCellPin, HasStages, IsPut, IsStageInNetlist, stage_net, stage_number}
+use Rattle.vg_chain.specs.NetlistStages.{HasCellPin, IsStageIn, stage_number}
+use Rattle.vg_chain.specs.NewStages.{HasStages, IsPut, stage_net}
 use Rattle.vg_chain.proofs.EndLemmas.{IsConnAt, IsKept, kept}
 use Rattle.vg_chain.proofs.OldLemmas.{sink_constrained, sink_loaded}
 use Rattle.vg_chain.proofs.PassageLemmas.{into_new, leaf_at}
@@ -37,7 +38,7 @@ module _ (d : Design) (n : Joined) (x : Split) (new : Design) (put : IsPut d n x
   abbrev pub net : Joined
   net = stage_net has k low
 
-  abbrev pub links : IsStageInNetlist d n x new k
+  abbrev pub links : IsStageIn d.netlist n.id x new.netlist k
   links = has.netlist k low
 
   -- ---- old pins
@@ -58,10 +59,10 @@ module _ (d : Design) (n : Joined) (x : Split) (new : Design) (put : IsPut d n x
   -- ---- pins of cells
 
   module _ (w : ℕ) (there : Contains (ends_in x k) w) (celled : is_celled x w ≡ true) where
-    abbrev pub cell : HasCellPin x new k w
+    abbrev pub cell : HasCellPin x new.netlist k w
     cell = links.cells w there celled
 
-    cell_is : cell_on new.netlist (stage_number x new k) (name_in x k w) ≡ Some (repeater_at x w).cell
+    cell_is : cell_on new.netlist (stage_number x new.netlist k) (name_in x k w) ≡ Some (repeater_at x w).cell
     cell_is = ap (option_map (λ pin. (instance_at new.netlist pin).cell)) cell.on ∙ ap Some cell.of_cell.cell
 
     input_leaf : w ≢ head x k → (name_in x k w).leaf ≡ (repeater_at x w).input

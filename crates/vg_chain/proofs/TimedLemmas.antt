@@ -12,7 +12,6 @@ use Rattle.vg_design.specs.Parts.{sink_given}
 use Rattle.vg_design.specs.Refusals.{IsJoined}
 use Rattle.vg_pieces.proofs.KindLemmas.{end_kind}
 use Rattle.vg_pieces.proofs.MemberLemmas.{IsMember}
-use Rattle.vg_pieces.proofs.NumberLemmas.{from_head, from_low}
 use Rattle.vg_pieces.proofs.ReadLemmas.{stands_in, stands_name}
 use Rattle.vg_pieces.proofs.ReadPassLemmas.{own_tree}
 use Rattle.vg_pieces.proofs.ReadPieceLemmas.{is_read_piece, sinks_are}
@@ -23,11 +22,13 @@ use Rattle.vg_pieces.specs.ReadPieces.{is_sink_in}
 use Rattle.vg_retime.specs.Passages.{above_at, above_by, above_from, end_by, end_in, from_at, into_at}
 use Rattle.vg_retime.specs.WalkNets.{WalkNet, IsNetIn, IsWalkNet, net_above, net_name}
 use Rattle.vg_retime.specs.Ways.{Nets}
+use Rattle.vg_split.proofs.StageNumberLemmas.{number_below, number_head}
 use Rattle.vg_split.specs.Splits.{Split, forest, head, is_celled, name_in, net_of, old_node, repeater_at, stage_from}
 use Rattle.vg_stages.specs.Stages.{heads}
 use Rattle.vg_wire.specs.Wires.{is_sink_node}
 use Rattle.vg_chain.specs.Laws.{AreNetsOf, StagesAreTimed, stages_of}
-use Rattle.vg_chain.specs.NewStages.{HasStages, IsPut, stage_net, stage_number}
+use Rattle.vg_chain.specs.NetlistStages.{stage_number}
+use Rattle.vg_chain.specs.NewStages.{HasStages, IsPut, stage_net}
 use Rattle.vg_chain.proofs.AcceptLemmas.{head_is_end, head_name, head_there, joined, read_is}
 use Rattle.vg_chain.proofs.EndLemmas.{kept}
 use Rattle.vg_chain.proofs.LoadLemmas.{celled_end, sink_kept, sink_name, stages_have_loads}
@@ -58,7 +59,7 @@ module _ (d : Design) (n : Joined) (x : Split) (new : Design) (put : IsPut d n x
       old_end = sink_end (sink_of x.problem.sinks w)
 
       abbrev cell_end : End
-      cell_end = passes (repeater_at x w).rep (Some (stage_number x new (stage_from x w)))
+      cell_end = passes (repeater_at x w).rep (Some (stage_number x new.netlist (stage_from x w)))
 
       -- where the stage begins nothing does
       at_head : is_celled x w ≡ true → w ≡ head x k → end_at w ≡ stage_end x stages k w
@@ -121,13 +122,13 @@ module _ (d : Design) (n : Joined) (x : Split) (new : Design) (put : IsPut d n x
     -- ---- the net
 
     abbrev walk_net : WalkNet
-    walk_net = nets (stage_number x new k)
+    walk_net = nets (stage_number x new.netlist k)
 
-    module _ (is : IsNetIn 16 new x.prefix (stage_number x new k) walk_net) where
+    module _ (is : IsNetIn 16 new x.prefix (stage_number x new.netlist k) walk_net) where
       same_net : is.joined ≡ net
       same_net =
           joined_once new (net_of x k) is.joined net
-          (subst (λ name. IsJoined new name is.joined) (numbered_name new (net_of x k) (stage_number x new k) (has.netlist k low).named) is.is_joined)
+          (subst (λ name. IsJoined new name is.joined) (numbered_name new (net_of x k) (stage_number x new.netlist k) (has.netlist k low).named) is.is_joined)
           (joined d n x new put has k low)
 
       pub net_is : IsWalkNet new x.prefix net walk_net
@@ -143,7 +144,7 @@ module _ (d : Design) (n : Joined) (x : Split) (new : Design) (put : IsPut d n x
       above_is : walk_net.above ≡ above_at new x.prefix net (name_in x k (head x k))
       above_is = net_is.above_is ∙ ap (above_at new x.prefix net) driver_name
 
-      above_cell : (u : ℕ) → u < length (heads (forest x)) → is_cell_end x.problem x.cells (head x u) (head x k) ≡ true → walk_net.above ≡ above_by (Some (stage_number x new u))
+      above_cell : (u : ℕ) → u < length (heads (forest x)) → is_cell_end x.problem x.cells (head x u) (head x k) ≡ true → walk_net.above ≡ above_by (Some (stage_number x new.netlist u))
       above_cell u u_low ends =
           let celled : is_celled x (head x k) ≡ true = (end_kind x u (head x k) ends).celled in
           let pin = cell d n x new put has k low (head x k) (head_there d n x new put has k low) celled in
@@ -172,19 +173,19 @@ module _ (d : Design) (n : Joined) (x : Split) (new : Design) (put : IsPut d n x
   -- ---- all of them
 
   pub root_low : 0 < length (heads (forest x))
-  root_low = from_low x 0 (begins_root x.problem x.cells).node (begins_root x.problem x.cells).head
+  root_low = number_below (forest x) 0 (begins_root x.problem x.cells).node (begins_root x.problem x.cells).head
 
   pub root_head : head x 0 ≡ 0
-  root_head = from_head x 0 (begins_root x.problem x.cells).node (begins_root x.problem x.cells).head
+  root_head = number_head (forest x) 0 (begins_root x.problem x.cells).node (begins_root x.problem x.cells).head
 
   pub root_bare : is_celled x (head x 0) ≡ false
   root_bare = ap (is_celled x) root_head ∙ bare_root d n x put.split
 
-  pub number_once : (k u : ℕ) → k < length (heads (forest x)) → u < length (heads (forest x)) → stage_number x new k ≡ stage_number x new u → k ≡ u
+  pub number_once : (k u : ℕ) → k < length (heads (forest x)) → u < length (heads (forest x)) → stage_number x new.netlist k ≡ stage_number x new.netlist u → k ≡ u
   number_once k u k_low u_low e =
       name_once x put.split.split k u k_low u_low
-      (sym (numbered_name new (net_of x k) (stage_number x new k) (has.netlist k k_low).named)
-      ∙ ap (net_name new) e ∙ numbered_name new (net_of x u) (stage_number x new u) (has.netlist u u_low).named)
+      (sym (numbered_name new (net_of x k) (stage_number x new.netlist k) (has.netlist k k_low).named)
+      ∙ ap (net_name new) e ∙ numbered_name new (net_of x u) (stage_number x new.netlist u) (has.netlist u u_low).named)
 
   pub are_timed : AreNetsOf x new nets → AreTimedStages x new stages
   are_timed are = record {

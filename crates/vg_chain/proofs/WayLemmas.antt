@@ -14,17 +14,17 @@ use Rattle.vg_cut.specs.CutNets.{AreCut, Begins, Pieces}
 use Rattle.vg_cut.specs.Walks.{IsClimb, IsWalk, Signal, start_of}
 use Rattle.vg_design.specs.Designs.{Design, Joined, driver_at, is_port, net_number, pin_driver, pin_drive_of, pin_limit_of, port_driver}
 use Rattle.vg_pieces.proofs.CutLemmas.{stages_are_cut}
-use Rattle.vg_pieces.proofs.NumberLemmas.{from_low}
 use Rattle.vg_pieces.specs.Cuts.{pieces_of}
 use Rattle.vg_retime.specs.WalkNets.{IsNetIn}
 use Rattle.vg_retime.specs.Ways.{IsFirstNet, Nets}
 use Rattle.vg_scan.specs.declared.name.NodeName.{NodeName}
-use Rattle.vg_split.proofs.StageNumberLemmas.{head_number}
+use Rattle.vg_split.proofs.StageNumberLemmas.{head_number, number_below}
 use Rattle.vg_split.specs.Splits.{Split, forest, head, net_of, old_node, stage_from}
 use Rattle.vg_stages.proofs.StageLists.{head_below, head_is}
 use Rattle.vg_stages.specs.Stages.{heads}
 use Rattle.vg_chain.specs.Laws.{AreNetsOf, NewNetsAreCut, stages_of}
-use Rattle.vg_chain.specs.NewStages.{HasStages, IsPut, stage_net, stage_number}
+use Rattle.vg_chain.specs.NetlistStages.{stage_number}
+use Rattle.vg_chain.specs.NewStages.{HasStages, IsPut, stage_net}
 use Rattle.vg_chain.proofs.AcceptLemmas.{head_is_end, head_there, old_root_name}
 use Rattle.vg_chain.proofs.EndLemmas.{kept}
 use Rattle.vg_chain.proofs.OldLemmas.{none_some}
@@ -50,7 +50,7 @@ module _ (d : Design) (n : Joined) (x : Split) (new : Design) (put : IsPut d n x
   IsMet i = IsNetIn 16 new x.prefix i (nets i)
 
   met_at : (v : ℕ) → Begins p x.cells v → IsMet (pieces.net_of v)
-  met_at v begins = are (stage_from x v) (from_low x v begins.node begins.head)
+  met_at v begins = are (stage_from x v) (number_below (forest x) v begins.node begins.head)
 
   -- ---- the way up
 
@@ -92,7 +92,7 @@ module _ (d : Design) (n : Joined) (x : Split) (new : Design) (put : IsPut d n x
   ]
 
   -- the first net has the driver of the net that is split
-  first_driver : p.driver ≡ (nets (stage_number x new 0)).driver
+  first_driver : p.driver ≡ (nets (stage_number x new.netlist 0)).driver
   first_driver =
       let low = root_low d n x new put has nets in
       let bare = root_bare d n x new put has nets in
@@ -111,7 +111,7 @@ module _ (d : Design) (n : Joined) (x : Split) (new : Design) (put : IsPut d n x
     asked = pieces.net_of (head x k)
 
     pub asked_named : net_number new.netlist (net_of x k) ≡ Some asked
-    asked_named = (has.netlist k low).named ∙ ap (λ u. Some (stage_number x new u)) (sym (head_number (forest x) k low))
+    asked_named = (has.netlist k low).named ∙ ap (λ u. Some (stage_number x new.netlist u)) (sym (head_number (forest x) k low))
 
     pub climbs : IsFirstNet 16 new x.prefix asked (record { net = pieces.net_of 0; driver = p.driver })
     climbs =

@@ -14,7 +14,8 @@ use Rattle.vg_retime.specs.WalkNets.{IsNetIn}
 use Rattle.vg_retime.specs.Ways.{Nets, timed_nets}
 use Rattle.vg_split.specs.Splits.{Split, forest, net_of}
 use Rattle.vg_stages.specs.Stages.{heads}
-use Rattle.vg_chain.specs.NewStages.{HasStages, IsPut, stage_net, stage_number}
+use Rattle.vg_chain.specs.NetlistStages.{stage_number}
+use Rattle.vg_chain.specs.NewStages.{HasStages, IsPut, stage_net}
 
 -- on a walk nothing refuses the net of a stage, but perhaps its size
 abbrev pub StagesAreAccepted : Type 0
@@ -28,7 +29,8 @@ StagesHaveLoads = (d : Design) (n : Joined) (x : Split) (new : Design) → IsPut
 
 -- nets by their numbers, of which those of the stages are nets of the new design as a walk comes to them
 abbrev pub AreNetsOf : Split → Design → Nets → Type 0
-AreNetsOf x new nets = (k : ℕ) → k < length (heads (forest x)) → IsNetIn 16 new x.prefix (stage_number x new k) (nets (stage_number x new k))
+AreNetsOf x new nets = (k : ℕ) → k < length (heads (forest x))
+    → IsNetIn 16 new x.prefix (stage_number x new.netlist k) (nets (stage_number x new.netlist k))
 
 -- there are such nets
 abbrev pub StagesHaveNets : Type 0
@@ -37,7 +39,7 @@ StagesHaveNets = (d : Design) (n : Joined) (x : Split) (new : Design) → IsPut 
 
 -- the nets of the stages, as they are timed
 abbrev pub stages_of : Split → Design → Nets → StageNets
-stages_of x new nets = record { nets = timed_nets nets; names = λ id. (nets id).names; number = stage_number x new }
+stages_of x new nets = record { nets = timed_nets nets; names = λ id. (nets id).names; number = stage_number x new.netlist }
 
 -- they are timed as the stages' pieces
 abbrev pub StagesAreTimed : Type 0

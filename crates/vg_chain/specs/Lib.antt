@@ -1,2 +1,3 @@
+pub mod NetlistStages
 pub mod NewStages
 pub mod Laws

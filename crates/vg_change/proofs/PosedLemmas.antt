@@ -1,19 +1,24 @@
 -- A posed net with a placement can be split.
-use Rattle.std.proofs.Common.{◌≡◌, ℕ, ◌<◌, ◌≤◌, ◌^◌, ◌&&◌, Bool, true, false, List, length, get_or, slice_index, refl, sym, ap, ◌∙◌, arith, inl, inr, Option, Some, None, is_some}
+use Rattle.std.proofs.Common.{◌≡◌, ℕ, ◌<◌, ◌≤◌, ◌^◌, ◌&&◌, Bool, true, false, List, length, find, get_or, slice_index, refl, sym, ap, ◌∙◌, arith, inl, inr, Option, Some, None, is_some}
 use Rattle.std.proofs.lemmas.Bool.{cases_lt, false≢true}
-use Rattle.std.proofs.lemmas.List.{get_or_past, length-map}
+use Rattle.std.specs.Prelude.{unwrap_or}
+use Rattle.std.proofs.lemmas.List.{get_or_default, get_or_past, length-map}
 use Rattle.std.proofs.lemmas.List.FromFn.{get_or-map-range_with_len, length-map-range_with_len}
 use Rattle.std.proofs.lemmas.Option.{slice_get-get_or}
 use Rattle.elmore.specs.Cells.{cell_at, has_cell}
 use Rattle.elmore.specs.Legal.{IsPlaced}
+use Rattle.elmore.specs.Path.{nodes}
 use Rattle.elmore.specs.Placements.{IsPlacement}
 use Rattle.elmore.specs.Problems.{is_place, is_above_sink}
 use Rattle.elmore.specs.Trees.{total_capacitance}
 use Rattle.elmore.specs.declared.rep.Rep.{Rep}
 use Rattle.elmore.specs.declared.tree.Node.{Node}
 use Rattle.elmore.specs.declared.problem.Problem.{Problem}
+use Rattle.elmore.proofs.TreeLemmas.{tree_falls}
 use Rattle.lib_linear.specs.declared.repeater.Repeater.{Repeater}
-use Rattle.vg_design.specs.Designs.{Design, Joined, NO_NODE}
+use Rattle.spef_net.specs.declared.net.ParNet.{ParNet}
+use Rattle.vg_cut.specs.CutNets.{forest_of}
+use Rattle.vg_design.specs.Designs.{Design, Joined, NO_NODE, is_port, name_of}
 use Rattle.vg_design.specs.Nets.{IsPosedNet}
 use Rattle.vg_design.specs.Parts.{free_of, loaded_tree, places_in, sinks_of}
 use Rattle.vg_design.specs.declared.net_problem.PosedNet.{PosedNet}
@@ -22,12 +27,14 @@ use Rattle.vg_stages.proofs.StageLists.{some_cell}
 use Rattle.vg_written.specs.Sections.{total}
 use Rattle.vg_split.specs.Conditions.{IsSplit}
 use Rattle.vg_split.specs.Splits.{Split, forest, is_celled, old_node}
-use Rattle.vg_stages.specs.Stages.{heads}
+use Rattle.vg_stages.specs.Stages.{AreStages, heads}
+use Rattle.vg_stages.specs.declared.stages.Stages.{Stages}
 use Rattle.vg_change.specs.Changes.{Changes, IsChange, split_behind}
-use Rattle.vg_change.specs.Placed.{PlacedNet, keeper_of}
+use Rattle.vg_change.specs.Placed.{PlacedNet, is_port_at, keeper_of, stage_at}
 use Rattle.vg_change.specs.Steps.{placed_net}
 use Rattle.vg_change.proofs.ChargeLemmas.{charge_within}
 use Rattle.vg_change.proofs.NameLemmas.{name_old, owners_old}
+use Rattle.vg_change.proofs.StageLemmas.{stage_is}
 
 module _ (d : Design) (name : List ℕ) (posed : PosedNet) (is : IsPosedNet d name posed) where
   abbrev n : Joined
@@ -55,6 +62,23 @@ module _ (d : Design) (name : List ℕ) (posed : PosedNet) (is : IsPosedNet d na
         ap total_capacitance is.problem.tree_is,
         p.within.capacitances,
       )
+
+  -- what the table of stages has at the port, or at the root, is the stage that keeps the net's name
+  pub keeper_found : (cells : List (Option ℕ)) (par : ParNet) (way : List ℕ) (stages : Stages) (port keeper : ℕ) → par ≡ n.par → way ≡ order
+      → AreStages (forest_of p cells) stages → port ≡ unwrap_or (find (λ w. is_port (name_of par (slice_index way w))) (nodes (length way))) 0 → port < length way
+      → keeper ≡ get_or stages.stage_of.items port keeper
+      → (keeper ≡ keeper_of (placed_net posed cells)) × (keeper_of (placed_net posed cells) < length (heads (forest_of p cells)))
+  keeper_found cells par way stages port keeper par_is way_is are port_is low found =
+      let f = forest_of p cells in
+      let port_low : port < length p.tree.nodes = omega (arith, low, ap (λ (l : List ℕ). length l) way_is, is.ready.a_tree.a_tree.lists.count, problem_size) in
+      let stage = are.each port port_low in
+      let at : keeper ≡ slice_index stages.stage_of.items port
+      = found ∙ get_or_default stages.stage_of.items port keeper 0 (omega (arith, port_low, are.one_each)) in
+      let same : port ≡ unwrap_or (find (is_port_at (placed_net posed cells)) (nodes (length order))) 0
+      = port_is ∙ (λ k. unwrap_or (find (λ w. is_port (name_of (par_is k) (slice_index (way_is k) w))) (nodes (length (way_is k)))) 0) in
+      let kept : keeper ≡ keeper_of (placed_net posed cells)
+      = at ∙ sym (stage_is f (tree_falls p.tree.nodes p.tree.a_tree) _ port stage) ∙ ap (stage_at f) same in
+      (kept, omega (arith, kept, at, stage.number_is))
 
   -- a node that may have a cell is free
   place_free : (w : ℕ) → get_or p.places w false ≡ true → (w < length tree) × (get_or (free_of d.rows n.par order) w false ≡ true)

@@ -1,6 +1,6 @@
 -- The lists of a merge and their sequences.
-use Rattle.std.proofs.Common.{◌≡◌, ℕ, ◌+◌, ◌<◌, ◌≤◌, List, [], ◌∷◌, ◌++◌, length, sym, ap, ◌∙◌, subst, inl, inr, arith}
-use Rattle.std.proofs.lemmas.List.{length-append}
+use Rattle.std.proofs.Common.{◌≡◌, ℕ, ◌+◌, ◌*◌, ◌<◌, ◌≤◌, List, [], ◌∷◌, ◌++◌, length, sym, ap, ◌∙◌, subst, inl, inr, arith}
+use Rattle.std.proofs.lemmas.List.{append-nil, length-append}
 use Rattle.sol_arena.specs.declared.slot.Slot.{Slot}
 use Rattle.cand_pool.specs.Candidates.{Candidates}
 use Rattle.cand_pool.specs.Links.{none}
@@ -9,7 +9,7 @@ use Rattle.cand_pool.specs.declared.ends.List.{List as NamedList}
 use Rattle.cand_pool.proofs.CallLaws.{apart_one, turned_round}
 use Rattle.cand_pool.proofs.PoolMoves.{keeps_then}
 use Rattle.cand_pool.proofs.PublicLaws.{held_items, held_named, nothing_held, stays}
-use Rattle.cand_uses.proofs.ExchangeLemmas.{exchange_as, exchange_of}
+use Rattle.cand_uses.proofs.ExchangeLemmas.{exchange_as, exchange_beside, exchange_of, exchanged_held}
 use Rattle.cand_uses.specs.Uses.{HoldsFor, IsExchange}
 use Rattle.vg_merge.specs.Branches.{AreAt, AreLive, names, all_of}
 use Rattle.vg_merge.specs.declared.branches.Branches.{Branches}
@@ -119,6 +119,44 @@ start_all s s' list a b xs ys same empty h k =
     let a_e : items_of s' a ≡ xs = same_items s s' a xs same h in
     let b_e : items_of s' b ≡ ys = same_items s s' b ys same k in
     λ i. list_e i ++ (a_e i ++ b_e i)
+
+-- while they are merged, callers hold the uses of what is there
+pub start_held : (start now : List Slot) (s s' : Block) (list a b : NamedList) (there : Candidates) → s' ≡ s → Holds s' list []
+    → Holds s a (items_of s a) → Holds s b (items_of s b) → HoldsFor start (items_of s a ++ items_of s b)
+    → IsExchange start (all_of s' (record { list = list; a = a; b = b })) now there → HoldsFor now there
+start_held start now s s' list a b there same empty h k held uses =
+    exchanged_held start now (all_of s' (record { list = list; a = a; b = b })) there
+    (subst (λ (l : Candidates). HoldsFor start l) (sym (start_all s s' list a b (items_of s a) (items_of s b) same empty h k)) held) uses
+
+-- the uses of what is left are given up beside the list that is made
+pub left_ended : (old new : List Slot) (t : Block) (list : NamedList) (zs left : Candidates) → Holds t list zs → IsExchange old left new []
+    → IsExchange old (zs ++ left) new (items_of t list)
+left_ended old new t list zs left there ended =
+    exchange_as old new (zs ++ left) (zs ++ []) (items_of t list) (append-nil zs ∙ sym (held_items t list.ends.first list.ends.last zs there))
+    (exchange_beside old new zs left [] ended)
+
+-- what is spare at the end
+pub spare_end : (s s' t u : Block) (list a b made : NamedList) (at : Branches) (xs ys : Candidates) → s' ≡ s → Holds s' list [] → Holds s a xs → Holds s b ys
+    → AreLive t at → spare t + length (all_of t at) ≡ spare s' + length (all_of s' (record { list = list; a = a; b = b }))
+    → Holds u made (items_of t at.list) → spare u ≡ spare t + length (items_of t at.a) + length (items_of t at.b)
+    → spare u + length (items_of u made) ≡ spare s + length xs + length ys
+spare_end s s' t u list a b made at xs ys same empty h k live joined there ended =
+    omega (
+      arith,
+      joined,
+      ended,
+      ap spare same,
+      ap (λ (l : Candidates). length l) (start_all s s' list a b xs ys same empty h k),
+      length-append xs ys,
+      ap (λ (l : Candidates). length l) (held_items u made.ends.first made.ends.last (items_of t at.list) there),
+      all_long t at (items_of t at.list) (items_of t at.a) (items_of t at.b) live,
+    )
+
+-- the steps of a merge, by the sequences of both lists
+pub few_steps : (s s' : Block) (a b : NamedList) (xs ys : Candidates) (steps start : ℕ) → s' ≡ s → Holds s a xs → Holds s b ys
+    → steps ≤ start + 4 * (length (items_of s' a) + length (items_of s' b)) → steps ≤ start + 4 * (length xs + length ys)
+few_steps s s' a b xs ys steps start same h k few =
+    omega (arith, few, ap (λ (l : Candidates). length l) (same_items s s' a xs same h), ap (λ (l : Candidates). length l) (same_items s s' b ys same k))
 
 -- a name of no list counts for nothing
 pub keeps_none : (s t : Block) (k : ℕ) (old new : List ℕ) → k ≡ none → KeepsOthers s (k ∷ old) t new → KeepsOthers s old t new

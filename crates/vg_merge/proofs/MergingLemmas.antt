@@ -18,7 +18,7 @@ use Rattle.cand_laws.proofs.MeetLemmas.{nil, meet_at, Merging, Moved, merging_no
 use Rattle.cand_laws.specs.Merging.{meet}
 use Rattle.cand_pool.specs.Candidates.{Candidate, Candidates, AreModest, formed}
 use Rattle.cand_pool.specs.Sequences.{left_of, spare_after}
-use Rattle.cand_uses.proofs.ExchangeLemmas.{uses_of_one, uses_of_both, no_exchange, exchange_then, exchange_as, exchange_beside, exchange_among}
+use Rattle.cand_uses.proofs.ExchangeLemmas.{uses_of_one, uses_of_both, no_exchange, exchange_then, exchange_among}
 use Rattle.cand_uses.proofs.ExchangeLemmas.{exchanged_held, stays_same}
 use Rattle.cand_uses.specs.Pairs.{pair_of, pairs_of}
 use Rattle.cand_uses.specs.Uses.{uses_by, HoldsFor, IsExchange}
@@ -357,6 +357,3 @@ pub merge_of : (old new : List Made) (xs xs' ys ys' zs zs' : Candidates) → xs 
 merge_of old new xs xs' ys ys' zs zs' e f g w =
     subst (λ (l : Candidates). IsMergeOf old new l ys' zs') e
     (subst (λ (l : Candidates). IsMergeOf old new xs l zs') f (subst (λ (l : Candidates). IsMergeOf old new xs ys l) g w))
-
-pub left_ended : (old new : List Slot) (zs zs' left : Candidates) → zs' ≡ zs → IsExchange old left new [] → IsExchange old (zs ++ left) new zs'
-left_ended old new zs zs' left e ended = exchange_as old new (zs ++ left) (zs ++ []) zs' (append-nil zs ∙ sym e) (exchange_beside old new zs left [] ended)

@@ -13,13 +13,13 @@ use Rattle.vg_cut.proofs.PieceLemmas.{piece_cases}
 use Rattle.vg_design.specs.Designs.{Design, Joined, NO_NODE, name_of}
 use Rattle.vg_design.specs.Parts.{loaded}
 use Rattle.vg_scan.specs.declared.name.NodeName.{NodeName}
+use Rattle.vg_split.proofs.StageNumberLemmas.{number_below, number_head}
 use Rattle.vg_split.specs.Splits.{Split, forest, head, repeater_at, stage_from}
 use Rattle.vg_stages.specs.Stages.{heads}
 use Rattle.vg_pieces.specs.Cuts.{AreTimedStages, IsTimedStage, StageNets, StagesAreCut, net_at, pieces_of, stage_end, tree_node}
 use Rattle.vg_pieces.specs.ReadNets.{node_named, stands_for}
 use Rattle.vg_pieces.specs.StagePieces.{IsSplitOf}
 use Rattle.vg_pieces.proofs.KindLemmas.{end_kind, inside_kind}
-use Rattle.vg_pieces.proofs.NumberLemmas.{from_head, from_low}
 use Rattle.vg_pieces.proofs.StageLemmas.{cell_is}
 
 -- a piece, where its nodes stand for the same by another function
@@ -93,11 +93,11 @@ module _ (d : Design) (n : Joined) (x : Split) (is : IsSplitOf d n x) (new : Des
 
   module _ (all : AreTimedStages x new stages) where
     low_at : (v : ℕ) → Begins x.problem x.cells v → stage_from x v < length (heads (forest x))
-    low_at v begins = from_low x v begins.node begins.head
+    low_at v begins = number_below (forest x) v begins.node begins.head
 
     -- a piece begins where its stage does
     here : (v : ℕ) → Begins x.problem x.cells v → head x (stage_from x v) ≡ v
-    here v begins = from_head x v begins.node begins.head
+    here v begins = number_head (forest x) v begins.node begins.head
 
     timed : (v : ℕ) → Begins x.problem x.cells v → IsTimedStage x new stages (stage_from x v)
     timed v begins = all.each (stage_from x v) (low_at v begins)

@@ -3,7 +3,6 @@ pub mod NameLemmas
 pub mod AgainLemmas
 pub mod MemberLemmas
 pub mod KindLemmas
-pub mod NumberLemmas
 pub mod StageLemmas
 pub mod StagePieceLemmas
 pub mod StageConnLemmas

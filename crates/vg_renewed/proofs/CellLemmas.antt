@@ -25,7 +25,7 @@ use Rattle.vg_split.proofs.KindLemmas.{Kind, kind, pin_name as cell_pin_name}
 use Rattle.vg_split.proofs.SplitLemmas.{from_head, from_low, from_some, head_celled}
 use Rattle.vg_split.proofs.StageNumberLemmas.{head_number}
 use Rattle.vg_stages.specs.Stages.{heads, members}
-use Rattle.vg_renewed.specs.NewStages.{IsCellAt, stage_number}
+use Rattle.vg_chain.specs.NetlistStages.{IsCellAt, stage_number}
 use Rattle.vg_renewed.specs.Put.{IsWrittenAnew}
 use Rattle.vg_renewed.proofs.ConsistentLemmas.{repeater_pins}
 use Rattle.vg_renewed.proofs.LinkLemmas.{IsPinIn}

@@ -110,7 +110,7 @@ module _ (verilog : List ℕ) (d : Design) (prefix : List ℕ) (nets : List Plac
   pub net_is : (s : Placing) → In s all → IsNetOf d.netlist s.p.net
   net_is s i =
       let o = own verilog d prefix nets c new w s i in
-      subst (IsNetOf d.netlist) (ap (λ (q : PlacedNet). q.net) (sym o.net.is)) (net_of_joined verilog d o.net.name o.net.posed.ready.pinned.net w.denotes o.net.accepted.joined)
+      subst (IsNetOf d.netlist) (ap (λ (q : PlacedNet). q.net) (sym o.net.is)) (net_of_joined verilog d o.net.name o.net.posed.ready.pinned.net w.denotes o.net.net.joined)
 
   pub name_is : (s : Placing) (i : In s all) → name_at d.netlist s.p.net.id ≡ name_of_net (net_is s i).net
   name_is s i = get_or_from_slice_get (names_of d.netlist) s.p.net.id (name_of_net (net_is s i).net) NO_NET (net_is s i).numbered

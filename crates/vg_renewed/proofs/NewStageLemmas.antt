@@ -41,7 +41,7 @@ use Rattle.vg_split.proofs.SplitLemmas.{head_celled}
 use Rattle.vg_stages.specs.Stages.{heads, members}
 use Rattle.vg_written.specs.Sections.{NO_NODE}
 use Rattle.vg_renewed.specs.Laws.{StagesAreNets, StagesDiffer}
-use Rattle.vg_renewed.specs.NewStages.{HasCellPin, HasNoPort, IsStageIn, stage_number}
+use Rattle.vg_chain.specs.NetlistStages.{HasCellPin, HasNoPort, IsStageIn, stage_number}
 use Rattle.vg_renewed.specs.Put.{IsWrittenAnew}
 use Rattle.vg_renewed.proofs.CellLemmas.{CellPin, cell_pin, input_in, output_in}
 use Rattle.vg_renewed.proofs.ConsistentLemmas.{name_numbered, net_is}
@@ -288,7 +288,7 @@ module _ (verilog : List ℕ) (d : Design) (prefix : List ℕ) (nets : List Plac
     old_free : is_tied d.netlist s.p.net.id ≡ false
     old_free =
         let n = o.net.posed.ready.pinned.net in
-        subst (λ (q : PlacedNet). is_tied d.netlist q.net.id ≡ false) (sym o.net.is) (not_tied d o.net.name n o.net.accepted.joined o.net.accepted.accepted)
+        subst (λ (q : PlacedNet). is_tied d.netlist q.net.id ≡ false) (sym o.net.is) (not_tied d o.net.name n o.net.net.joined o.net.net.accepted)
 
     pub stage_in : IsStageIn d.netlist s.p.net.id s.x renewed k
     stage_in = record {

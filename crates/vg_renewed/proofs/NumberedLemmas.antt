@@ -22,7 +22,7 @@ use Rattle.vg_design.specs.Designs.{Design, IsEnd, net_number}
 use Rattle.vg_design.proofs.PartLemmas.{root_conn}
 use Rattle.vg_split.specs.Splits.{forest, head, net_of, old_node, number_of as cell_number}
 use Rattle.vg_stages.specs.Stages.{heads, members}
-use Rattle.vg_renewed.specs.NewStages.{stage_number}
+use Rattle.vg_chain.specs.NetlistStages.{stage_number}
 use Rattle.vg_renewed.specs.Put.{IsWrittenAnew}
 use Rattle.vg_renewed.proofs.ConsistentLemmas.{name_is, name_numbered, net_is}
 use Rattle.vg_renewed.proofs.LinkLemmas.{IsPinIn, in_link, link_in}
@@ -56,7 +56,7 @@ module _ (verilog : List ℕ) (d : Design) (prefix : List ℕ) (nets : List Plac
   root_end : (s : Placing) → among s → is_old_end s.x 0 ≡ true
   root_end s i =
       let o = is_own verilog d prefix nets c new w s i in
-      let conn = root_conn d o.net.posed.ready.pinned.net o.net.posed.ready.pinned.pins o.net.posed.ready.tree.nodes o.net.posed.ready.order o.net.accepted.ready in
+      let conn = root_conn d o.net.posed.ready.pinned.net o.net.posed.ready.pinned.pins o.net.posed.ready.tree.nodes o.net.posed.ready.order o.net.net.ready in
       conn_end s.x o.split 0
       (omega (
         arith,

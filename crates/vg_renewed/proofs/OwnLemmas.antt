@@ -9,10 +9,11 @@ use Rattle.vg_change.specs.Changes.{Changes, IsChange, nothing}
 use Rattle.vg_change.specs.Placed.{PlacedNet, keeper_of, split_of}
 use Rattle.vg_change.specs.Steps.{placed_by, placed_net}
 use Rattle.vg_change.proofs.PosedLemmas.{is_split, problem_size}
+use Rattle.vg_change_nets.specs.Nets.{IsPlacedNet}
 use Rattle.vg_design.specs.Designs.{Design}
 use Rattle.vg_split.specs.Conditions.{IsSplit}
 use Rattle.vg_split.specs.Splits.{Split}
-use Rattle.vg_renewed.specs.Put.{IsPlacedNet, IsWrittenAnew}
+use Rattle.vg_renewed.specs.Put.{IsWrittenAnew}
 use Rattle.vg_renewed.proofs.PutLemmas.{Placing, Come, cells_by, come, count, placing, placings}
 use Rattle.vg_renewed.proofs.StageLemmas.{keeper_low}
 
@@ -45,13 +46,13 @@ module _ (verilog : List ℕ) (d : Design) (prefix : List ℕ) (nets : List Plac
       → IsOwn d prefix (length c.cells) p (split_of d prefix first p)
   own_of p first is few =
       let size : length (take first c.cells) ≡ first = length-take-le first c.cells (omega (arith, few)) in
-      let lists = is.accepted.ready.a_tree.a_tree.lists in
-      let tree = problem_size d is.name is.posed is.accepted in
+      let lists = is.net.ready.a_tree.a_tree.lists in
+      let tree = problem_size d is.name is.posed is.net in
       let whole = placed_net is.posed p.cells in
       let keeper = keeper_low whole (lists.count ∙ sym tree) in
       let made = is_split
       (record { design = d; prefix = prefix; sections = c.sections; rewires = c.rewires; cells = take first c.cells; wires = c.wires })
-      (cut_change first) is.name is.posed is.accepted p.cells is.placement is.placed (omega (arith, w.few, size, few)) keeper in
+      (cut_change first) is.name is.posed is.net p.cells is.placement is.placed (omega (arith, w.few, size, few)) keeper in
       record {
         net = is;
         split = subst IsSplit (λ i. split_of d prefix (size i) (sym is.is i)) made;

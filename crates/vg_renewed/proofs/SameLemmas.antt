@@ -161,7 +161,7 @@ module _ (verilog : List ℕ) (d : Design) (prefix : List ℕ) (nets : List Plac
       let is : s.p.net ≡ o.posed.ready.pinned.net = ap (λ (q : PlacedNet). q.net) o.is in
       let of : IsNetOf d.netlist o.posed.ready.pinned.net = subst (IsNetOf d.netlist) is (net_is verilog d prefix nets c new w s i) in
       subst (λ (n : Joined). IsConnected d.netlist n.id n.par) (sym is)
-      (connected d o.name o.posed.ready.pinned.net o.accepted.joined o.accepted.accepted o.posed.ready.pinned.pins o.accepted.ready.linked of)
+      (connected d o.name o.posed.ready.pinned.net o.net.joined o.net.accepted o.posed.ready.pinned.pins o.net.ready.linked of)
 
   -- the name of the net's node
   pub old_name : (s : Placing) (i : In s puts) (v : ℕ) → name_of s.p.net.par (slice_index s.p.order v) ≡ (old_node s.x v).name

@@ -15,7 +15,7 @@ use Rattle.vg_scan.specs.declared.name.NodeName.{NodeName}
 use Rattle.vg_split.specs.Splits.{Split, forest}
 use Rattle.vg_stages.specs.Stages.{heads}
 use Rattle.vg_words.specs.Request.{is_prefix}
-use Rattle.vg_renewed.specs.NewStages.{IsStageIn, stage_number}
+use Rattle.vg_chain.specs.NetlistStages.{IsStageIn, stage_number}
 use Rattle.vg_renewed.specs.Others.{IsAsItWas}
 use Rattle.vg_renewed.specs.Put.{IsSplitAs, IsWrittenAnew}
 

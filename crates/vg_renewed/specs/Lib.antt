@@ -1,4 +1,3 @@
 pub mod Put
-pub mod NewStages
 pub mod Others
 pub mod Laws

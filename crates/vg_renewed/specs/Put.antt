@@ -1,8 +1,6 @@
 -- Cells are put into nets of a design, and its netlist is written anew.
 use Rattle.std.specs.Prelude.{◌≡◌, ◌≢◌, ℕ, ◌<◌, ◌^◌, true, List, ◌∷◌, ◌++◌, length}
 use Rattle.std.specs.List.{All, AllPairs}
-use Rattle.elmore.specs.Legal.{IsPlaced}
-use Rattle.elmore.specs.Placements.{IsPlacement}
 use Rattle.lib_linear.specs.Libraries.{AreOfCells}
 use Rattle.lib_names.specs.Laws.{HasNames}
 use Rattle.ver_file.specs.Modules.{Denotes}
@@ -10,20 +8,9 @@ use Rattle.ver_patch.specs.Patches.{IsPatched}
 use Rattle.ver_text.specs.Names.{is_word}
 use Rattle.vg_change.specs.Changes.{Changes, HasPut, HavePut, IsChange, nothing, split_behind}
 use Rattle.vg_change.specs.Placed.{PlacedNet}
-use Rattle.vg_change.specs.Steps.{placed_net}
+use Rattle.vg_change_nets.specs.Nets.{IsPlacedNet}
 use Rattle.vg_design.specs.Designs.{Design}
-use Rattle.vg_design.specs.Nets.{IsPosedNet}
-use Rattle.vg_design.specs.declared.net_problem.PosedNet.{PosedNet}
 use Rattle.vg_split.specs.Splits.{Split}
-
--- a net that nothing refuses, with a placement of its problem whose cells stand at places
-pub record IsPlacedNet (d : Design) (p : PlacedNet) : Type 0 where
-  pub name : List ℕ
-  pub posed : PosedNet
-  pub is : p ≡ placed_net posed p.cells
-  pub accepted : IsPosedNet d name posed
-  pub placement : IsPlacement posed.problem p.cells
-  pub placed : IsPlaced posed.problem p.cells
 
 -- The cells of different nets are put into a design, and `new` is the text of its netlist with these changes. The new names begin with
 -- a word, the library's repeaters have names, and their pins are what the library says of them.

@@ -5,9 +5,9 @@ use Rattle.elmore.specs.Legal.{IsPlaced}
 use Rattle.vg_change.proofs.RowLemmas.{name_is}
 use Rattle.vg_change.specs.Placed.{PlacedNet}
 use Rattle.vg_change.specs.Steps.{placed_net}
+use Rattle.vg_change_nets.specs.Nets.{IsPlacedNet}
 use Rattle.vg_design.specs.Designs.{Design}
 use Rattle.vg_inputs.specs.Designs.{Texts}
-use Rattle.vg_renewed.specs.Put.{IsPlacedNet}
 use Rattle.vg_slack.specs.declared.answer.Best.{Best}
 use Rattle.vg_signoff.proofs.DesignLemmas.{again, is_design}
 use Rattle.vg_signoff.proofs.OneLemmas.{keeps_one}
@@ -27,7 +27,7 @@ module _ (texts : Texts) (d : Design) (prefix name : List ℕ) (best : Best) (ne
     name = name;
     posed = w.posed;
     is = refl;
-    accepted = w.net;
+    net = w.net;
     placement = w.found.best.good.placement;
     placed = placed;
   }

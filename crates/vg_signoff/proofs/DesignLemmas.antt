@@ -1,6 +1,5 @@
 -- The texts of a changed design are a design.
 use Rattle.std.proofs.Common.{ℕ, List, refl, sym, subst}
-use Rattle.std.proofs.lemmas.List.Elements.{All-weaker}
 use Rattle.lib_linear.specs.Libraries.{Denotes as DenotesLibrary}
 use Rattle.lib_names.proofs.NameLemmas.{are_names_of}
 use Rattle.spef_file.specs.Files.{File, IsFileOf}
@@ -9,14 +8,14 @@ use Rattle.ver_renewed.specs.Laws.{IsReadAgain}
 use Rattle.vg_change.specs.Changes.{nothing}
 use Rattle.vg_change.specs.Placed.{PlacedNet}
 use Rattle.vg_change_nets.proofs.ReadLemmas.{changed_nets}
-use Rattle.vg_change_nets.specs.Nets.{HasStages, IsChangeBy, IsPlacedNet as IsPlacedNetOf, splits}
+use Rattle.vg_change_nets.specs.Nets.{HasStages, IsChangeBy, splits}
 use Rattle.vg_design.specs.Designs.{Design}
 use Rattle.vg_inputs.specs.Designs.{AreRowsOf, IsDesign, IsSpef, Texts}
 use Rattle.vg_patch.specs.Edits.{patched}
 use Rattle.vg_renewed.proofs.ConsistentLemmas.{netlists_are_read_again}
 use Rattle.vg_renewed.proofs.PrefixLemmas.{prefixes_are_words}
 use Rattle.vg_renewed.proofs.PutLemmas.{Come, come}
-use Rattle.vg_renewed.specs.Put.{IsPlacedNet, IsWrittenAnew}
+use Rattle.vg_renewed.specs.Put.{IsWrittenAnew}
 use Rattle.vg_scan.specs.Comments.{without_comments}
 use Rattle.vg_scan.specs.declared.comments.Comments.TheVariants.{Spef}
 use Rattle.vg_signoff.proofs.FewLemmas.{few}
@@ -26,13 +25,7 @@ use Rattle.vg_signoff.specs.Written.{AreWrittenAnew}
 
 module _ (texts : Texts) (d : Design) (prefix : List ℕ) (nets : List PlacedNet) (new : Texts) (w : AreWrittenAnew texts d prefix nets new) where
   pub by : IsChangeBy d prefix nets w.changes
-  by = record {
-    each =
-        All-weaker (IsPlacedNet d) (IsPlacedNetOf d)
-        (λ p is. record { name = is.name; posed = is.posed; net = is.accepted; placement = is.placement; placed = is.placed; is = is.is }) nets w.nets_are;
-    put = w.put;
-    keeps = w.keeps;
-  }
+  by = record { each = w.nets_are; put = w.put; keeps = w.keeps }
 
   comes : Come d prefix (nothing d prefix) nets w.changes
   comes = come d prefix nets (nothing d prefix) w.changes refl refl w.put

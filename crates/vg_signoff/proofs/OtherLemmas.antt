@@ -16,6 +16,7 @@ use Rattle.vg_change.proofs.PairLemmas.{of_all}
 use Rattle.vg_change.proofs.RowLemmas.{name_is}
 use Rattle.vg_change.specs.Placed.{PlacedNet}
 use Rattle.vg_change_nets.proofs.ReadLemmas.{others_stay}
+use Rattle.vg_change_nets.specs.Nets.{IsPlacedNet}
 use Rattle.vg_design.proofs.NameLemmas.{passes_for}
 use Rattle.vg_design.specs.Designs.{Design, IsConnected, IsEnd, Joined, NO_NODE, ends_of, name_of, net_number, pin_name}
 use Rattle.vg_design.specs.Nets.{IsNetProblem, IsTimedOf}
@@ -26,7 +27,6 @@ use Rattle.vg_inputs.specs.Designs.{Texts}
 use Rattle.vg_renewed.proofs.OldLemmas.{net_of_joined}
 use Rattle.vg_renewed.proofs.OtherLemmas.{other_nets_stay}
 use Rattle.vg_renewed.specs.Laws.{HasNetAsItWas}
-use Rattle.vg_renewed.specs.Put.{IsPlacedNet}
 use Rattle.vg_scan.specs.Comments.{without_comments}
 use Rattle.vg_scan.specs.Nodes.{has_node}
 use Rattle.vg_scan.specs.declared.comments.Comments.TheVariants.{Spef}
@@ -97,7 +97,7 @@ module _ (texts : Texts) (d : Design) (prefix : List ℕ) (nets : List PlacedNet
   other_number : (p : PlacedNet) → Contains nets p → p.net.id ≢ n.id
   other_number p there same =
       let own = of_all (IsPlacedNet d) nets p w.nets_are there in
-      let joined = subst (λ (q : PlacedNet). IsJoined d own.name q.net) (sym own.is) own.accepted.joined in
+      let joined = subst (λ (q : PlacedNet). IsJoined d own.name q.net) (sym own.is) own.net.joined in
       let a = net_of_joined texts.verilog d own.name p.net w.design.netlist joined in
       let b = net_of_joined texts.verilog d name n w.design.netlist is.joined in
       let one = same_Some a.net b.net (sym a.is ∙ ap (λ k. slice_get d.netlist.nets k) same ∙ b.is) in

@@ -6,12 +6,13 @@ use Rattle.spef_file.specs.Files.{file_lines}
 use Rattle.spef_file.specs.HeaderLines.{chars_of}
 use Rattle.ver_links.proofs.RelinkedLemmas.{In}
 use Rattle.vg_chain.proofs.RetimeLemmas.{placed_nets_are_refused, placed_nets_retime as chains_retime, placed_nets_time}
-use Rattle.vg_chain.specs.NewStages.{HasStages, IsPut, IsStageInNetlist, IsStageInParasitics}
+use Rattle.vg_chain.specs.NetlistStages.{IsStageIn}
+use Rattle.vg_chain.specs.NewStages.{HasStages, IsPut, IsStageInParasitics}
 use Rattle.vg_change.proofs.PairLemmas.{of_all}
 use Rattle.vg_change.proofs.RowLemmas.{name_is}
 use Rattle.vg_change.specs.Placed.{PlacedNet, split_of}
 use Rattle.vg_change_nets.proofs.PieceLemmas.{nets_split}
-use Rattle.vg_change_nets.specs.Nets.{IsStageRead}
+use Rattle.vg_change_nets.specs.Nets.{IsPlacedNet, IsStageRead}
 use Rattle.vg_design.specs.Designs.{Design}
 use Rattle.vg_design.specs.Refusals.{IsJoined}
 use Rattle.vg_inputs.proofs.LawLemmas.{one_is}
@@ -20,8 +21,7 @@ use Rattle.vg_pieces.specs.StagePieces.{IsSplitOf}
 use Rattle.vg_renewed.proofs.NewStageLemmas.{stages_are_nets}
 use Rattle.vg_renewed.proofs.PrefixLemmas.{nets_are_split}
 use Rattle.vg_renewed.proofs.PutLemmas.{is_among, placing, placings}
-use Rattle.vg_renewed.specs.NewStages.{IsStageIn}
-use Rattle.vg_renewed.specs.Put.{IsPlacedNet, IsSplitAs}
+use Rattle.vg_renewed.specs.Put.{IsSplitAs}
 use Rattle.vg_scan.specs.Comments.{without_comments}
 use Rattle.vg_scan.specs.declared.chars.Chars.{Chars}
 use Rattle.vg_scan.specs.declared.comments.Comments.TheVariants.{Spef}
@@ -61,8 +61,8 @@ module _ (texts : Texts) (d : Design) (prefix : List ℕ) (nets : List PlacedNet
   put = record {
     split = split;
     name = own.name;
-    joined = subst (λ (q : PlacedNet). IsJoined d own.name q.net) (sym own.is) own.accepted.joined;
-    accepted = λ r low. own.accepted.accepted r (omega (arith, low));
+    joined = subst (λ (q : PlacedNet). IsJoined d own.name q.net) (sym own.is) own.net.joined;
+    accepted = λ r low. own.net.accepted r (omega (arith, low));
     library = of_cells texts.lib d.library w.design.library;
   }
 
@@ -86,28 +86,10 @@ module _ (texts : Texts) (d : Design) (prefix : List ℕ) (nets : List PlacedNet
         };
       }
 
-  stage_in : (k : ℕ) → k < length (heads (forest x)) → IsStageIn d.netlist p.net.id x now.netlist k
-  stage_in k low =
+  in_netlist : (k : ℕ) → k < length (heads (forest x)) → IsStageIn d.netlist p.net.id x now.netlist k
+  in_netlist k low =
       let r = renewed texts d prefix nets new w in
       stages_are_nets texts.verilog d prefix nets w.changes new.verilog (netlist texts d prefix nets new w) r.renewed r.denotes r.is p x how k low
-
-  in_netlist : (k : ℕ) → k < length (heads (forest x)) → IsStageInNetlist d p.net x now k
-  in_netlist k low =
-      let s = stage_in k low in
-      record {
-        named = s.named;
-        ends = s.ends;
-        port = s.port;
-        pins = s.pins;
-        cells = λ v here celled.
-            let c = s.cells v here celled in
-            record {
-              pin = c.pin;
-              on = c.on;
-              of_cell = record { name = c.of_cell.name; cell = c.of_cell.cell; input = c.of_cell.input; output = c.of_cell.output };
-            };
-        free = s.free;
-      }
 
   has : HasStages d p.net x now
   has = record { library = refl; rows = refl; parasitics = in_parasitics; netlist = in_netlist }

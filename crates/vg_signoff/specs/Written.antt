@@ -5,12 +5,12 @@ use Rattle.vg_change.specs.Changes.{AreTexts, Changes, HasPut, HavePut, IsChange
 use Rattle.vg_change.specs.Placed.{PlacedNet}
 use Rattle.vg_change.specs.Steps.{placed_net}
 use Rattle.vg_change.specs.Taken.{taken}
+use Rattle.vg_change_nets.specs.Nets.{IsPlacedNet}
 use Rattle.vg_design.specs.Designs.{Design}
 use Rattle.vg_design.specs.Nets.{IsPosedNet}
 use Rattle.vg_design.specs.declared.net_problem.PosedNet.{PosedNet}
 use Rattle.vg_design.specs.declared.time.Timed.{Timed}
 use Rattle.vg_inputs.specs.Designs.{IsDesign, Texts}
-use Rattle.vg_renewed.specs.Put.{IsPlacedNet}
 use Rattle.vg_retime.specs.Retimings.{IsFirstRefusal, Retimes}
 use Rattle.vg_slack.specs.Bests.{IsFound}
 use Rattle.vg_slack.specs.declared.answer.Best.{Best}

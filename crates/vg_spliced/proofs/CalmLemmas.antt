@@ -1,12 +1,13 @@
 -- Texts in which no comment begins, by their bytes.
-use Rattle.std.proofs.Common.{◌≡◌, ℕ, zero, suc, ◌+◌, ◌<◌, ◌≤◌, ◌⊎◌, inl, inr, Bool, true, false, ◌&&◌, ◌||◌, not, cond, eqb, List, [], ◌∷◌, ◌++◌, length, take, drop, get_or, refl, sym, ap, ◌∙◌, arith, append_assoc, length-append, length-drop}
+use Rattle.std.proofs.Common.{◌≡◌, ℕ, zero, suc, ◌+◌, ◌<◌, ◌≤◌, ◌⊎◌, inl, inr, Bool, true, false, ◌&&◌, ◌||◌, not, cond, eqb, List, [], ◌∷◌, ◌++◌, length, take, drop, get_or, refl, sym, ap, ◌∙◌, arith, append_assoc, length-append}
 use Rattle.std.proofs.lemmas.List.{append-nil, take_at, drop_at}
-use Rattle.std.specs.List.{flat_map, list_all, position_or_len}
+use Rattle.std.specs.List.{list_all, position_or_len}
 use Rattle.vg_scan.specs.Comments.{without_comments, pieces, some_pieces, piece_length, uncommented, is_line_mark, is_block_mark, ends_string}
 use Rattle.vg_scan.specs.declared.comments.Comments.TheVariants.{Spef}
 use Rattle.vg_scan.proofs.ClearedLemmas.{eq_of, eq_test, ne_of_false, ne_test, plain, escape, line_mark, block_mark}
 use Rattle.vg_scan.proofs.PieceLemmas.{cleared_is}
 use Rattle.vg_written.specs.Texts.{IsQuietLine}
+use Rattle.vg_written.proofs.SpliceLemmas.{first_piece}
 use Rattle.vg_written.proofs.WordLemmas.{both_true}
 use Rattle.vg_spliced.proofs.SpliceLemmas.{cancel}
 
@@ -86,40 +87,6 @@ calm_front false (b ∷ c ∷ xs) ys h = elim (kind_of b c) as (λ _. calm false
   | block e f ↦ never (sym h ∙ calm_block b c (xs ++ ys) e f)
   | other e f g i ↦ calm_plain b c xs e f g i ∙ calm_front false (c ∷ xs) ys (sym (calm_plain b c (xs ++ ys) e f g i) ∙ h)
 ]
-
--- ---- pieces
-
-piece_some : (b : ℕ) (bs : List ℕ) → 0 < piece_length (b ∷ bs)
-piece_some b [] = omega arith
-piece_some b (c ∷ bs) =
-    either (eqb b 92) _ _ (omega arith) (either (eqb b 34) _ _ (omega arith)
-    (either (is_line_mark b c) _ _ (omega arith) (either (is_block_mark b c) _ _ (omega arith) (omega arith))))
-  where
-    either : (t : Bool) (x y : ℕ) → 0 < x → 0 < y → 0 < cond t x y
-    either true x y f g = f
-    either false x y f g = g
-
-some_enough : (n m : ℕ) (text : List ℕ) → length text ≤ n → length text ≤ m → some_pieces n text ≡ some_pieces m text
-unfolding some_pieces
-some_enough zero zero text l h = refl
-some_enough zero (suc m) [] l h = refl
-some_enough (suc n) zero [] l h = refl
-some_enough (suc n) (suc m) [] l h = refl
-some_enough zero (suc m) (b ∷ bs) l h = absurd (omega arith)
-some_enough (suc n) zero (b ∷ bs) l h = absurd (omega arith)
-some_enough (suc n) (suc m) (b ∷ bs) l h =
-    let k = piece_length (b ∷ bs) in
-    ap (λ xs. take k (b ∷ bs) ∷ xs)
-    (some_enough n m (drop k (b ∷ bs)) (omega (arith, length-drop k (b ∷ bs), piece_some b bs)) (omega (arith, length-drop k (b ∷ bs), piece_some b bs)))
-
--- a text's first piece, and what is left
-first_piece : (b : ℕ) (bs : List ℕ)
-    → clear (b ∷ bs) ≡ uncommented (take (piece_length (b ∷ bs)) (b ∷ bs)) ++ clear (drop (piece_length (b ∷ bs)) (b ∷ bs))
-unfolding without_comments pieces some_pieces
-first_piece b bs =
-    let k = piece_length (b ∷ bs) in
-    ap (λ xs. uncommented (take k (b ∷ bs)) ++ flat_map uncommented xs)
-    (some_enough (length bs) (length (drop k (b ∷ bs))) (drop k (b ∷ bs)) (omega (arith, length-drop k (b ∷ bs), piece_some b bs)) (omega arith))
 
 -- ---- strings
 

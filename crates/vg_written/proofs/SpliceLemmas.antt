@@ -47,7 +47,7 @@ some_enough (suc n) (suc m) (b ∷ bs) l h =
     (some_enough n m (drop k (b ∷ bs)) (omega (arith, length-drop k (b ∷ bs), piece_some b bs)) (omega (arith, length-drop k (b ∷ bs), piece_some b bs)))
 
 -- a text's first piece, and what is left
-first_piece : (b : ℕ) (bs : List ℕ)
+pub first_piece : (b : ℕ) (bs : List ℕ)
     → clear (b ∷ bs) ≡ uncommented (take (piece_length (b ∷ bs)) (b ∷ bs)) ++ clear (drop (piece_length (b ∷ bs)) (b ∷ bs))
 unfolding without_comments pieces some_pieces
 first_piece b bs =

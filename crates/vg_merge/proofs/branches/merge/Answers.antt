@@ -1,17 +1,13 @@
-use Rattle.std.proofs.Common.{◌≡◌, false, ◌++◌, length, Result, Ok, Err, OnOk, sym, ap, ◌∙◌, subst, inl, arith}
-use Rattle.std.proofs.lemmas.List.{length-append}
+use Rattle.std.proofs.Common.{◌≡◌, false, Result, Ok, Err, OnOk, sym, ◌∙◌, subst, inl, arith}
 use Rattle.std.specs.Result.{is_err}
 use Rattle.vg_num.specs.declared.memory.Memory.{Memory}
-use Rattle.sol_arena.specs.Arenas.{slots_of}
-use Rattle.cand_pool.specs.Candidates.{Candidates}
-use Rattle.cand_pool.specs.Pools.{Block, Holds, spare, items_of}
+use Rattle.cand_pool.specs.Pools.{Block, Holds, items_of}
 use Rattle.cand_pool.proofs.PoolMoves.{keeps_then}
 use Rattle.cand_pool.proofs.PublicLaws.{held_items, held_named}
-use Rattle.cand_uses.specs.Uses.{HoldsFor}
 use Rattle.cand_uses.proofs.ExchangeLemmas.{exchange_of, exchange_then, exchanged_held}
 use Rattle.vg_merge.proofs.JoinLemmas.{rest_held}
-use Rattle.vg_merge.proofs.ListLemmas.{start_live, start_all, same_items, keeps_all, all_long}
-use Rattle.vg_merge.proofs.MergingLemmas.{merge_still, merge_of, left_ended}
+use Rattle.vg_merge.proofs.ListLemmas.{few_steps, keeps_all, left_ended, same_items, spare_end, start_all, start_held, start_live}
+use Rattle.vg_merge.proofs.MergingLemmas.{merge_of, merge_still}
 use Rattle.vg_merge.proofs.branches.merge.Goals as goal
 
 ok_of : (r : Result (Unit {0}) Memory) (P : Type 0) → is_err r ≡ false → OnOk r P → P
@@ -31,63 +27,31 @@ join_firsts-joined-requires-clause-made g c = held_items _ _ _ _ c.none.ensures.
 
 pub end_branches-list-requires-clause-held : goal.end_branches-list-requires-clause-held
 end_branches-list-requires-clause-held g c =
-    let start = start_all c.args.pool.now c.none.new.self c.none.result c.args.a c.args.b _ _ c.none.ensures.same c.none.ensures.list
-    c.requires.live.0 c.requires.live.1 in
-    let held = exchanged_held _ _ _ _ (subst (λ (l : Candidates). HoldsFor (slots_of c.args.arena.now) l)
-    (sym start) c.requires.meet.held) c.join_firsts-joined.ensures.uses in
-    rest_held _ (items_of c.join_firsts-joined.new.pool c.join_firsts-joined.new.at.list) _ held
+    rest_held _ (items_of c.join_firsts-joined.new.pool c.join_firsts-joined.new.at.list) _
+    (start_held _ _ c.args.pool.now c.none.new.self c.none.result c.args.a c.args.b _ c.none.ensures.same c.none.ensures.list c.requires.live.0 c.requires.live.1
+    c.requires.meet.held c.join_firsts-joined.ensures.uses)
 
 pub end_list-requires-clause-live : goal.end_list-requires-clause-live
 end_list-requires-clause-live g c = held_named _ _ _ _ c.end_branches-list.ensures.list
 
 pub end_list-requires-clause-held : goal.end_list-requires-clause-held
 end_list-requires-clause-held g c =
-    let start = start_all c.args.pool.now c.none.new.self c.none.result c.args.a c.args.b _ _ c.none.ensures.same c.none.ensures.list
-    c.requires.live.0 c.requires.live.1 in
-    let held = exchanged_held _ _ _ _ (subst (λ (l : Candidates). HoldsFor (slots_of c.args.arena.now) l)
-    (sym start) c.requires.meet.held) c.join_firsts-joined.ensures.uses in
-    let at = c.join_firsts-joined.new.at in
-    let zs = items_of c.join_firsts-joined.new.pool at.list in
-    let left = items_of c.join_firsts-joined.new.pool at.a ++ items_of c.join_firsts-joined.new.pool at.b in
-    let list_is = held_items c.end_branches-list.new.pool c.end_branches-list.result.ends.first c.end_branches-list.result.ends.last zs
-    c.end_branches-list.ensures.list in
-    let ended = left_ended _ _ zs (items_of c.end_branches-list.new.pool c.end_branches-list.result) left list_is c.end_branches-list.ensures.uses in
-    exchanged_held _ _ _ _ held ended
+    exchanged_held _ _ _ _
+    (start_held _ _ c.args.pool.now c.none.new.self c.none.result c.args.a c.args.b _ c.none.ensures.same c.none.ensures.list c.requires.live.0 c.requires.live.1
+    c.requires.meet.held c.join_firsts-joined.ensures.uses)
+    (left_ended _ _ _ _ _ _ c.end_branches-list.ensures.list c.end_branches-list.ensures.uses)
 
 pub returns-then-is_err-clause-uses : goal.returns-then-is_err-clause-uses
 returns-then-is_err-clause-uses g c = λ xs ys h k.
-    let at = c.join_firsts-joined.new.at in
-    let zs = items_of c.join_firsts-joined.new.pool at.list in
-    let left = items_of c.join_firsts-joined.new.pool at.a ++ items_of c.join_firsts-joined.new.pool at.b in
-    let list_is = held_items c.end_branches-list.new.pool c.end_branches-list.result.ends.first c.end_branches-list.result.ends.last zs
-    c.end_branches-list.ensures.list in
-    let ended = left_ended _ _ zs (items_of c.end_branches-list.new.pool c.end_branches-list.result) left list_is c.end_branches-list.ensures.uses in
+    let ended = left_ended _ _ _ _ _ _ c.end_branches-list.ensures.list c.end_branches-list.ensures.uses in
     exchange_of _ _ _ _ _ (start_all c.args.pool.now c.none.new.self c.none.result c.args.a c.args.b xs ys c.none.ensures.same c.none.ensures.list h k)
     (exchange_then _ _ _ _ _ _ c.join_firsts-joined.ensures.uses (exchange_then _ _ _ _ _ _ ended c.end_list.ensures.uses))
 
 pub returns-then-is_err-clause-spare : goal.returns-then-is_err-clause-spare
 returns-then-is_err-clause-spare g c = λ xs ys h k.
-    let at = c.join_firsts-joined.new.at in
-    let zs = items_of c.join_firsts-joined.new.pool at.list in
-    let left = items_of c.join_firsts-joined.new.pool at.a ++ items_of c.join_firsts-joined.new.pool at.b in
-    let list_is = held_items c.end_branches-list.new.pool c.end_branches-list.result.ends.first c.end_branches-list.result.ends.last zs
-    c.end_branches-list.ensures.list in
-    let start = start_all c.args.pool.now c.none.new.self c.none.result c.args.a c.args.b xs ys c.none.ensures.same c.none.ensures.list h k in
-    let start_long = ap (λ (l : Candidates). length l) start in
-    let list_long = ap (λ (l : Candidates). length l) list_is in
-    let all = all_long _ at _ _ _ c.join_firsts-joined.ensures.live in
-    omega (
-      arith,
-      c.join_firsts-joined.ensures.spare,
-      c.end_branches-list.ensures.spare,
-      start_long,
-      length-append xs ys,
-      list_long,
-      all,
-      ap spare
-          c.none.ensures.same,
-      c.end_list.ensures.spare,
-    )
+    let spare = spare_end _ _ _ _ c.none.result c.args.a c.args.b _ c.join_firsts-joined.new.at xs ys c.none.ensures.same c.none.ensures.list h k
+    c.join_firsts-joined.ensures.live c.join_firsts-joined.ensures.spare c.end_branches-list.ensures.list c.end_branches-list.ensures.spare in
+    omega (arith, spare, c.end_list.ensures.spare)
 
 pub returns-then-is_err-clause-others : goal.returns-then-is_err-clause-others
 returns-then-is_err-clause-others g c =
@@ -98,62 +62,30 @@ returns-then-is_err-clause-others g c =
 
 pub returns-then-is_err-clause-steps : goal.returns-then-is_err-clause-steps
 returns-then-is_err-clause-steps g c = λ xs ys h k.
-    let a_long = ap (λ (l : Candidates). length l) (same_items _ _ c.args.a xs c.none.ensures.same h) in
-    let b_long = ap (λ (l : Candidates). length l) (same_items _ _ c.args.b ys c.none.ensures.same k) in
-    omega (arith, a_long, b_long, c.join_firsts-joined.ensures.steps)
+    few_steps _ _ c.args.a c.args.b xs ys _ _ c.none.ensures.same h k c.join_firsts-joined.ensures.steps
 
 pub returns-clause-live : goal.returns-clause-live
 returns-clause-live g c = held_named _ _ _ _ c.end_branches-list.ensures.list
 
 pub returns-clause-merge : goal.returns-clause-merge
 returns-clause-merge g c = λ xs ys h k.
-    let start = start_all c.args.pool.now c.none.new.self c.none.result c.args.a c.args.b _ _ c.none.ensures.same c.none.ensures.list
-    c.requires.live.0 c.requires.live.1 in
-    let held = exchanged_held _ _ _ _ (subst (λ (l : Candidates). HoldsFor (slots_of c.args.arena.now) l)
-    (sym start) c.requires.meet.held) c.join_firsts-joined.ensures.uses in
-    let at = c.join_firsts-joined.new.at in
-    let zs = items_of c.join_firsts-joined.new.pool at.list in
-    let left = items_of c.join_firsts-joined.new.pool at.a ++ items_of c.join_firsts-joined.new.pool at.b in
-    let list_is = held_items c.end_branches-list.new.pool c.end_branches-list.result.ends.first c.end_branches-list.result.ends.last zs
-    c.end_branches-list.ensures.list in
+    let held = start_held _ _ c.args.pool.now c.none.new.self c.none.result c.args.a c.args.b _ c.none.ensures.same c.none.ensures.list
+    c.requires.live.0 c.requires.live.1 c.requires.meet.held c.join_firsts-joined.ensures.uses in
     let w = ok_of c.join_firsts-joined.result _ (sym c.is_err.ensures.value ∙ c.if-is_err.false) c.join_firsts-joined.ensures.merge in
-    merge_of _ _ _ xs _ ys zs (items_of c.end_branches-list.new.pool c.end_branches-list.result) (same_items _ _ c.args.a xs c.none.ensures.same h)
-    (same_items _ _ c.args.b ys c.none.ensures.same k)
-    (sym list_is) (merge_still _ c.join_firsts-joined.new.arena c.end_branches-list.new.arena _ _ zs left held c.end_branches-list.ensures.uses w)
+    merge_of _ _ _ xs _ ys _ (items_of c.end_branches-list.new.pool c.end_branches-list.result) (same_items _ _ c.args.a xs c.none.ensures.same h)
+    (same_items _ _ c.args.b ys c.none.ensures.same k) (sym (held_items _ _ _ _ c.end_branches-list.ensures.list))
+    (merge_still _ c.join_firsts-joined.new.arena c.end_branches-list.new.arena _ _ _ _ held c.end_branches-list.ensures.uses w)
 
 pub returns-clause-uses : goal.returns-clause-uses
 returns-clause-uses g c = λ xs ys h k.
-    let at = c.join_firsts-joined.new.at in
-    let zs = items_of c.join_firsts-joined.new.pool at.list in
-    let left = items_of c.join_firsts-joined.new.pool at.a ++ items_of c.join_firsts-joined.new.pool at.b in
-    let list_is = held_items c.end_branches-list.new.pool c.end_branches-list.result.ends.first c.end_branches-list.result.ends.last zs
-    c.end_branches-list.ensures.list in
-    let ended = left_ended _ _ zs (items_of c.end_branches-list.new.pool c.end_branches-list.result) left list_is c.end_branches-list.ensures.uses in
     exchange_of _ _ _ _ _ (start_all c.args.pool.now c.none.new.self c.none.result c.args.a c.args.b xs ys c.none.ensures.same c.none.ensures.list h k)
-    (exchange_then _ _ _ _ _ _ c.join_firsts-joined.ensures.uses ended)
+    (exchange_then _ _ _ _ _ _ c.join_firsts-joined.ensures.uses
+    (left_ended _ _ _ _ _ _ c.end_branches-list.ensures.list c.end_branches-list.ensures.uses))
 
 pub returns-clause-spare : goal.returns-clause-spare
 returns-clause-spare g c = λ xs ys h k.
-    let at = c.join_firsts-joined.new.at in
-    let zs = items_of c.join_firsts-joined.new.pool at.list in
-    let left = items_of c.join_firsts-joined.new.pool at.a ++ items_of c.join_firsts-joined.new.pool at.b in
-    let list_is = held_items c.end_branches-list.new.pool c.end_branches-list.result.ends.first c.end_branches-list.result.ends.last zs
-    c.end_branches-list.ensures.list in
-    let start = start_all c.args.pool.now c.none.new.self c.none.result c.args.a c.args.b xs ys c.none.ensures.same c.none.ensures.list h k in
-    let start_long = ap (λ (l : Candidates). length l) start in
-    let list_long = ap (λ (l : Candidates). length l) list_is in
-    let all = all_long _ at _ _ _ c.join_firsts-joined.ensures.live in
-    omega (
-      arith,
-      c.join_firsts-joined.ensures.spare,
-      c.end_branches-list.ensures.spare,
-      start_long,
-      length-append xs ys,
-      list_long,
-      all,
-      ap spare
-          c.none.ensures.same,
-    )
+    spare_end _ _ _ _ c.none.result c.args.a c.args.b _ c.join_firsts-joined.new.at xs ys c.none.ensures.same c.none.ensures.list h k
+    c.join_firsts-joined.ensures.live c.join_firsts-joined.ensures.spare c.end_branches-list.ensures.list c.end_branches-list.ensures.spare
 
 pub returns-clause-others : goal.returns-clause-others
 returns-clause-others g c =
@@ -162,6 +94,4 @@ returns-clause-others g c =
 
 pub returns-clause-steps : goal.returns-clause-steps
 returns-clause-steps g c = λ xs ys h k.
-    let a_long = ap (λ (l : Candidates). length l) (same_items _ _ c.args.a xs c.none.ensures.same h) in
-    let b_long = ap (λ (l : Candidates). length l) (same_items _ _ c.args.b ys c.none.ensures.same k) in
-    omega (arith, a_long, b_long, c.join_firsts-joined.ensures.steps)
+    few_steps _ _ c.args.a c.args.b xs ys _ _ c.none.ensures.same h k c.join_firsts-joined.ensures.steps

@@ -1,21 +1,14 @@
-use Rattle.std.proofs.Common.{◌≡◌, ℕ, ◌<◌, ◌^◌, List, length, find, get_or, slice_index, sym, ap, ◌∙◌, subst, arith}
-use Rattle.std.specs.Prelude.{unwrap_or}
+use Rattle.std.proofs.Common.{◌≡◌, ℕ, ◌<◌, ◌^◌, List, length, get_or, slice_index, sym, ap, ◌∙◌, subst, arith}
 use Rattle.std.proofs.lemmas.List.{get_or_default}
 use Rattle.elmore.specs.Legal.{IsPlaced}
-use Rattle.elmore.specs.Path.{nodes}
 use Rattle.elmore.specs.Placements.{IsPlacement}
-use Rattle.elmore.proofs.TreeLemmas.{tree_falls}
 use Rattle.spef_net.specs.declared.net.ParNet.{ParNet}
-use Rattle.vg_cut.specs.CutNets.{forest_of}
-use Rattle.vg_design.specs.Designs.{is_port, name_of}
 use Rattle.vg_split.specs.Conditions.{IsSplit}
 use Rattle.vg_written.specs.Charges.{AreSums}
 use Rattle.vg_written.specs.Sections.{total}
 use Rattle.vg_change.specs.Changes.{Changes as ChangesSpec, IsChange, IsSectionNamed}
-use Rattle.vg_change.specs.Placed.{is_port_at, keeper_of, stage_at}
-use Rattle.vg_change.specs.Steps.{placed_net}
-use Rattle.vg_change.proofs.PosedLemmas.{is_split, problem_size, small_charge}
-use Rattle.vg_change.proofs.StageLemmas.{stage_is}
+use Rattle.vg_change.specs.Placed.{keeper_of}
+use Rattle.vg_change.proofs.PosedLemmas.{is_split, keeper_found, small_charge}
 use Rattle.vg_change.proofs.changes.Changes.put.Goals as goal
 
 pub sums-requires-clause-few : goal.sums-requires-clause-few
@@ -46,29 +39,19 @@ invariant_of-split c =
     let posed = c.args.net.now in
     let view = c.self.view_is in
     let cs = c.as_slice-cells.result.now in
-    let f = forest_of posed.problem cs in
     let par_is = c.par_of-par.ensures in
     let order_is = c.as_slice-order.ensures in
     let reps_is : c.repeaters.result.now ≡ self.design.library.repeaters = c.repeaters.ensures ∙ ap (λ (s : ChangesSpec). s.design.library.repeaters) view in
     let prefix_is = ap (λ (s : ChangesSpec). s.prefix) view in
     let first_is : c.len-2.result ≡ length self.cells = omega (arith, c.len-2.ensures, c.self.inside.cells.ok, ap (λ (s : ChangesSpec). length s.cells) view) in
-    let port_is : c.port_or_root-port.result ≡ unwrap_or (find (is_port_at (placed_net posed cs)) (nodes (length posed.ready.order))) 0
-    = c.port_or_root-port.ensures.is
-    ∙ (λ k. unwrap_or (find (λ w. is_port (name_of (par_is k) (slice_index (order_is k) w))) (nodes (length (order_is k)))) 0) in
-    let a_tree = c.requires.posed.1.ready.a_tree.a_tree in
-    let size = problem_size self.design c.requires.posed.0 posed c.requires.posed.1 in
-    let port_low : c.port_or_root-port.result < length posed.problem.tree.nodes =
-    omega (arith, c.port_or_root-port.ensures.node, ap (λ (l : List ℕ). length l) order_is, a_tree.lists.count, size) in
-    let stage = c.in_ok-stages.ensures.stages.each c.port_or_root-port.result port_low in
-    let keeper_at : c.index.result.now ≡ slice_index c.in_ok-stages.stages.stage_of.items c.port_or_root-port.result
-    = c.index.ensures ∙ get_or_default c.in_ok-stages.stages.stage_of.items c.port_or_root-port.result c.index.result.now 0 (omega (arith, port_low, c.in_ok-stages.ensures.stages.one_each)) in
-    let keeper_is : c.index.result.now ≡ keeper_of (placed_net posed cs)
-    = keeper_at ∙ sym (stage_is f (tree_falls posed.problem.tree.nodes posed.problem.tree.a_tree) _ c.port_or_root-port.result stage) ∙ ap (stage_at f) port_is in
+    let keeper = keeper_found self.design c.requires.posed.0 posed c.requires.posed.1 cs c.par_of-par.result.now c.as_slice-order.result.now c.in_ok-stages.stages
+    c.port_or_root-port.result c.index.result.now par_is order_is c.in_ok-stages.ensures.stages c.port_or_root-port.ensures.is c.port_or_root-port.ensures.node
+    c.index.ensures in
     let was : IsChange self = subst IsChange view c.self.invariant in
     let placement = subst (IsPlacement posed.problem) (sym c.as_slice-cells.ensures) c.requires.placement in
     let placed = subst (IsPlaced posed.problem) (sym c.as_slice-cells.ensures) c.requires.placed in
     let few : length self.cells < 2 ^ 63 = omega (arith, ap (λ (s : ChangesSpec). length s.cells) view, c.self.inside.cells.ok, c.self.inside.cells.small) in
-    let own = is_split self was c.requires.posed.0 posed c.requires.posed.1 cs placement placed few (omega (arith, keeper_is, keeper_at, stage.number_is)) in
+    let own = is_split self was c.requires.posed.0 posed c.requires.posed.1 cs placement placed few keeper.1 in
     let split : IsSplit _ = subst IsSplit
     (λ k. record {
       par = sym par_is k;
@@ -78,7 +61,7 @@ invariant_of-split c =
       repeaters = sym reps_is k;
       prefix = sym prefix_is k;
       first = sym first_is k;
-      keeper = sym keeper_is k;
+      keeper = sym keeper.0 k;
     }) own in
     let sums = c.in_ok-sums.ensures in (
       split,
@@ -94,24 +77,14 @@ put_split-requires-clause-split c =
     let posed = c.args.net.now in
     let view = c.self.view_is in
     let cs = c.as_slice-cells.result.now in
-    let f = forest_of posed.problem cs in
     let par_is = c.par_of-par.ensures in
     let order_is = c.as_slice-order.ensures in
     let reps_is : c.repeaters.result.now ≡ self.design.library.repeaters = c.repeaters.ensures ∙ ap (λ (s : ChangesSpec). s.design.library.repeaters) view in
     let prefix_is = ap (λ (s : ChangesSpec). s.prefix) view in
     let first_is : c.len-2.result ≡ length self.cells = omega (arith, c.len-2.ensures, c.self.inside.cells.ok, ap (λ (s : ChangesSpec). length s.cells) view) in
-    let port_is : c.port_or_root-port.result ≡ unwrap_or (find (is_port_at (placed_net posed cs)) (nodes (length posed.ready.order))) 0
-    = c.port_or_root-port.ensures.is
-    ∙ (λ k. unwrap_or (find (λ w. is_port (name_of (par_is k) (slice_index (order_is k) w))) (nodes (length (order_is k)))) 0) in
-    let a_tree = c.requires.posed.1.ready.a_tree.a_tree in
-    let size = problem_size self.design c.requires.posed.0 posed c.requires.posed.1 in
-    let port_low : c.port_or_root-port.result < length posed.problem.tree.nodes =
-    omega (arith, c.port_or_root-port.ensures.node, ap (λ (l : List ℕ). length l) order_is, a_tree.lists.count, size) in
-    let stage = c.in_ok-stages.ensures.stages.each c.port_or_root-port.result port_low in
-    let keeper_at : c.index.result.now ≡ slice_index c.in_ok-stages.stages.stage_of.items c.port_or_root-port.result
-    = c.index.ensures ∙ get_or_default c.in_ok-stages.stages.stage_of.items c.port_or_root-port.result c.index.result.now 0 (omega (arith, port_low, c.in_ok-stages.ensures.stages.one_each)) in
-    let keeper_is : c.index.result.now ≡ keeper_of (placed_net posed cs)
-    = keeper_at ∙ sym (stage_is f (tree_falls posed.problem.tree.nodes posed.problem.tree.a_tree) _ c.port_or_root-port.result stage) ∙ ap (stage_at f) port_is in
+    let keeper = keeper_found self.design c.requires.posed.0 posed c.requires.posed.1 cs c.par_of-par.result.now c.as_slice-order.result.now c.in_ok-stages.stages
+    c.port_or_root-port.result c.index.result.now par_is order_is c.in_ok-stages.ensures.stages c.port_or_root-port.ensures.is c.port_or_root-port.ensures.node
+    c.index.ensures in
     record {
       par = par_is;
       is = λ k. record {
@@ -122,7 +95,7 @@ put_split-requires-clause-split c =
         repeaters = reps_is k;
         prefix = prefix_is k;
         first = first_is k;
-        keeper = (keeper_is ∙ ap (λ (order : List ℕ). keeper_of (record { net = posed.ready.pinned.net; order = order; problem = posed.problem; cells = cs })) (sym order_is)) k;
+        keeper = (keeper.0 ∙ ap (λ (order : List ℕ). keeper_of (record { net = posed.ready.pinned.net; order = order; problem = posed.problem; cells = cs })) (sym order_is)) k;
       };
     }
 
