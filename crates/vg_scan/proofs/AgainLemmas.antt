@@ -1,12 +1,11 @@
 -- A text without comments stays as it is where its comments are made blank again.
 use Rattle.std.proofs.Common.{◌≡◌, ℕ, Bool, true, false, cond, eqb, ◌==◌, ◌||◌, ◌&&◌, ◌⊎◌, inl, inr, List, [], ◌∷◌, refl, sym, ap, subst, ◌∙◌, arith}
 use Rattle.std.specs.Prelude.{if◌then◌else◌}
-use Rattle.vg_scan.specs.declared.scan.Scan.{Scan}
-use Rattle.vg_scan.specs.declared.scan.Scan.TheVariants.{Outside, Quoted, InLine, InBlock}
 use Rattle.vg_scan.specs.declared.comments.Comments.{Comments}
 use Rattle.vg_scan.specs.declared.comments.Comments.TheVariants.{Spef, Liberty}
 use Rattle.vg_scan.specs.Comments.{without_comments, blanked}
-use Rattle.vg_scan.specs.Clearing.{cleared_in, is_mark}
+use Rattle.vg_scan.proofs.Clearing.{Scan, Outside, Quoted, InLine, InBlock, cleared_in}
+use Rattle.vg_scan.specs.Pieces.{is_mark}
 use Rattle.vg_scan.proofs.LibertyAgainLemmas.{without_liberty_again}
 use Rattle.vg_scan.proofs.PieceLemmas.{cleared_is}
 use Rattle.vg_scan.proofs.ClearedLemmas.{escape, quote, plain, eq_test, eq_of, ne_of_false}

@@ -1,10 +1,8 @@
 -- The first bytes of what is left of a text.
-use Rattle.std.proofs.Common.{◌≡◌, ℕ, suc, ◌+◌, ◌<◌, List, [], ◌∷◌, ◌++◌, length, drop, get_or, refl, sym, ap, ◌∙◌, arith, drop-cons, add-one, append_assoc, eqb, Bool, true, false, ◌&&◌, ◌||◌, ◌==◌, cond, ◌⊎◌, inl, inr}
+use Rattle.std.proofs.Common.{◌≡◌, ℕ, suc, ◌+◌, ◌<◌, List, [], ◌∷◌, length, drop, get_or, refl, sym, ap, ◌∙◌, arith, drop-cons, add-one, eqb, Bool, true, false, ◌&&◌, ◌||◌, ◌==◌, cond, ◌⊎◌, inl, inr}
 use Rattle.std.proofs.lemmas.Bool.Decides.{nat_tests}
-use Rattle.vg_scan.specs.declared.scan.Scan.{Scan}
-use Rattle.vg_scan.specs.declared.scan.Scan.TheVariants.{Outside, Quoted, InLine, InBlock}
 use Rattle.vg_scan.specs.Comments.{blanked, StaysOrBlanks}
-use Rattle.vg_scan.specs.Clearing.{cleared_in}
+use Rattle.vg_scan.proofs.Clearing.{Scan, Outside, Quoted, InLine, InBlock, cleared_in}
 use Rattle.std.specs.List.{AllZip}
 
 pub one : (bytes : List ℕ) (at : ℕ) → at < length bytes → drop at bytes ≡ get_or bytes at 0 ∷ drop (at + 1) bytes
@@ -49,18 +47,6 @@ plain b c bs e f g h =
     let k : (eqb b 47 && eqb c 47) ≡ false = and_none (eqb b 47) (eqb c 47) (λ x y. g (eq_of b 47 x) (eq_of c 47 y)) in
     let l : (eqb b 47 && eqb c 42) ≡ false = and_none (eqb b 47) (eqb c 42) (λ x y. h (eq_of b 47 x) (eq_of c 42 y)) in
     rw (ne_test b 92 e) (rw (ne_test b 34 f) (rw k (rw l refl)))
-
-pub block_ends : (b c : ℕ) (bs : List ℕ) → b ≡ 42 → c ≡ 47 → cleared_in InBlock (b ∷ c ∷ bs) ≡ 32 ∷ 32 ∷ cleared_in Outside bs
-unfolding cleared_in
-block_ends b c bs e f = rw (eq_test b 42 e) (rw (eq_test c 47 f) refl)
-
-pub block_goes : (b c x : ℕ) (bs : List ℕ) → (b ≡ 42 → c ≡ 47 → ⊥) → x ≡ blanked b → cleared_in InBlock (b ∷ c ∷ bs) ≡ x ∷ cleared_in InBlock (c ∷ bs)
-unfolding cleared_in
-block_goes b c x bs h e = rw (and_none (eqb b 42) (eqb c 47) (λ x y. h (eq_of b 42 x) (eq_of c 47 y))) (ap (λ y. y ∷ cleared_in InBlock (c ∷ bs)) (sym e))
-
--- what is written stands for what was taken
-pub joined : (old new ws rest all : List ℕ) → new ≡ old ++ ws → all ≡ ws ++ rest → new ++ rest ≡ old ++ all
-joined old new ws rest all e f = rw e (rw f (append_assoc old ws rest))
 
 either : (t : Bool) (x y : List ℕ) (n : ℕ) → length x ≡ n → length y ≡ n → length (cond t x y) ≡ n
 either true x y n e f = e

@@ -8,8 +8,10 @@ pub mod NodeLemmas
 pub mod PrintedLemmas
 pub mod CutLemmas
 pub mod FirstLemmas
-pub mod InLineLemmas
-pub mod TurnLemmas
+pub mod Clearing
+pub mod SearchLemmas
+pub mod NextLemmas
+pub mod InPlaceLemmas
 pub mod PieceLemmas
 pub mod AgainLemmas
 pub mod PartLemmas

@@ -1,7 +1,7 @@
 -- A library's text without comments stays as it is where its comments are made blank again.
 use Rattle.std.proofs.Common.{◌≡◌, ℕ, zero, suc, ◌+◌, ◌<◌, ◌≤◌, Bool, true, false, cond, ◌==◌, ◌||◌, ◌&&◌, ◌⊎◌, inl, inr, List, [], ◌∷◌, ◌++◌, map, length, take, drop, refl, ap, ◌∙◌, arith, length-drop, if◌then◌else◌}
 use Rattle.std.specs.List.{AllZip}
-use Rattle.vg_scan.specs.Clearing.{is_mark}
+use Rattle.vg_scan.specs.Pieces.{is_mark}
 use Rattle.vg_scan.specs.Comments.{is_block_mark, through_block, blanked, StaysOrBlanks}
 use Rattle.vg_scan.specs.LibertyComments.{begins_newline, continues, ends_string_in, through_string_in, liberty_piece_length, unblocked, without_liberty_comments}
 use Rattle.vg_scan.proofs.LibertyLemmas.{some, first_piece, plain_length, nothing, no_block, eq_of}

@@ -8,9 +8,7 @@ use Rattle.vg_scan.specs.Lines.{is_blank, part}
 use Rattle.vg_scan.specs.Printed.{is_solid}
 use Rattle.vg_scan.specs.Parts.{IsFirstSolid, PartsKeepComments}
 use Rattle.vg_scan.specs.Comments.{blanked}
-use Rattle.vg_scan.specs.Clearing.{cleared_in}
-use Rattle.vg_scan.specs.declared.scan.Scan.{Scan}
-use Rattle.vg_scan.specs.declared.scan.Scan.TheVariants.{Outside, Quoted, InLine, InBlock}
+use Rattle.vg_scan.proofs.Clearing.{Scan, Outside, Quoted, InLine, InBlock, cleared_in}
 
 -- a cleared text, up to a byte that is no space
 record Ends (n : ℕ) (clear short : List ℕ) : Type 0 where

@@ -4,16 +4,17 @@ use Rattle.std.specs.List.{position_or_len, flat_map, concat, AllZip}
 use Rattle.std.proofs.lemmas.List.{take-append-drop}
 use Rattle.vg_scan.specs.declared.comments.Comments.{Comments}
 use Rattle.vg_scan.specs.declared.comments.Comments.TheVariants.{Spef, Liberty}
-use Rattle.vg_scan.specs.declared.scan.Scan.TheVariants.{Outside, Quoted, InLine, InBlock}
 use Rattle.vg_scan.specs.Lines.{is_newline}
-use Rattle.vg_scan.specs.Comments.{ends_string, through_string, through_block, piece_length, some_pieces, pieces, blanked, uncommented, without_comments, StaysOrBlanks}
-use Rattle.vg_scan.specs.Clearing.{cleared_in}
+use Rattle.vg_scan.specs.Comments.{ends_string, through_string, through_block, piece_length, some_pieces, pieces, blanked, is_comment, uncommented, without_comments, StaysOrBlanks}
+use Rattle.vg_scan.proofs.Clearing.{Outside, Quoted, InLine, InBlock, cleared_in}
 use Rattle.vg_scan.specs.LibertyComments.{without_liberty_comments}
+use Rattle.vg_scan.specs.Pieces.{is_mark}
+use Rattle.vg_scan.proofs.LibertyLemmas.{choose as choose_by, neither}
 use Rattle.vg_scan.proofs.LibertyLawLemmas.{comments_blank_alone, zip_length}
 use Rattle.vg_scan.proofs.ClearedLemmas.{eq_of, first_of, second_of, only_blanks, length-cleared}
 
 -- so many bytes of a text are a piece of it
-abbrev IsPiece : List ℕ → ℕ → Type 0
+abbrev pub IsPiece : List ℕ → ℕ → Type 0
 IsPiece text k = cleared_in Outside text ≡ uncommented (take k text) ++ cleared_in Outside (drop k text)
 
 choose : (t : Bool) (text : List ℕ) (x y : ℕ) → (t ≡ true → IsPiece text x) → (t ≡ false → IsPiece text y) → IsPiece text (cond t x y)
@@ -91,7 +92,7 @@ block_comment b c bs e f =
     rw (k, e, f) (ap (λ xs. 32 ∷ 32 ∷ xs) (in_block bs))
 
 -- the first piece of a text
-first_piece : (b : ℕ) (bs : List ℕ) → IsPiece (b ∷ bs) (piece_length (b ∷ bs))
+pub first_piece : (b : ℕ) (bs : List ℕ) → IsPiece (b ∷ bs) (piece_length (b ∷ bs))
 unfolding cleared_in
 first_piece b [] = refl
 first_piece b (c ∷ bs) =
@@ -106,10 +107,47 @@ either true x y f g = f
 either false x y f g = g
 
 -- it is not empty
-some : (b : ℕ) (bs : List ℕ) → 0 < piece_length (b ∷ bs)
+pub some : (b : ℕ) (bs : List ℕ) → 0 < piece_length (b ∷ bs)
 some b [] = omega arith
 some b (c ∷ bs) =
     either (b == 92) _ _ (omega arith) (either (b == 34) _ _ (omega arith) (either ((b == 47) && (c == 47)) _ _ (omega arith) (either ((b == 47) && (c == 42)) _ _ (omega arith) (omega arith))))
+
+pub no_comment : (b : ℕ) (xs : List ℕ) → (b == 47) ≡ false → is_comment (b ∷ xs) ≡ false
+no_comment b [] e = refl
+no_comment b (c ∷ xs) e = rw e refl
+
+-- it is a comment where the text begins with one
+pub by_mark : (b : ℕ) (bs : List ℕ) → is_comment (take (piece_length (b ∷ bs)) (b ∷ bs)) ≡ is_comment (b ∷ bs)
+by_mark b [] = refl
+by_mark b (c ∷ bs) =
+    let P : ℕ → Type 0 = λ k. is_comment (take k (b ∷ c ∷ bs)) ≡ is_comment (b ∷ c ∷ bs) in
+    choose_by P (b == 92) _ _ (λ _. refl) (λ _.
+    choose_by P (b == 34) _ _
+    (λ e.
+    let n = through_string (c ∷ bs) in
+    let k : 1 + n ≡ suc n = omega arith in
+    let far : (b == 47) ≡ false = ap (λ x. x == 47) (eq_of b 34 e) in
+    rw k (no_comment b (take n (c ∷ bs)) far ∙ sym (no_comment b (c ∷ bs) far))) (λ _.
+    choose_by P ((b == 47) && (c == 47)) _ _
+    (λ _. let n = position_or_len is_newline bs in let k : 2 + n ≡ suc (suc n) = omega arith in rw k refl) (λ g.
+    choose_by P ((b == 47) && (c == 42)) _ _
+    (λ _. let n = through_block bs in let k : 2 + n ≡ suc (suc n) = omega arith in rw k refl) (λ h.
+    rw (g, h) refl))))
+
+pub no_slash : (b : ℕ) → is_mark b ≡ false → (b == 47) ≡ false
+no_slash b e = (neither ((b == 92) || (b == 34)) (b == 47) e).1
+
+-- a byte that is no mark is a piece of its own
+pub plain_length : (b : ℕ) (bs : List ℕ) → is_mark b ≡ false → piece_length (b ∷ bs) ≡ 1
+plain_length b [] e = refl
+plain_length b (c ∷ bs) e =
+    let (g, k) = neither ((b == 92) || (b == 34)) (b == 47) e in
+    let (f, h) = neither (b == 92) (b == 34) g in
+    rw (f, h, k) refl
+
+pub nothing_cleared : cleared_in Outside [] ≡ []
+unfolding cleared_in
+nothing_cleared = refl
 
 all_uncommented : (n : ℕ) (text : List ℕ) → length text ≤ n → cleared_in Outside text ≡ flat_map uncommented (some_pieces n text)
 unfolding cleared_in some_pieces

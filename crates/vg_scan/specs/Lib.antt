@@ -3,7 +3,7 @@ pub mod Spans
 pub mod Comments
 pub mod Separators
 pub mod Names
-pub mod Clearing
+pub mod Pieces
 pub mod Readings
 pub mod Printed
 pub mod Parts
@@ -12,4 +12,3 @@ pub mod Nodes
 pub mod Faults
 pub mod Blocks
 pub mod LibertyComments
-pub mod LibertyClearing

@@ -1,14 +1,14 @@
-//! Comments, made blank.
+//! Comments: found, and made blank.
 
-ghost use Rattle.std.specs.Prelude.{◌≡◌, ℕ, ◌<◌, ◌≤◌, false, slice_index, IfOk, length};
-ghost use Rattle.std.specs.List.{position};
-ghost use Rattle.vg_scan.specs.Lines.{is_newline};
-ghost use Rattle.vg_scan.specs.Clearing.{is_mark};
-ghost use Rattle.vg_scan.specs.Comments.{without_comments};
+ghost use Rattle.std.specs.Prelude.{◌≡◌, ◌+◌, ◌<◌, ◌≤◌, None, min, length, drop, IfOk, IfSome};
+ghost use Rattle.vg_scan.specs.Comments.{without_comments, IsNextComment};
+ghost use Rattle.vg_scan.specs.Pieces.{first_length, begins_comment, is_comment_mark};
 
 use crate::clear::clear_comments;
-use crate::lines::newline_at;
-use memchr::memchr3;
+use crate::liberty_pieces::liberty_piece_end;
+use crate::lines::Span;
+use crate::search::mark_at;
+use crate::spef_pieces::spef_piece_end;
 use std::alloc::Global;
 use vg_num::Memory;
 
@@ -39,33 +39,53 @@ pub fn skip_comments(alloc: Global, bytes: &[u8], kind: Comments) -> Result<Vec<
     Ok(text)
 }
 
-/// Where the first byte stands, from a place on, that may begin a comment, a string or an escape; else the text's end.
-pub(crate) fn mark_at(bytes: &[u8], at: usize) -> usize
-    requires { at ≤ length bytes.now }
-    ensures plain { (k : ℕ) → at ≤ k → k < result → is_mark (slice_index bytes.now k) ≡ false }
-    ensures place { (at ≤ result) × (result ≤ length bytes.now) }
+/// The next comment of a text, from a place on at which a piece of the text begins: the text's first byte, or the byte behind
+/// a comment. `None`: there is none.
+pub fn next_comment(text: &[u8], at: usize, kind: Comments) -> Option<Span>
+    requires { at ≤ length text.now }
+    ensures none { result ≡ None → without_comments kind (drop at text.now) ≡ drop at text.now }
+    ensures found { IfSome result (λ span. IsNextComment kind text.now at span.from span.to) }
 {
-    match first_mark(&bytes[at..]) {
-        None => bytes.len(),
-        Some(offset) => at + offset,
+    let mut from = mark_at(text, at);
+    'piece: while from < text.len() {
+        let to = piece_end(text, from, kind);
+        if is_comment(text, from, kind) {
+            return Some(Span { from, to });
+        }
+        from = mark_at(text, to);
+    }
+    None
+}
+
+/// Where the piece ends that begins at a place.
+fn piece_end(text: &[u8], at: usize, kind: Comments) -> usize
+    requires { at < length text.now }
+    ensures { result ≡ min (at + first_length kind (drop at text.now)) (length text.now) }
+{
+    match kind {
+        Comments::Spef => spef_piece_end(text, at),
+        Comments::Liberty => liberty_piece_end(text, at),
     }
 }
 
-fn first_mark(text: &[u8]) -> Option<usize>
-    ensures { result ≡ position is_mark text.now }
+/// Whether the piece that begins at a place is a comment.
+fn is_comment(text: &[u8], at: usize, kind: Comments) -> bool
+    requires { at < length text.now }
+    ensures { result ≡ begins_comment kind (drop at text.now) }
 {
-    memchr3(b'\\', b'"', b'/', text)
+    if at + 1 == text.len() {
+        return false;
+    }
+    is_comment_mark(text[at], text[at + 1], kind)
 }
 
-/// Where the first newline stands, from a place on; else the text's end.
-pub(crate) fn line_end_at(bytes: &[u8], at: usize) -> usize
-    requires { at ≤ length bytes.now }
-    ensures plain { (k : ℕ) → at ≤ k → k < result → is_newline (slice_index bytes.now k) ≡ false }
-    ensures newline { result < length bytes.now → slice_index bytes.now result ≡ 10 }
-    ensures place { (at ≤ result) × (result ≤ length bytes.now) }
+fn is_comment_mark(byte: u8, next: u8, kind: Comments) -> bool
+    ensures { result ≡ is_comment_mark kind byte next }
 {
-    match newline_at(&bytes[at..]) {
-        None => bytes.len(),
-        Some(offset) => at + offset,
+    let is_line = byte == b'/' && next == b'/';
+    let is_block = byte == b'/' && next == b'*';
+    match kind {
+        Comments::Spef => is_line || is_block,
+        Comments::Liberty => is_block,
     }
 }

@@ -1,32 +1,30 @@
-use Rattle.std.proofs.Common.{◌≡◌, ℕ, List, sym, ap, ◌∙◌}
+use Rattle.std.proofs.Common.{◌≡◌, ◌++◌, List, ℕ, take, sym, ap, ◌∙◌, arith}
+use Rattle.std.proofs.lemmas.List.{take-append-drop}
 use Rattle.vg_scan.specs.declared.comments.Comments.{Comments}
-use Rattle.vg_scan.specs.declared.comments.Comments.TheVariants.{Spef, Liberty}
-use Rattle.vg_scan.specs.declared.scan.Scan.TheVariants.{Outside}
-use Rattle.vg_scan.specs.Clearing.{cleared_in}
 use Rattle.vg_scan.specs.Comments.{without_comments}
-use Rattle.vg_scan.specs.LibertyComments.{without_liberty_comments}
-use Rattle.vg_scan.proofs.PieceLemmas.{cleared_is}
 use Rattle.vg_scan.proofs.AgainLemmas.{without_again}
+use Rattle.vg_scan.proofs.InPlaceLemmas.{one_cleared}
 use Rattle.vg_scan.proofs.clear.clear_comments.Goals as goal
-
-spef_clear : (kind : Comments) (old new : List ℕ) → kind ≡ Spef → new ≡ cleared_in Outside old → new ≡ without_comments kind old
-spef_clear kind old new k e = rw k (e ∙ cleared_is old)
-
-liberty_clear : (kind : Comments) (old new : List ℕ) → kind ≡ Liberty → new ≡ without_liberty_comments old → new ≡ without_comments kind old
-unfolding without_comments
-liberty_clear kind old new k e = rw k e
 
 none_left : (kind : Comments) (old new : List ℕ) → new ≡ without_comments kind old → without_comments kind new ≡ new
 none_left kind old new e = ap (without_comments kind) e ∙ without_again kind old ∙ sym e
 
-pub returns-in-Spef-clause-clear : goal.returns-in-Spef-clause-clear
-returns-in-Spef-clause-clear c = spef_clear c.args.kind c.args.text.now c.clear_spef_comments.new.text c.in-Spef.is c.clear_spef_comments.ensures
+pub comment-preserved : goal.comment-preserved
+comment-preserved c =
+    let found = c.in-Some.ensures.found in
+    record {
+      cleared =
+          one_cleared c.args.kind c.comment.text c.blank.new.text c.comment.at c.in-Some.comment.from c.in-Some.comment.to found c.blank.ensures.blank
+          ∙ c.comment.invariant.cleared;
+      long = c.blank.ensures.length ∙ c.comment.invariant.long;
+      within = omega (arith, found.within, c.blank.ensures.length);
+    }
 
-pub returns-in-Spef-clause-none : goal.returns-in-Spef-clause-none
-returns-in-Spef-clause-none c = none_left c.args.kind c.args.text.now c.clear_spef_comments.new.text (returns-in-Spef-clause-clear c)
+pub returns-clause-clear : goal.returns-clause-clear
+returns-clause-clear c =
+    sym (take-append-drop c.comment.at c.comment.text)
+    ∙ ap (λ rest. take c.comment.at c.comment.text ++ rest) (sym (c.next_comment.ensures.none c.in_default.is))
+    ∙ c.comment.invariant.cleared
 
-pub returns-in-Liberty-clause-clear : goal.returns-in-Liberty-clause-clear
-returns-in-Liberty-clause-clear c = liberty_clear c.args.kind c.args.text.now c.clear_liberty_comments.new.text c.in-Liberty.is c.clear_liberty_comments.ensures.clear
-
-pub returns-in-Liberty-clause-none : goal.returns-in-Liberty-clause-none
-returns-in-Liberty-clause-none c = none_left c.args.kind c.args.text.now c.clear_liberty_comments.new.text (returns-in-Liberty-clause-clear c)
+pub returns-clause-none : goal.returns-clause-none
+returns-clause-none c = none_left c.args.kind c.args.text.now c.comment.text (returns-clause-clear c)

@@ -1,5 +1,0 @@
-use Rattle.vg_scan.proofs.TurnLemmas.{plain_stay}
-use Rattle.vg_scan.proofs.clear.turn_outside.Goals as goal
-
-pub returns-then-to-at : goal.returns-then-to-at
-returns-then-to-at c = plain_stay c.args.text.now c.args.at c.mark_at-to.result c.if-to-at.true c.mark_at-to.ensures.place.1 c.mark_at-to.ensures.plain
