@@ -35,6 +35,22 @@ impl SpefText {
         SpefText { bytes }
     }
 
+    /// The text of bytes that have no comment.
+    pub fn from_clear(bytes: Vec<u8>) -> SpefText
+        requires short { length bytes.items ≤ 2 ^ 28 }
+        requires clear { without_comments Spef bytes.items ≡ bytes.items }
+        ensures { result ≡ bytes.items }
+    {
+        SpefText { bytes }
+    }
+
+    /// The bytes, without comments, to be changed.
+    pub fn into_bytes(self) -> Vec<u8>
+        ensures { result.items ≡ self }
+    {
+        self.bytes
+    }
+
     /// The bytes, without comments.
     pub fn as_bytes(&self) -> &[u8]
         ensures text { result.now ≡ self.now }

@@ -3,10 +3,11 @@ ghost use Rattle.std.specs.Prelude.{◌≤◌, ◌^◌, length, IfOk};
 
 use crate::texts::{HEADER, LIB, NETLIST};
 use elmore::{Allowed, Driver, Node, Problem, Sink};
+use spef_file::SpefText;
 use std::alloc::Global;
 use std::test::Fail;
 use vg_design::{BareNet, Design, NetProblem, TreeNames, bare_net, problem};
-use vg_inputs::{Inputs, read_design};
+use vg_inputs::read_design;
 use vg_scan::Name;
 use vg_wire::{Refusal, Refused};
 
@@ -49,13 +50,11 @@ fn design(alloc: Global, net: &str, verilog: &str, rows: &str) -> Result<Design,
     let lib = LIB.replace(alloc, "cell (BUF)", INV)?;
     let lib = lib.replace(alloc, "pin (Z) {", "pin (Z) { max_capacitance : 202;")?;
     let cons = format!(in alloc; "vgcons 2\n{rows}\n")?;
-    let inputs = Inputs {
-        spef: bytes_of(alloc, spef.as_str())?,
-        lib: bytes_of(alloc, lib.as_str())?,
-        verilog: bytes_of(alloc, verilog)?,
-        cons: bytes_of(alloc, cons.as_str())?,
-    };
-    match read_design(alloc, inputs) {
+    let text = SpefText::new(bytes_of(alloc, spef.as_str())?);
+    let lib = bytes_of(alloc, lib.as_str())?;
+    let verilog = bytes_of(alloc, verilog)?;
+    let cons = bytes_of(alloc, cons.as_str())?;
+    match read_design(alloc, text, &lib, &verilog, &cons) {
         Ok(design) => Ok(design),
         Err(_) => Err("no design".into()),
     }

@@ -174,11 +174,6 @@ fn reading_calls(files: &MemFiles, name: &str) -> usize {
     pieces(length_of(files, name)).saturating_add(2)
 }
 
-/// How many calls writing this text takes: one of `create`, one of `put` a piece, and one of `finish`.
-fn writing_calls(text: &[u8]) -> usize {
-    pieces(text.len()).saturating_add(2)
-}
-
 /// How many calls reading all of the files takes.
 fn all_reading_calls(files: &MemFiles) -> usize {
     let mut calls = 0usize;
@@ -188,14 +183,14 @@ fn all_reading_calls(files: &MemFiles) -> usize {
     calls
 }
 
-/// Whether a file is as it has to be where writing this text to it failed at its call of this number: as before, where it could not be
-/// created, and else as far as it was written.
-fn ends_at(files: &MemFiles, name: &str, text: &[u8], call: usize, before: Option<&str>) -> bool {
-    if call == 0 {
-        return holds(files, name, before);
+/// How many bytes of a text a file has, if it has some of its first ones.
+fn begun(files: &MemFiles, name: &str, text: &[u8]) -> Option<usize> {
+    let file = files.get(name)?;
+    if text.starts_with(file) {
+        Some(file.len())
+    } else {
+        None
     }
-    let count = call.saturating_sub(1).saturating_mul(64).min(text.len());
-    files.get(name) == Some(&text[..count])
 }
 
 /// The files that a run without faults leaves.
@@ -217,60 +212,61 @@ fn failed_files(
     Ok(if ended { Some(files) } else { None })
 }
 
-/// Whether a run ends as it has to where writing the netlist fails at its call of this number: the parasitics are as before.
-fn fails_in_netlist(
-    alloc: Global,
-    whole: &MemFiles,
-    call: usize,
-    before: Option<&str>,
-) -> Result<bool, Fail> {
-    let verilog = whole.get("o.v").unwrap_or(b"");
-    let number = all_reading_calls(whole).saturating_add(call);
-    let wanted = ending(6, "vginsert: write failed: o.v\n");
-    let Some(files) = failed_files(alloc, number, before, wanted)? else {
-        return Ok(false);
-    };
-    Ok(ends_at(&files, "o.v", verilog, call, before) && holds(&files, "o.spef", before))
-}
+/// A file that is written: its name, what tells that writing it failed, and the other file with what that holds then.
+type Failing<'a> = (&'a str, &'a str, (&'a str, Option<&'a [u8]>));
 
-/// The same where writing the parasitics fails: the netlist is whole.
-fn fails_in_parasitics(
+/// The most calls of writing one of the files.
+const MOST_CALLS: usize = 1000;
+
+/// How many calls of writing a file fail as they have to, from this number on in a run: the first leaves the file as it was, the second
+/// empty, and each next one with up to 64 bytes more of the text, the last one with all of it. The other file is the same all the time.
+fn failing_calls(
     alloc: Global,
     whole: &MemFiles,
-    call: usize,
+    first: usize,
+    failing: Failing<'_>,
     before: Option<&str>,
-) -> Result<bool, Fail> {
-    let (verilog, spef) = (
-        whole.get("o.v").unwrap_or(b""),
-        whole.get("o.spef").unwrap_or(b""),
-    );
-    let number = all_reading_calls(whole)
-        .saturating_add(writing_calls(verilog))
-        .saturating_add(call);
-    let wanted = ending(6, "vginsert: write failed: o.spef\n");
-    let Some(files) = failed_files(alloc, number, before, wanted)? else {
-        return Ok(false);
-    };
-    Ok(ends_at(&files, "o.spef", spef, call, before) && files.get("o.v") == Some(verilog))
+) -> Result<Option<usize>, Fail> {
+    let (name, line, (other, kept)) = failing;
+    let text = whole.get(name).unwrap_or(b"");
+    let mut had = 0;
+    for count in 0..MOST_CALLS {
+        let number = first.saturating_add(count);
+        let Some(files) = failed_files(alloc, number, before, ending(6, line))? else {
+            return Ok(if had == text.len() { Some(count) } else { None });
+        };
+        let has = begun(&files, name, text);
+        let goes_on = match count {
+            0 => holds(&files, name, before),
+            1 => has == Some(0),
+            _ => has.is_some_and(|has| has > had && has - had <= 64),
+        };
+        if !goes_on || files.get(other) != kept {
+            return Ok(None);
+        }
+        had = has.unwrap_or(0);
+    }
+    Ok(None)
 }
 
 /// Each call of writing fails once, over files from before and where there are none.
 #[test]
 fn writing_fails(rt: HostRuntime) -> Result<(), Fail> {
     let whole = whole_files(rt.alloc())?;
+    let first = all_reading_calls(&whole);
     for before in [None, Some(BEFORE)] {
-        for call in 0..writing_calls(whole.get("o.v").unwrap_or(b"")) {
-            assert!(rt;
-                fails_in_netlist(rt.alloc(), &whole, call, before)?,
-                "{call}"
-            );
-        }
-        for call in 0..writing_calls(whole.get("o.spef").unwrap_or(b"")) {
-            assert!(rt;
-                fails_in_parasitics(rt.alloc(), &whole, call, before)?,
-                "{call}"
-            );
-        }
+        let kept = before.map(|text| text.as_bytes());
+        let netlist = ("o.v", "vginsert: write failed: o.v\n", ("o.spef", kept));
+        let calls = failing_calls(rt.alloc(), &whole, first, netlist, before)?;
+        assert!(rt; calls.is_some_and(|calls| calls > 3), "netlist");
+        let next = first.saturating_add(calls.unwrap_or(0));
+        let parasitics = (
+            "o.spef",
+            "vginsert: write failed: o.spef\n",
+            ("o.v", whole.get("o.v")),
+        );
+        let calls = failing_calls(rt.alloc(), &whole, next, parasitics, before)?;
+        assert!(rt; calls.is_some_and(|calls| calls > 3), "parasitics");
     }
     Ok(())
 }

@@ -3,6 +3,9 @@ ghost use Rattle.std.specs.Prelude.{◌≤◌};
 
 use std::alloc::Global;
 use std::test::Fail;
+use vg_output::write_patched;
+use vg_patch::{Patch, Patched};
+use vg_scan::Span;
 use vg_store::{Files, MemFiles, RealFiles, read_all, write_file};
 
 const OLD: &[u8] = b"old";
@@ -53,6 +56,28 @@ fn writes_whole_files_and_first_pieces(rt: HostRuntime) -> Result<(), Fail> {
     assert!(rt; leaves(alloc, 2, &[2], "old", false, Some(b"ne"))?);
     assert!(rt; leaves(alloc, 2, &[3], "fresh", false, Some(b"newe"))?);
     assert!(rt; leaves(alloc, 2, &[4], "old", false, Some(NEW))?);
+    Ok(())
+}
+
+/// A text of which the first byte, a part, none before a place, and the last byte are replaced.
+fn changed(alloc: Global) -> Result<Patched, Fail> {
+    let text = Vec::from_slice(alloc, b"one two three")?;
+    let mut patch = Patch::new(alloc);
+    patch.replace(Span { from: 0, to: 1 }, b"O")?;
+    patch.replace(Span { from: 4, to: 7 }, b"")?;
+    patch.replace(Span { from: 8, to: 8 }, b"and ")?;
+    patch.replace(Span { from: 12, to: 13 }, b"e!")?;
+    Ok(Patched::new(text, patch))
+}
+
+#[test]
+fn writes_texts_with_replaced_parts(rt: HostRuntime) -> Result<(), Fail> {
+    let text = changed(rt.alloc())?;
+    for chunk in [1, 3, 64] {
+        let mut files = made_files(rt.alloc(), chunk, &[])?;
+        assert!(rt; write_patched(&mut files, "old", &text).is_ok());
+        assert!(rt; files.get("old") == Some(b"One  and three!"));
+    }
     Ok(())
 }
 

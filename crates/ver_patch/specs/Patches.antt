@@ -1,7 +1,8 @@
 -- The text of a netlist that is changed: three kinds of edits, and all other bytes as they were.
-use Rattle.std.specs.Prelude.{◌≡◌, ℕ, List, [], ◌∷◌, ◌++◌, map, IsPermutation}
+use Rattle.std.specs.Prelude.{◌≡◌, ℕ, List, [], ◌∷◌, ◌++◌, length, map, IsPermutation}
 use Rattle.std.specs.List.{AllPairs}
-use Rattle.vg_patch.specs.Edits.{Edit, patched}
+use Rattle.vg_patch.specs.Edits.{Edit, Rise, patched}
+use Rattle.ver_file.specs.Modules.{Denotes}
 use Rattle.ver_module.specs.Netlists.{Netlist}
 use Rattle.ver_net.specs.Laws.{IsBefore}
 use Rattle.ver_patch.specs.Pins.{span_at}
@@ -28,3 +29,8 @@ pub record IsPatched (text : List ℕ) (netlist : Netlist) (rewires : List Rewir
   pub same : IsPermutation rewires ordered
   pub rising : AllPairs (λ a b. IsBefore a.at b.at) ordered
   pub is : new ≡ patched text (edits_of netlist ordered cells wires)
+
+-- in every text of the netlist these parts can be replaced, and what comes of it is the text with these changes
+pub record AreEditsFor (netlist : Netlist) (rewires : List Rewire) (cells : List NewCell) (wires : List (List ℕ)) (edits : List Edit) : Type 0 where
+  pub fit : (text : List ℕ) → Denotes text netlist → Rise 0 (length text) edits
+  pub make : (text : List ℕ) → Denotes text netlist → IsPatched text netlist rewires cells wires (patched text edits)

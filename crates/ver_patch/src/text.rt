@@ -1,11 +1,11 @@
-//! The text of a netlist that is changed.
+//! What is replaced in the text of a netlist that is changed.
 
-ghost use Rattle.std.specs.Prelude.{◌≡◌, ◌<◌, ◌≤◌, ◌++◌, ◌∷◌, [], length, map, IfOk, OnOk};
+ghost use Rattle.std.specs.Prelude.{◌≡◌, ◌<◌, ◌≤◌, ◌++◌, ◌∷◌, [], List, ℕ, length, map, IfOk, OnOk};
 ghost use Rattle.std.specs.List.{All};
 ghost use Rattle.vg_patch.specs.Edits.{Rise, end_of};
 ghost use Rattle.ver_file.specs.Modules.{Denotes};
 ghost use Rattle.ver_patch.specs.Orders.{rewires_at};
-ghost use Rattle.ver_patch.specs.Patches.{IsPatched, inserted, rewired};
+ghost use Rattle.ver_patch.specs.Patches.{AreEditsFor, inserted, rewired};
 ghost use Rattle.ver_patch.specs.Pins.{AreRewirable, IsOnOneNet, span_at};
 ghost use Rattle.ver_patch.specs.Texts.{cell_texts, wire_texts};
 
@@ -108,21 +108,20 @@ fn put_cells(
     Ok(())
 }
 
-/// The text of a module with wires declared just behind its head, the connections of some pins made anew, and instances put in
-/// just before its `endmodule`; all other bytes are kept. The netlist was read from `bytes`. The pins differ, and each was linked
+/// What is to be replaced in the text of a netlist, so that wires are declared just behind the module's head, the connections of some pins
+/// are made anew, and instances are put in just before its `endmodule`; all other bytes are kept. The pins differ, and each was linked
 /// to one net; they may come in any order. A new wire's name and an instance's own name stand as they are, a cell's and a pin's
 /// as an identifier, escaped where that is no simple one. Answers `Memory` where there is no room.
 pub fn patch(
     alloc: Global,
-    bytes: &[u8],
     netlist: &Module,
     rewires: &[Rewire],
     cells: &[NewCell],
     wires: &[Name],
-) -> Result<Vec<u8>, Memory>
-    requires read { Denotes bytes.now netlist.now }
+) -> Result<Patch, Memory>
+    requires read { (text : List ℕ) × Denotes text netlist.now }
     requires rewires { AreRewirable netlist.now rewires.now }
-    ensures { IfOk result (λ text. IsPatched bytes.now netlist.now rewires.now cells.now wires.now text.items) }
+    ensures { IfOk result (AreEditsFor netlist.now rewires.now cells.now wires.now) }
 {
     spans_rise();
     netlist.is_sound();
@@ -131,6 +130,5 @@ pub fn patch(
     put_wires(alloc, netlist, wires, &mut edits)?;
     put_rewires(netlist, rewires, &order, &mut edits)?;
     put_cells(alloc, netlist, cells, &mut edits)?;
-    let text = edits.apply(alloc, bytes)?;
-    Ok(text)
+    Ok(edits)
 }

@@ -7,14 +7,13 @@ ghost use Rattle.elmore.specs.Placements.{IsPlacement};
 ghost use Rattle.spef_file.specs.Tables.{is_section};
 ghost use Rattle.spef_file.specs.declared.section.Section.{Section};
 ghost use Rattle.ver_file.specs.Modules.{Denotes};
-ghost use Rattle.ver_patch.specs.Patches.{IsPatched};
 ghost use Rattle.vg_change.specs.Changes.{nothing, HasPut, IsBehind, IsFresh};
+ghost use Rattle.vg_change.specs.Patches.{ArePatchesOf};
 ghost use Rattle.vg_change.specs.Steps.{placed_by, placed_net, IsSplitOf};
 ghost use Rattle.vg_change.specs.Taken.{taken};
 ghost use Rattle.vg_design.specs.Nets.{IsPosedNet};
 ghost use Rattle.vg_design.specs.Refusals.{IsJoined};
 ghost use Rattle.vg_design.specs.Steps.{ArePins};
-ghost use Rattle.vg_patch.specs.Edits.{patched};
 ghost use Rattle.vg_scan.specs.Printed.{is_solid};
 ghost use Rattle.vg_split.specs.Conditions.{IsNamed};
 
@@ -47,6 +46,15 @@ pub struct Changes<'a> {
     rewires: Vec<Rewire>,
     cells: Vec<NewCell>,
     wires: Vec<Name>,
+}
+
+/// What is replaced in the texts of a design.
+#[derive(Drop)]
+pub struct Patches {
+    /// In that of the netlist.
+    pub verilog: Patch,
+    /// In that of the parasitics.
+    pub spef: Patch,
 }
 
 impl<'a> Model for Changes<'a> {
@@ -195,28 +203,18 @@ impl<'a> Changes<'a> {
         self.put_split(alloc, &split, &net.ready.pinned)
     }
 
-    /// The text of the changed parasitics, made of the text of the design's: sections of changed nets are replaced, and all other bytes are as
-    /// they were. Answers `Memory` where there is no room.
-    pub fn parasitics(&self, alloc: Global, spef: &[u8]) -> Result<Vec<u8>, Memory>
-        requires { length spef.now ≡ length self.now.design.spef }
-        ensures { IfOk result (λ text. text.items ≡ patched spef.now self.now.sections) }
+    /// What is to be replaced in the texts of the design, so that they have this change: in the netlist's new nets stand behind the head of the
+    /// module, connections are replaced, and new cells stand before its end; in the parasitics sections are replaced. All other bytes stay.
+    /// Answers `Memory` where there is no room.
+    pub fn patches(self, alloc: Global) -> Result<Patches, Memory>
+        requires { (verilog : List ℕ) × Denotes verilog self.design.netlist }
+        ensures { IfOk result (ArePatchesOf self.entry) }
     {
-        self.sections.apply(alloc, spef)
-    }
-
-    /// The text of the changed netlist, made of the text of the design's: new nets stand behind the head of the module, connections are
-    /// replaced, new cells stand before its end, and all other bytes are as they were. Answers `Memory` where there is no room.
-    pub fn netlist(&self, alloc: Global, verilog: &[u8]) -> Result<Vec<u8>, Memory>
-        requires { Denotes verilog.now self.now.design.netlist }
-        ensures { IfOk result (λ text. IsPatched verilog.now self.now.design.netlist self.now.rewires self.now.cells self.now.wires text.items) }
-    {
-        patch(
-            alloc,
+        let netlist = self.design.netlist();
+        let verilog = patch(alloc, netlist, &self.rewires, &self.cells, &self.wires)?;
+        Ok(Patches {
             verilog,
-            self.design.netlist(),
-            &self.rewires,
-            &self.cells,
-            &self.wires,
-        )
+            spef: self.sections,
+        })
     }
 }

@@ -10,4 +10,4 @@ mod prefix;
 mod rewires;
 mod sections;
 
-pub use changes::Changes;
+pub use changes::{Changes, Patches};

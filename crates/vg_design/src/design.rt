@@ -85,6 +85,21 @@ impl Design {
         })
     }
 
+    /// The text of the SPEF file alone.
+    pub fn into_text(self) -> SpefText
+        ensures { result ≡ self.spef }
+    {
+        let Design {
+            text,
+            index: _index,
+            library: _library,
+            module: _module,
+            connections: _connections,
+            cons: _cons,
+        } = self;
+        text
+    }
+
     /// How many nets the SPEF file has.
     pub fn net_count(&self) -> usize
         ensures { result ≡ length (net_names self.now.spef) }

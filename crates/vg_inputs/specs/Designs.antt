@@ -21,6 +21,10 @@ pub record Texts : Type 0 where
   pub verilog : List ℕ
   pub cons : List ℕ
 
+-- these texts
+abbrev pub texts_of : List ℕ → List ℕ → List ℕ → List ℕ → Texts
+texts_of spef lib verilog cons = record { spef = spef; lib = lib; verilog = verilog; cons = cons }
+
 -- a text is a SPEF file
 abbrev pub IsSpef : List ℕ → Type 0
 IsSpef text = (said : File) × IsFileOf text said
@@ -53,3 +57,13 @@ IsFirstFault texts (Lib fault) = IsSpef texts.spef × IsFirstLibFault texts.lib 
 IsFirstFault texts (Ver fault) = IsSpef texts.spef × (IsLib texts.lib × IsFirstVerFault texts.verilog fault)
 IsFirstFault texts (Cons fault) = IsSpef texts.spef × (IsLib texts.lib × (IsModule texts.verilog × IsFaultIn (cons_lines texts.cons) fault))
 IsFirstFault texts Memory = Unit {0}
+
+-- this is the design of three texts and of every SPEF text that is, without its comments, the first of these
+abbrev pub IsDesignOf : List ℕ → List ℕ → List ℕ → List ℕ → Design → Type 0
+IsDesignOf clear lib verilog cons design =
+    (spef : List ℕ) → clear ≡ without_comments SpefComments spef → IsDesign (texts_of spef lib verilog cons) design
+
+-- their first fault, or out of memory
+abbrev pub IsFirstFaultOf : List ℕ → List ℕ → List ℕ → List ℕ → DesignFault → Type 0
+IsFirstFaultOf clear lib verilog cons fault =
+    (spef : List ℕ) → clear ≡ without_comments SpefComments spef → IsFirstFault (texts_of spef lib verilog cons) fault

@@ -5,14 +5,8 @@ use Rattle.spef_file.specs.Files.{IsFileFault}
 use Rattle.ver_file.specs.Modules.{IsFirstFault as IsFirstVerFault}
 use Rattle.vg_cons.specs.Faults.{IsFaultIn}
 use Rattle.vg_cons.specs.Lines.{lines_of as cons_lines}
-use Rattle.vg_inputs.specs.Designs.{Texts}
 use Rattle.vg_inputs.specs.declared.design_fault.DesignFault.{DesignFault}
 use Rattle.vg_inputs.specs.declared.design_fault.DesignFault.TheVariants.{Spef, Lib, Ver, Cons, Memory}
-use Rattle.vg_inputs.specs.declared.inputs.Inputs.{Inputs}
-
--- the texts of some files
-abbrev pub texts_of : Inputs → Texts
-texts_of inputs = record { spef = inputs.spef.items; lib = inputs.lib.items; verilog = inputs.verilog.items; cons = inputs.cons.items }
 
 abbrev pub SpefRefused : List ℕ → DesignFault → Type 0
 SpefRefused text (Spef fault) = IsFileFault text fault

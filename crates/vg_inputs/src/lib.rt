@@ -2,11 +2,9 @@
 #![tactic(auto)]
 
 mod design_fault;
-mod inputs;
 mod laws;
 mod read;
 
 pub use design_fault::DesignFault;
-pub use inputs::Inputs;
 pub use laws::one_design;
 pub use read::read_design;

@@ -4,11 +4,10 @@ ghost use Rattle.std.specs.Prelude.{◌≡◌, ◌≤◌, ◌^◌, length, IfOk,
 ghost use Rattle.lib_linear.specs.Libraries.{Denotes as DenotesLibrary};
 ghost use Rattle.spef_file.specs.Indexes.{IsIndexOf};
 ghost use Rattle.ver_file.specs.Modules.{Denotes as DenotesModule};
-ghost use Rattle.vg_inputs.specs.Designs.{AreRowsOf, IsDesign, IsFirstFault};
-ghost use Rattle.vg_inputs.specs.Steps.{ConsRefused, LibRefused, SpefRefused, VerRefused, texts_of};
+ghost use Rattle.vg_inputs.specs.Designs.{AreRowsOf, IsDesignOf, IsFirstFaultOf};
+ghost use Rattle.vg_inputs.specs.Steps.{ConsRefused, LibRefused, SpefRefused, VerRefused};
 
 use crate::design_fault::DesignFault;
-use crate::inputs::Inputs;
 use lib_cells::LibKind;
 use lib_linear::{Library, read_library};
 use spef_file::{SpefIndex, SpefKind, SpefText, index};
@@ -78,27 +77,26 @@ fn constraints_of(alloc: Global, cons: &[u8]) -> Result<Constraints, DesignFault
     }
 }
 
-/// The design of four files of at most 2^28 bytes each, or the first fault. They are read in the order parasitics, library,
-/// netlist, constraints. Answers `Memory` where there is no room.
-pub fn read_design(alloc: Global, inputs: Inputs) -> Result<Design, DesignFault>
-    requires spef { length inputs.spef.items ≤ 2 ^ 28 }
-    requires lib { length inputs.lib.items ≤ 2 ^ 28 }
-    requires verilog { length inputs.verilog.items ≤ 2 ^ 28 }
-    requires cons { length inputs.cons.items ≤ 2 ^ 28 }
-    ensures design { IfOk result (IsDesign (texts_of inputs)) }
-    ensures fault { IfErr result (IsFirstFault (texts_of inputs)) }
+/// The design of four files, or the first fault. They are read in the order parasitics, library, netlist, constraints; the library, the
+/// netlist and the constraints have at most 2^28 bytes each, and of the parasitics the comments are blank already. Answers `Memory`
+/// where there is no room.
+pub fn read_design(
+    alloc: Global,
+    text: SpefText,
+    lib: &[u8],
+    verilog: &[u8],
+    cons: &[u8],
+) -> Result<Design, DesignFault>
+    requires lib { length lib.now ≤ 2 ^ 28 }
+    requires verilog { length verilog.now ≤ 2 ^ 28 }
+    requires cons { length cons.now ≤ 2 ^ 28 }
+    ensures design { IfOk result (IsDesignOf text lib.now verilog.now cons.now) }
+    ensures fault { IfErr result (IsFirstFaultOf text lib.now verilog.now cons.now) }
 {
-    let Inputs {
-        spef,
-        lib,
-        verilog,
-        cons,
-    } = inputs;
-    let text = SpefText::new(spef);
     let index = index_of(alloc, &text)?;
-    let library = library_of(alloc, &lib)?;
-    let netlist = module_of(alloc, &verilog)?;
-    let cons = constraints_of(alloc, &cons)?;
+    let library = library_of(alloc, lib)?;
+    let netlist = module_of(alloc, verilog)?;
+    let cons = constraints_of(alloc, cons)?;
     let design = Design::new(alloc, text, index, library, netlist, cons)?;
     Ok(design)
 }

@@ -58,20 +58,20 @@ rise_more at (f ∷ g ∷ edits) e h low behind own =
 
 -- ---- the text
 
-part_then : (text : List ℕ) (at from : ℕ) → at ≤ from → part text at from ++ drop from text ≡ drop at text
+pub part_then : (text : List ℕ) (at from : ℕ) → at ≤ from → part text at from ++ drop from text ≡ drop at text
 part_then text at from low =
     let d : drop (from - at) (drop at text) ≡ drop from text = drop-drop (from - at) at text ∙ ap (λ n. drop n text) (let e : at + (from - at) ≡ from = omega arith in e) in
     ap (λ rest. part text at from ++ rest) (sym d) ∙ take-append-drop (from - at) (drop at text)
 
 -- a part of a text's front
-part_of_front : (text : List ℕ) (at from end : ℕ) → at ≤ from → from ≤ end → part (take end text) at from ≡ part text at from
+pub part_of_front : (text : List ℕ) (at from end : ℕ) → at ≤ from → from ≤ end → part (take end text) at from ≡ part text at from
 part_of_front text at from end low high =
     let whole : at + (end - at) ≡ end = omega arith in
     ap (λ n. take (from - at) (drop at (take n text))) (sym whole)
     ∙ ap (take (from - at)) (drop-take at (end - at) text)
     ∙ take-take (from - at) (end - at) (drop at text) (omega arith)
 
-front_from : (text : List ℕ) (at end : ℕ) → at ≤ end → drop at (take end text) ≡ part text at end
+pub front_from : (text : List ℕ) (at end : ℕ) → at ≤ end → drop at (take end text) ≡ part text at end
 front_from text at end low =
     let whole : at + (end - at) ≡ end = omega arith in
     ap (λ n. drop at (take n text)) (sym whole) ∙ drop-take at (end - at) text
@@ -113,19 +113,6 @@ next_edit parts texts edits n p h v l is =
     ∙ ap (λ (q : Span). record { from = q.from; to = q.to; text = get_or texts n [] } ∷ drop (suc n) (edits_of parts texts)) (sym is)
     ∙ ap (λ k. record { from = p.from; to = p.to; text = get_or texts n [] } ∷ drop k (edits_of parts texts)) more
     ∙ ap (λ es. record { from = p.from; to = p.to; text = get_or texts n [] } ∷ drop (n + 1) es) v
-
-pub rise_next : (at end n : ℕ) (e : Edit) (edits : List Edit) → drop n edits ≡ e ∷ drop (n + 1) edits → Rise at end (drop n edits) → Rise at end (e ∷ drop (n + 1) edits)
-rise_next at end n e edits d h = subst (Rise at end) d h
-
--- what is put behind a text for one of them
-pub put_next : (text old new : List ℕ) (at n : ℕ) (e : Edit) (edits : List Edit) → drop n edits ≡ e ∷ drop (n + 1) edits
-    → new ≡ (old ++ part text at e.from) ++ e.text → new ++ patched_from e.to text (drop (n + 1) edits) ≡ old ++ patched_from at text (drop n edits)
-put_next text old new at n e edits d is =
-    let rest = patched_from e.to text (drop (n + 1) edits) in
-    ap (λ xs. xs ++ rest) is
-    ∙ append_assoc (old ++ part text at e.from) e.text rest
-    ∙ append_assoc old (part text at e.from) (e.text ++ rest)
-    ∙ ap (λ es. old ++ patched_from at text es) (sym d)
 
 -- no part is left behind the last
 pub all_dropped : (edits : List Edit) (n : ℕ) → length edits ≤ n → drop n edits ≡ []

@@ -1,1 +1,2 @@
-mod EditLemmas
+pub mod EditLemmas
+pub mod PieceLemmas

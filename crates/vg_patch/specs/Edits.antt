@@ -1,12 +1,17 @@
 -- A text of which parts are replaced.
 use Rattle.std.specs.Prelude.{ℕ, ◌≤◌, List, [], ◌∷◌, ◌++◌, drop}
 use Rattle.vg_scan.specs.Lines.{part}
+use Rattle.vg_scan.specs.declared.lines.Span.{Span}
 
 -- A part of a text, from one place to another, and what is to stand there.
 pub record Edit : Type 0 where
   pub from : ℕ
   pub to : ℕ
   pub text : List ℕ
+
+-- a part, and what is to stand there
+abbrev pub edit_of : Span → List ℕ → Edit
+edit_of part text = record { from = part.from; to = part.to; text = text }
 
 -- parts stand one after another from a place on, up to another
 abbrev pub Rise : ℕ → ℕ → List Edit → Type 0

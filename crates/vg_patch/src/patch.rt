@@ -1,13 +1,13 @@
 //! Parts of a text that are to be replaced.
 
-ghost use Rattle.std.specs.Prelude.{◌≡◌, ◌+◌, ◌++◌, [], ◌∷◌, ◌<◌, ◌≤◌, length, drop, IfOk, OnErr, OnOk};
-ghost use Rattle.vg_patch.specs.Edits.{Edit, Rise, end_of, patched, patched_from};
+ghost use Rattle.std.specs.Prelude.{◌≡◌, ◌+◌, ◌++◌, [], ◌∷◌, ◌<◌, ◌≤◌, drop, length, OnErr, OnOk};
+ghost use Rattle.vg_patch.specs.Edits.{edit_of, end_of};
 
 use std::alloc::Global;
 use std::marker::Model;
 use vg_names::Texts;
 use vg_num::Memory;
-use vg_scan::{Span, text_at, text_from};
+use vg_scan::Span;
 
 /// Parts of a text that are to be replaced, one after another, each with what is to stand in its place. Contracts see the list
 /// of them.
@@ -46,7 +46,7 @@ impl Patch {
     pub fn replace(&mut self, part: Span, text: &[u8]) -> Result<(), Memory>
         requires behind { end_of self.old ≤ part.from }
         requires part { part.from ≤ part.to }
-        ensures last { OnOk result (self.new ≡ self.old ++ record { from = part.from; to = part.to; text = text.now } ∷ []) }
+        ensures last { OnOk result (self.new ≡ self.old ++ edit_of part text.now ∷ []) }
         ensures unchanged { OnErr result (self.new ≡ self.old) }
     {
         self.texts.push(text)?;
@@ -59,36 +59,18 @@ impl Patch {
         }
     }
 
-    /// Puts what stands between the last part and that of this number behind a text, and then what is to stand in its place.
-    /// Answers where it ends, or `Memory` where there is no room.
-    fn put(&self, text: &[u8], at: usize, number: usize, to: &mut Vec<u8>) -> Result<usize, Memory>
-        requires number { number < length self.now }
-        requires rise { Rise at (length text.now) (drop number self.now) }
-        ensures rise { IfOk result (λ next. Rise next (length text.now) (drop (number + 1) self.now)) }
-        ensures put { IfOk result (λ next. to.new.items ++ patched_from next text.now (drop (number + 1) self.now)
-            ≡ to.old.items ++ patched_from at text.now (drop number self.now)) }
+    /// How many parts there are.
+    pub fn len(&self) -> usize
+        ensures { result ≡ length self.now }
     {
-        let part = self.parts[number];
-        let before = Span {
-            from: at,
-            to: part.from,
-        };
-        to.extend_from_slice(text_at(text, before))?;
-        to.extend_from_slice(self.texts.get(number))?;
-        Ok(part.to)
+        self.parts.len()
     }
 
-    /// A text with these parts of it replaced. Answers `Memory` where there is no room.
-    pub fn apply(&self, alloc: Global, text: &[u8]) -> Result<Vec<u8>, Memory>
-        requires { Rise 0 (length text.now) self.now }
-        ensures { IfOk result (λ patched_text. patched_text.items ≡ patched text.now self.now) }
+    /// The part of a number, from 0, and what is to stand in its place.
+    pub fn part(&self, number: usize) -> (Span, &[u8])
+        requires { number < length self.now }
+        ensures { drop number self.now ≡ edit_of result.0 result.1.now ∷ drop (number + 1) self.now }
     {
-        let mut to = Vec::with_capacity(alloc, text.len())?;
-        let mut at = 0;
-        'parts: for number in 0..self.parts.len() {
-            at = self.put(text, at, number, &mut to)?;
-        }
-        to.extend_from_slice(text_from(text, at))?;
-        Ok(to)
+        (self.parts[number], self.texts.get(number))
     }
 }

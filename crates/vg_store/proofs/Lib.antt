@@ -1,4 +1,4 @@
-mod FileLemmas
+pub mod FileLemmas
 mod MapLemmas
 mod NumberLemmas
 mod PieceLemmas

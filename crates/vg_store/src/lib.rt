@@ -20,4 +20,4 @@ pub use output::{Out, put_all};
 pub use read::{ReadAll, read_all};
 pub use real_files::RealFiles;
 pub use real_out::RealOut;
-pub use write::write_file;
+pub use write::{append, write_file};

@@ -1,12 +1,13 @@
-//! A file that is written as a whole.
-ghost use Rattle.std.specs.Prelude.{◌≡◌, ◌≢◌, ℕ, ◌<◌, ◌≤◌, List, length, Bool, true, false, Option, Some, IfSome, OnOk, OnErr};
+//! Bytes that are appended to a file as a whole, and a file that is written as a whole.
+ghost use Rattle.std.specs.Prelude.{◌≡◌, ◌≢◌, ℕ, ◌≤◌, List, true, false, Some, IfSome, OnOk, OnErr};
 ghost use Rattle.vg_store.specs.States.{KeepsReading};
 ghost use Rattle.vg_store.specs.Writing.{FileGains, FileGainsPrefix, StaysOrPrefix, WriteFaultAt};
 
 use crate::files::{Failed, Files};
 
-// Appends all of the bytes to the file that is being written, in as many calls of `put` as it takes.
-fn put_pieces<F: Files>(files: &mut F, bytes: &[u8]) -> Result<(), Failed>
+/// Appends all of the bytes to the file that is being written, in as many calls of `put` as it takes. At the first `Failed` it stops and
+/// answers it: the count of write faults rose in this call, at this file, to which a prefix of the bytes was appended. It takes no memory.
+pub fn append<F: Files>(files: &mut F, bytes: &[u8]) -> Result<(), Failed>
     requires is_created { (F.state files.old).writing ≡ true }
     ensures all { OnOk result (FileGains (F.state files.old) (F.state files.new) bytes.now) }
     ensures prefix { OnErr result (FileGainsPrefix (F.state files.old) (F.state files.new) bytes.now) }
@@ -38,7 +39,7 @@ pub fn write_file<F: Files>(files: &mut F, name: &str, bytes: &[u8]) -> Result<(
     ensures reading { KeepsReading (F.state files.old) (F.state files.new) }
 {
     files.create(name)?;
-    put_pieces(files, bytes)?;
+    append(files, bytes)?;
     files.finish()?;
     Ok(())
 }

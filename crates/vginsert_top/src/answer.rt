@@ -2,19 +2,18 @@
 
 ghost use Rattle.std.specs.Prelude.{◌≡◌, ◌≤◌, ◌^◌, length, IfOk, IfErr};
 ghost use Rattle.vg_inputs.specs.Designs.{IsDesign};
-ghost use Rattle.vg_inputs.specs.Steps.{texts_of};
-ghost use Rattle.vginsert_top.specs.Answer.{IsNoDesign, IsRefusedWith, Indexes, Tells};
+ghost use Rattle.vginsert_top.specs.Answer.{IsNoDesign, IsRefusedWith, Indexes, Tells, design_texts, texts_in};
 ghost use Rattle.vginsert_top.specs.Run.{status_for};
 ghost use Rattle.vginsert_top.specs.Reports.{refused_line};
 ghost use Rattle.vginsert_top.specs.declared.answer.NoAnswer.TheVariants.{Memory as out_of_memory};
 
 use crate::faults::{cons_fault, lib_fault, spef_fault, ver_fault};
-use crate::input::Input;
+use crate::input::{Input, Texts};
 use crate::report::print_refused;
 use spef_file::{SpefIndex, SpefKind, SpefText, index};
 use std::alloc::Global;
 use vg_design::Design;
-use vg_inputs::{DesignFault, Inputs, read_design};
+use vg_inputs::{DesignFault, read_design};
 use vg_num::{Memory, Row};
 use vg_scan::Name;
 
@@ -122,15 +121,21 @@ fn told(alloc: Global, fault: DesignFault) -> NoAnswer
 }
 
 /// The design of four files, or the text of the first fault.
-pub fn design_of(alloc: Global, inputs: Inputs) -> Result<Design, NoAnswer>
-    requires spef { length inputs.spef.items ≤ 2 ^ 28 }
-    requires lib { length inputs.lib.items ≤ 2 ^ 28 }
-    requires verilog { length inputs.verilog.items ≤ 2 ^ 28 }
-    requires cons { length inputs.cons.items ≤ 2 ^ 28 }
-    ensures design { IfOk result (IsDesign (texts_of inputs)) }
-    ensures fault { IfErr result (IsNoDesign (texts_of inputs)) }
+pub fn design_of(alloc: Global, texts: Texts) -> Result<Design, NoAnswer>
+    requires spef { length texts.spef.items ≤ 2 ^ 28 }
+    requires lib { length texts.lib.items ≤ 2 ^ 28 }
+    requires verilog { length texts.verilog.items ≤ 2 ^ 28 }
+    requires cons { length texts.cons.items ≤ 2 ^ 28 }
+    ensures design { IfOk result (IsDesign (design_texts (texts_in texts))) }
+    ensures fault { IfErr result (IsNoDesign (design_texts (texts_in texts))) }
 {
-    match read_design(alloc, inputs) {
+    let Texts {
+        spef,
+        lib,
+        verilog,
+        cons,
+    } = texts;
+    match read_design(alloc, SpefText::new(spef), &lib, &verilog, &cons) {
         Ok(design) => Ok(design),
         Err(fault) => Err(told(alloc, fault)),
     }

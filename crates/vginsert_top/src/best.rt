@@ -10,16 +10,16 @@ ghost use Rattle.vg_change.specs.Changes.{nothing};
 ghost use Rattle.vg_change.specs.Steps.{placed_net};
 ghost use Rattle.vg_design.specs.Nets.{IsPosedNet};
 ghost use Rattle.vg_design.specs.Parts.{cells_of};
-ghost use Rattle.vg_inputs.specs.Steps.{texts_of};
 ghost use Rattle.vg_scan.specs.Printed.{is_solid};
 ghost use Rattle.vg_slack.specs.Bests.{IsAnswer};
 ghost use Rattle.vg_words.specs.declared.ask.Mode.{Mode};
-ghost use Rattle.vginsert_top.specs.Answer.{AnswersFor, files_by, texts_by};
+ghost use Rattle.vginsert_top.specs.Answer.{AnswersFor, files_by, texts_in};
 ghost use Rattle.vginsert_top.specs.Best.{IsAnswerIn, IsBestAnswer};
 ghost use Rattle.vginsert_top.specs.Reports.{best_report, cell_count, cell_lines};
 ghost use Rattle.vginsert_top.specs.Results.{AreFilesOf};
 
 use crate::answer::{Answer, AnswerKind, NoAnswer, Written, design_of};
+use crate::input::Texts;
 use crate::report::{print_at, print_best, print_none};
 use crate::wire::refuse;
 use cand_pool::Steps;
@@ -30,8 +30,9 @@ use std::marker::Brand;
 use std::sync::ledger::{Blank, Ledger};
 use vg_change::Changes;
 use vg_design::{Design, NetProblem, PosedNet, TreeNames, posed_net};
-use vg_inputs::Inputs;
 use vg_num::Memory;
+use vg_output::text_of;
+use vg_patch::Patched;
 use vg_scan::Name;
 use vg_slack::{Best, best};
 use vg_wire::Refused;
@@ -131,9 +132,13 @@ fn written_for(
         return Ok(read);
     }
     let changes = changes.put(alloc, net, placement)?;
+    let patches = changes.patches(alloc)?;
+    let (verilog_len, spef_len) = (read.verilog.len(), read.spef.len());
+    let verilog = Patched::new(read.verilog, patches.verilog);
+    let spef = Patched::new(read.spef, patches.spef);
     Ok(Written {
-        verilog: changes.netlist(alloc, &read.verilog)?,
-        spef: changes.parasitics(alloc, &read.spef)?,
+        verilog: text_of(alloc, &verilog, verilog_len)?,
+        spef: text_of(alloc, &spef, spef_len)?,
     })
 }
 
@@ -216,21 +221,16 @@ fn copy(alloc: Global, verilog: &[u8], spef: &[u8]) -> Result<Written, Memory>
 
 /// What is said of the best placement of the net of this name in the design of four files, where the names of its cells begin with the
 /// prefix.
-pub fn best_for(
-    alloc: Global,
-    inputs: Inputs,
-    name: &[u8],
-    prefix: &[u8],
-) -> Result<Answer, NoAnswer>
-    requires spef { length inputs.spef.items ≤ 2 ^ 28 }
-    requires lib { length inputs.lib.items ≤ 2 ^ 28 }
-    requires verilog { length inputs.verilog.items ≤ 2 ^ 28 }
-    requires cons { length inputs.cons.items ≤ 2 ^ 28 }
+pub fn best_for(alloc: Global, texts: Texts, name: &[u8], prefix: &[u8]) -> Result<Answer, NoAnswer>
+    requires spef { length texts.spef.items ≤ 2 ^ 28 }
+    requires lib { length texts.lib.items ≤ 2 ^ 28 }
+    requires verilog { length texts.verilog.items ≤ 2 ^ 28 }
+    requires cons { length texts.cons.items ≤ 2 ^ 28 }
     requires prefix { AllPass is_solid prefix.now }
-    ensures { AnswersFor Mode.Best (texts_by (texts_of inputs)) (record { net = name.now; prefix = prefix.now }) result }
+    ensures { AnswersFor Mode.Best (texts_in texts) (record { net = name.now; prefix = prefix.now }) result }
 {
-    let read = copy(alloc, &inputs.verilog, &inputs.spef)?;
-    let design = design_of(alloc, inputs)?;
+    let read = copy(alloc, &texts.verilog, &texts.spef)?;
+    let design = design_of(alloc, texts)?;
     match Changes::new(alloc, &design, prefix) {
         Ok(changes) => Ok(answer_in(alloc, changes, &design, name, read)?),
         Err(taken) => Err(NoAnswer::Taken(Name::from_bytes(alloc, taken)?)),

@@ -26,7 +26,6 @@ use crate::time::time_for;
 use crate::wire::wire_for;
 use spef_file::SpefText;
 use std::alloc::Global;
-use vg_inputs::Inputs;
 use vg_store::{Failed, Files, Out, ReadAll, put_all, write_file};
 use vg_words::{Ask, Mode, Opt, WordFault, read_words};
 
@@ -52,22 +51,10 @@ fn answer(
     requires prefix { AllPass is_solid prefix.now }
     ensures { AnswersFor mode (texts_in texts) (record { net = net.now; prefix = prefix.now }) result }
 {
-    let Texts {
-        spef,
-        lib,
-        verilog,
-        cons,
-    } = texts;
-    let inputs = Inputs {
-        spef,
-        lib,
-        verilog,
-        cons,
-    };
     match mode {
-        Mode::Wire => wire_in(alloc, inputs.spef, net),
-        Mode::Time => time_for(alloc, inputs, net, prefix),
-        Mode::Best => best_for(alloc, inputs, net, prefix),
+        Mode::Wire => wire_in(alloc, texts.spef, net),
+        Mode::Time => time_for(alloc, texts, net, prefix),
+        Mode::Best => best_for(alloc, texts, net, prefix),
     }
 }
 

@@ -1,16 +1,15 @@
 //! The slack of a net, as text.
 ghost use Rattle.std.specs.Prelude.{◌≡◌, ◌≤◌, ◌^◌, length, IfOk};
 ghost use Rattle.vginsert_top.specs.Reports.{slack_line};
-ghost use Rattle.vginsert_top.specs.Answer.{AnswersFor, texts_by};
-ghost use Rattle.vg_inputs.specs.Steps.{texts_of};
+ghost use Rattle.vginsert_top.specs.Answer.{AnswersFor, texts_in};
 ghost use Rattle.vg_words.specs.declared.ask.Mode.{Mode};
 
 use crate::answer::{Answer, AnswerKind, NoAnswer, design_of};
+use crate::input::Texts;
 use crate::report::{print_node, print_slack};
 use crate::wire::refuse;
 use std::alloc::Global;
 use vg_design::Timed;
-use vg_inputs::Inputs;
 use vg_num::Memory;
 use vg_retime::retime;
 use vg_scan::Name;
@@ -34,19 +33,14 @@ fn report_slack(alloc: Global, name: &[u8], timed: &Timed) -> Result<Vec<u8>, Me
 
 /// What is said of the slack of the net of this name in the design of four files, through the cells that were put in, whose names
 /// begin with the prefix.
-pub fn time_for(
-    alloc: Global,
-    inputs: Inputs,
-    name: &[u8],
-    prefix: &[u8],
-) -> Result<Answer, NoAnswer>
-    requires spef { length inputs.spef.items ≤ 2 ^ 28 }
-    requires lib { length inputs.lib.items ≤ 2 ^ 28 }
-    requires verilog { length inputs.verilog.items ≤ 2 ^ 28 }
-    requires cons { length inputs.cons.items ≤ 2 ^ 28 }
-    ensures { AnswersFor Mode.Time (texts_by (texts_of inputs)) (record { net = name.now; prefix = prefix.now }) result }
+pub fn time_for(alloc: Global, texts: Texts, name: &[u8], prefix: &[u8]) -> Result<Answer, NoAnswer>
+    requires spef { length texts.spef.items ≤ 2 ^ 28 }
+    requires lib { length texts.lib.items ≤ 2 ^ 28 }
+    requires verilog { length texts.verilog.items ≤ 2 ^ 28 }
+    requires cons { length texts.cons.items ≤ 2 ^ 28 }
+    ensures { AnswersFor Mode.Time (texts_in texts) (record { net = name.now; prefix = prefix.now }) result }
 {
-    let design = design_of(alloc, inputs)?;
+    let design = design_of(alloc, texts)?;
     let net = Name::from_bytes(alloc, name)?;
     match retime(alloc, &design, &net, prefix) {
         Ok(timed) => Ok(Answer {

@@ -1,10 +1,9 @@
 use Rattle.std.proofs.Common.{◌≡◌, ℕ, List, length, ap, sym, ◌∙◌, subst}
 use Rattle.vg_change.specs.Changes.{Changes}
-use Rattle.vg_inputs.specs.Steps.{texts_of}
 use Rattle.vg_scan.specs.declared.comments.Comments.TheVariants.{Spef}
 use Rattle.vg_scan.proofs.PieceLemmas.{length-without}
 use Rattle.vg_words.specs.declared.ask.Mode.TheVariants.{Best}
-use Rattle.vginsert_top.specs.Answer.{AnswersFor, files_by, texts_by}
+use Rattle.vginsert_top.specs.Answer.{AnswersFor, files_by, design_texts, texts_by, texts_in}
 use Rattle.vginsert_top.specs.Best.{IsAnswerIn}
 use Rattle.vginsert_top.specs.Results.{Asked, Files, kept}
 use Rattle.vginsert_top.proofs.AnswerLemmas.{none_of_design, handed, said_in}
@@ -13,21 +12,21 @@ use Rattle.vginsert_top.proofs.best.best_for.Goals as goal
 
 pub returns-in_err-design : goal.returns-in_err-design
 returns-in_err-design c =
-    let texts = texts_of c.args.inputs in
+    let texts = design_texts (texts_in c.args.texts) in
     handed (AnswersFor Best (texts_by texts) (record { net = c.args.name.now; prefix = c.args.prefix.now })) c.from_residual-in_err-design.result c.in_err-design.field-0.0
     c.from_residual-in_err-design.ensures.1 (none_of_design texts (record { net = c.args.name.now; prefix = c.args.prefix.now }) c.in_err-design.field-0.0 c.in_err-design.ensures.fault)
 
 pub new-requires-clause-repeaters : goal.new-requires-clause-repeaters
-new-requires-clause-repeaters c = repeaters_are_named c.args.inputs.lib.items c.in_ok-design.design.library c.in_ok-design.ensures.design.library
+new-requires-clause-repeaters c = repeaters_are_named c.args.texts.lib.items c.in_ok-design.design.library c.in_ok-design.ensures.design.library
 
 pub answer_in-requires-clause-spef : goal.answer_in-requires-clause-spef
 answer_in-requires-clause-spef c =
     ap (λ (read : Files). length read.spef) c.in_ok-read.ensures ∙ ap length c.deref-2.ensures.value
-    ∙ sym (ap length c.in_ok-design.ensures.design.spef ∙ length-without Spef c.args.inputs.spef.items)
+    ∙ sym (ap length c.in_ok-design.ensures.design.spef ∙ length-without Spef c.args.texts.spef.items)
 
 pub returns-in_ok-answer_in-in-Ok : goal.returns-in_ok-answer_in-in-Ok
 returns-in_ok-answer_in-in-Ok c =
-    let texts = texts_of c.args.inputs in
+    let texts = design_texts (texts_in c.args.texts) in
     let d = c.in_ok-design.design in
     let answer = c.in_ok-answer_in-in-Ok.field-0 in
     let read = files_by c.in_ok-read.read in

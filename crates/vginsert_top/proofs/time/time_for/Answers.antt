@@ -1,8 +1,7 @@
 use Rattle.std.proofs.Common.{ℕ, List, refl, subst}
 use Rattle.vg_retime.specs.Retimings.{IsFirstRefusal}
-use Rattle.vg_inputs.specs.Steps.{texts_of}
 use Rattle.vg_words.specs.declared.ask.Mode.TheVariants.{Time}
-use Rattle.vginsert_top.specs.Answer.{AnswersFor, texts_by}
+use Rattle.vginsert_top.specs.Answer.{AnswersFor, design_texts, texts_by, texts_in}
 use Rattle.vginsert_top.specs.Reports.{refusal_line}
 use Rattle.vginsert_top.specs.Results.{Asked}
 use Rattle.vginsert_top.specs.declared.answer.AnswerKind.TheVariants.{Refusal as Refused}
@@ -11,7 +10,7 @@ use Rattle.vginsert_top.proofs.time.time_for.Goals as goal
 
 pub returns-in_err-design : goal.returns-in_err-design
 returns-in_err-design c =
-    let texts = texts_of c.args.inputs in
+    let texts = design_texts (texts_in c.args.texts) in
     handed (AnswersFor Time (texts_by texts) (record { net = c.args.name.now; prefix = c.args.prefix.now })) c.from_residual.result c.in_err-design.field-0.0 c.from_residual.ensures.1
     (no_design texts (record { net = c.args.name.now; prefix = c.args.prefix.now }) c.in_err-design.field-0.0 c.in_err-design.ensures.fault)
 
@@ -20,7 +19,7 @@ returns-in-Err-Net c =
     let refusal = c.in-Err-Net.refusal in
     let refused = rw c.in-Err-Net.field-0-is at c.in-Err-Net.ensures.refused in
     let is = subst (λ (name : List ℕ). IsFirstRefusal c.in_ok-design.design c.args.prefix.now name refusal) c.in_ok-net.ensures refused in
-    let texts = texts_of c.args.inputs in
+    let texts = design_texts (texts_in c.args.texts) in
     let asked : Asked = record { net = c.args.name.now; prefix = c.args.prefix.now } in
     answer_with Refused Time (texts_by texts) asked (refusal_line c.args.name.now refusal) c.in_ok-refuse-in-Err-Net.field-0
     (way_refused texts asked c.in_ok-design.design refusal c.in_ok-design.ensures.design is, refl) c.in_ok-refuse-in-Err-Net.ensures

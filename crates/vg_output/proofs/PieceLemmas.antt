@@ -1,0 +1,44 @@
+-- Pieces that are appended to a file one after another.
+use Rattle.std.proofs.Common.{◌≡◌, ◌+◌, ◌≤◌, ℕ, List, [], ◌++◌, length, take, Option, Some, None, option_map, refl, sym, ap, subst, ◌∙◌, arith, append_assoc, length-append}
+use Rattle.std.proofs.Math.Seq.{take-append-add}
+use Rattle.std.proofs.lemmas.Grind.{common_steps}
+use Rattle.std.proofs.lemmas.List.{take-append-le}
+use Rattle.vg_store.specs.States.{FilesState, file_named}
+use Rattle.vg_store.specs.Writing.{FileGains, FileGainsPrefix}
+
+appended_two : (old mid new : Option (List ℕ)) (xs ys : List ℕ) → mid ≡ option_map (λ held. held ++ xs) old → new ≡ option_map (λ held. held ++ ys) mid
+    → new ≡ option_map (λ held. held ++ (xs ++ ys)) old
+appended_two None None new xs ys first second = second
+appended_two None (Some mid) new xs ys first second = absurd (cc)
+appended_two (Some old) None new xs ys first second = absurd (cc)
+appended_two (Some old) (Some mid) new xs ys first second = let regroup = append_assoc old xs ys in cc
+
+-- a file that gains these bytes and then those gains both
+pub gains_both : (old mid new : FilesState) (xs ys : List ℕ) → mid.target ≡ old.target → FileGains old mid xs → FileGains mid new ys → FileGains old new (xs ++ ys)
+gains_both old mid new xs ys same first second = record {
+  appended = appended_two (file_named old.holds old.target) (file_named mid.holds mid.target) (file_named new.holds new.target) xs ys first.appended second.appended;
+  others = λ file differs. second.others file (rw same differs) ∙ first.others file differs;
+}
+
+front_of : (xs ys rest : List ℕ) (k : ℕ) → k ≤ length ys → xs ++ take k ys ≡ take (length xs + k) (xs ++ (ys ++ rest))
+front_of xs ys rest k short = ap (λ (zs : List ℕ). xs ++ zs) (sym (take-append-le k ys rest short)) ∙ sym (take-append-add xs (ys ++ rest) k)
+
+-- one that gains these bytes and then some first ones of those, which come next in a text, gains some first bytes of the text
+pub gains_front : (old mid new : FilesState) (xs ys rest text : List ℕ) → mid.target ≡ old.target → xs ++ (ys ++ rest) ≡ text → FileGains old mid xs
+    → FileGainsPrefix mid new ys → FileGainsPrefix old new text
+gains_front old mid new xs ys rest text same is first (k, short, second) =
+    let long = ap length is in
+    let longer = length-append xs (ys ++ rest) in
+    let more = length-append ys rest in (
+      length xs + k,
+      omega (arith, long, longer, more),
+      subst (FileGains old new) (front_of xs ys rest k short ∙ ap (take (length xs + k)) is) (gains_both old mid new xs (take k ys) same first second),
+    )
+
+-- a file gains nothing at first
+pub gains_none : (files : FilesState) → FileGains files files []
+gains_none files = record { appended = nothing (file_named files.holds files.target); others = λ file differs. refl }
+  where
+    nothing : (file : Option (List ℕ)) → file ≡ option_map (λ held. held ++ []) file
+    nothing None = refl
+    nothing (Some held) = grind (arith, common_steps)
