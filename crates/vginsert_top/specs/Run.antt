@@ -155,8 +155,8 @@ TellsWriteFault files out Said ask =
     ⊎ ((output : Output) × FailsToWrite ask files output × (out.1.written ≡ out.0.written) × Said (write_failed_line (unwrap_or (output_name ask output) [])))
 
 -- the words are a request, and an answer of this kind to it was printed whole, with its files written
-abbrev pub EndsPrinted : AnswerKind → List (List ℕ) → Change FilesState → Change OutState → Type 0
-EndsPrinted kind words files out = ForRequest words (Prints kind files (Gains out.0 out.1))
+abbrev pub Answered : AnswerKind → List (List ℕ) → Change FilesState → Change OutState → Type 0
+Answered kind words files out = ForRequest words (Prints kind files (Gains out.0 out.1))
 
 -- the words are a request, one of its inputs has the first flaw, with this status, and standard error gained the line
 -- that tells it

@@ -11,7 +11,7 @@ ghost use Rattle.vg_words.specs.declared.ask.Mode.{Mode as ModeSpec};
 ghost use Rattle.vginsert_top.specs.Answer.{AnswersFor, files_by, texts_in, texts_of};
 ghost use Rattle.vginsert_top.specs.Inputs.{IsShort, inputs};
 ghost use Rattle.vginsert_top.specs.Outcomes.{Ends, IsDelivered, IsPrinted, IsStatusOf, fault_status};
-ghost use Rattle.vginsert_top.specs.Run.{AllStay, AreApart, AreRefused, AreWritten, EndsFlawed, EndsPrinted, ErrorLine, ForRequest, HoldAfter, HoldsAt, IsExact, IsOutput, Says, StaysOrBegins};
+ghost use Rattle.vginsert_top.specs.Run.{AllStay, Answered, AreApart, AreRefused, AreWritten, EndsFlawed, ErrorLine, ForRequest, HoldAfter, HoldsAt, IsExact, IsOutput, Says, StaysOrBegins};
 ghost use Rattle.vginsert_top.specs.Run.{TellsRefusedInput, TellsWriteFault, is_status, output_name, prints_nothing};
 ghost use Rattle.vginsert_top.specs.declared.answer.AnswerKind.{AnswerKind as Kind};
 ghost use Rattle.vginsert_top.specs.declared.input.Input.{Input};
@@ -196,9 +196,9 @@ pub fn run<F: Files, O: Out, E: Out>(
     out: &mut O,
     err: &mut E,
 ) -> u8
-    ensures done { result ≡ 0 → EndsPrinted Kind.Report (texts words.now) (F.state files.old, F.state files.new) (O.state out.old, O.state out.new) }
-    ensures none_good { result ≡ 1 → EndsPrinted Kind.NoneGood (texts words.now) (F.state files.old, F.state files.new) (O.state out.old, O.state out.new) }
-    ensures refused { result ≡ 2 → EndsPrinted Kind.Refusal (texts words.now) (F.state files.old, F.state files.new) (O.state out.old, O.state out.new) }
+    ensures done { result ≡ 0 → Answered Kind.Report (texts words.now) (F.state files.old, F.state files.new) (O.state out.old, O.state out.new) }
+    ensures none_good { result ≡ 1 → Answered Kind.NoneGood (texts words.now) (F.state files.old, F.state files.new) (O.state out.old, O.state out.new) }
+    ensures refused { result ≡ 2 → Answered Kind.Refusal (texts words.now) (F.state files.old, F.state files.new) (O.state out.old, O.state out.new) }
     ensures unread { result ≡ 3 → (request : Request) → IsRequest (texts words.now) request → ⊥ }
     ensures no_request { ((request : Request) → IsRequest (texts words.now) request → ⊥) → (result ≡ 3) ⊎ (result ≡ 7) }
     ensures unread_line { result ≡ 3 → AreRefused (texts words.now) (Says (E.state err.old) (E.state err.new)) }
