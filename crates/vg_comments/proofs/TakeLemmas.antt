@@ -3,12 +3,13 @@ use Rattle.std.proofs.Common.{◌≡◌, ℕ, ◌-◌, ◌≤◌, List, [], ◌�
 use Rattle.std.specs.List.{All}
 use Rattle.std.proofs.lemmas.List.{append_assoc, drop_at, length-append, length-drop, length-map, length-take-le, take-append-drop, take_at}
 use Rattle.std.proofs.lemmas.List.Elements.{All-nil, All-push}
-use Rattle.vg_scan.specs.Comments.{IsNextComment, blanked, without_comments}
+use Rattle.vg_scan.specs.Comments.{blanked, without_comments}
+use Rattle.vg_scan.specs.Next.{IsNextComment}
 use Rattle.vg_scan.specs.Lines.{part}
 use Rattle.vg_scan.specs.declared.comments.Comments.{Comments}
 use Rattle.vg_scan.proofs.AgainLemmas.{without_again}
 use Rattle.vg_patch.specs.Edits.{Edit, Rise, end_of, patched, patched_from}
-use Rattle.vg_patch.proofs.EditLemmas.{front_from, part_of_front, part_then, rise_within}
+use Rattle.vg_patch.proofs.EditLemmas.{front_from, part_of_front, part_then, rise_more, rise_within}
 use Rattle.vg_comments.specs.Kept.{IsAsLong, Restores}
 use Rattle.vg_comments.proofs.KeptLemmas.{part_in_two}
 
@@ -35,10 +36,6 @@ end_below at end (e ∷ f ∷ edits) h = end_below e.to end (f ∷ edits) h.2
 rise_to : (at mid end : ℕ) (edits : List Edit) → Rise at mid edits → mid ≤ end → Rise at end edits
 rise_to at mid end [] h more = omega arith
 rise_to at mid end (e ∷ edits) h more = (h.0, h.1, rise_to e.to mid end edits h.2 more)
-
-rise_more : (at mid : ℕ) (edits : List Edit) (e : Edit) → Rise at mid edits → mid ≤ e.from → e.from ≤ e.to → Rise at e.to (edits ++ e ∷ [])
-rise_more at mid [] e h behind own = (omega arith, own, omega arith)
-rise_more at mid (f ∷ edits) e h behind own = (h.0, h.1, rise_more f.to mid edits e h.2 behind own)
 
 -- ---- one comment more
 

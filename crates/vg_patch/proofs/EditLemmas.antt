@@ -49,12 +49,9 @@ rise_within at [] end h = h
 rise_within at (f ∷ edits) end h = let more = rise_within f.to edits end h.2 in omega (arith, h.0, h.1, more)
 
 -- one part more behind the others
-pub rise_more : (at : ℕ) (edits : List Edit) (e : Edit) → Rise at (end_of edits) edits → at ≤ e.from → end_of edits ≤ e.from → e.from ≤ e.to → Rise at e.to (edits ++ e ∷ [])
-rise_more at [] e h low behind own = (low, own, omega arith)
-rise_more at (f ∷ []) e h low behind own = (h.0, h.1, (behind, own, omega arith))
-rise_more at (f ∷ g ∷ edits) e h low behind own =
-    let reaches = rise_within f.to (g ∷ edits) (end_of (g ∷ edits)) h.2 in
-    (h.0, h.1, rise_more f.to (g ∷ edits) e h.2 (omega (arith, reaches, behind)) behind own)
+pub rise_more : (at mid : ℕ) (edits : List Edit) (e : Edit) → Rise at mid edits → mid ≤ e.from → e.from ≤ e.to → Rise at e.to (edits ++ e ∷ [])
+rise_more at mid [] e h behind own = (omega arith, own, omega arith)
+rise_more at mid (f ∷ edits) e h behind own = (h.0, h.1, rise_more f.to mid edits e h.2 behind own)
 
 -- ---- the text
 

@@ -5,7 +5,8 @@ use Rattle.std.proofs.Math.Seq.{take-add, take-append_seam, drop-append_seam}
 use Rattle.std.proofs.lemmas.Grind.{common_steps}
 use Rattle.vg_scan.specs.declared.comments.Comments.{Comments}
 use Rattle.vg_scan.specs.Lines.{part}
-use Rattle.vg_scan.specs.Comments.{blanked, without_comments, IsNextComment}
+use Rattle.vg_scan.specs.Comments.{blanked, without_comments}
+use Rattle.vg_scan.specs.Next.{IsNextComment}
 
 get_dropped : (bytes : List ℕ) (at k : ℕ) → get_or (drop at bytes) k 0 ≡ get_or bytes (at + k) 0
 get_dropped bytes at k = grind (arith, common_steps)

@@ -6,9 +6,10 @@ use Rattle.std.proofs.Math.Seq.{take-add}
 use Rattle.vg_scan.specs.declared.comments.Comments.{Comments}
 use Rattle.vg_scan.specs.declared.comments.Comments.TheVariants.{Spef, Liberty}
 use Rattle.vg_scan.specs.Lines.{part}
-use Rattle.vg_scan.specs.Comments.{piece_length, uncommented, is_comment, without_comments, blanked, IsNextComment}
+use Rattle.vg_scan.specs.Comments.{piece_length, uncommented, is_comment, without_comments, blanked}
 use Rattle.vg_scan.specs.LibertyComments.{liberty_piece_length, is_block, without_liberty_comments}
 use Rattle.vg_scan.specs.Pieces.{is_mark, first_length, begins_comment}
+use Rattle.vg_scan.specs.Next.{IsNextComment}
 use Rattle.vg_scan.proofs.ClearedLemmas.{one}
 use Rattle.vg_scan.proofs.FoundLemmas.{next_within}
 use Rattle.vg_scan.proofs.LibertyLemmas as liberty
@@ -178,6 +179,8 @@ module _ (kind : Comments) (text : List ℕ) (at to : ℕ) (inside : at < length
     after = h.on;
     some = on;
     within = within;
+    begins = t;
+    whole = piece;
     clear = h.same ∙ ap (λ xs. part text start at ++ xs) (rw t at first);
   }
 

@@ -1,11 +1,11 @@
 -- Comments, made blank. A text is its pieces, one after another: a hidden byte, a string, a comment, or another byte.
-use Rattle.std.specs.Prelude.{◌≡◌, ◌≢◌, ℕ, zero, suc, ◌+◌, ◌==◌, ◌<◌, ◌≤◌, ◌++◌, ◌⊎◌, ◌&&◌, ◌||◌, Bool, false, List, [], ◌∷◌, map, length, take, drop, if◌then◌else◌}
+use Rattle.std.specs.Prelude.{◌≡◌, ◌≢◌, ℕ, zero, suc, ◌+◌, ◌==◌, ◌⊎◌, ◌&&◌, ◌||◌, Bool, false, List, [], ◌∷◌, map, length, take, drop, if◌then◌else◌}
 use Rattle.std.specs.List.{position_or_len, flat_map}
 pub use Rattle.vg_scan.specs.Blocks.{is_block_mark, through_block, blanked}
 use Rattle.vg_scan.specs.declared.comments.Comments.{Comments}
 use Rattle.vg_scan.specs.declared.comments.Comments.TheVariants.{Spef, Liberty}
 use Rattle.vg_scan.specs.LibertyComments.{without_liberty_comments}
-use Rattle.vg_scan.specs.Lines.{is_newline, part}
+use Rattle.vg_scan.specs.Lines.{is_newline}
 use Rattle.vg_scan.specs.Names.{is_backslash, is_quote}
 
 -- `//` begins a comment that ends before its line's end
@@ -59,11 +59,3 @@ without_comments Liberty text = without_liberty_comments text
 -- a byte stays, or it is no newline and becomes a space
 abbrev pub StaysOrBlanks : ℕ → ℕ → Type 0
 StaysOrBlanks b c = (c ≡ b) ⊎ ((b ≢ 10) × (c ≡ 32))
-
--- From a place on, the text without its comments is the bytes up to this part as they are, then the part made blank, then
--- what comes after it without its comments.
-pub record IsNextComment (kind : Comments) (text : List ℕ) (at from to : ℕ) : Type 0 where
-  pub after : at ≤ from
-  pub some : from < to
-  pub within : to ≤ length text
-  pub clear : without_comments kind (drop at text) ≡ part text at from ++ (map blanked (part text from to) ++ without_comments kind (drop to text))

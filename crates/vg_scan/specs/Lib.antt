@@ -4,6 +4,7 @@ pub mod Comments
 pub mod Separators
 pub mod Names
 pub mod Pieces
+pub mod Next
 pub mod Readings
 pub mod Printed
 pub mod Parts

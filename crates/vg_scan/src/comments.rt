@@ -1,7 +1,8 @@
 //! Comments: found, and made blank.
 
 ghost use Rattle.std.specs.Prelude.{◌≡◌, ◌+◌, ◌<◌, ◌≤◌, None, min, length, drop, IfOk, IfSome};
-ghost use Rattle.vg_scan.specs.Comments.{without_comments, IsNextComment};
+ghost use Rattle.vg_scan.specs.Comments.{without_comments};
+ghost use Rattle.vg_scan.specs.Next.{IsNextComment};
 ghost use Rattle.vg_scan.specs.Pieces.{first_length, begins_comment, is_comment_mark};
 
 use crate::clear::clear_comments;

@@ -1,7 +1,8 @@
 use Rattle.std.proofs.Common.{◌≡◌, ◌++◌, take, drop, map, arith, ap, subst, sym, ◌∙◌}
 use Rattle.std.specs.Vec.{with_items}
 use Rattle.std.proofs.lemmas.List.{with_items_is}
-use Rattle.vg_scan.specs.Comments.{IsNextComment, blanked, without_comments}
+use Rattle.vg_scan.specs.Comments.{blanked, without_comments}
+use Rattle.vg_scan.specs.Next.{IsNextComment}
 use Rattle.vg_scan.specs.Lines.{part}
 use Rattle.vg_patch.specs.Edits.{edit_of}
 use Rattle.vg_comments.specs.Kept.{Restores}

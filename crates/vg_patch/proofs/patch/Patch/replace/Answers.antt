@@ -15,7 +15,7 @@ grown parts new_parts texts new_texts p t h e f behind own =
       count = omega (arith, ap length e, ap length f, length-append parts (p ∷ []), length-append texts (t ∷ []), h.count);
       rise =
           subst (λ es. Rise 0 (end_of es) es) (sym more)
-          (subst (λ end. Rise 0 end (edits_of parts texts ++ edit ∷ [])) (sym (end_more (edits_of parts texts) edit)) (rise_more 0 (edits_of parts texts) edit h.rise (omega arith) behind own));
+          (subst (λ end. Rise 0 end (edits_of parts texts ++ edit ∷ [])) (sym (end_more (edits_of parts texts) edit)) (rise_more 0 (end_of (edits_of parts texts)) (edits_of parts texts) edit h.rise behind own));
     }
 
 seen : (parts new_parts : List Span) (texts new_texts : List (List ℕ)) (old : List Edit) (p : Span) (t : List ℕ) → AreRows parts texts → edits_of parts texts ≡ old
