@@ -1,11 +1,14 @@
 -- Answers that refuse a net, and faults that are handed on.
-use Rattle.std.proofs.Common.{◌≡◌, ℕ, List, [], inl, inr, refl, sym, subst, Option, None, Result, Ok, Err}
+use Rattle.std.proofs.Common.{◌≡◌, ℕ, List, [], inl, inr, refl, sym, ap, ◌∙◌, subst, Option, None, Result, Ok, Err}
 use Rattle.std.specs.Result.{IsErrAnd}
 use Rattle.vg_design.specs.Designs.{Design}
-use Rattle.vg_inputs.specs.Designs.{Texts, IsDesign, IsFirstFault}
+use Rattle.vg_inputs.specs.Designs.{Texts, IsDesign, IsDesignOf, IsFirstFault, texts_of as texts_in_files}
 use Rattle.vg_inputs.specs.declared.design_fault.DesignFault.{DesignFault}
 use Rattle.vg_inputs.specs.declared.design_fault.DesignFault.TheVariants.{Spef as SpefFaulty, Lib as LibFaulty, Ver as VerFaulty, Cons as ConsFaulty, Memory as NoRoom}
-use Rattle.vg_retime.specs.Retimings.{IsFirstRefusal as IsFirstOnWay}
+use Rattle.vg_design.specs.declared.time.Timed.{Timed}
+use Rattle.vg_scan.specs.Comments.{without_comments}
+use Rattle.vg_scan.specs.declared.comments.Comments.TheVariants.{Spef as SpefComments}
+use Rattle.vg_retime.specs.Retimings.{Retimes, IsFirstRefusal as IsFirstOnWay}
 use Rattle.vg_wire.specs.Nets.{IsRefusalOf}
 use Rattle.vg_wire.specs.declared.refusal.Refusal.{Refusal}
 use Rattle.vg_design.specs.Nets.{IsPosedNet}
@@ -13,13 +16,14 @@ use Rattle.vg_design.specs.declared.net_problem.PosedNet.{PosedNet}
 use Rattle.vg_words.specs.declared.ask.Mode.{Mode}
 use Rattle.vg_words.specs.declared.ask.Mode.TheVariants.{Wire, Time, Best}
 use Rattle.vginsert_top.specs.Answer.{AnswersFor, IsAnswerFor, IsAnswerWith, IsNoDesign, IsRefusedWith, Tells, files_in, said_by, texts_by, texts_of}
-use Rattle.vginsert_top.specs.Best.{IsAnswerIn, IsBestSaid}
-use Rattle.vginsert_top.specs.Results.{Asked, Said, IsFreeDesign, IsTimeRefusal, kept}
-use Rattle.vginsert_top.specs.Reports.{refusal_line}
+use Rattle.vginsert_top.specs.Best.{IsAnswerIn, IsBestSaid, IsJudged, Judges, said_with}
+use Rattle.vginsert_top.specs.Results.{Asked, Said, IsFreeDesign, IsTimeRefusal, IsTimes, kept}
+use Rattle.vginsert_top.specs.Reports.{refusal_line, slack_line}
 use Rattle.vginsert_top.specs.declared.answer.Answer.{Answer}
 use Rattle.vginsert_top.specs.declared.answer.Written.{Written}
 use Rattle.vginsert_top.specs.declared.answer.AnswerKind.{AnswerKind}
 use Rattle.vginsert_top.specs.declared.answer.AnswerKind.TheVariants.{Report, NoneGood, Refusal as Refused}
+use Rattle.vginsert_top.specs.declared.best.Judged.{Judged}
 use Rattle.vginsert_top.specs.declared.input.Input.{Input}
 use Rattle.vginsert_top.specs.declared.answer.NoAnswer.{NoAnswer}
 use Rattle.vginsert_top.specs.declared.answer.NoAnswer.TheVariants.{Faulty, Taken, Memory}
@@ -42,6 +46,19 @@ refused_answer file name prefix refusal answer of with =
 pub way_refused : (texts : Texts) (asked : Asked) (design : Design) (refusal : Refusal) → IsDesign texts design
     → IsFirstOnWay design asked.prefix asked.net refusal → IsTimeRefusal texts asked (refusal_line asked.net refusal)
 way_refused texts asked design refusal is_design of = record { design = design; design_of = is_design; refusal = refusal; refused = of; text_is = refl }
+
+-- a design of three texts, and of every SPEF text that is, without its comments, this one
+pub design_of_texts : (clear spef l lib v verilog k cons : List ℕ) (d : Design) → IsDesignOf clear l v k d → clear ≡ without_comments SpefComments spef → l ≡ lib → v ≡ verilog
+    → k ≡ cons → IsDesign (texts_in_files spef lib verilog cons) d
+design_of_texts clear spef l lib v verilog k cons d of is same_lib same_verilog same_cons =
+    subst (λ (text : List ℕ). IsDesign (texts_in_files spef text verilog cons) d) same_lib
+    (subst (λ (text : List ℕ). IsDesign (texts_in_files spef l text cons) d) same_verilog
+    (subst (λ (text : List ℕ). IsDesign (texts_in_files spef l v text) d) same_cons (of spef is)))
+
+-- a walk that ends
+pub way_timed : (texts : Texts) (asked : Asked) (design : Design) (timed : Timed) → IsDesign texts design → Retimes 17 design asked.prefix asked.net timed
+    → IsTimes texts asked (slack_line asked.net timed)
+way_timed texts asked design timed is_design of = record { design = design; design_of = is_design; timed = timed; timed_of = of; text_is = refl }
 
 -- ---- what is said of the best placement of a net of four texts
 module _ (texts : Texts) (asked : Asked) (d : Design) (free : IsFreeDesign texts asked.prefix d) where
@@ -70,12 +87,30 @@ module _ (texts : Texts) (asked : Asked) (d : Design) (free : IsFreeDesign texts
   }
   said_best net Refused said net_of is = absurd is
 
-  pub said_in : (answer : Answer) → IsAnswerIn (kept texts) d asked answer → AnswersFor Best (texts_by texts) asked (Ok answer)
-  said_in answer (IsAnswerIn.judged net net_of is) = said_best net answer.kind (said_by answer) net_of is
-  said_in answer (IsAnswerIn.refused refusal of kind said) =
-      subst (λ (k : AnswerKind). IsAnswerFor k Best (texts_by texts) asked (said_by answer)) (sym kind)
-      (subst (λ (s : Said). IsAnswerFor Refused Best (texts_by texts) asked s) (sym said)
+  pub said_in : (kind : AnswerKind) (said : Said) → IsAnswerIn (kept texts) d asked kind said → IsAnswerFor kind Best (texts_by texts) asked said
+  said_in kind said (IsAnswerIn.judged net net_of is) = said_best net kind said net_of is
+  said_in kind said (IsAnswerIn.refused refusal of refused is) =
+      subst (λ (k : AnswerKind). IsAnswerFor k Best (texts_by texts) asked said) (sym refused)
+      (subst (λ (s : Said). IsAnswerFor Refused Best (texts_by texts) asked s) (sym is)
       (record { design = d; design_of = free; refusal = refusal; refused = of; text_is = refl; files_are = refl }))
+
+-- the files are written as they are judged, where the texts are those that were read
+pub best_answered : (texts : Texts) (asked : Asked) (d : Design) (found : Judged) (spef : List ℕ) (answer : Answer) → IsFreeDesign texts asked.prefix d → IsJudged d asked found
+    → spef ≡ texts.spef → answer.kind ≡ found.kind → said_by answer ≡ said_with found (record { verilog = texts.verilog; spef = spef })
+    → AnswersFor Best (texts_by texts) asked (Ok answer)
+best_answered texts asked d found spef answer free is same kind said =
+    let read = kept texts in
+    let says = said_in texts asked d free found.kind (said_with found read) (is.says read free.design_of.netlist) in
+    let all : said_by answer ≡ said_with found read = said ∙ ap (λ (s : List ℕ). said_with found (record { verilog = texts.verilog; spef = s })) same in
+    subst (λ (k : AnswerKind). IsAnswerFor k Best (texts_by texts) asked (said_by answer)) (sym kind)
+    (subst (λ (s : Said). IsAnswerFor found.kind Best (texts_by texts) asked s) (sym all) says)
+
+-- a name that is taken, or out of memory
+pub not_judged : (texts : Texts) (asked : Asked) (d : Design) (fault : NoAnswer) → IsDesign texts d → Judges d asked (Err fault)
+    → AnswersFor Best (texts_by texts) asked (Err fault)
+not_judged texts asked d (Faulty input line) of is = absurd is
+not_judged texts asked d (Taken name) of is = record { design = d; design_of = of; first = is }
+not_judged texts asked d Memory of is = tt
 
 -- the first fault of four texts, told as an answer
 pub told_fault : (texts : Texts) (fault : DesignFault) (answer : NoAnswer) → IsFirstFault texts fault → Tells fault answer → IsNoDesign texts answer

@@ -2,9 +2,11 @@
 use Rattle.std.specs.Prelude.{◌≡◌, ℕ, List, Option, Some, None, Result, Ok, Err}
 use Rattle.spef_file.specs.Indexes.{IsIndexOf}
 use Rattle.spef_file.specs.declared.spef_index.SpefIndex.{SpefIndex}
-use Rattle.vg_inputs.specs.Designs.{Texts}
+use Rattle.vg_inputs.specs.Designs.{Texts, texts_of as design_of}
 use Rattle.vg_inputs.specs.declared.design_fault.DesignFault.{DesignFault}
 use Rattle.vg_inputs.specs.declared.design_fault.DesignFault.TheVariants.{Spef as SpefFaulty, Lib as LibFaulty, Ver as VerFaulty, Cons as ConsFaulty, Memory as NoRoom}
+use Rattle.vg_scan.specs.Comments.{without_comments}
+use Rattle.vg_scan.specs.declared.comments.Comments.TheVariants.{Spef as SpefComments}
 use Rattle.vg_words.specs.declared.ask.Mode.{Mode}
 use Rattle.vg_words.specs.declared.ask.Mode.TheVariants.{Wire, Time, Best}
 use Rattle.vginsert_top.specs.Inputs.{inputs, IsFirstFault}
@@ -59,7 +61,7 @@ IsTakenFor Time texts asked name = ⊥
 IsTakenFor Best texts asked name = IsTaken (design_texts texts) asked.prefix name
 
 abbrev pub files_by : Written → Files
-files_by written = record { verilog = written.verilog.items; spef = written.spef.items }
+files_by written = record { verilog = written.verilog; spef = written.spef }
 
 -- the files of an answer
 abbrev pub files_in : Option Written → Option Files
@@ -114,6 +116,11 @@ abbrev pub IsNoDesign : Texts → NoAnswer → Type 0
 IsNoDesign texts (Faulty input line) = IsFirstFault (texts_by texts) (inputs Time) line input
 IsNoDesign texts (Taken name) = ⊥
 IsNoDesign texts Memory = Unit {0}
+
+-- the same, of every SPEF text that is this without its comments
+abbrev pub IsNoDesignOf : List ℕ → List ℕ → List ℕ → List ℕ → NoAnswer → Type 0
+IsNoDesignOf clear lib verilog cons answer =
+    (spef : List ℕ) → clear ≡ without_comments SpefComments spef → IsNoDesign (design_of spef lib verilog cons) answer
 
 -- the answer tells this fault, or it is out of memory
 abbrev pub Tells : DesignFault → NoAnswer → Type 0

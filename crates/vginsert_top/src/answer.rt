@@ -1,20 +1,21 @@
 //! What is said of a net that is asked for.
 
 ghost use Rattle.std.specs.Prelude.{◌≡◌, ◌≤◌, ◌^◌, length, IfOk, IfErr};
-ghost use Rattle.vg_inputs.specs.Designs.{IsDesign};
-ghost use Rattle.vginsert_top.specs.Answer.{IsNoDesign, IsRefusedWith, Indexes, Tells, design_texts, texts_in};
+ghost use Rattle.vg_inputs.specs.Designs.{IsDesignOf};
+ghost use Rattle.vginsert_top.specs.Answer.{IsNoDesignOf, IsRefusedWith, Indexes, Tells};
 ghost use Rattle.vginsert_top.specs.Run.{status_for};
 ghost use Rattle.vginsert_top.specs.Reports.{refused_line};
 ghost use Rattle.vginsert_top.specs.declared.answer.NoAnswer.TheVariants.{Memory as out_of_memory};
 
 use crate::faults::{cons_fault, lib_fault, spef_fault, ver_fault};
-use crate::input::{Input, Texts};
+use crate::input::Input;
 use crate::report::print_refused;
 use spef_file::{SpefIndex, SpefKind, SpefText, index};
 use std::alloc::Global;
 use vg_design::Design;
 use vg_inputs::{DesignFault, read_design};
 use vg_num::{Memory, Row};
+use vg_patch::Patched;
 use vg_scan::Name;
 
 /// What an answer is.
@@ -41,11 +42,11 @@ impl AnswerKind {
     }
 }
 
-/// The netlist and the parasitics that are written.
+/// The netlist and the parasitics that are written: those that were read, with what is replaced in them.
 #[derive(Drop)]
 pub struct Written {
-    pub verilog: Vec<u8>,
-    pub spef: Vec<u8>,
+    pub verilog: Patched,
+    pub spef: Patched,
 }
 
 /// What is said of a net.
@@ -120,22 +121,21 @@ fn told(alloc: Global, fault: DesignFault) -> NoAnswer
     }
 }
 
-/// The design of four files, or the text of the first fault.
-pub fn design_of(alloc: Global, texts: Texts) -> Result<Design, NoAnswer>
-    requires spef { length texts.spef.items ≤ 2 ^ 28 }
-    requires lib { length texts.lib.items ≤ 2 ^ 28 }
-    requires verilog { length texts.verilog.items ≤ 2 ^ 28 }
-    requires cons { length texts.cons.items ≤ 2 ^ 28 }
-    ensures design { IfOk result (IsDesign (design_texts (texts_in texts))) }
-    ensures fault { IfErr result (IsNoDesign (design_texts (texts_in texts))) }
+/// The design of four files, of which the parasitics have no comments, or the text of the first fault.
+pub fn design_of(
+    alloc: Global,
+    text: SpefText,
+    lib: &[u8],
+    verilog: &[u8],
+    cons: &[u8],
+) -> Result<Design, NoAnswer>
+    requires lib { length lib.now ≤ 2 ^ 28 }
+    requires verilog { length verilog.now ≤ 2 ^ 28 }
+    requires cons { length cons.now ≤ 2 ^ 28 }
+    ensures design { IfOk result (IsDesignOf text lib.now verilog.now cons.now) }
+    ensures fault { IfErr result (IsNoDesignOf text lib.now verilog.now cons.now) }
 {
-    let Texts {
-        spef,
-        lib,
-        verilog,
-        cons,
-    } = texts;
-    match read_design(alloc, SpefText::new(spef), &lib, &verilog, &cons) {
+    match read_design(alloc, text, lib, verilog, cons) {
         Ok(design) => Ok(design),
         Err(fault) => Err(told(alloc, fault)),
     }

@@ -1,7 +1,7 @@
 //! The best placement of repeaters on a net, as text.
 
 ghost use Rattle.std.specs.Prelude.{◌≡◌, ℕ, List, ◌<◌, ◌≤◌, ◌^◌, ◌++◌, [], length, OnOk, IfOk};
-ghost use Rattle.std.specs.List.{AllPass};
+ghost use Rattle.std.specs.List.{All, AllPass};
 ghost use Rattle.elmore.specs.Best.{IsGood};
 ghost use Rattle.elmore.specs.Placed.{IsPlacementOf};
 ghost use Rattle.elmore.specs.Placements.{IsPlacement};
@@ -10,13 +10,15 @@ ghost use Rattle.vg_change.specs.Changes.{nothing};
 ghost use Rattle.vg_change.specs.Steps.{placed_net};
 ghost use Rattle.vg_design.specs.Nets.{IsPosedNet};
 ghost use Rattle.vg_design.specs.Parts.{cells_of};
+ghost use Rattle.vg_patch.specs.Edits.{Rise};
 ghost use Rattle.vg_scan.specs.Printed.{is_solid};
-ghost use Rattle.vg_slack.specs.Bests.{IsAnswer};
+ghost use Rattle.vg_slack.specs.Bests.{IsAnswer, IsFound};
+ghost use Rattle.vg_split.specs.Conditions.{IsNamed};
 ghost use Rattle.vg_words.specs.declared.ask.Mode.{Mode};
-ghost use Rattle.vginsert_top.specs.Answer.{AnswersFor, files_by, texts_in};
-ghost use Rattle.vginsert_top.specs.Best.{IsAnswerIn, IsBestAnswer};
-ghost use Rattle.vginsert_top.specs.Reports.{best_report, cell_count, cell_lines};
-ghost use Rattle.vginsert_top.specs.Results.{AreFilesOf};
+ghost use Rattle.vginsert_top.specs.Answer.{AnswersFor, said_by, texts_in};
+ghost use Rattle.vginsert_top.specs.Best.{ArePatchesFor, IsJudged, IsJudgedNet, IsUnchanged, Judges, said_with};
+ghost use Rattle.vginsert_top.specs.Reports.{best_report, cell_count, cell_lines, none_line};
+ghost use Rattle.vginsert_top.specs.declared.answer.AnswerKind.{AnswerKind as AnswerKindSpec};
 
 use crate::answer::{Answer, AnswerKind, NoAnswer, Written, design_of};
 use crate::input::Texts;
@@ -25,15 +27,16 @@ use crate::wire::refuse;
 use cand_pool::Steps;
 use elmore::{Placement, Problem, cost};
 use lib_linear::Repeater;
+use spef_file::SpefText;
 use std::alloc::Global;
 use std::marker::Brand;
 use std::sync::ledger::{Blank, Ledger};
-use vg_change::Changes;
+use vg_change::{Changes, Patches};
+use vg_comments::take_comments;
 use vg_design::{Design, NetProblem, PosedNet, TreeNames, posed_net};
 use vg_num::Memory;
-use vg_output::text_of;
-use vg_patch::Patched;
-use vg_scan::Name;
+use vg_patch::{Patch, Patched};
+use vg_scan::{Comments, Name};
 use vg_slack::{Best, best};
 use vg_wire::Refused;
 
@@ -112,115 +115,176 @@ fn report_best(
     Ok(text)
 }
 
-/// The files in which the cells of a placement are put into a net; without a cell the files as they were read.
-fn written_for(
+/// What is said of a net in mode `best`, and what is replaced in the texts of its design.
+#[derive(Drop)]
+pub struct Judged {
+    pub kind: AnswerKind,
+    pub text: Vec<u8>,
+    pub patches: Patches,
+}
+
+/// Nothing that is replaced.
+fn no_patches(alloc: Global) -> Patches
+    ensures verilog { result.verilog ≡ [] }
+    ensures spef { result.spef ≡ [] }
+{
+    Patches {
+        verilog: Patch::new(alloc),
+        spef: Patch::new(alloc),
+    }
+}
+
+/// What is replaced in the texts of a design of which nothing has changed yet, so that a net has the cells of a placement; without a
+/// cell nothing.
+fn patches_for(
     alloc: Global,
     changes: Changes<'_>,
     net: &PosedNet,
     placement: &Placement,
-    read: Written,
-) -> Result<Written, Memory>
+) -> Result<Patches, Memory>
     requires posed { (name : List ℕ) × IsPosedNet changes.design name net.now }
     requires good { IsGood net.now.problem placement.now.cells }
     requires none { changes ≡ nothing changes.design changes.prefix }
-    requires spef { length read.spef.items ≡ length changes.design.spef }
-    requires verilog { DenotesModule read.verilog.items changes.design.netlist }
-    ensures { IfOk result (λ written. AreFilesOf (files_by read) changes.entry.design changes.entry.prefix
-        (placed_net net.now placement.now.cells) (files_by written)) }
+    requires read { (verilog : List ℕ) × DenotesModule verilog changes.design.netlist }
+    ensures { IfOk result (ArePatchesFor changes.entry.design changes.entry.prefix (placed_net net.now placement.now.cells)) }
 {
     if count_cells(placement) == 0 {
-        return Ok(read);
+        return Ok(no_patches(alloc));
     }
     let changes = changes.put(alloc, net, placement)?;
-    let patches = changes.patches(alloc)?;
-    let (verilog_len, spef_len) = (read.verilog.len(), read.spef.len());
-    let verilog = Patched::new(read.verilog, patches.verilog);
-    let spef = Patched::new(read.spef, patches.spef);
-    Ok(Written {
-        verilog: text_of(alloc, &verilog, verilog_len)?,
-        spef: text_of(alloc, &spef, spef_len)?,
-    })
+    changes.patches(alloc)
 }
 
-/// What is said of the best placement of a posed net of a design of which nothing has changed yet.
-fn answer_best(
+/// This is said of a net, and nothing is replaced.
+fn unchanged(alloc: Global, kind: AnswerKind, text: Vec<u8>) -> Judged
+    ensures { IsUnchanged kind text.items result }
+{
+    Judged {
+        kind,
+        text,
+        patches: no_patches(alloc),
+    }
+}
+
+/// What is said of a best placement of a posed net of a design of which nothing has changed yet.
+fn judge_found(
     alloc: Global,
     changes: Changes<'_>,
     repeaters: &[Repeater],
     name: &[u8],
     net: PosedNet,
-    read: Written,
-) -> Result<Answer, Memory>
+    best: &Best,
+) -> Result<Judged, Memory>
+    requires posed { IsPosedNet changes.design name.now net }
+    requires found { IsFound net.problem best.now }
+    requires none { changes ≡ nothing changes.design changes.prefix }
+    requires repeaters { repeaters.now ≡ changes.design.library.repeaters }
+    requires read { (verilog : List ℕ) × DenotesModule verilog changes.design.netlist }
+    ensures { IfOk result (IsJudgedNet changes.entry.design (record { net = name.now; prefix = changes.entry.prefix }) net) }
+{
+    let patches = patches_for(alloc, changes, &net, &best.placement)?;
+    let net = net.into_problem();
+    let text = report_best(alloc, name, repeaters, &net, best)?;
+    Ok(Judged {
+        kind: AnswerKind::Report,
+        text,
+        patches,
+    })
+}
+
+/// What is said where no placement is good.
+fn judge_none(alloc: Global, name: &[u8]) -> Result<Judged, Memory>
+    ensures { IfOk result (IsUnchanged AnswerKindSpec.NoneGood (none_line name.now)) }
+{
+    let mut text = Vec::new(alloc);
+    print_none(name, &mut text)?;
+    Ok(unchanged(alloc, AnswerKind::NoneGood, text))
+}
+
+/// What is said of the best placement of a posed net of a design of which nothing has changed yet.
+fn judge_posed(
+    alloc: Global,
+    changes: Changes<'_>,
+    repeaters: &[Repeater],
+    name: &[u8],
+    net: PosedNet,
+) -> Result<Judged, Memory>
     requires posed { IsPosedNet changes.design name.now net }
     requires none { changes ≡ nothing changes.design changes.prefix }
     requires repeaters { repeaters.now ≡ changes.design.library.repeaters }
-    requires spef { length read.spef.items ≡ length changes.design.spef }
-    requires verilog { DenotesModule read.verilog.items changes.design.netlist }
-    ensures { IfOk result (IsBestAnswer (files_by read) changes.entry.design (record { net = name.now; prefix = changes.entry.prefix }) net) }
+    requires read { (verilog : List ℕ) × DenotesModule verilog changes.design.netlist }
+    ensures { IfOk result (IsJudgedNet changes.entry.design (record { net = name.now; prefix = changes.entry.prefix }) net) }
 {
     match best_of(alloc, &net.problem)? {
-        Some(best) => {
-            let written = written_for(alloc, changes, &net, &best.placement, read)?;
-            let net = net.into_problem();
-            let text = report_best(alloc, name, repeaters, &net, &best)?;
-            Ok(Answer {
-                kind: AnswerKind::Report,
-                text,
-                written: Some(written),
-            })
-        }
-        None => {
-            let mut text = Vec::new(alloc);
-            print_none(name, &mut text)?;
-            Ok(Answer {
-                kind: AnswerKind::NoneGood,
-                text,
-                written: Some(read),
-            })
-        }
+        Some(best) => judge_found(alloc, changes, repeaters, name, net, &best),
+        None => judge_none(alloc, name),
     }
 }
 
 /// What is said of the best placement of the net of this name in a design of which nothing has changed yet.
-fn answer_in(
+fn judge_net(
     alloc: Global,
     changes: Changes<'_>,
     design: &Design,
     name: &[u8],
-    read: Written,
-) -> Result<Answer, Memory>
+) -> Result<Judged, Memory>
     requires none { changes ≡ nothing design.now changes.prefix }
-    requires spef { length read.spef.items ≡ length design.now.spef }
-    requires verilog { DenotesModule read.verilog.items design.now.netlist }
-    ensures { IfOk result (IsAnswerIn (files_by read) design.now (record { net = name.now; prefix = changes.entry.prefix })) }
+    requires read { (verilog : List ℕ) × DenotesModule verilog design.now.netlist }
+    ensures { IfOk result (IsJudged design.now (record { net = name.now; prefix = changes.entry.prefix })) }
 {
     let net = Name::from_bytes(alloc, name)?;
     match posed_net(alloc, design, &net) {
-        Ok(posed) => answer_best(alloc, changes, design.repeaters(), name, posed, read),
+        Ok(posed) => judge_posed(alloc, changes, design.repeaters(), name, posed),
         Err(Refused::Net(refusal)) => {
             let refused = refuse(alloc, name, &refusal)?;
-            Ok(Answer {
-                kind: refused.kind,
-                text: refused.text,
-                written: Some(read),
-            })
+            Ok(unchanged(alloc, refused.kind, refused.text))
         }
         Err(Refused::Memory) => Err(Memory),
     }
 }
 
-/// A netlist and parasitics as they were read.
-fn copy(alloc: Global, verilog: &[u8], spef: &[u8]) -> Result<Written, Memory>
-    ensures { IfOk result (λ read. files_by read ≡ record { verilog = verilog.now; spef = spef.now }) }
+/// What is said of the best placement of the net of this name in a design, where the names of its cells begin with the prefix.
+fn judge(alloc: Global, design: &Design, name: &[u8], prefix: &[u8]) -> Result<Judged, NoAnswer>
+    requires prefix { AllPass is_solid prefix.now }
+    requires repeaters { All IsNamed design.now.library.repeaters }
+    requires read { (verilog : List ℕ) × DenotesModule verilog design.now.netlist }
+    ensures { Judges design.now (record { net = name.now; prefix = prefix.now }) result }
 {
-    Ok(Written {
-        verilog: Vec::from_slice(alloc, verilog)?,
-        spef: Vec::from_slice(alloc, spef)?,
-    })
+    match Changes::new(alloc, design, prefix) {
+        Ok(changes) => Ok(judge_net(alloc, changes, design, name)?),
+        Err(taken) => Err(NoAnswer::Taken(Name::from_bytes(alloc, taken)?)),
+    }
+}
+
+impl Judged {
+    /// The answer, with the files that are written: these texts of the design, with what is replaced in them.
+    fn into_answer(self, verilog: Vec<u8>, spef: Vec<u8>) -> Answer
+        requires verilog { Rise 0 (length verilog.items) self.patches.verilog }
+        requires spef { Rise 0 (length spef.items) self.patches.spef }
+        ensures kind { result.kind ≡ self.kind }
+        ensures said { said_by result ≡ said_with self (record { verilog = verilog.items; spef = spef.items }) }
+    {
+        let Judged {
+            kind,
+            text,
+            patches,
+        } = self;
+        let written = Written {
+            verilog: Patched::new(verilog, patches.verilog),
+            spef: Patched::new(spef, patches.spef),
+        };
+        Answer {
+            kind,
+            text,
+            written: Some(written),
+        }
+    }
 }
 
 /// What is said of the best placement of the net of this name in the design of four files, where the names of its cells begin with the
 /// prefix.
+///
+/// The comments of the parasitics are taken out of their text and put back in it, so that the files that are written need no copy of it.
 pub fn best_for(alloc: Global, texts: Texts, name: &[u8], prefix: &[u8]) -> Result<Answer, NoAnswer>
     requires spef { length texts.spef.items ≤ 2 ^ 28 }
     requires lib { length texts.lib.items ≤ 2 ^ 28 }
@@ -229,10 +293,17 @@ pub fn best_for(alloc: Global, texts: Texts, name: &[u8], prefix: &[u8]) -> Resu
     requires prefix { AllPass is_solid prefix.now }
     ensures { AnswersFor Mode.Best (texts_in texts) (record { net = name.now; prefix = prefix.now }) result }
 {
-    let read = copy(alloc, &texts.verilog, &texts.spef)?;
-    let design = design_of(alloc, texts)?;
-    match Changes::new(alloc, &design, prefix) {
-        Ok(changes) => Ok(answer_in(alloc, changes, &design, name, read)?),
-        Err(taken) => Err(NoAnswer::Taken(Name::from_bytes(alloc, taken)?)),
-    }
+    let Texts {
+        spef,
+        lib,
+        verilog,
+        cons,
+    } = texts;
+    let (clear, comments) = take_comments(alloc, spef, Comments::Spef)?;
+    let text = SpefText::from_clear(clear);
+    let design = design_of(alloc, text, &lib, &verilog, &cons)?;
+    let judged = judge(alloc, &design, name, prefix)?;
+    let mut spef = design.into_text().into_bytes();
+    comments.restore(&mut spef);
+    Ok(judged.into_answer(verilog, spef))
 }

@@ -26,7 +26,9 @@ use crate::time::time_for;
 use crate::wire::wire_for;
 use spef_file::SpefText;
 use std::alloc::Global;
-use vg_store::{Failed, Files, Out, ReadAll, put_all, write_file};
+use vg_output::write_patched;
+use vg_patch::Patched;
+use vg_store::{Failed, Files, Out, ReadAll, put_all};
 use vg_words::{Ask, Mode, Opt, WordFault, read_words};
 
 /// What is said of the wire delays of a net of the file of these bytes.
@@ -72,7 +74,7 @@ fn print<O: Out>(out: &mut O, text: &[u8], outcome: Outcome) -> Outcome
 fn write_output<F: Files>(
     ask: &Ask,
     output: Output,
-    text: &[u8],
+    text: &Patched,
     files: &mut F,
 ) -> Result<(), Failed>
     ensures whole { OnOk result (HoldsAt (F.state files.new) (output_name ask.now output) text.now) }
@@ -84,7 +86,7 @@ fn write_output<F: Files>(
 {
     match output.name(ask) {
         None => Ok(()),
-        Some(name) => write_file(files, name, text),
+        Some(name) => write_patched(files, name, text),
     }
 }
 

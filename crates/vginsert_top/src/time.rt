@@ -8,6 +8,7 @@ use crate::answer::{Answer, AnswerKind, NoAnswer, design_of};
 use crate::input::Texts;
 use crate::report::{print_node, print_slack};
 use crate::wire::refuse;
+use spef_file::SpefText;
 use std::alloc::Global;
 use vg_design::Timed;
 use vg_num::Memory;
@@ -40,7 +41,13 @@ pub fn time_for(alloc: Global, texts: Texts, name: &[u8], prefix: &[u8]) -> Resu
     requires cons { length texts.cons.items ≤ 2 ^ 28 }
     ensures { AnswersFor Mode.Time (texts_in texts) (record { net = name.now; prefix = prefix.now }) result }
 {
-    let design = design_of(alloc, texts)?;
+    let Texts {
+        spef,
+        lib,
+        verilog,
+        cons,
+    } = texts;
+    let design = design_of(alloc, SpefText::new(spef), &lib, &verilog, &cons)?;
     let net = Name::from_bytes(alloc, name)?;
     match retime(alloc, &design, &net, prefix) {
         Ok(timed) => Ok(Answer {

@@ -1,38 +1,84 @@
-use Rattle.std.proofs.Common.{◌≡◌, ℕ, List, length, ap, sym, ◌∙◌, subst}
-use Rattle.vg_change.specs.Changes.{Changes}
+use Rattle.std.proofs.Common.{◌≡◌, ◌≤◌, ◌^◌, ℕ, List, length, ap, sym, ◌∙◌, subst, arith}
+use Rattle.std.specs.Vec.{with_items}
+use Rattle.std.proofs.lemmas.List.{with_items_is}
+use Rattle.vg_comments.specs.Kept.{FitIn}
+use Rattle.vg_patch.specs.Edits.{patched}
 use Rattle.vg_scan.specs.declared.comments.Comments.TheVariants.{Spef}
 use Rattle.vg_scan.proofs.PieceLemmas.{length-without}
 use Rattle.vg_words.specs.declared.ask.Mode.TheVariants.{Best}
-use Rattle.vginsert_top.specs.Answer.{AnswersFor, files_by, design_texts, texts_by, texts_in}
-use Rattle.vginsert_top.specs.Best.{IsAnswerIn}
-use Rattle.vginsert_top.specs.Results.{Asked, Files, kept}
-use Rattle.vginsert_top.proofs.AnswerLemmas.{none_of_design, handed, said_in}
+use Rattle.vginsert_top.specs.Answer.{AnswersFor, design_texts, texts_in}
+use Rattle.vginsert_top.specs.Results.{Asked}
+use Rattle.vginsert_top.proofs.AnswerLemmas.{best_answered, design_of_texts, handed, not_judged}
 use Rattle.vginsert_top.proofs.BestLemmas.{repeaters_are_named}
 use Rattle.vginsert_top.proofs.best.best_for.Goals as goal
 
-pub returns-in_err-design : goal.returns-in_err-design
-returns-in_err-design c =
-    let texts = design_texts (texts_in c.args.texts) in
-    handed (AnswersFor Best (texts_by texts) (record { net = c.args.name.now; prefix = c.args.prefix.now })) c.from_residual-in_err-design.result c.in_err-design.field-0.0
-    c.from_residual-in_err-design.ensures.1 (none_of_design texts (record { net = c.args.name.now; prefix = c.args.prefix.now }) c.in_err-design.field-0.0 c.in_err-design.ensures.fault)
+pub from_clear-text-requires-clause-short : goal.from_clear-text-requires-clause-short
+from_clear-text-requires-clause-short c =
+    subst (λ (n : ℕ). n ≤ 2 ^ 28) (sym (ap length c.in_ok-clear.ensures.clear ∙ length-without Spef c.args.texts.spef.items)) c.requires.spef
 
-pub new-requires-clause-repeaters : goal.new-requires-clause-repeaters
-new-requires-clause-repeaters c = repeaters_are_named c.args.texts.lib.items c.in_ok-design.design.library c.in_ok-design.ensures.design.library
-
-pub answer_in-requires-clause-spef : goal.answer_in-requires-clause-spef
-answer_in-requires-clause-spef c =
-    ap (λ (read : Files). length read.spef) c.in_ok-read.ensures ∙ ap length c.deref-2.ensures.value
-    ∙ sym (ap length c.in_ok-design.ensures.design.spef ∙ length-without Spef c.args.texts.spef.items)
-
-pub returns-in_ok-answer_in-in-Ok : goal.returns-in_ok-answer_in-in-Ok
-returns-in_ok-answer_in-in-Ok c =
-    let texts = design_texts (texts_in c.args.texts) in
+pub judge-requires-clause-repeaters : goal.judge-requires-clause-repeaters
+judge-requires-clause-repeaters c =
     let d = c.in_ok-design.design in
-    let answer = c.in_ok-answer_in-in-Ok.field-0 in
-    let read = files_by c.in_ok-read.read in
-    let asked : List ℕ → Asked = λ prefix. record { net = c.args.name.now; prefix = prefix } in
-    let same_prefix = ap (λ (changes : Changes). changes.prefix) c.in-Ok.ensures.made in
-    let same_files : read ≡ kept texts = c.in_ok-read.ensures ∙ (λ i. record { verilog = c.deref.ensures.value i; spef = c.deref-2.ensures.value i }) in
-    said_in texts (asked c.args.prefix.now) d (record { design_of = c.in_ok-design.ensures.design; free = c.in-Ok.ensures.free }) answer
-    (subst (λ (files : Files). IsAnswerIn files d (asked c.args.prefix.now) answer) same_files
-    (subst (λ (prefix : List ℕ). IsAnswerIn read d (asked prefix) answer) same_prefix c.in_ok-answer_in-in-Ok.ensures))
+    let texts = c.args.texts in
+    let of =
+    design_of_texts c.from_clear-text.result texts.spef.items c.deref.result.now texts.lib.items c.deref-2.result.now texts.verilog.items c.deref-3.result.now texts.cons.items d
+    c.in_ok-design.ensures.design (c.from_clear-text.ensures ∙ c.in_ok-clear.ensures.clear) c.deref.ensures.value c.deref-2.ensures.value c.deref-3.ensures.value in
+    repeaters_are_named texts.lib.items d.library of.library
+
+pub judge-requires-clause-read : goal.judge-requires-clause-read
+judge-requires-clause-read c =
+    let d = c.in_ok-design.design in
+    let texts = c.args.texts in
+    let of =
+    design_of_texts c.from_clear-text.result texts.spef.items c.deref.result.now texts.lib.items c.deref-2.result.now texts.verilog.items c.deref-3.result.now texts.cons.items d
+    c.in_ok-design.ensures.design (c.from_clear-text.ensures ∙ c.in_ok-clear.ensures.clear) c.deref.ensures.value c.deref-2.ensures.value c.deref-3.ensures.value in
+    (texts.verilog.items, of.netlist)
+
+pub returns-in_err-judged : goal.returns-in_err-judged
+returns-in_err-judged c =
+    let d = c.in_ok-design.design in
+    let texts = c.args.texts in
+    let asked : Asked = record { net = c.args.name.now; prefix = c.args.prefix.now } in
+    let fault = c.in_err-judged.field-0.0 in
+    let of =
+    design_of_texts c.from_clear-text.result texts.spef.items c.deref.result.now texts.lib.items c.deref-2.result.now texts.verilog.items c.deref-3.result.now texts.cons.items d
+    c.in_ok-design.ensures.design (c.from_clear-text.ensures ∙ c.in_ok-clear.ensures.clear) c.deref.ensures.value c.deref-2.ensures.value c.deref-3.ensures.value in
+    handed (AnswersFor Best (texts_in texts) asked) c.from_residual-in_err-judged.result fault c.from_residual-in_err-judged.ensures.1
+    (not_judged (design_texts (texts_in texts)) asked d fault of c.in_err-judged.ensures)
+
+pub restore-requires : goal.restore-requires
+restore-requires c =
+    let d = c.in_ok-design.design in
+    let texts = c.args.texts in
+    let of =
+    design_of_texts c.from_clear-text.result texts.spef.items c.deref.result.now texts.lib.items c.deref-2.result.now texts.verilog.items c.deref-3.result.now texts.cons.items d
+    c.in_ok-design.ensures.design (c.from_clear-text.ensures ∙ c.in_ok-clear.ensures.clear) c.deref.ensures.value c.deref-2.ensures.value c.deref-3.ensures.value in
+    let same : c.deref_mut.result.now ≡ c.in_ok-clear.clear.items =
+    c.deref_mut.ensures.value ∙ c.into_bytes-spef.ensures ∙ c.into_text.ensures ∙ of.spef ∙ sym c.in_ok-clear.ensures.clear in
+    subst (λ (t : List ℕ). FitIn c.in_ok-clear.comments t) (sym same) c.in_ok-clear.ensures.kept.fit
+
+pub into_answer-requires-clause-verilog : goal.into_answer-requires-clause-verilog
+into_answer-requires-clause-verilog c =
+    let d = c.in_ok-design.design in
+    let texts = c.args.texts in
+    let of =
+    design_of_texts c.from_clear-text.result texts.spef.items c.deref.result.now texts.lib.items c.deref-2.result.now texts.verilog.items c.deref-3.result.now texts.cons.items d
+    c.in_ok-design.ensures.design (c.from_clear-text.ensures ∙ c.in_ok-clear.ensures.clear) c.deref.ensures.value c.deref-2.ensures.value c.deref-3.ensures.value in
+    c.in_ok-judged.ensures.1.fit.verilog texts.verilog.items of.netlist
+
+pub returns : goal.returns
+returns c =
+    let d = c.in_ok-design.design in
+    let texts = c.args.texts in
+    let asked : Asked = record { net = c.args.name.now; prefix = c.args.prefix.now } in
+    let of =
+    design_of_texts c.from_clear-text.result texts.spef.items c.deref.result.now texts.lib.items c.deref-2.result.now texts.verilog.items c.deref-3.result.now texts.cons.items d
+    c.in_ok-design.ensures.design (c.from_clear-text.ensures ∙ c.in_ok-clear.ensures.clear) c.deref.ensures.value c.deref-2.ensures.value c.deref-3.ensures.value in
+    let same : c.deref_mut.result.now ≡ c.in_ok-clear.clear.items =
+    c.deref_mut.ensures.value ∙ c.into_bytes-spef.ensures ∙ c.into_text.ensures ∙ of.spef ∙ sym c.in_ok-clear.ensures.clear in
+    let spef = (with_items c.into_bytes-spef.result c.restore.new.text).items in
+    let restored : spef ≡ texts.spef.items =
+    with_items_is c.into_bytes-spef.result c.restore.new.text (omega (arith, c.restore.auto.text, c.deref_mut.ensures.len))
+    ∙ c.restore.ensures ∙ ap (λ (t : List ℕ). patched t c.in_ok-clear.comments) same ∙ c.in_ok-clear.ensures.kept.is in
+    best_answered (design_texts (texts_in texts)) asked d c.in_ok-judged.judged spef c.into_answer.result (record { design_of = of; free = c.in_ok-judged.ensures.0 })
+    c.in_ok-judged.ensures.1 restored c.into_answer.ensures.kind c.into_answer.ensures.said
