@@ -1,0 +1,5 @@
+//! Tests of generated designs.
+#![tactic(auto)]
+
+#[cfg(test)]
+mod designs;

@@ -1,0 +1,3 @@
+pub mod NetLemmas
+pub mod LineLemmas
+pub mod LawLemmas
