@@ -4,8 +4,10 @@ use Rattle.std.specs.List.{find}
 use Rattle.std.specs.Result.{IsErrAnd}
 use Rattle.std.specs.Str.{bytes_eq}
 use Rattle.std.proofs.lemmas.Slice.Eq.{bytes_eq-Decides}
-use Rattle.vg_words.proofs.SpellingLemmas.{set_once}
+use Rattle.vg_words.proofs.SpellingLemmas.{one_setting}
+use Rattle.vg_words.specs.Views.{AreValues}
 use Rattle.vg_words.specs.declared.ask.Ask.{Ask}
+use mathlib.Core.Path.{fun_ext}
 use Rattle.vg_words.specs.Options.{options, file_options, required, mode_of, mode_name}
 use Rattle.vg_words.specs.Request.{Setting, Sets, Values, values_in, value_of, IsRequest, is_unset, is_excluded, is_bad, or_else, of_first, of_pair, first_equal, fault_in, fault_of_mode, fault_of_name, fault_of, HasMode, IsRefused, ReadsWords, value}
 use Rattle.vg_words.specs.declared.option.Opt.{Opt}
@@ -50,8 +52,10 @@ told_in mode values =
     let equal = of_pair (first_equal values file_options) in
     let bad = of_first BadValue (find (is_bad values) options) in
     let excluded = of_first Excluded (find (is_excluded mode values) options) in
-    told_or (of_first Missing (find (is_unset values) (required mode))) (or_else excluded (or_else bad equal)) (told_missing (find (is_unset values) (required mode)))
-    (told_or excluded (or_else bad equal) (told_excluded (find (is_excluded mode values) options)) (told_or bad equal (told_bad (find (is_bad values) options)) (told_pair (first_equal values file_options))))
+    let missing = of_first Missing (find (is_unset values) (required mode)) in
+    let told_last = told_or bad equal (told_bad (find (is_bad values) options)) (told_pair (first_equal values file_options)) in
+    told_or missing (or_else excluded (or_else bad equal)) (told_missing (find (is_unset values) (required mode)))
+    (told_or excluded (or_else bad equal) (told_excluded (find (is_excluded mode values) options)) told_last)
 
 told_mode : (values : Values) (mode : Option ModeSpec) → IsTold (fault_of_mode values mode)
 told_mode values None = tt
@@ -65,7 +69,8 @@ told : (values : Values) → IsTold (fault_of values)
 unfolding fault_of
 told values = told_name values (values Mode)
 
-refused_for : (words : List (List ℕ)) (ss : List Setting) (fault : WordFault) → IsTold (Some fault) → Sets words ss → fault_of (values_in ss) ≡ Some fault → ReadsWords (Err fault) words
+refused_for : (words : List (List ℕ)) (ss : List Setting) (fault : WordFault) → IsTold (Some fault) → Sets words ss
+    → fault_of (values_in ss) ≡ Some fault → ReadsWords (Err fault) words
 refused_for words ss (Missing o) t g e = (ss, g, e)
 refused_for words ss (Excluded o) t g e = (ss, g, e)
 refused_for words ss (BadValue o) t g e = (ss, g, e)
@@ -73,14 +78,23 @@ refused_for words ss (Equal a b) t g e = (ss, g, e)
 refused_for words ss Unread t g e = absurd t
 refused_for words ss Memory t g e = absurd t
 
-pub refused : (words : List (List ℕ)) (ss : List Setting) (fault : WordFault) → Sets words ss → fault_of (values_in ss) ≡ Some fault → ReadsWords (Err fault) words
-refused words ss fault g e = refused_for words ss fault (subst IsTold e (told (values_in ss))) g e
+-- the values of words are those of their settings
+values_are : (words : List (List ℕ)) (values : Values) (given : AreValues words values) → fault_of values ≡ fault_of (values_in given.settings)
+values_are words values given = ap fault_of (fun_ext given.same)
+
+pub refused : (words : List (List ℕ)) (values : Values) (r : Result Ask WordFault) (fault : WordFault) → IsErrAnd r (λ f. f ≡ fault)
+    → AreValues words values → fault_of values ≡ Some fault → ReadsWords r words
+refused words values (Ok ask) fault h given e = absurd h
+refused words values (Err f) fault h given e =
+    subst (λ f. ReadsWords (Err f) words) (sym h)
+    (refused_for words given.settings fault (subst IsTold e (told values)) given.set (sym (values_are words values given) ∙ e))
 
 some_mode : (a b : ModeSpec) → Some a ≡ Some b → a ≡ b
 some_mode a b e = cc
 
-requested_values : (values : Values) (ask : Ask) → values Mode ≡ Some (mode_name ask.mode) → values Spef ≡ ask.spef → values Lib ≡ ask.lib → values Verilog ≡ ask.verilog → values Cons ≡ ask.cons → values Net ≡ ask.net → values OutSpef ≡ ask.out_spef → values OutVerilog ≡ ask.out_verilog → values Prefix ≡ ask.prefix
-    → (option : Opt) → values option ≡ value ask option
+requested_values : (values : Values) (ask : Ask) → values Mode ≡ Some (mode_name ask.mode) → values Spef ≡ ask.spef → values Lib ≡ ask.lib
+    → values Verilog ≡ ask.verilog → values Cons ≡ ask.cons → values Net ≡ ask.net → values OutSpef ≡ ask.out_spef
+    → values OutVerilog ≡ ask.out_verilog → values Prefix ≡ ask.prefix → (option : Opt) → values option ≡ value ask option
 requested_values values ask m s l v c n os ov p Mode = m
 requested_values values ask m s l v c n os ov p Spef = s
 requested_values values ask m s l v c n os ov p Lib = l
@@ -112,20 +126,19 @@ mode_given None mode h = absurd h
 mode_given (Some name) mode h = ap (λ text. Some text) (mode_named name mode h)
 
 -- what is kept of the given values is the request
-pub requested : (words : List (List ℕ)) (ss : List Setting) (mode : ModeSpec) (ask : Ask) → Sets words ss → (fault_of (values_in ss) ≡ None) × HasMode (value_of Mode ss) mode
-    → ask.mode ≡ mode → ask.spef ≡ value_of Spef ss → ask.lib ≡ value_of Lib ss → ask.verilog ≡ value_of Verilog ss → ask.cons ≡ value_of Cons ss → ask.net ≡ value_of Net ss
-    → ask.out_spef ≡ value_of OutSpef ss → ask.out_verilog ≡ value_of OutVerilog ss → ask.prefix ≡ value_of Prefix ss → IsRequest words ask
-requested words ss mode ask g (e, h) m s l v c n os ov p = record {
-  settings = ss;
-  set = g;
-  faultless = e;
-  values = requested_values (values_in ss) ask (mode_given (value_of Mode ss) mode h ∙ ap (λ x. Some (mode_name x)) (sym m)) (sym s) (sym l) (sym v) (sym c) (sym n) (sym os) (sym ov) (sym p);
-}
-
--- memory may be wanted
-pub wanted : (words : List (List ℕ)) (r : Result Ask WordFault) → IsErrAnd r (λ fault. fault ≡ Memory) → ReadsWords r words
-wanted words (Ok ask) h = absurd h
-wanted words (Err fault) h = subst (λ f. ReadsWords (Err f) words) (sym h) tt
+pub requested : (words : List (List ℕ)) (values : Values) (mode : ModeSpec) (ask : Ask) → AreValues words values
+    → (fault_of values ≡ None) × HasMode (values Mode) mode
+    → ask.mode ≡ mode → ask.spef ≡ values Spef → ask.lib ≡ values Lib → ask.verilog ≡ values Verilog → ask.cons ≡ values Cons → ask.net ≡ values Net
+    → ask.out_spef ≡ values OutSpef → ask.out_verilog ≡ values OutVerilog → ask.prefix ≡ values Prefix → IsRequest words ask
+requested words values mode ask given (e, h) m s l v c n os ov p =
+    let named = mode_given (values Mode) mode h ∙ ap (λ x. Some (mode_name x)) (sym m) in
+    let kept = requested_values values ask named (sym s) (sym l) (sym v) (sym c) (sym n) (sym os) (sym ov) (sym p) in
+    record {
+      settings = given.settings;
+      set = given.set;
+      faultless = sym (values_are words values given) ∙ e;
+      values = λ option. sym (given.same option) ∙ kept option;
+    }
 
 -- words ask for one thing at most
 named_mode : (mode : ModeSpec) → mode_of (mode_name mode) ≡ Some mode
@@ -141,19 +154,26 @@ some_text a b e = cc
 
 pub one : (words : List (List ℕ)) (a b : Ask) → IsRequest words a → IsRequest words b → a ≡ b
 one words a b x y =
-    let (_, _, u) = set_once words x.settings x.set in
-    let (_, _, v) = set_once words y.settings y.set in
-    let same : x.settings ≡ y.settings = sym u ∙ v in
+    let same = one_setting words x.settings y.settings x.set y.set in
     let values : (option : Opt) → value a option ≡ value b option = λ option. sym (x.values option) ∙ ap (value_of option) same ∙ y.values option in
     let mode = one_mode a.mode b.mode (some_text (mode_name a.mode) (mode_name b.mode) (values Mode)) in
-    λ i. record { mode = mode i; spef = values Spef i; lib = values Lib i; verilog = values Verilog i; cons = values Cons i; net = values Net i; out_spef = values OutSpef i; out_verilog = values OutVerilog i; prefix = values Prefix i }
+    λ i. record {
+      mode = mode i;
+      spef = values Spef i;
+      lib = values Lib i;
+      verilog = values Verilog i;
+      cons = values Cons i;
+      net = values Net i;
+      out_spef = values OutSpef i;
+      out_verilog = values OutVerilog i;
+      prefix = values Prefix i;
+    }
 
 -- words that are refused are no request
-fault_apart : (words : List (List ℕ)) (fault : WordFault) → (ss : List Setting) × Sets words ss × (fault_of (values_in ss) ≡ Some fault) → (request : Ask) → IsRequest words request → ⊥
+fault_apart : (words : List (List ℕ)) (fault : WordFault) → (ss : List Setting) × Sets words ss × (fault_of (values_in ss) ≡ Some fault)
+    → (request : Ask) → IsRequest words request → ⊥
 fault_apart words fault (ss, set, e) request is =
-    let (_, _, u) = set_once words ss set in
-    let (_, _, v) = set_once words is.settings is.set in
-    let none : None ≡ Some fault = sym is.faultless ∙ ap (λ ss. fault_of (values_in ss)) (sym v ∙ u) ∙ e in
+    let none : None ≡ Some fault = sym is.faultless ∙ ap (λ ss. fault_of (values_in ss)) (one_setting words is.settings ss is.set set) ∙ e in
     cc
 
 pub refused_none : (words : List (List ℕ)) (fault : WordFault) → IsRefused words fault → (request : Ask) → IsRequest words request → ⊥

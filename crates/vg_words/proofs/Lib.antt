@@ -1,4 +1,9 @@
-pub mod SettingLemmas
+pub mod OptionLemmas
 pub mod SpellingLemmas
 pub mod JudgeLemmas
 pub mod EqualLemmas
+pub mod CommandLemmas
+pub mod WordLemmas
+pub mod WalkLemmas
+pub mod OnceLemmas
+pub mod ReadLemmas

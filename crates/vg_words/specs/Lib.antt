@@ -1,5 +1,5 @@
 pub mod Options
 pub mod Request
-pub mod Settings
+pub mod Command
 pub mod Views
 pub mod Laws

@@ -17,19 +17,6 @@ name_of OutSpef = codes "--out-spef"
 name_of OutVerilog = codes "--out-verilog"
 name_of Prefix = codes "--prefix"
 
--- the option that a word names
-abbrev pub option_of : List ℕ → Option Opt
-option_of word =
-    if bytes_eq word (codes "--mode") then Some Mode
-    else (if bytes_eq word (codes "--spef") then Some Spef
-    else (if bytes_eq word (codes "--lib") then Some Lib
-    else (if bytes_eq word (codes "--verilog") then Some Verilog
-    else (if bytes_eq word (codes "--cons") then Some Cons
-    else (if bytes_eq word (codes "--net") then Some Net
-    else (if bytes_eq word (codes "--out-spef") then Some OutSpef
-    else (if bytes_eq word (codes "--out-verilog") then Some OutVerilog
-    else (if bytes_eq word (codes "--prefix") then Some Prefix else None))))))))
-
 -- the place of an option in the order of options
 abbrev pub place_of : Opt → ℕ
 place_of Mode = 0

@@ -1,10 +1,13 @@
 ghost use Rattle.std.specs.Prelude.{◌≡◌};
 ghost use Rattle.std.specs.List.{list_any};
+ghost use Rattle.clap.specs.Words.{kind_of};
+ghost use Rattle.vg_words.specs.Command.{fault_for};
 ghost use Rattle.vg_words.specs.Options.{allowed, is_same, mode_name, required};
 ghost use Rattle.vg_words.specs.Request.{prefix_of, text_for};
 ghost use Rattle.vg_words.specs.declared.ask.WordFault.TheVariants.{Memory as out_of_memory};
 
 use crate::option::Opt;
+use clap::error::ErrorKind;
 use vg_num::{Memory, Text};
 
 /// What the program is asked to do.
@@ -147,5 +150,17 @@ impl From<Memory> for WordFault {
 
     fn from(_: Memory) -> Self {
         WordFault::Memory
+    }
+}
+
+/// Words that `clap` refuses are unread, whatever it has against them.
+impl From<clap::Error> for WordFault {
+    ghost from_gives = { λ error fault. fault ≡ fault_for (kind_of error) };
+
+    fn from(error: clap::Error) -> Self {
+        match error.kind() {
+            ErrorKind::OutOfMemory => WordFault::Memory,
+            _ => WordFault::Unread,
+        }
     }
 }

@@ -240,11 +240,7 @@ fn ask_of(alloc: Global, mode: Mode, given: &Given<'_>) -> Result<Ask, Memory>
 pub fn read_words(alloc: Global, words: &[String]) -> Result<Ask, WordFault>
     ensures { ReadsWords result (texts words.now) }
 {
-    let Some(given) = Given::of(words) else {
-        return Err(WordFault::Unread);
-    };
-    match judge(&given) {
-        Ok(mode) => Ok(ask_of(alloc, mode, &given)?),
-        Err(fault) => Err(fault),
-    }
+    let given = Given::of(alloc, words)?;
+    let mode = judge(&given)?;
+    Ok(ask_of(alloc, mode, &given)?)
 }

@@ -2,11 +2,11 @@
 #![tactic(auto)]
 
 mod ask;
+mod command;
 mod given;
 mod judge;
 mod laws;
 mod option;
-mod setting;
 
 pub use ask::{Ask, Mode, WordFault};
 pub use judge::read_words;

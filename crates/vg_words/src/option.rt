@@ -1,6 +1,7 @@
 ghost use Rattle.std.specs.Prelude.{◌≡◌};
 ghost use Rattle.std.specs.List.{list_any};
-ghost use Rattle.vg_words.specs.Options.{name_of, option_of, is_same};
+ghost use Rattle.vg_words.specs.Command.{long_name};
+ghost use Rattle.vg_words.specs.Options.{name_of, is_same};
 
 /// An option of the command line. Refusals name the first in this order.
 #[derive(Clone, Copy, Debug, PartialEq, Eq)]
@@ -66,6 +67,13 @@ impl Opt {
         }
     }
 
+    /// The option's name without its hyphens.
+    pub(crate) fn long(self) -> &'static str
+        ensures { result.now ≡ long_name self }
+    {
+        &self.name()[2..]
+    }
+
     /// Whether it is one of some options.
     pub(crate) fn is_among(self, options: &[Opt]) -> bool
         ensures { result ≡ list_any (is_same self) options.now }
@@ -78,32 +86,5 @@ impl Opt {
         ensures { result ≡ is_same self other }
     {
         self == other
-    }
-
-    /// The option that a word names.
-    pub(crate) fn of(word: &str) -> Option<Opt>
-        ensures { result ≡ option_of word.now }
-    {
-        if word == "--mode" {
-            Some(Opt::Mode)
-        } else if word == "--spef" {
-            Some(Opt::Spef)
-        } else if word == "--lib" {
-            Some(Opt::Lib)
-        } else if word == "--verilog" {
-            Some(Opt::Verilog)
-        } else if word == "--cons" {
-            Some(Opt::Cons)
-        } else if word == "--net" {
-            Some(Opt::Net)
-        } else if word == "--out-spef" {
-            Some(Opt::OutSpef)
-        } else if word == "--out-verilog" {
-            Some(Opt::OutVerilog)
-        } else if word == "--prefix" {
-            Some(Opt::Prefix)
-        } else {
-            None
-        }
     }
 }

@@ -1,17 +1,17 @@
-use Rattle.std.proofs.Common.{rules, ◌∙◌}
-use Rattle.std.proofs.lemmas.Bool.{false≢true}
+use Rattle.std.proofs.Common.{sym}
+use Rattle.clap.specs.Words.{found_of}
 use Rattle.vg_words.specs.Request.{texts}
-use Rattle.vg_words.proofs.SpellingLemmas.{set_once, sets}
+use Rattle.vg_words.proofs.ReadLemmas.{fails, other_unread, taken_values}
 use Rattle.vg_words.proofs.given.Given.of.Goals as goal
-use Rattle.vg_words.proofs.given.Given.of.Goals.{then-not-is_spelled-via-then-not-is_spelled, then-not-is_spelled-via-else-not-is_spelled+then-not-are_once}
 
-pub returns-then-not-is_spelled-clause-given : goal.returns-then-not-is_spelled-clause-given
-returns-then-not-is_spelled-clause-given c settings set =
-    let (spelled, once, _) = set_once (texts c.args.words.now) settings set in
-    elim c.then-not-is_spelled.branch [
-      | then-not-is_spelled-via-then-not-is_spelled w ↦ false≢true (w.if-not-is_spelled.ensures ∙ spelled)
-      | then-not-is_spelled-via-else-not-is_spelled+then-not-are_once w ↦ false≢true (w.if-not-are_once.ensures ∙ once)
-    ]
+pub returns-then-not-are_values_or_long : goal.returns-then-not-are_values_or_long
+returns-then-not-are_values_or_long c = other_unread (texts c.args.words.now) (sym c.if-not-are_values_or_long.ensures)
 
-pub returns-clause-given : goal.returns-clause-given
-returns-clause-given c = sets (texts c.args.words.now) (search rules) (search rules)
+pub returns-in_err-matches : goal.returns-in_err-matches
+returns-in_err-matches c =
+    fails (texts c.args.words.now) c.from_residual.result c.in_err-matches.field-0.0 c.from_residual.ensures.1 c.in_err-matches.ensures.fault
+
+pub returns : goal.returns
+returns c =
+    let told = c.in_ok-matches.ensures in
+    taken_values (texts c.args.words.now) (found_of c.in_ok-matches.matches) (sym c.if-not-are_values_or_long.ensures) told.fault told.matches
