@@ -1,7 +1,7 @@
 -- What the operations leave, as their clauses say it.
 use Rattle.std.proofs.Common.{◌≡◌, ℕ, ◌+◌, ◌≤◌, [], ◌∷◌, ◌++◌, length, map, refl, sym, ap, ◌∙◌, subst, arith, inl, length-append}
 use Rattle.cand_pool.specs.Links.{none}
-use Rattle.cand_pool.specs.Candidates.{Candidates, wired, loaded}
+use Rattle.cand_pool.specs.Candidates.{Candidates, loaded, wired_to}
 use Rattle.cand_pool.specs.Pools.{Block, items_of, spare, Holds, HoldsBag, IsLive, bag_of, KeepsOthers, Differ, name, bag_name}
 use Rattle.cand_pool.specs.Sequences.{lowest, undominated, dominated, union}
 use Rattle.cand_pool.specs.declared.ends.List.{List as NamedList}
@@ -22,18 +22,18 @@ pub record IsSplitOff (s t : Block) (list list' : NamedList) (bag : Bag) : Type 
   pub free : spare t ≡ spare s
   pub all : length ks + length ds ≡ size s list
 
-pub wired_off : (r : ℕ) (s t : Block) (list list' : NamedList) (bag : Bag) → IsLive s list → ((xs : Candidates) → Holds s list xs → Holds t list' (undominated (map (wired r) xs)))
-    → ((xs : Candidates) → Holds s list xs → HoldsBag t bag (dominated (map (wired r) xs))) → Differ (name list') (bag_name bag)
+pub wired_off : (r c : ℕ) (s t : Block) (list list' : NamedList) (bag : Bag) → IsLive s list → ((xs : Candidates) → Holds s list xs → Holds t list' (undominated (map (wired_to r c) xs)))
+    → ((xs : Candidates) → Holds s list xs → HoldsBag t bag (dominated (map (wired_to r c) xs))) → Differ (name list') (bag_name bag)
     → KeepsOthers s (name list ∷ []) t (name list' ∷ bag_name bag ∷ []) → spare t ≡ spare s → IsSplitOff s t list list' bag
-wired_off r s t list list' bag live left gone differ others free = record {
-  ks = undominated (map (wired r) (items_of s list));
-  ds = dominated (map (wired r) (items_of s list));
+wired_off r c s t list list' bag live left gone differ others free = record {
+  ks = undominated (map (wired_to r c) (items_of s list));
+  ds = dominated (map (wired_to r c) (items_of s list));
   left = left (items_of s list) live;
   gone = gone (items_of s list) live;
   differ = differ;
   others = others;
   free = free;
-  all = parts_long lowest (map (wired r) (items_of s list)) ∙ map_long (wired r) (items_of s list);
+  all = parts_long lowest (map (wired_to r c) (items_of s list)) ∙ map_long (wired_to r c) (items_of s list);
 }
 
 pub other_beside : (s t : Block) (list list' other : NamedList) (bag : Bag) → IsSplitOff s t list list' bag → IsLive s other → Differ (name list) (name other)

@@ -1,11 +1,14 @@
 -- Lists as they are made, emptied and walked.
-use Rattle.std.proofs.Common.{◌≡◌, ℕ, suc, ◌+◌, ◌<◌, [], ◌∷◌, ◌++◌, length, refl, sym, ap, ◌∙◌, subst, arith, inl, length-append, Option, None, Some}
-use Rattle.std.specs.Prelude.{IsNone, IsSome}
+use Rattle.std.proofs.Common.{◌≡◌, ℕ, suc, ◌+◌, ◌*◌, ◌<◌, [], ◌∷◌, ◌++◌, length, refl, sym, ap, ◌∙◌, subst, arith, inl, length-append, Option, None, Some, pos}
+use Rattle.std.specs.Prelude.{IsNone, IsSome, ◌≤ℤ◌, ◌<ℤ◌}
+use Rattle.std.proofs.lemmas.Int.{ints}
 use Rattle.cand_pool.specs.Links.{none}
 use Rattle.cand_pool.specs.Candidates.{Candidate, Candidates}
 use Rattle.cand_pool.specs.Pools.{Block, items, items_of, spare, Holds, HoldsBag, KeepsOthers, name}
 use Rattle.cand_pool.specs.declared.ends.List.{List as NamedList}
 use Rattle.cand_pool.specs.declared.ends.Bag.{Bag}
+use Rattle.cand_pool.specs.Laws.{RisesInTime}
+use Rattle.cand_pool.proofs.RisingLaws.{AreBefore, before_later, before_append, rises_append}
 use Rattle.cand_pool.proofs.PublicLaws.{held_items, held_named, nothing_held}
 use Rattle.cand_pool.proofs.PoolMoves.{keeps_then}
 use Rattle.bench_lists.specs.Turns.{IsSmall, AreSmall, IsMade, IsFull}
@@ -38,6 +41,22 @@ filling_more s t u list list' n xs x f small pushed others free = record {
   others = keeps_then s t u [] (name list ∷ []) (name list ∷ []) (name list' ∷ []) (name list' ∷ []) f.others others (λ k m. m) (λ k m. inl m);
   free = let before = f.free in omega (arith, before, free);
 }
+
+-- and how its times rise
+pub record AreRising (n : ℕ) (xs : Candidates) : Type 0 where
+  pub rises : RisesInTime xs
+  pub before : AreBefore (pos (16384 * n)) xs
+
+pub rising_more : (n : ℕ) (xs : Candidates) (x : Candidate) → AreRising n xs → pos (16384 * n) ≤ℤ x.q → x.q <ℤ pos (16384 * n + 16384) → AreRising (n + 1) (xs ++ x ∷ [])
+rising_more n xs x are from to = record {
+  rises = rises_append xs x are.rises (before_later (pos (16384 * n)) x.q xs from are.before);
+  before =
+      before_append (pos (16384 * (n + 1))) xs x (before_later (pos (16384 * n)) (pos (16384 * (n + 1))) xs (omega (arith, ints)) are.before)
+      (omega (arith, ints, to));
+}
+
+pub filled_rises : (s t : Block) (list : NamedList) (n : ℕ) (xs : Candidates) → IsFilling s t list n xs → AreRising n xs → RisesInTime (items_of t list)
+filled_rises s t list n xs f are = subst RisesInTime (sym (held_items t list.ends.first list.ends.last xs f.held)) are.rises
 
 pub filled_made : (s t : Block) (list : NamedList) (n : ℕ) (xs : Candidates) → IsFilling s t list n xs → IsMade t list
 filled_made s t list n xs f = (held_named t list.ends.first list.ends.last xs f.held, subst AreSmall (sym (held_items t list.ends.first list.ends.last xs f.held)) f.small)

@@ -2,7 +2,8 @@
 
 ghost use Rattle.std.specs.Prelude.{◌≡◌, suc, ◌+◌, ◌*◌, ◌^◌, ◌≤◌, [], ◌∷◌, length};
 ghost use Rattle.cand_pool.specs.Candidates.{Candidate, Candidates};
-ghost use Rattle.cand_pool.specs.Pools.{Block, spare, HoldsBag, IsLive, IsLiveBag, bag_of, KeepsOthers, Differ, name, bag_name};
+ghost use Rattle.cand_pool.specs.Laws.{RisesInTime};
+ghost use Rattle.cand_pool.specs.Pools.{Block, spare, HoldsBag, IsLive, IsLiveBag, items_of, bag_of, KeepsOthers, Differ, name, bag_name};
 ghost use Rattle.bench_lists.specs.Turns.{IsMade, size as size_of, IsFull, IsApplied};
 
 use crate::operation::Operation;
@@ -16,11 +17,12 @@ const RESISTANCE: u64 = 52;
 /// The load that is added.
 const LOAD: u64 = 1000;
 
-/// A list of so many candidates at random.
+/// A list of so many candidates at random, whose times rise.
 fn fill(pool: &mut Pool, size: u32, random: &mut Random) -> List
     requires few { size ≤ 10 ^ 6 }
     requires room { size ≤ spare pool.old }
     ensures made { IsMade pool.new result }
+    ensures rises { RisesInTime (items_of pool.new result) }
     ensures size { size_of pool.new result ≡ size }
     ensures others { KeepsOthers pool.old [] pool.new (name result ∷ []) }
     ensures spare { spare pool.old ≡ spare pool.new + size }
@@ -77,7 +79,7 @@ fn wire<L: Ledger>(pool: &mut Pool, list: &mut List, other: List, steps: &mut St
     requires differ { Differ (name list.old) (name other) }
     ensures { IsApplied (size_of pool.old list.old + size_of pool.old other) pool.old pool.new list.new result }
 {
-    let mut bag = pool.wire(list, RESISTANCE, steps);
+    let mut bag = pool.wire(list, RESISTANCE, 0, steps);
     let rest = pool.discard(other);
     pool.append(&mut bag, rest);
     bag
@@ -102,6 +104,7 @@ fn apply<L: Ledger>(
     steps: &mut Steps<L>,
 ) -> Bag
     requires made { IsMade pool.old list.old × IsMade pool.old other }
+    requires rises { RisesInTime (items_of pool.old list.old) × RisesInTime (items_of pool.old other) }
     requires differ { Differ (name list.old) (name other) }
     ensures { IsApplied (size_of pool.old list.old + size_of pool.old other) pool.old pool.new list.new result }
 {

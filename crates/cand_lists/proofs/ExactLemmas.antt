@@ -8,13 +8,14 @@ use Rattle.elmore.specs.Pairs.{IsUndominated, IsBelow, Dominates}
 use Rattle.elmore.specs.declared.pair.Pair.{Pair}
 use Rattle.cand_laws.specs.Merging.{Wires, Raises, raised}
 use Rattle.cand_laws.proofs.RaiseLemmas.{all_raised}
-use Rattle.cand_pool.specs.Candidates.{Candidate, Candidates, IsModest, AreModest, wired, loaded}
+use Rattle.cand_pool.specs.Candidates.{Candidate, Candidates, IsModest, AreModest, wired, loaded, wired_to}
 use Rattle.cand_pool.specs.Sequences.{lowest, undominated, union}
 use Rattle.cand_pool.specs.Laws.{IsCandidateOf, IsOfEither, HeaviesFrom, InOrderAfter, IsInOrder}
 use Rattle.cand_pool.proofs.KeptLaws.{kept_rises, kept_taken, kept_covers}
+use Rattle.cand_pool.proofs.WireLaws.{loaded_undominated}
 use Rattle.cand_pool.proofs.UnionOrder.{union_heavies, union_taken, union_all, union_ordered, rises_kept}
 use Rattle.cand_uses.specs.Pairs.{pair_of, pairs_of}
-use Rattle.cand_lists.specs.ListLaws.{AreRising, Either, through_wire, both}
+use Rattle.cand_lists.specs.ListLaws.{AreRising, Either, through_wire, above_wire, both}
 use Rattle.cand_lists.proofs.RisingLemmas.{in_list, at_place, rising_tail, rising_next, rising_order, rising_heavies, both_rise}
 
 -- the pair of a candidate of a list is one of its pairs, and the other way round
@@ -57,10 +58,10 @@ wired_from r [] z m = absurd m
 wired_from r (x ∷ xs) z (inl e) = (x, inl refl, e)
 wired_from r (x ∷ xs) z (inr m) = let (y, y_in, e) = wired_from r xs z m in (y, inr y_in, e)
 
-wired_to : (r : ℕ) (xs : Candidates) (x : Candidate) → IsCandidateOf xs x → IsCandidateOf (map (wired r) xs) (wired r x)
-wired_to r [] x m = absurd m
-wired_to r (y ∷ ys) x (inl e) = inl (ap (wired r) e)
-wired_to r (y ∷ ys) x (inr m) = inr (wired_to r ys x m)
+wired_in : (r : ℕ) (xs : Candidates) (x : Candidate) → IsCandidateOf xs x → IsCandidateOf (map (wired r) xs) (wired r x)
+wired_in r [] x m = absurd m
+wired_in r (y ∷ ys) x (inl e) = inl (ap (wired r) e)
+wired_in r (y ∷ ys) x (inr m) = inr (wired_in r ys x m)
 
 wired_order : (r : ℕ) (xs : Candidates) → AreRising xs → IsInOrder (map (wired r) xs)
 wired_order r [] rise = tt
@@ -90,12 +91,25 @@ wire_exact r xs r_n rise modest =
     (wired_heavies r 0 xs (rising_heavies 0 xs (λ x m. omega arith) rise))
     (λ z m. let (x, x_in, e) = wired_from r xs z m in subst (λ (k : Candidate). lowest <ℤ k.q) (sym e) (wired_high r x r_n (modest_in xs x modest x_in)))
     (λ z m. let (x, x_in, e) = wired_from r xs z m in (pair_of x, pair_in xs x (at_place xs x x_in), ap pair_of e))
-    (λ y (p, p_in, e). let (x, x_in, x_is) = of_pair xs p p_in in (wired r x, wired_to r xs x (in_list xs x x_in), ap (pair_wired r) x_is ∙ sym e))
+    (λ y (p, p_in, e). let (x, x_in, x_is) = of_pair xs p p_in in (wired r x, wired_in r xs x (in_list xs x x_in), ap (pair_wired r) x_is ∙ sym e))
 
 pub wire_takes : (r : ℕ) (xs : Candidates) (z : Candidate) → Contains (through_wire r xs) z → (x : Candidate) × Contains xs x × (z ≡ wired r x)
 wire_takes r xs z z_in =
     let (x, x_in, e) = wired_from r xs z (kept_taken lowest (map (wired r) xs) z (in_list (through_wire r xs) z z_in)) in
     (x, at_place xs x x_in, e)
+
+wired_to_from : (r c : ℕ) (xs : Candidates) (z : Candidate) → IsCandidateOf (map (wired_to r c) xs) z → (x : Candidate) × IsCandidateOf xs x × (z ≡ wired_to r c x)
+wired_to_from r c [] z m = absurd m
+wired_to_from r c (x ∷ xs) z (inl e) = (x, inl refl, e)
+wired_to_from r c (x ∷ xs) z (inr m) = let (y, y_in, e) = wired_to_from r c xs z m in (y, inr y_in, e)
+
+pub above_takes : (r c : ℕ) (xs : Candidates) (z : Candidate) → Contains (above_wire r c xs) z → (x : Candidate) × Contains xs x × (z ≡ wired_to r c x)
+above_takes r c xs z z_in =
+    let (x, x_in, e) = wired_to_from r c xs z (kept_taken lowest (map (wired_to r c) xs) z (in_list (above_wire r c xs) z z_in)) in
+    (x, at_place xs x x_in, e)
+
+pub wire_loads : (r c : ℕ) (xs : Candidates) → above_wire r c xs ≡ map (loaded c) (through_wire r xs)
+wire_loads r c xs = loaded_undominated r c xs
 
 -- of two lists
 either_modest : (xs ys : Candidates) (z : Candidate) → AreModest xs → AreModest ys → IsOfEither xs ys z → IsModest z

@@ -2,7 +2,7 @@
 use Rattle.std.proofs.Common.{◌≡◌, ℕ, ◌+◌, [], ◌∷◌, map, length, refl, arith, inl, inr, ℤ}
 use Rattle.std.specs.Prelude.{int_lt}
 use Rattle.std.proofs.lemmas.Bool.{cases_Bool}
-use Rattle.cand_pool.specs.Candidates.{Candidate, Candidates, wired}
+use Rattle.cand_pool.specs.Candidates.{Candidate, Candidates, loaded, wired_to}
 use Rattle.cand_pool.specs.Sequences.{kept, dropped, union, placed, comes_first}
 use Rattle.cand_uses.specs.Uses.{uses_by}
 use Rattle.cand_uses.proofs.ExchangeLemmas.{uses_of_one}
@@ -21,10 +21,14 @@ kept_length best (x ∷ xs) = elim (cases_Bool (int_lt best x.q)) [
   | inr f ↦ rw f (omega (arith, kept_length best xs))
 ]
 
--- a wire leaves each solution
-pub wired_uses : (r : ℕ) (xs : Candidates) (s : ℕ) → uses_by (map (wired r) xs) s ≡ uses_by xs s
-wired_uses r [] s = refl
-wired_uses r (x ∷ xs) s = omega (arith, uses_of_one (wired r x) (map (wired r) xs) s, uses_of_one x xs s, wired_uses r xs s)
+-- a wire leaves each solution, and so does a load
+pub wired_uses : (r c : ℕ) (xs : Candidates) (s : ℕ) → uses_by (map (wired_to r c) xs) s ≡ uses_by xs s
+wired_uses r c [] s = refl
+wired_uses r c (x ∷ xs) s = omega (arith, uses_of_one (wired_to r c x) (map (wired_to r c) xs) s, uses_of_one x xs s, wired_uses r c xs s)
+
+pub loaded_uses : (c : ℕ) (xs : Candidates) (s : ℕ) → uses_by (map (loaded c) xs) s ≡ uses_by xs s
+loaded_uses c [] s = refl
+loaded_uses c (x ∷ xs) s = omega (arith, uses_of_one (loaded c x) (map (loaded c) xs) s, uses_of_one x xs s, loaded_uses c xs s)
 
 -- a union has the uses and the number of both
 placed_uses : (x : Candidate) (xs : Candidates) (s : ℕ) → ((ys : Candidates) → uses_by (union xs ys) s ≡ uses_by xs s + uses_by ys s) → (ys : Candidates)

@@ -7,7 +7,8 @@ use Rattle.std.proofs.lemmas.List.Kept.{AllPairs-cons}
 use Rattle.std.proofs.lemmas.List.Elements.{All-cons}
 use Rattle.elmore.specs.Pairs.{IsBelow}
 use Rattle.cand_pool.specs.Candidates.{Candidate, Candidates}
-use Rattle.cand_pool.specs.Laws.{IsCandidateOf, RisesOver, HeaviesFrom, HeavierThan, RisesInLoad, InOrderAfter, IsInOrder}
+use Rattle.cand_pool.specs.Laws.{IsCandidateOf, RisesOver, RisesInTime, HeaviesFrom, HeavierThan, RisesInLoad, InOrderAfter, IsInOrder}
+use Rattle.cand_pool.proofs.RisingLaws.{over_later}
 use Rattle.cand_uses.specs.Pairs.{pair_of, pairs_of}
 use Rattle.cand_lists.specs.ListLaws.{AreRising}
 
@@ -46,6 +47,15 @@ rising_heavies least (x ∷ xs) over rise = (over x (inl refl), after x xs rise)
   after x (y ∷ ys) rise =
       let below : IsBelow (pair_of x) (pair_of y) = rising_next x y ys rise in
       (omega (arith, below.room), after y ys (rising_tail x (y ∷ ys) rise))
+
+pub rising_time : (xs : Candidates) → AreRising xs → RisesInTime xs
+rising_time [] rise = tt
+rising_time (x ∷ xs) rise = after x xs rise where
+  after : (x : Candidate) (xs : Candidates) → AreRising (x ∷ xs) → RisesOver x.q xs
+  after x [] rise = tt
+  after x (y ∷ ys) rise =
+      let below : IsBelow (pair_of x) (pair_of y) = rising_next x y ys rise in
+      (over_later x.q y.q below.time, after y ys (rising_tail x (y ∷ ys) rise))
 
 -- all after the first are over it in both, where each is over the one before it
 pub all_above : (x : Candidate) (xs : Candidates) → RisesOver x.q xs → HeavierThan x.c xs → All (IsBelow (pair_of x)) (pairs_of xs)

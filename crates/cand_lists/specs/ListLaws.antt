@@ -4,7 +4,7 @@ use Rattle.std.specs.List.{Contains, AllPairs}
 use Rattle.elmore.specs.Pairs.{IsUndominated, IsBelow}
 use Rattle.elmore.specs.declared.pair.Pair.{Pair}
 use Rattle.cand_laws.specs.Merging.{Wires, Raises}
-use Rattle.cand_pool.specs.Candidates.{Candidate, Candidates, AreModest, wired, loaded}
+use Rattle.cand_pool.specs.Candidates.{Candidate, Candidates, AreModest, wired, loaded, wired_to}
 use Rattle.cand_pool.specs.Sequences.{undominated, union}
 use Rattle.cand_uses.specs.Pairs.{pairs_of}
 
@@ -15,6 +15,10 @@ AreRising xs = AllPairs IsBelow (pairs_of xs)
 -- what a wire leaves of a list
 abbrev pub through_wire : ℕ → Candidates → Candidates
 through_wire r xs = undominated (map (wired r) xs)
+
+-- and with this load beside its upper end
+abbrev pub above_wire : ℕ → ℕ → Candidates → Candidates
+above_wire r c xs = undominated (map (wired_to r c) xs)
 
 -- what two lists leave of one another
 abbrev pub both : Candidates → Candidates → Candidates
@@ -30,6 +34,10 @@ WireIsExact = (r : ℕ) (xs : Candidates) → r < 2 ^ 64 → AreRising xs → Ar
 
 abbrev pub WireTakes : Type 0
 WireTakes = (r : ℕ) (xs : Candidates) (z : Candidate) → Contains (through_wire r xs) z → (x : Candidate) × Contains xs x × (z ≡ wired r x)
+
+-- a load beside the upper end of a wire is added to what the wire leaves
+abbrev pub WireLoads : Type 0
+WireLoads = (r c : ℕ) (xs : Candidates) → above_wire r c xs ≡ map (loaded c) (through_wire r xs)
 
 -- two lists leave the undominated pairs of both, each with the solution that it had
 abbrev pub BothAreExact : Type 0

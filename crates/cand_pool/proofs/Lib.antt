@@ -15,3 +15,4 @@ pub mod UnionOrder
 pub mod LoadLaws
 pub mod LengthLaws
 pub mod CallLaws
+pub mod RisingLaws

@@ -1,9 +1,10 @@
 -- The turns of a sieve and of a wire.
 use Rattle.std.proofs.Common.{◌≡◌, ◌≢◌, ℕ, suc, true, false, List, [], ◌∷◌, ◌++◌, map, length, refl, sym, ap, ◌∙◌, subst, arith, inl, inr, append_assoc, ℤ}
 use Rattle.std.specs.Prelude.{int_lt}
+use Rattle.std.proofs.lemmas.Bool.{cases_Bool}
 use Rattle.std.proofs.lemmas.List.{append-nil}
 use Rattle.cand_pool.specs.Links.{none}
-use Rattle.cand_pool.specs.Candidates.{Candidate, Candidates, IsModest, AreModest, wired}
+use Rattle.cand_pool.specs.Candidates.{Candidate, Candidates, IsModest, AreModest, wired, loaded, wired_to}
 use Rattle.cand_pool.specs.Pools.{Block, candidate, items, KeepsOthers}
 use Rattle.cand_pool.specs.Sequences.{kept, dropped, lowest, undominated, dominated}
 use Rattle.cand_pool.specs.Sieves.{IsAt, IsSplit, IsSieve, IsSifted, Sifts, IsTurned, IsWiring, names}
@@ -67,44 +68,45 @@ pub record IsReady (t : Block) (at : Sieve) : Type 0 where
   pub sieve : Sifts t at (items t at.rest.first) (items t at.kept.first) (items t at.dropped.first)
   pub modest : IsModest (candidate t at.rest.first)
 
-pub ready : (r : ℕ) (s : Block) (list : Ends) (all : Candidates) (t : Block) (at : Sieve) → IsWiring r s list all t at → at.rest.first ≢ none → IsReady t at
-ready r s list all t at w some =
+pub ready : (r c : ℕ) (s : Block) (list : Ends) (all : Candidates) (t : Block) (at : Sieve) → IsWiring r c s list all t at → at.rest.first ≢ none → IsReady t at
+ready r c s list all t at w some =
     let (ys, e) = first_held t at.rest.first at.rest.last w.xs some w.sieve.more in
     let m : AreModest (candidate t at.rest.first ∷ ys) = subst (λ (l : Candidates). AreModest l) e w.modest in
     record { sieve = named_sieve t at.rest at.kept at.dropped w.xs w.ks w.ds w.sieve; modest = m.0 }
 
 -- one turn of a wire
-pub wire_turned : (r : ℕ) (s : Block) (list : Ends) (all : Candidates) (t u : Block) (at at' : Sieve) (q : ℤ) → IsWiring r s list all t at → at.rest.first ≢ none → q ≡ (wired r (candidate t at.rest.first)).q
-    → ((x : Candidate) (xs ks ds : Candidates) → Sifts t at (x ∷ xs) ks ds → IsTurned t u at at' xs ks ds (record { q = q; c = x.c; tag = x.tag }))
-    → IsWiring r s list all u at'
-wire_turned r s list all t u at at' q w some q_is turn =
-    let x : Candidate = candidate t at.rest.first in
+pub wire_turned : (r c : ℕ) (s : Block) (list : Ends) (all : Candidates) (t u : Block) (at at' : Sieve) (q : ℤ) (load : ℕ) → IsWiring r c s list all t at → at.rest.first ≢ none
+    → q ≡ (wired_to r c (candidate t at.rest.first)).q → load ≡ (wired_to r c (candidate t at.rest.first)).c
+    → ((x : Candidate) (xs ks ds : Candidates) → Sifts t at (x ∷ xs) ks ds → IsTurned t u at at' xs ks ds (record { q = q; c = load; tag = x.tag }))
+    → IsWiring r c s list all u at'
+wire_turned r c s list all t u at at' q load w some q_is load_is turn =
     let (ys, e) = first_held t at.rest.first at.rest.last w.xs some w.sieve.more in
     let sieve : Sifts t at (candidate t at.rest.first ∷ ys) w.ks w.ds = subst (λ (l : Candidates). Sifts t at l w.ks w.ds) e w.sieve in
-    let y_is : wired r (candidate t at.rest.first) ≡ record { q = q; c = (candidate t at.rest.first).c; tag = (candidate t at.rest.first).tag }
-    = ap (λ (k : ℤ). record { q = k; c = (candidate t at.rest.first).c; tag = (candidate t at.rest.first).tag }) (sym q_is) in
-    let split : IsSplit (map (wired r) all) w.ks w.ds (wired r (candidate t at.rest.first) ∷ map (wired r) ys) at.best = subst (λ (l : Candidates). IsSplit (map (wired r) all) w.ks w.ds (map (wired r) l) at.best) e w.split in
+    let y_is : wired_to r c (candidate t at.rest.first) ≡ record { q = q; c = load; tag = (candidate t at.rest.first).tag }
+    = λ i. record { q = sym q_is i; c = sym load_is i; tag = (candidate t at.rest.first).tag } in
+    let split : IsSplit (map (wired_to r c) all) w.ks w.ds (wired_to r c (candidate t at.rest.first) ∷ map (wired_to r c) ys) at.best
+    = subst (λ (l : Candidates). IsSplit (map (wired_to r c) all) w.ks w.ds (map (wired_to r c) l) at.best) e w.split in
     let m : AreModest (candidate t at.rest.first ∷ ys) = subst (λ (l : Candidates). AreModest l) e w.modest in
-    let done : IsTurned t u at at' ys w.ks w.ds (record { q = q; c = (candidate t at.rest.first).c; tag = (candidate t at.rest.first).tag }) = turn (candidate t at.rest.first) ys w.ks w.ds sieve in
+    let done : IsTurned t u at at' ys w.ks w.ds (record { q = q; c = load; tag = (candidate t at.rest.first).tag }) = turn (candidate t at.rest.first) ys w.ks w.ds sieve in
     record {
       xs = ys;
       ks = done.ks';
       ds = done.ds';
       sieve = done.sieve;
-      split = done.split (map (wired r) all) (map (wired r) ys) (subst (λ (y : Candidate). IsSplit (map (wired r) all) w.ks w.ds (y ∷ map (wired r) ys) at.best) y_is split);
+      split = done.split (map (wired_to r c) all) (map (wired_to r c) ys) (subst (λ (y : Candidate). IsSplit (map (wired_to r c) all) w.ks w.ds (y ∷ map (wired_to r c) ys) at.best) y_is split);
       modest = m.1;
       others = keeps_then s t u (list.first ∷ []) (names at) (names at) (names at') (names at') w.others done.others (λ k m. m) (λ k m. inl m);
       free = done.free ∙ w.free;
     }
 
 -- a turn takes one candidate off the rest
-pub turn_fewer : (t u : Block) (at at' : Sieve) (q : ℤ) (xs ks ds : Candidates) → Sifts t at xs ks ds → at.rest.first ≢ none
-    → ((x : Candidate) (xs ks ds : Candidates) → Sifts t at (x ∷ xs) ks ds → IsTurned t u at at' xs ks ds (record { q = q; c = x.c; tag = x.tag }))
+pub turn_fewer : (t u : Block) (at at' : Sieve) (q : ℤ) (load : ℕ) (xs ks ds : Candidates) → Sifts t at xs ks ds → at.rest.first ≢ none
+    → ((x : Candidate) (xs ks ds : Candidates) → Sifts t at (x ∷ xs) ks ds → IsTurned t u at at' xs ks ds (record { q = q; c = load; tag = x.tag }))
     → suc (length (items u at'.rest.first)) ≡ length (items t at.rest.first)
-turn_fewer t u at at' q xs ks ds sieve some turn =
+turn_fewer t u at at' q load xs ks ds sieve some turn =
     let (ys, e) = first_held t at.rest.first at.rest.last xs some sieve.more in
     let sieve' : Sifts t at (candidate t at.rest.first ∷ ys) ks ds = subst (λ (l : Candidates). Sifts t at l ks ds) e sieve in
-    let done : IsTurned t u at at' ys ks ds (record { q = q; c = (candidate t at.rest.first).c; tag = (candidate t at.rest.first).tag }) = turn (candidate t at.rest.first) ys ks ds sieve' in
+    let done : IsTurned t u at at' ys ks ds (record { q = q; c = load; tag = (candidate t at.rest.first).tag }) = turn (candidate t at.rest.first) ys ks ds sieve' in
     let f : length (items u at'.rest.first) ≡ length ys = ap (λ (l : Candidates). length l) (held_items u at'.rest.first at'.rest.last ys done.sieve.more) in
     let g : length (items t at.rest.first) ≡ length xs = ap (λ (l : Candidates). length l) (held_items t at.rest.first at.rest.last xs sieve.more) in
     let h : length xs ≡ length (candidate t at.rest.first ∷ ys) = ap (λ (l : Candidates). length l) e in
@@ -121,8 +123,8 @@ split_end all ks ds best split =
     let d : ds ++ [] ≡ dominated all = split.dropped_is in
     (sym (append-nil ks) ∙ k, sym (append-nil ds) ∙ d)
 
-pub wire_start : (r : ℕ) (s : Block) (list empty : Ends) (all : Candidates) → empty.first ≡ none → IsAt s list all → AreModest all → IsWiring r s list all s (record { rest = list; kept = empty; dropped = empty; best = lowest })
-wire_start r s list empty all e h modest = record {
+pub wire_start : (r c : ℕ) (s : Block) (list empty : Ends) (all : Candidates) → empty.first ≡ none → IsAt s list all → AreModest all → IsWiring r c s list all s (record { rest = list; kept = empty; dropped = empty; best = lowest })
+wire_start r c s list empty all e h modest = record {
   xs = all;
   ks = [];
   ds = [];
@@ -134,7 +136,7 @@ wire_start r s list empty all e h modest = record {
     rest_two = λ z f. z (f ∙ e);
     one_two = λ z f. z e;
   };
-  split = split_start (map (wired r) all);
+  split = split_start (map (wired_to r c) all);
   modest = modest;
   others = record {
     few = λ few. few;
@@ -144,11 +146,26 @@ wire_start r s list empty all e h modest = record {
   free = refl;
 }
 
-pub wire_end : (r : ℕ) (s : Block) (list : Ends) (all : Candidates) (t : Block) (at : Sieve) → IsWiring r s list all t at → at.rest.first ≡ none
-    → IsAt t at.kept (undominated (map (wired r) all)) × IsAt t at.dropped (dominated (map (wired r) all))
-wire_end r s list all t at w e =
+-- a load leaves each q, so the same ones are kept
+map_wired_to : (r c : ℕ) (xs : Candidates) → map (wired_to r c) xs ≡ map (loaded c) (map (wired r) xs)
+map_wired_to r c [] = refl
+map_wired_to r c (x ∷ xs) = ap (λ (l : Candidates). wired_to r c x ∷ l) (map_wired_to r c xs)
+
+kept_loaded : (c : ℕ) (best : ℤ) (xs : Candidates) → kept best (map (loaded c) xs) ≡ map (loaded c) (kept best xs)
+kept_loaded c best [] = refl
+kept_loaded c best (x ∷ xs) = elim (cases_Bool (int_lt best x.q)) [
+  | inl t ↦ rw t (ap (λ (l : Candidates). loaded c x ∷ l) (kept_loaded c x.q xs))
+  | inr f ↦ rw f (kept_loaded c best xs)
+]
+
+pub loaded_undominated : (r c : ℕ) (xs : Candidates) → undominated (map (wired_to r c) xs) ≡ map (loaded c) (undominated (map (wired r) xs))
+loaded_undominated r c xs = ap (λ (l : Candidates). undominated l) (map_wired_to r c xs) ∙ kept_loaded c lowest (map (wired r) xs)
+
+pub wire_end : (r c : ℕ) (s : Block) (list : Ends) (all : Candidates) (t : Block) (at : Sieve) → IsWiring r c s list all t at → at.rest.first ≡ none
+    → IsAt t at.kept (undominated (map (wired_to r c) all)) × IsAt t at.dropped (dominated (map (wired_to r c) all))
+wire_end r c s list all t at w e =
     let empty : w.xs ≡ [] = none_holds t at.rest.first at.rest.last w.xs e w.sieve.more in
-    let (k, d) = split_end (map (wired r) all) w.ks w.ds at.best (subst (λ (l : Candidates). IsSplit (map (wired r) all) w.ks w.ds (map (wired r) l) at.best) empty w.split) in
+    let (k, d) = split_end (map (wired_to r c) all) w.ks w.ds at.best (subst (λ (l : Candidates). IsSplit (map (wired_to r c) all) w.ks w.ds (map (wired_to r c) l) at.best) empty w.split) in
     (subst (λ (l : Candidates). IsAt t at.kept l) k w.sieve.one, subst (λ (l : Candidates). IsAt t at.dropped l) d w.sieve.two)
 
 pub wire_others : (s : Block) (first : ℕ) (t : Block) (rest a b : ℕ) → KeepsOthers s (first ∷ []) t (rest ∷ a ∷ b ∷ []) → KeepsOthers s (first ∷ []) t (a ∷ b ∷ [])

@@ -28,6 +28,10 @@ wired r x = record { q = x.q -ℤ pos (r * x.c); c = x.c; tag = x.tag }
 abbrev pub loaded : ℕ → Candidate → Candidate
 loaded c x = record { q = x.q; c = x.c + c; tag = x.tag }
 
+-- above a wire, with this load beside its upper end
+abbrev pub wired_to : ℕ → ℕ → Candidate → Candidate
+wired_to r c x = loaded c (wired r x)
+
 -- where two branches meet
 abbrev pub formed : Candidate → Candidate → ℕ → Candidate
 formed x y tag = record { q = cond (int_lt y.q x.q) y.q x.q; c = x.c + y.c; tag = tag }

@@ -17,6 +17,11 @@ abbrev pub RisesOver : ℤ → List Candidate → Type 0
 RisesOver best [] = Unit {0}
 RisesOver best (x ∷ xs) = (int_lt best x.q ≡ true) × RisesOver x.q xs
 
+-- q rises
+abbrev pub RisesInTime : List Candidate → Type 0
+RisesInTime [] = Unit {0}
+RisesInTime (x ∷ xs) = RisesOver x.q xs
+
 -- c never falls
 abbrev pub HeaviesFrom : ℕ → List Candidate → Type 0
 HeaviesFrom least [] = Unit {0}

@@ -1,5 +1,5 @@
 -- What the calls do to sequences of candidates.
-use Rattle.std.specs.Prelude.{ℕ, suc, Option, None, Some, Bool, true, false, cond, ltb, eqb, ◌||◌, ◌&&◌, List, [], ◌∷◌, ℤ, negsuc, int_lt}
+use Rattle.std.specs.Prelude.{ℕ, suc, Option, None, Some, Bool, cond, ltb, eqb, ◌||◌, ◌&&◌, List, [], ◌∷◌, ℤ, negsuc, int_lt}
 use Rattle.cand_pool.specs.Candidates.{Candidate, Candidates}
 
 -- the number below each q
@@ -36,12 +36,6 @@ placed x after (y ∷ ys) = cond (comes_first y x) (y ∷ placed x after ys) (x 
 abbrev pub union : List Candidate → List Candidate → Candidates
 union [] ys = ys
 union (x ∷ xs) ys = placed x (union xs) ys
-
--- whether the union begins with the first of the second list
-abbrev pub begins_with_second : List Candidate → List Candidate → Bool
-begins_with_second xs [] = false
-begins_with_second [] (y ∷ ys) = true
-begins_with_second (x ∷ xs) (y ∷ ys) = comes_first y x
 
 -- where x, before xs, meets y: what is left of x's list
 abbrev pub left_of : Candidate → Candidate → Candidates → Candidates

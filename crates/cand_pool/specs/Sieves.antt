@@ -1,7 +1,7 @@
 -- A sieve: the first of what is left of a list is put after what was kept or after what was dropped.
 use Rattle.std.specs.Prelude.{◌≡◌, ◌≢◌, ℕ, List, [], ◌∷◌, ◌++◌, map, ℤ}
 use Rattle.cand_pool.specs.Links.{none}
-use Rattle.cand_pool.specs.Candidates.{Candidate, Candidates, AreModest, wired}
+use Rattle.cand_pool.specs.Candidates.{Candidate, Candidates, AreModest, wired_to}
 use Rattle.cand_pool.specs.Pools.{Block, spare, IsHeld, KeepsOthers}
 use Rattle.cand_pool.specs.Sequences.{kept, dropped, undominated, dominated}
 use Rattle.cand_pool.specs.declared.ends.Ends.{Ends}
@@ -46,13 +46,22 @@ pub record IsTurned (s s' : Block) (at at' : Sieve) (xs ks ds : Candidates) (y :
   pub others : KeepsOthers s (names at) s' (names at')
   pub free : spare s' ≡ spare s
 
--- how far a wire has come: of `all`, the candidates xs are left
-pub record IsWiring (r : ℕ) (s : Block) (list : Ends) (all : Candidates) (t : Block) (at : Sieve) : Type 0 where
+-- some of the first of the rest were kept or dropped, so that these are left
+pub record IsSiftedTo (s s' : Block) (at at' : Sieve) (left : Candidates) : Type 0 where
+  pub ks : Candidates
+  pub ds : Candidates
+  pub sieve : Sifts s' at' left ks ds
+  pub split : (all xs ps rs : Candidates) → Sifts s at xs ps rs → IsSplit all ps rs xs at.best → IsSplit all ks ds left at'.best
+  pub others : KeepsOthers s (names at) s' (names at')
+  pub free : spare s' ≡ spare s
+
+-- how far a wire with a load at its upper end has come: of `all`, the candidates xs are left
+pub record IsWiring (r c : ℕ) (s : Block) (list : Ends) (all : Candidates) (t : Block) (at : Sieve) : Type 0 where
   pub xs : Candidates
   pub ks : Candidates
   pub ds : Candidates
   pub sieve : Sifts t at xs ks ds
-  pub split : IsSplit (map (wired r) all) ks ds (map (wired r) xs) at.best
+  pub split : IsSplit (map (wired_to r c) all) ks ds (map (wired_to r c) xs) at.best
   pub modest : AreModest xs
   pub others : KeepsOthers s (list.first ∷ []) t (names at)
   pub free : spare t ≡ spare s

@@ -2,10 +2,11 @@
 
 ghost use Rattle.std.specs.Prelude.{◌≡◌, ◌≢◌, ℕ, suc, ◌+◌, ◌*◌, ◌≤◌, ◌<◌, ◌⊎◌, [], ◌∷◌, length};
 ghost use Rattle.cand_pool.specs.Candidates.{Candidates};
-ghost use Rattle.cand_pool.specs.Pools.{Block, candidate, items, spare, Holds, HoldsBag, IsLive, KeepsOthers, Differ, name, bag_name};
-ghost use Rattle.cand_pool.specs.Sieves.{IsAt};
-ghost use Rattle.cand_pool.specs.Sequences.{undominated, dominated, union, comes_first, begins_with_second};
-ghost use Rattle.cand_pool.specs.Unions.{AreLeft, IsUniting};
+ghost use Rattle.cand_pool.specs.Pools.{Block, candidate, items, spare, Holds, HoldsBag, IsLive, items_of, KeepsOthers, Differ, name, bag_name};
+ghost use Rattle.cand_pool.specs.Laws.{RisesOver, RisesInTime};
+ghost use Rattle.cand_pool.specs.Sieves.{Sifts, IsSiftedTo};
+ghost use Rattle.cand_pool.specs.Sequences.{undominated, dominated, union, comes_first};
+ghost use Rattle.cand_pool.specs.Unions.{AreLeft, IsUniting, IsEnding};
 
 use crate::ends::{Bag, EMPTY, Ends, List, NONE};
 use crate::pool::Pool;
@@ -20,6 +21,23 @@ struct Union {
     other: Ends,
 }
 
+impl Union {
+    /// A sieve of what is left when one of both lists is used up.
+    fn left(self) -> Sieve
+        requires { (self.sieve.rest.first ≡ NONE) ⊎ (self.other.first ≡ NONE) }
+        ensures ending { (s : Block) (one two : ℕ) (all : Candidates) (t : Block) → IsUniting s one two all t self → IsEnding s one two all t result }
+        ensures rest { (result.rest ≡ self.sieve.rest) ⊎ (result.rest ≡ self.other) }
+    {
+        if self.other.first == NONE {
+            return self.sieve;
+        }
+        Sieve {
+            rest: self.other,
+            ..self.sieve
+        }
+    }
+}
+
 impl Pool {
     /// Whether candidate y comes before candidate x in a union where x is of the first list.
     fn comes_first(&self, y: u32, x: u32) -> bool
@@ -31,50 +49,24 @@ impl Pool {
         y.c < x.c || y.c == x.c && x.q < y.q
     }
 
-    /// The q of a slot.
-    fn q_of<L: Ledger>(&self, slot: u32, steps: &mut Steps<L>) -> i128
-        requires there { slot < length self.now.links }
-        ensures q { let x = candidate self.now slot in result ≡ x.q }
-        ensures step { steps.new ≡ suc steps.old }
-    {
-        steps.tick();
-        self.candidate(slot).q
-    }
-
-    /// Whether the union of two lists begins with the first of the second one.
-    fn begins_with_second<L: Ledger>(&self, one: Ends, two: Ends, steps: &mut Steps<L>) -> bool
-        requires one { IsAt self.now one (items self.now one.first) }
-        requires two { IsAt self.now two (items self.now two.first) }
-        ensures which { result ≡ begins_with_second (items self.now one.first) (items self.now two.first) }
-        ensures steps { steps.new ≤ steps.old + 1 }
-    {
-        if two.first == NONE {
-            return false;
-        }
-        if one.first == NONE {
-            return true;
-        }
-        steps.tick();
-        self.comes_first(two.first, one.first)
-    }
-
-    /// One turn of a union, at the first of both lists together.
+    /// One turn of a union, at the first of both lists together, of which none is used up.
     fn union_turn<L: Ledger>(&mut self, at: Union, steps: &mut Steps<L>) -> Union
         requires left { AreLeft self.old at (items self.old at.sieve.rest.first) (items self.old at.other.first) }
-        requires some { (at.sieve.rest.first ≢ NONE) ⊎ (at.other.first ≢ NONE) }
+        requires one { at.sieve.rest.first ≢ NONE }
+        requires two { at.other.first ≢ NONE }
         ensures uniting { (s : Block) (one two : ℕ) (all : Candidates) → IsUniting s one two all self.old at → IsUniting s one two all self.new result }
         ensures fewer { length (items self.new result.sieve.rest.first) + length (items self.new result.other.first) + 1
             ≡ length (items self.old at.sieve.rest.first) + length (items self.old at.other.first) }
         ensures steps { steps.new ≤ steps.old + 2 }
     {
-        let second = self.begins_with_second(at.sieve.rest, at.other, steps);
-        if second {
-            let q = self.q_of(at.other.first, steps);
+        steps.tick();
+        if self.comes_first(at.other.first, at.sieve.rest.first) {
+            let x = self.look(at.other.first, steps);
             let mut sieve = Sieve {
                 rest: at.other,
                 ..at.sieve
             };
-            self.turn(&mut sieve, q);
+            self.turn(&mut sieve, x.q, x.c);
             Union {
                 other: sieve.rest,
                 sieve: Sieve {
@@ -83,17 +75,37 @@ impl Pool {
                 },
             }
         } else {
-            let q = self.q_of(at.sieve.rest.first, steps);
+            let x = self.look(at.sieve.rest.first, steps);
             let mut sieve = at.sieve;
-            self.turn(&mut sieve, q);
+            self.turn(&mut sieve, x.q, x.c);
             Union { sieve, ..at }
         }
     }
 
-    /// Takes all candidates of another list into a list, and moves those that are then dominated to a bag.
+    /// Drops the first candidates of the rest, up to one whose q is over the best.
+    fn drop_dominated<L: Ledger>(&mut self, at: &mut Sieve, steps: &mut Steps<L>)
+        requires three { Sifts self.old at.old (items self.old at.old.rest.first) (items self.old at.old.kept.first) (items self.old at.old.dropped.first) }
+        requires rises { RisesInTime (items self.old at.old.rest.first) }
+        ensures sifted { IsSiftedTo self.old self.new at.old at.new (items self.new at.new.rest.first) }
+        ensures over { RisesOver at.new.best (items self.new at.new.rest.first) }
+        ensures steps { steps.new ≤ steps.old + length (items self.old at.old.rest.first) }
+    {
+        'drops: while at.rest.first != NONE {
+            let x = self.look(at.rest.first, steps);
+            if x.q > at.best {
+                break;
+            }
+            self.turn(at, x.q, x.c);
+        }
+    }
+
+    /// Takes all candidates of another list into a list, and moves those that are then dominated to a bag. The time of both lists
+    /// rises, so where one of them is used up and a candidate of the other is kept, so are all after it, and stay linked.
     pub fn absorb<L: Ledger>(&mut self, list: &mut List, other: List, steps: &mut Steps<L>) -> Bag
         requires live { IsLive self.old list.old }
         requires other { IsLive self.old other }
+        requires rises_list { RisesInTime (items_of self.old list.old) }
+        requires rises_other { RisesInTime (items_of self.old other) }
         requires differ { Differ (name list.old) (name other) }
         ensures list { (xs ys : Candidates) → Holds self.old list.old xs → Holds self.old other ys → Holds self.new list.new (undominated (union xs ys)) }
         ensures bag { (xs ys : Candidates) → Holds self.old list.old xs → Holds self.old other ys → HoldsBag self.new result (dominated (union xs ys)) }
@@ -113,12 +125,14 @@ impl Pool {
             },
             other: ends,
         };
-        'turns: while at.sieve.rest.first != NONE || at.other.first != NONE {
+        'turns: while at.sieve.rest.first != NONE && at.other.first != NONE {
             at = self.union_turn(at, steps);
         }
-        list.ends = at.sieve.kept;
+        let mut sieve = at.left();
+        self.drop_dominated(&mut sieve, steps);
+        list.ends = self.put_after(sieve.kept, sieve.rest);
         Bag {
-            ends: at.sieve.dropped,
+            ends: sieve.dropped,
         }
     }
 }

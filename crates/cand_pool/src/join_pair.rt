@@ -29,7 +29,7 @@ struct Branches {
 
 impl Pool {
     /// Looks at the candidate of a slot.
-    fn look<L: Ledger>(&self, slot: u32, steps: &mut Steps<L>) -> Numbers
+    pub(crate) fn look<L: Ledger>(&self, slot: u32, steps: &mut Steps<L>) -> Numbers
         requires there { slot < length self.now.links }
         ensures q { let x = candidate self.now slot in result.q ≡ x.q }
         ensures c { let x = candidate self.now slot in result.c ≡ x.c }

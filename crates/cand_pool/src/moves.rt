@@ -61,13 +61,15 @@ impl Pool {
         self.candidates[slot as usize] = Numbers { q, c, tag };
     }
 
-    /// Writes the q of the slot of a list of one.
-    pub(crate) fn write_q(&mut self, slot: u32, q: i128)
+    /// Writes the q and the c of the slot of a list of one.
+    pub(crate) fn rewrite(&mut self, slot: u32, q: i128, c: u64)
         requires { IsHeld self.old slot slot (candidate self.old slot ∷ []) }
         ensures written { IsWritten self.old slot self.new }
-        ensures there { let old = candidate self.old slot in candidate self.new slot ≡ record { q = q; c = old.c; tag = old.tag } }
+        ensures there { let old = candidate self.old slot in candidate self.new slot ≡ record { q = q; c = c; tag = old.tag } }
     {
-        self.candidates[slot as usize].q = q;
+        let numbers = &mut self.candidates[slot as usize];
+        numbers.q = q;
+        numbers.c = c;
     }
 
     /// Puts one list after the end of another one. Answers the ends of both together.

@@ -18,17 +18,17 @@ pub(crate) struct Sieve {
 }
 
 impl Pool {
-    /// Puts the first of the rest, with this q, after the kept ones if its q is over the best, else after the dropped ones.
-    pub(crate) fn turn(&mut self, at: &mut Sieve, q: i128)
+    /// Puts the first of the rest, with this q and c, after the kept ones if its q is over the best, else after the dropped ones.
+    pub(crate) fn turn(&mut self, at: &mut Sieve, q: i128, c: u64)
         requires three { Sifts self.old at.old (items self.old at.old.rest.first) (items self.old at.old.kept.first) (items self.old at.old.dropped.first) }
         requires some { at.old.rest.first ≢ NONE }
         ensures { (x : Candidate) (xs ks ds : Candidates) → Sifts self.old at.old (x ∷ xs) ks ds
-            → IsTurned self.old self.new at.old at.new xs ks ds (record { q = q; c = x.c; tag = x.tag }) }
+            → IsTurned self.old self.new at.old at.new xs ks ds (record { q = q; c = c; tag = x.tag }) }
     {
         // What does not change is not copied, and stays in registers.
         let slot = at.rest.first;
         at.rest.first = self.take_first(slot);
-        self.write_q(slot, q);
+        self.rewrite(slot, q, c);
         let one = Ends {
             first: slot,
             last: slot,

@@ -11,7 +11,7 @@ use Rattle.cand_pool.specs.declared.ends.List.{List as NamedList}
 use Rattle.cand_pool.proofs.PublicLaws.{held_items, held_named}
 use Rattle.cand_uses.specs.Uses.{IsExchange, MeanTheSame}
 use Rattle.cand_uses.proofs.ExchangeLemmas.{exchange_as}
-use Rattle.cand_lists.specs.ListLaws.{both}
+use Rattle.cand_lists.specs.ListLaws.{AreRising, both}
 use Rattle.cand_lists.proofs.ExactLemmas.{both_take}
 use Rattle.cand_turns.specs.Swaps.{Search, search, AreHeld, IsTurn}
 use Rattle.cand_turns.specs.Branches.{classes_in, lists_of}
@@ -133,6 +133,17 @@ module _ (before middle : Arena) (r s : Block) (self other : Branch) (even : Nam
   odds_two =
       two_held (search s middle) self.odd other.odd
       (odds_held (search r before) (search s middle) self.even self.odd other.even other.odd even held one)
+
+  -- the odd lists rise as they did
+  pub odd_rises : AreRising (items_of r self.odd) → AreRising (items_of s self.odd)
+  odd_rises rise =
+      subst (λ (l : Candidates). AreRising l)
+      (sym (odd_items (search r before) (search s middle) self.even self.odd other.even other.odd even held one)) rise
+
+  pub other_rises : AreRising (items_of r other.odd) → AreRising (items_of s other.odd)
+  other_rises rise =
+      subst (λ (l : Candidates). AreRising l)
+      (sym (odd_items' (search r before) (search s middle) self.even self.odd other.even other.odd even held one)) rise
 
   module _ (after : Arena) (t : Block) (odd : NamedList) (second : IsTaken middle after s t self.odd other.odd odd) where
     abbrev made : Branch

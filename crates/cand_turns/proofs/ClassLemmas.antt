@@ -14,7 +14,7 @@ use Rattle.cand_pool.specs.Pools.{Block, IsLive, items_of, spare}
 use Rattle.cand_pool.specs.declared.ends.List.{List as NamedList}
 use Rattle.cand_uses.specs.Pairs.{pairs_of}
 use Rattle.cand_uses.specs.Uses.{HoldsFor, MeanTheSame}
-use Rattle.cand_lists.specs.ListLaws.{both}
+use Rattle.cand_lists.specs.ListLaws.{AreRising, both}
 use Rattle.vg_convex.specs.Orders.{numbers_of}
 use Rattle.vg_convex.proofs.Numberings.{kinds_sum}
 use Rattle.vg_convex.proofs.Results.{kept_found}
@@ -157,6 +157,19 @@ spare_less p odd old new cells one few =
       length-append (items_of new.pool cells.even) (items_of new.pool cells.odd),
       few_both p odd (classes_in new.pool cells) few,
     )
+
+-- what repeaters make of a list rises, in each class
+pub made_rises : (p : Problem) (v : ℕ) (odd : Bool) (xs : Candidates) (ms : List Made) (cells : Bool → Candidates) → AreMadeOf p v odd xs ms cells
+    → (o : Bool) → AreRising (cells o)
+made_rises p v true xs ms cells are true = (are false).exact.rising
+made_rises p v true xs ms cells are false = (are true).exact.rising
+made_rises p v false xs ms cells are true = (are true).exact.rising
+made_rises p v false xs ms cells are false = (are false).exact.rising
+
+-- and still does when other lists are made
+pub branch_rises : (old new : Search) (branch : Branch) (made : Lists) → AreHeld old (lists_of branch) → IsTurn old [] new made
+    → ((odd : Bool) → AreRising (classes_in old.pool branch odd)) → (odd : Bool) → AreRising (classes_in new.pool branch odd)
+branch_rises old new branch made held turn rise odd = subst (λ (l : Candidates). AreRising l) (sym (classes_same old new [] made branch held turn odd)) (rise odd)
 
 -- the cells of both lists together
 module _ (p : Problem) (v : ℕ) (branch cells others made : Branch) (first middle after last : Arena) (r s t u : Block) (held : AreHeld (search r first) (lists_of branch))

@@ -1,21 +1,17 @@
 -- A load beside a branch.
 use Rattle.std.proofs.Common.{◌≡◌, ℕ, [], ◌∷◌, map, refl, sym, arith}
 use Rattle.std.proofs.lemmas.List.{length-map}
-use Rattle.cand_pool.specs.Candidates.{Candidates, loaded}
+use Rattle.cand_pool.specs.Candidates.{loaded}
 use Rattle.cand_pool.specs.Pools.{Block, Holds, items_of, spare, name, KeepsOthers}
 use Rattle.cand_pool.specs.declared.ends.List.{List as NamedList}
-use Rattle.cand_uses.specs.Uses.{uses_by, HoldsFor}
-use Rattle.cand_uses.proofs.ExchangeLemmas.{uses_of_one, no_exchange, exchange_same}
+use Rattle.cand_uses.specs.Uses.{HoldsFor}
+use Rattle.cand_uses.proofs.ExchangeLemmas.{no_exchange, exchange_same}
 use Rattle.cand_pool.proofs.PublicLaws.{held_items}
+use Rattle.cand_lists.proofs.KeptLemmas.{loaded_uses}
 use Rattle.cand_turns.specs.Swaps.{Slots, Search, at_slots, AreHeld, IsTurn}
 use Rattle.cand_turns.specs.Branches.{lists_of}
 use Rattle.cand_turns.specs.declared.branch.Branch.{Branch}
 use Rattle.cand_turns.proofs.BranchLemmas.{one_turn, AreTwo, two_held, even_turn, odd_stays}
-
--- a load leaves each solution
-pub loaded_uses : (c : ℕ) (xs : Candidates) (s : ℕ) → uses_by (map (loaded c) xs) s ≡ uses_by xs s
-loaded_uses c [] s = refl
-loaded_uses c (x ∷ xs) s = omega (arith, uses_of_one (loaded c x) (map (loaded c) xs) s, uses_of_one x xs s, loaded_uses c xs s)
 
 -- one list with a load more
 pub load_turn : (old new : Block) (slots : Slots) (list list' : NamedList) (c : ℕ) → HoldsFor slots (items_of old list) → KeepsOthers old (name list ∷ []) new (name list' ∷ [])

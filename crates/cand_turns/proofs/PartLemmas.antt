@@ -28,7 +28,10 @@ use Rattle.cand_lists.proofs.ExactLemmas.{load_exact}
 use Rattle.cand_turns.specs.Swaps.{search, Lists, AreHeld, IsTurn}
 use Rattle.cand_turns.specs.Branches.{lists_of, classes_in}
 use Rattle.cand_turns.specs.Solved.{AreSolved, IsOpenAt, IsAboveWire}
+use Rattle.cand_turns.specs.Parts.{IsPart, load_beside}
 use Rattle.cand_turns.specs.declared.branch.Branch.{Branch}
+use Rattle.cand_turns.specs.declared.part.Part.{Part}
+use Rattle.cand_turns.specs.declared.part.Part.TheVariants.{Dead, Live}
 use Rattle.cand_turns.proofs.SwapLemmas.{other_items}
 use Rattle.cand_turns.proofs.MeetLemmas.{IsOpenClass, open_beside, open_modest}
 
@@ -48,6 +51,11 @@ pub dead_sum : (p : Problem) (i c d : ℕ) → 0 < i → i < length p.tree.nodes
 dead_sum p i c d some i_n dead part d_is =
     let both : IsDeadPart p i (parent_of p.tree.nodes i) (c + d) = dead_dead p i c d some i_n dead part d_is in
     omega (arith, both.load, own_small p (parent_of p.tree.nodes i) i (parent_within p i some i_n))
+
+-- what is beside a branch that comes in is small
+pub beside_small : (p : Problem) (i v : ℕ) (ms : List Made) (s : Block) (part : Part) → v < length p.tree.nodes → IsPart p i v ms s part → load_beside part ≤ 10 ^ 11
+beside_small p i v ms s (Dead c) v_n part = omega (arith, part.load, own_small p v i v_n)
+beside_small p i v ms s (Live branch) v_n part = omega arith
 
 -- DEAD ON LIVE
 module _ (p : Problem) (i d : ℕ) (some : 0 < i) (i_n : i < length p.tree.nodes) (dead : is_live p.tree.nodes p.sinks i ≡ false) (d_is : d ≡ downstream_in p.tree.nodes i)

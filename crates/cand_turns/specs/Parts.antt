@@ -21,6 +21,11 @@ abbrev pub size_in : Block → Part → Bool → ℕ
 size_in s (Dead c) odd = 0
 size_in s (Live branch) odd = length (classes_in s branch odd)
 
+-- the load beside a branch that comes in: all that came in before, where no sink is there
+abbrev pub load_beside : Part → ℕ
+load_beside (Dead c) = c
+load_beside (Live branch) = 0
+
 -- with a branch that came in, a part has in each class no more candidates than both had before
 abbrev pub HasNoMore : Block → Part → Branch → Block → Part → Type 0
 HasNoMore s before branch s' after = (odd : Bool) → size_in s' after odd ≤ size_in s before odd + length (classes_in s branch odd)

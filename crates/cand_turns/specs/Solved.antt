@@ -3,6 +3,7 @@ use Rattle.std.specs.Prelude.{◌≡◌, ℕ, Bool, cond, List, [], ◌∷◌, O
 use Rattle.std.specs.Bool.{beq}
 use Rattle.std.specs.List.{Contains}
 use Rattle.elmore.specs.Pairs.{IsPairAt, IsUndominated}
+use Rattle.elmore.specs.Trees.{resistance}
 use Rattle.elmore.specs.declared.pair.Pair.{Pair}
 use Rattle.elmore.specs.declared.parts.Sink.{Sink}
 use Rattle.elmore.specs.declared.problem.Problem.{Problem}
@@ -15,6 +16,7 @@ use Rattle.cand_laws.specs.Parts.{IsLivePart}
 use Rattle.cand_laws.specs.Solutions.{IsSolutionOf, IsOpenSolutionOf}
 use Rattle.cand_pool.specs.Candidates.{Candidate, Candidates}
 use Rattle.cand_uses.specs.Pairs.{pair_of, pairs_of}
+use Rattle.cand_lists.specs.ListLaws.{through_wire}
 
 -- the solution of each candidate comes to its pair in this sense
 abbrev pub AreSolved : ((ℕ → Option ℕ) → Pair → Type 0) → List Made → Candidates → Type 0
@@ -43,6 +45,10 @@ pub record IsAboveWire (p : Problem) (v : ℕ) (kept : Bool → List Pair) (ms :
   pub below : (odd : Bool) → IsUndominated (IsPairAt p v odd) (kept odd)
   pub exact : (odd : Bool) → IsUndominated (Carries p v (kept odd)) (pairs_of (classes odd))
   pub solved : (odd : Bool) → AreSolved (IsCarriedSolution p v odd) ms (classes odd)
+
+-- what the wire of v leaves of these classes
+abbrev pub carried_classes : Problem → ℕ → (Bool → Candidates) → Bool → Candidates
+carried_classes p v classes odd = through_wire (resistance p.tree.nodes v) (classes odd)
 
 abbrev pub IsCarriedAt : Problem → ℕ → List Made → (Bool → Candidates) → Type 0
 IsCarriedAt p v ms classes = (kept : Bool → List Pair) × IsAboveWire p v kept ms classes

@@ -1,6 +1,6 @@
 //! The lists of a branch of a net, and what a wire makes of them.
 
-ghost use Rattle.std.specs.Prelude.{◌≡◌, ◌+◌, ◌<◌, ◌≤◌, Bool, true, [], map, ◌++◌, length, IfOk, MatchResult};
+ghost use Rattle.std.specs.Prelude.{◌≡◌, ◌+◌, ◌^◌, ◌<◌, ◌≤◌, Bool, true, [], map, ◌++◌, length, IfOk, MatchResult};
 ghost use Rattle.elmore.specs.Problems.{is_live};
 ghost use Rattle.elmore.specs.Trees.{parent_of, resistance};
 ghost use Rattle.sol_arena.specs.Arenas.{made_of};
@@ -9,7 +9,7 @@ ghost use Rattle.cand_pool.specs.Pools.{spare};
 ghost use Rattle.cand_uses.specs.Pairs.{pairs_of};
 ghost use Rattle.cand_turns.specs.Swaps.{Slots, AreHeld, IsSwap, IsTurn, search, at_slots};
 ghost use Rattle.cand_turns.specs.Branches.{classes_in, lists_of};
-ghost use Rattle.cand_turns.specs.Solved.{sink_classes, IsOpenAt, IsClosedAt, IsAboveWire, IsCarriedAt};
+ghost use Rattle.cand_turns.specs.Solved.{sink_classes, IsOpenAt, IsClosedAt, IsAboveWire, IsCarriedAt, carried_classes};
 
 use cand_lists::wire;
 use cand_pool::{List, Pool, Steps};
@@ -68,25 +68,31 @@ impl Branch {
         end_list(pool, arena, odd);
     }
 
-    /// Charges the wire of the branch's node to both lists, and gives up what is then dominated.
+    /// Charges the wire of the branch's node to both lists, adds a load (aF) beside its upper end, and gives up what is then
+    /// dominated.
     pub fn carry<L: Ledger>(
         &mut self,
         pool: &mut Pool,
         arena: &mut Arena,
         p: &Problem,
         node: usize,
+        c: u64,
         steps: &mut Steps<L>,
     )
         requires node { node < length p.now.tree.nodes }
+        requires load { c ≤ 10 ^ 11 }
         requires held { AreHeld (search pool.old arena.old) (lists_of self.old) }
         requires closed { IsClosedAt p.now node (made_of arena.old) (classes_in pool.old self.old) }
-        ensures above { IsAboveWire p.now node (λ odd. pairs_of (classes_in pool.old self.old odd)) (made_of arena.new) (classes_in pool.new self.new) }
+        ensures above { IsAboveWire p.now node (λ odd. pairs_of (classes_in pool.old self.old odd)) (made_of arena.new)
+            (carried_classes p.now node (classes_in pool.old self.old)) }
+        ensures classes { (odd : Bool)
+            → classes_in pool.new self.new odd ≡ map (loaded c) (carried_classes p.now node (classes_in pool.old self.old) odd) }
         ensures turn { IsTurn (search pool.old arena.old) (lists_of self.old) (search pool.new arena.new) (lists_of self.new) }
         ensures few { (odd : Bool) → length (classes_in pool.new self.new odd) ≤ length (classes_in pool.old self.old odd) }
     {
         let r = resistance_of(p, node);
-        wire(pool, arena, &mut self.even, r, steps);
-        wire(pool, arena, &mut self.odd, r, steps);
+        wire(pool, arena, &mut self.even, r, c, steps);
+        wire(pool, arena, &mut self.odd, r, c, steps);
     }
 
     /// Adds a load (aF) beside the branch to each candidate of both lists.

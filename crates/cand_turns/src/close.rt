@@ -6,7 +6,7 @@ ghost use Rattle.cand_pool.specs.Candidates.{Candidates};
 ghost use Rattle.cand_pool.specs.Pools.{spare, IsLive, items_of};
 ghost use Rattle.cand_uses.specs.Pairs.{pairs_of};
 ghost use Rattle.cand_uses.specs.Uses.{HoldsFor, MeanTheSame};
-ghost use Rattle.cand_lists.specs.ListLaws.{both};
+ghost use Rattle.cand_lists.specs.ListLaws.{AreRising, both};
 ghost use Rattle.cand_turns.specs.Swaps.{AreHeld, IsSwap, IsTurn, search};
 ghost use Rattle.cand_turns.specs.Branches.{classes_in, list_of, lists_of};
 ghost use Rattle.cand_turns.specs.Solved.{IsOpenAt, IsClosedAt};
@@ -198,6 +198,8 @@ impl Branch {
         steps: &mut Steps<L>,
     )
         requires held { AreHeld (search pool.old arena.old) (lists_of self.old ++ lists_of other) }
+        requires rising { (odd : Bool) → AreRising (classes_in pool.old self.old odd) }
+        requires rising_other { (odd : Bool) → AreRising (classes_in pool.old other odd) }
         ensures classes { (odd : Bool) → classes_in pool.new self.new odd ≡ both (classes_in pool.old self.old odd) (classes_in pool.old other odd) }
         ensures same { (odd : Bool) → MeanTheSame (made_of arena.old) (made_of arena.new) (classes_in pool.new self.new odd) }
         ensures turn { IsTurn (search pool.old arena.old) (lists_of self.old ++ lists_of other) (search pool.new arena.new) (lists_of self.new) }

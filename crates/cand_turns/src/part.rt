@@ -10,7 +10,7 @@ ghost use Rattle.cand_pool.specs.Pools.{spare};
 ghost use Rattle.cand_turns.specs.Swaps.{Slots, AreHeld, IsSwap, IsTurn, search, at_slots};
 ghost use Rattle.cand_turns.specs.Branches.{classes_in, lists_of};
 ghost use Rattle.cand_turns.specs.Solved.{IsClosedAt};
-ghost use Rattle.cand_turns.specs.Parts.{lists_in, size_in, HasNoMore, IsPart, Solutions};
+ghost use Rattle.cand_turns.specs.Parts.{lists_in, size_in, load_beside, HasNoMore, IsPart, Solutions};
 
 use crate::branch::Branch;
 use cand_pool::{Pool, Steps};
@@ -63,6 +63,16 @@ impl Part {
         }
     }
 
+    /// The load (aF) beside a branch that comes in: all that came in before, where no sink is there.
+    fn load_beside(&self) -> u64
+        ensures { result ≡ load_beside self.now }
+    {
+        match self {
+            Part::Dead(c) => *c,
+            Part::Live(_) => 0,
+        }
+    }
+
     /// A live node comes in to its parent, whose part this is: with the candidates that it has, above its wire. Answers `Memory`
     /// where there is no room; the part and the branch are given up then.
     pub fn take_live<L: Ledger>(
@@ -89,12 +99,9 @@ impl Part {
         ensures few { IfOk result (λ part. HasNoMore pool.old self branch pool.new part) }
     {
         let mut branch = branch;
-        branch.carry(pool, arena, p, node, steps);
+        branch.carry(pool, arena, p, node, self.load_beside(), steps);
         match self {
-            Part::Dead(c) => {
-                branch.load(pool, c, steps);
-                Ok(Part::Live(branch))
-            }
+            Part::Dead(_) => Ok(Part::Live(branch)),
             Part::Live(above) => {
                 let both = above.meet(pool, arena, p, node, branch, steps)?;
                 Ok(Part::Live(both))

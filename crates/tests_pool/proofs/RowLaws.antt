@@ -1,8 +1,11 @@
 -- Lists as they are made of rows, and bags as they are emptied.
-use Rattle.std.proofs.Common.{◌≡◌, ℕ, suc, ◌+◌, ◌<◌, List, [], ◌∷◌, ◌++◌, length, map, refl, sym, ap, ◌∙◌, subst, arith, inl, inr, length-append, Option, None, Some}
-use Rattle.std.specs.Prelude.{IsNone}
+use Rattle.std.proofs.Common.{◌≡◌, ℕ, suc, ◌+◌, ◌-◌, ◌<◌, ◌≤◌, List, get_or, ℤ, [], ◌∷◌, ◌++◌, length, map, refl, sym, ap, ◌∙◌, subst, arith, inl, inr, length-append, Option, None, Some}
+use Rattle.std.specs.Prelude.{IsNone, ◌<ℤ◌}
+use Rattle.std.proofs.lemmas.Bool.{cases_eq}
+use Rattle.std.proofs.lemmas.Int.{ints}
+use Rattle.std.proofs.lemmas.List.{get_or_default}
 use Rattle.cand_pool.specs.Links.{none}
-use Rattle.cand_pool.specs.Candidates.{Candidate, Candidates, IsModest, AreModest, wired}
+use Rattle.cand_pool.specs.Candidates.{Candidate, Candidates, IsModest, AreModest, wired_to}
 use Rattle.cand_pool.specs.Sequences.{lowest, undominated, dominated, union}
 use Rattle.cand_pool.specs.Pools.{Block, items_of, bag_of, spare, Holds, HoldsBag, IsLive, IsLiveBag, KeepsOthers, Differ, name, bag_name}
 use Rattle.cand_pool.specs.declared.ends.List.{List as NamedList}
@@ -12,24 +15,62 @@ use Rattle.cand_pool.proofs.PoolMoves.{keeps_then, keeps_itself}
 use Rattle.cand_pool.proofs.SieveLaws.{keeps_like}
 use Rattle.cand_pool.proofs.CallLaws.{keeps_none, fresh_differs}
 use Rattle.cand_pool.proofs.LengthLaws.{parts_long, union_long, map_long}
-use Rattle.tests_pool.specs.Rows.{IsMade}
+use Rattle.cand_pool.specs.Laws.{RisesInTime}
+use Rattle.cand_pool.proofs.RisingLaws.{AreBefore, before_append, rises_append}
+use Rattle.tests_pool.specs.Rows.{IsMade, AreRising}
+use Rattle.tests_pool.specs.declared.rows.Row.{Row}
 
 modest_append : (xs : List Candidate) (x : Candidate) → AreModest xs → IsModest x → AreModest (xs ++ x ∷ [])
 modest_append [] x all one = (one, tt)
 modest_append (y ∷ ys) x all one = (all.0, modest_append ys x all.1 one)
 
--- how far a list is made: it has n candidates
-pub record IsMaking (s t : Block) (list : NamedList) (n : ℕ) : Type 0 where
+-- how the times of candidates that were made of the first n rows rise
+pub record AreRisingTo (rows : List Row) (n : ℕ) (xs : Candidates) : Type 0 where
+  pub rises : RisesInTime xs
+  pub before : (k : ℕ) (d : Row) → n ≤ k → k < length rows → AreBefore (get_or rows k d).q xs
+
+rising_more : (rows : List Row) (n : ℕ) (xs : Candidates) (x : Candidate) (e : Row) → AreRising rows → n < length rows → x.q ≡ (get_or rows n e).q → AreRisingTo rows n xs
+    → AreRisingTo rows (n + 1) (xs ++ x ∷ [])
+rising_more rows n xs x e all low time are = record {
+  rises = rises_append xs x are.rises (subst (λ (q : ℤ). AreBefore q xs) (sym time) (are.before n e (omega arith) low));
+  before = λ k d n_k k_n.
+      let later : (get_or rows n d).q <ℤ (get_or rows k d).q = all n k d (omega arith) k_n in
+      let same : (get_or rows n e).q ≡ (get_or rows n d).q = ap (λ (r : Row). r.q) (get_or_default rows n e d low) in
+      let early : x.q <ℤ (get_or rows k d).q = subst (λ (q : ℤ). q <ℤ (get_or rows k d).q) (sym (time ∙ same)) later in
+      before_append (get_or rows k d).q xs x (are.before k d (omega arith) k_n) early;
+}
+
+-- rows of which one more was looked at
+pub rows_more : (rows : List Row) (i : ℕ) (e : Row) → 0 < i → i < length rows → (get_or rows (i - 1) e).q <ℤ (get_or rows i e).q
+    → ((k j : ℕ) (d : Row) → k < j → j < i → (get_or rows k d).q <ℤ (get_or rows j d).q)
+    → (k j : ℕ) (d : Row) → k < j → j < i + 1 → (get_or rows k d).q <ℤ (get_or rows j d).q
+rows_more rows i e some low next before k j d k_j j_i = elim (cases_eq j i) [
+  | inr less ↦ before k j d k_j (omega arith)
+  | inl is ↦
+      let one : (get_or rows (i - 1) e).q ≡ (get_or rows (i - 1) d).q = ap (λ (r : Row). r.q) (get_or_default rows (i - 1) e d (omega arith)) in
+      let two : (get_or rows i e).q ≡ (get_or rows i d).q = ap (λ (r : Row). r.q) (get_or_default rows i e d low) in
+      let last : (get_or rows (i - 1) d).q <ℤ (get_or rows i d).q = omega (arith, ints, next, one, two) in
+      rw is
+      (elim (cases_eq k (i - 1)) [
+        | inl first ↦ rw first last
+        | inr less ↦ let more : (get_or rows k d).q <ℤ (get_or rows (i - 1) d).q = before k (i - 1) d (omega arith) (omega arith) in omega (arith, ints, more, last)
+      ])
+]
+
+-- how far a list is made of rows: it has n candidates
+pub record IsMaking (rows : List Row) (s t : Block) (list : NamedList) (n : ℕ) : Type 0 where
   pub xs : Candidates
   pub held : Holds t list xs
   pub modest : AreModest xs
   pub long : length xs ≡ n
+  pub rises : AreRising rows → AreRisingTo rows n xs
   pub others : KeepsOthers s [] t (name list ∷ [])
   pub free : spare s ≡ spare t + n
 
-pub making_start : (s t : Block) (list : NamedList) → t ≡ s → Holds t list [] → IsMaking s t list 0
-making_start s t list same h = record {
+pub making_start : (rows : List Row) (s t : Block) (list : NamedList) → t ≡ s → Holds t list [] → IsMaking rows s t list 0
+making_start rows s t list same h = record {
   xs = [];
+  rises = λ all. record { rises = tt; before = λ k d n_k k_n. tt };
   held = h;
   modest = tt;
   long = refl;
@@ -37,10 +78,12 @@ making_start s t list same h = record {
   free = let e : spare t ≡ spare s = ap spare same in omega (arith, e);
 }
 
-pub making_more : (s t u : Block) (list list' : NamedList) (n : ℕ) (x : Candidate) → IsMaking s t list n → IsModest x → ((xs : Candidates) → Holds t list xs → Holds u list' (xs ++ x ∷ []))
-    → KeepsOthers t (name list ∷ []) u (name list' ∷ []) → spare t ≡ suc (spare u) → IsMaking s u list' (n + 1)
-making_more s t u list list' n x f modest pushed others free = record {
+pub making_more : (rows : List Row) (s t u : Block) (list list' : NamedList) (n : ℕ) (x : Candidate) (e : Row) → n < length rows → x.q ≡ (get_or rows n e).q
+    → IsMaking rows s t list n → IsModest x → ((xs : Candidates) → Holds t list xs → Holds u list' (xs ++ x ∷ []))
+    → KeepsOthers t (name list ∷ []) u (name list' ∷ []) → spare t ≡ suc (spare u) → IsMaking rows s u list' (n + 1)
+making_more rows s t u list list' n x e low time f modest pushed others free = record {
   xs = f.xs ++ x ∷ [];
+  rises = λ all. rising_more rows n f.xs x e all low time (f.rises all);
   held = pushed f.xs f.held;
   modest = modest_append f.xs x f.modest modest;
   long = let long = f.long in omega (arith, long, length-append f.xs (x ∷ []));
@@ -48,8 +91,11 @@ making_more s t u list list' n x f modest pushed others free = record {
   free = let before = f.free in omega (arith, before, free);
 }
 
-pub making_end : (s t : Block) (list : NamedList) (m n : ℕ) → IsMaking s t list m → m ≡ n → IsMade t list n
-making_end s t list m n f e =
+pub making_rises : (rows : List Row) (s t : Block) (list : NamedList) (n : ℕ) → IsMaking rows s t list n → AreRising rows → RisesInTime (items_of t list)
+making_rises rows s t list n f all = subst RisesInTime (sym (held_items t list.ends.first list.ends.last f.xs f.held)) (f.rises all).rises
+
+pub making_end : (rows : List Row) (s t : Block) (list : NamedList) (m n : ℕ) → IsMaking rows s t list m → m ≡ n → IsMade t list n
+making_end rows s t list m n f e =
     let is : items_of t list ≡ f.xs = held_items t list.ends.first list.ends.last f.xs f.held in
     (held_named t list.ends.first list.ends.last f.xs f.held, subst AreModest (sym is) f.modest, ap length is ∙ f.long ∙ e)
 
@@ -116,11 +162,11 @@ parted t list bag ks ds n left gone all = record {
   all = let e = ap length (held_items t list.ends.first list.ends.last ks left) in let f = ap length (held_items t bag.ends.first bag.ends.last ds gone) in omega (arith, e, f, all);
 }
 
-pub wired_parted : (r : ℕ) (s t : Block) (list list' : NamedList) (bag : Bag) (n : ℕ) → IsMade s list n → ((xs : Candidates) → Holds s list xs → Holds t list' (undominated (map (wired r) xs)))
-    → ((xs : Candidates) → Holds s list xs → HoldsBag t bag (dominated (map (wired r) xs))) → IsParted t list' bag n
-wired_parted r s t list list' bag n made left gone =
+pub wired_parted : (r c : ℕ) (s t : Block) (list list' : NamedList) (bag : Bag) (n : ℕ) → IsMade s list n → ((xs : Candidates) → Holds s list xs → Holds t list' (undominated (map (wired_to r c) xs)))
+    → ((xs : Candidates) → Holds s list xs → HoldsBag t bag (dominated (map (wired_to r c) xs))) → IsParted t list' bag n
+wired_parted r c s t list list' bag n made left gone =
     let xs : Candidates = items_of s list in
-    parted t list' bag (undominated (map (wired r) xs)) (dominated (map (wired r) xs)) n (left xs made.0) (gone xs made.0) (parts_long lowest (map (wired r) xs) ∙ map_long (wired r) xs ∙ made.2)
+    parted t list' bag (undominated (map (wired_to r c) xs)) (dominated (map (wired_to r c) xs)) n (left xs made.0) (gone xs made.0) (parts_long lowest (map (wired_to r c) xs) ∙ map_long (wired_to r c) xs ∙ made.2)
 
 pub absorbed_parted : (s t : Block) (list other list' : NamedList) (bag : Bag) (m n : ℕ) → IsMade s list m → IsMade s other n → ((xs ys : Candidates) → Holds s list xs → Holds s other ys → Holds t list' (undominated (union xs ys)))
     → ((xs ys : Candidates) → Holds s list xs → Holds s other ys → HoldsBag t bag (dominated (union xs ys))) → IsParted t list' bag (m + n)
@@ -129,6 +175,12 @@ absorbed_parted s t list other list' bag m n made beside left gone =
     let ys : Candidates = items_of s other in
     let a = made.2 in let b = beside.2 in let c = union_long xs ys in let d = parts_long lowest (union xs ys) in
     parted t list' bag (undominated (union xs ys)) (dominated (union xs ys)) (m + n) (left xs ys made.0 beside.0) (gone xs ys made.0 beside.0) (omega (arith, a, b, c, d))
+
+-- so do its times rise
+pub second_rises : (s t : Block) (list other : NamedList) (n : ℕ) → IsMade s list n → KeepsOthers s [] t (name other ∷ []) → RisesInTime (items_of s list) → RisesInTime (items_of t list)
+second_rises s t list other n made keeps rises =
+    let there : Holds t list (items_of s list) = stays s t [] (name other ∷ []) list.ends.first list.ends.last (items_of s list) keeps (λ some m. m) made.0 in
+    subst RisesInTime (sym (held_items t list.ends.first list.ends.last (items_of s list) there)) rises
 
 -- a list that was made stays while another one is made
 pub second : (s t : Block) (list other : NamedList) (n : ℕ) → IsMade s list n → KeepsOthers s [] t (name other ∷ []) → IsMade t list n × Differ (name list) (name other)

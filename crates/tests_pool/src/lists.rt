@@ -1,8 +1,9 @@
 //! Lists made of rows, and what the calls make of them.
 
 ghost use Rattle.std.specs.Prelude.{◌≡◌, suc, ◌+◌, ◌*◌, ◌^◌, ◌≤◌, ◌<◌, [], ◌∷◌, length};
-ghost use Rattle.cand_pool.specs.Pools.{spare, IsLive, IsLiveBag, bag_of, KeepsOthers, name, bag_name};
-ghost use Rattle.tests_pool.specs.Rows.{IsMade};
+ghost use Rattle.cand_pool.specs.Laws.{RisesInTime};
+ghost use Rattle.cand_pool.specs.Pools.{spare, items_of, IsLive, IsLiveBag, bag_of, KeepsOthers, name, bag_name};
+ghost use Rattle.tests_pool.specs.Rows.{IsMade, AreRising};
 
 use crate::rows::{Numbers, Row};
 use cand_pool::{Bag, List, Pool, Steps};
@@ -51,6 +52,7 @@ impl Tags {
 pub fn make(pool: &mut Pool, rows: &[Row]) -> List
     requires { length rows.now ≤ spare pool.old }
     ensures made { IsMade pool.new result (length rows.now) }
+    ensures rises { AreRising rows.now → RisesInTime (items_of pool.new result) }
     ensures others { KeepsOthers pool.old [] pool.new (name result ∷ []) }
     ensures spare { spare pool.old ≡ spare pool.new + length rows.now }
 {

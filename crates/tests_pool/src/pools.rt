@@ -2,9 +2,10 @@
 
 ghost use Rattle.std.specs.Prelude.{◌≡◌, ◌+◌, ◌≤◌, ◌<◌, ◌^◌, length, ℕ};
 ghost use Rattle.cand_pool.specs.Pools.{spare, items_of, bag_of, IsLive, IsLiveBag, Differ, name, bag_name};
+ghost use Rattle.tests_pool.specs.Rows.{AreRising};
 
 use crate::lists::{Tags, has_rows, make, take_all};
-use crate::rows::{Random, Row, above_wire, draw_rows, joined, undominated};
+use crate::rows::{Random, Row, above_wire, draw_rising, draw_rows, joined, rises, undominated};
 use cand_pool::{Bag, List, Pool, Steps};
 use std::alloc::Global;
 use std::marker::Brand;
@@ -52,7 +53,8 @@ fn give_up(pool: &mut Pool, list: List, bag: Bag) -> Split
     Split { kept, dropped }
 }
 
-/// Takes a list of the second rows into one of the first. Answers whether it is the wanted one then, and the tags.
+/// Takes a list of the second rows into one of the first, where the q of both rises. Answers whether it is the wanted one then,
+/// and the tags.
 fn absorbed<L: Ledger>(
     pool: &mut Pool,
     one: &[Row],
@@ -60,7 +62,9 @@ fn absorbed<L: Ledger>(
     want: &[Row],
     steps: &mut Steps<L>,
 ) -> (bool, Split)
-    requires { length one.now + length two.now ≤ spare pool.old }
+    requires room { length one.now + length two.now ≤ spare pool.old }
+    requires one { AreRising one.now }
+    requires two { AreRising two.now }
     ensures { spare pool.new ≡ spare pool.old }
 {
     let mut list = make(pool, one);
@@ -83,13 +87,14 @@ fn wired<L: Ledger>(
     ensures { spare pool.new ≡ spare pool.old }
 {
     let mut list = make(pool, rows);
-    let bag = pool.wire(&mut list, u64::from(r), steps);
+    let bag = pool.wire(&mut list, u64::from(r), 0, steps);
     let as_wanted = has_rows(pool, &list, want, steps);
     let split = give_up(pool, list, bag);
     (as_wanted, split)
 }
 
-/// Whether these lists become the wanted one when the second is taken into the first, and the bag has just the other tags.
+/// Whether the q of these lists rises, and they become the wanted one when the second is taken into the first, and the bag has
+/// just the other tags.
 fn absorbs<L: Ledger>(
     pool: &mut Pool,
     one: &[Row],
@@ -100,6 +105,9 @@ fn absorbs<L: Ledger>(
     requires { length one.now + length two.now ≤ spare pool.old }
     ensures { spare pool.new ≡ spare pool.old }
 {
+    if !rises(one) || !rises(two) {
+        return false;
+    }
     let (as_wanted, split) = absorbed(pool, one, two, want, steps);
     as_wanted && split.is(want, Tags::of(one).and(Tags::of(two)))
 }
@@ -160,14 +168,15 @@ fn agrees<L: Ledger>(
     ensures { spare pool.new ≡ spare pool.old }
 {
     let (sizes, r) = ((random.draw(13), random.draw(13)), random.draw(4));
-    let one = draw_rows(alloc, random, sizes.0, 0)?;
-    let two = draw_rows(alloc, random, sizes.1, 32)?;
+    let one = draw_rising(alloc, random, sizes.0, 0)?;
+    let two = draw_rising(alloc, random, sizes.1, 32)?;
     let all = joined(alloc, one.as_slice(), two.as_slice())?;
     let both = undominated(alloc, all.as_slice())?;
-    let above = above_wire(alloc, one.as_slice(), r)?;
+    let rows = draw_rows(alloc, random, sizes.0, 0)?;
+    let above = above_wire(alloc, rows.as_slice(), r)?;
     let kept = undominated(alloc, above.as_slice())?;
     let absorbed = absorbs(pool, one.as_slice(), two.as_slice(), both.as_slice(), steps);
-    let wired = wires(pool, one.as_slice(), r, kept.as_slice(), steps);
+    let wired = wires(pool, rows.as_slice(), r, kept.as_slice(), steps);
     Ok(absorbed && wired)
 }
 

@@ -1,6 +1,7 @@
 //! Rows of candidates, at random, and which of them no other one dominates, by a plain program.
 
-ghost use Rattle.std.specs.Prelude.{◌≡◌, ◌<◌, ◌≤◌, ◌^◌, length, IfOk, vec_len, pos, negsuc, ◌≤ℤ◌};
+ghost use Rattle.std.specs.Prelude.{◌≡◌, ◌<◌, ◌≤◌, ◌^◌, length, IfOk, IsTrue, MatchBool, vec_len, pos, negsuc, ◌≤ℤ◌, ◌<ℤ◌};
+ghost use Rattle.tests_pool.specs.Rows.{AreRising};
 
 use std::alloc::{AllocError, Global};
 
@@ -22,6 +23,7 @@ pub struct Numbers {
 
 impl Row {
     pub fn numbers(self) -> Numbers
+        ensures q { result.q ≡ self.q }
         ensures low { negsuc (10 ^ 25) ≤ℤ result.q }
         ensures high { result.q ≤ℤ pos (10 ^ 25) }
         ensures load { result.c ≤ 10 ^ 11 }
@@ -84,6 +86,51 @@ pub fn draw_rows(
         rows.push(last)?;
     }
     Ok(rows)
+}
+
+/// So many rows by rising q and c, of which many are those of other such lists, with tags from this one on.
+pub fn draw_rising(
+    alloc: Global,
+    random: &mut Random,
+    size: u32,
+    first_tag: u8,
+) -> Result<Vec<Row>, AllocError>
+    ensures { IfOk result (λ rows. vec_len rows ≡ size) }
+{
+    let mut rows = Vec::new(alloc);
+    let mut last = Row {
+        q: 0,
+        c: 0,
+        tag: first_tag,
+    };
+    'rows: for at in 0..size {
+        last = Row {
+            q: last.q.wrapping_add(1 + i64::from(random.draw(2))),
+            c: last.c.wrapping_add(1 + random.draw(2)),
+            tag: last.tag.wrapping_add(1),
+        };
+        rows.push(last)?;
+    }
+    Ok(rows)
+}
+
+/// Whether the q of a row is over that of another one.
+fn is_over(row: Row, other: Row) -> bool
+    ensures { MatchBool result (other.q <ℤ row.q) (row.q ≤ℤ other.q) }
+{
+    row.q > other.q
+}
+
+/// Whether the q of these rows rises.
+pub fn rises(rows: &[Row]) -> bool
+    ensures { IsTrue result → AreRising rows.now }
+{
+    'rows: for i in 1..rows.len() {
+        if !is_over(rows[i], rows[i - 1]) {
+            return false;
+        }
+    }
+    true
 }
 
 /// The rows of both lists.

@@ -5,8 +5,15 @@ use Rattle.sol_arena.specs.Arenas.{slots_of}
 use Rattle.cand_pool.proofs.PublicLaws.{held_items, held_named, stays}
 use Rattle.cand_pool.proofs.PoolMoves.{keeps_then}
 use Rattle.cand_lists.proofs.KeptLemmas.{kept_length, union_length}
+use Rattle.cand_lists.proofs.RisingLemmas.{rising_time}
 use Rattle.cand_lists.proofs.MoveLemmas.{given_up, stays_meant, dominated_held, both_uses, held_as, first_in, differ_in}
 use Rattle.cand_lists.proofs.moves.absorb.Goals as goal
+
+pub absorb-bag-requires-clause-rises_list : goal.absorb-bag-requires-clause-rises_list
+absorb-bag-requires-clause-rises_list g c = rising_time _ c.requires.rising_list
+
+pub absorb-bag-requires-clause-rises_other : goal.absorb-bag-requires-clause-rises_other
+absorb-bag-requires-clause-rises_other g c = rising_time _ c.requires.rising_other
 
 pub give_up-requires-clause-live : goal.give_up-requires-clause-live
 give_up-requires-clause-live g c = held_named _ _ _ _ (c.absorb-bag.ensures.bag _ _ c.requires.live c.requires.other)

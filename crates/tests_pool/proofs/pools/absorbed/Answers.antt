@@ -1,5 +1,5 @@
 use Rattle.std.proofs.Common.{arith}
-use Rattle.tests_pool.proofs.RowLaws.{second, absorbed_parted}
+use Rattle.tests_pool.proofs.RowLaws.{second, second_rises, absorbed_parted}
 use Rattle.tests_pool.proofs.pools.absorbed.Goals as goal
 
 pub absorb-bag-requires-clause-live : goal.absorb-bag-requires-clause-live
@@ -7,6 +7,13 @@ absorb-bag-requires-clause-live g c = (second _ _ c.make-list.result c.make-othe
 
 pub absorb-bag-requires-clause-differ : goal.absorb-bag-requires-clause-differ
 absorb-bag-requires-clause-differ g c = (second _ _ c.make-list.result c.make-other.result _ c.make-list.ensures.made c.make-other.ensures.others).1
+
+pub absorb-bag-requires-clause-rises_list : goal.absorb-bag-requires-clause-rises_list
+absorb-bag-requires-clause-rises_list g c =
+    second_rises _ _ c.make-list.result c.make-other.result _ c.make-list.ensures.made c.make-other.ensures.others (c.make-list.ensures.rises c.requires.one)
+
+pub absorb-bag-requires-clause-rises_other : goal.absorb-bag-requires-clause-rises_other
+absorb-bag-requires-clause-rises_other g c = c.make-other.ensures.rises c.requires.two
 
 pub has_rows-as_wanted-requires : goal.has_rows-as_wanted-requires
 has_rows-as_wanted-requires g c =

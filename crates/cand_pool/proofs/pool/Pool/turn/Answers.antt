@@ -17,14 +17,14 @@ two_stays s t u first last rest a a_last x xs ps taken written differ h =
     let out : a ≢ none → IsIn a (first ∷ []) → ⊥ = λ (z : a ≢ none) (m : IsIn a (first ∷ [])). elim m [ inl e ↦ differ (sym e) | inr o ↦ o ] in
     stays_any t u (first ∷ []) (first ∷ []) a a_last ps written.others written.one.few out (stays_any s t (first ∷ []) (first ∷ rest ∷ []) a a_last ps taken.others taken.one.few out h)
 
-y_is : (y old x : Candidate) (q' q : ℤ) → y ≡ record { q = q'; c = old.c; tag = old.tag } → q' ≡ q → old ≡ x → y ≡ record { q = q; c = x.c; tag = x.tag }
-y_is y old x q' q e f g = e ∙ (λ i. record { q = f i; c = (g i).c; tag = (g i).tag })
+y_is : (y old x : Candidate) (q' q : ℤ) (c : ℕ) → y ≡ record { q = q'; c = c; tag = old.tag } → q' ≡ q → old ≡ x → y ≡ record { q = q; c = c; tag = x.tag }
+y_is y old x q' q c e f g = e ∙ (λ i. record { q = f i; c = c; tag = (g i).tag })
 
 pub take_first-at-requires-clause-live : goal.take_first-at-requires-clause-live
 take_first-at-requires-clause-live c = held_live c.args.self.now c.args.at.now.rest.first c.args.at.now.rest.last _ c.requires.three.more
 
-pub write_q-requires : goal.write_q-requires
-write_q-requires c =
+pub rewrite-requires : goal.rewrite-requires
+rewrite-requires c =
     let (ys, e) = first_held c.args.self.now c.args.at.now.rest.first c.args.at.now.rest.last _ c.requires.some c.requires.three.more in
     let t = c.take_first-at.ensures.taken c.args.at.now.rest.last _ ys (subst (λ (l : List Candidate). IsHeld c.args.self.now c.args.at.now.rest.first c.args.at.now.rest.last l) e c.requires.three.more) in
     one_held _ _ _ _ t.one
@@ -34,10 +34,10 @@ put_after-at-requires-clause-one c =
     let (ys, e) = first_held c.args.self.now c.args.at.now.rest.first c.args.at.now.rest.last _ c.requires.some c.requires.three.more in
     let t = c.take_first-at.ensures.taken c.args.at.now.rest.last _ ys (subst (λ (l : List Candidate). IsHeld c.args.self.now c.args.at.now.rest.first c.args.at.now.rest.last l) e c.requires.three.more) in
     held_named _ c.args.at.now.kept.first c.args.at.now.kept.last _
-    (two_stays _ _ _ c.args.at.now.rest.first c.args.at.now.rest.last _ c.args.at.now.kept.first c.args.at.now.kept.last _ ys _ t c.write_q.ensures.written (c.requires.three.rest_one c.requires.some) c.requires.three.one)
+    (two_stays _ _ _ c.args.at.now.rest.first c.args.at.now.rest.last _ c.args.at.now.kept.first c.args.at.now.kept.last _ ys _ t c.rewrite.ensures.written (c.requires.three.rest_one c.requires.some) c.requires.three.one)
 
 pub put_after-at-requires-clause-two : goal.put_after-at-requires-clause-two
-put_after-at-requires-clause-two c = held_named _ c.args.at.now.rest.first c.args.at.now.rest.first _ c.write_q.ensures.written.one
+put_after-at-requires-clause-two c = held_named _ c.args.at.now.rest.first c.args.at.now.rest.first _ c.rewrite.ensures.written.one
 
 pub put_after-at-requires-clause-differ : goal.put_after-at-requires-clause-differ
 put_after-at-requires-clause-differ c = λ e. absurd (c.requires.three.rest_one c.requires.some (sym e))
@@ -47,10 +47,10 @@ put_after-at-requires-else-q-at-clause-one c =
     let (ys, e) = first_held c.args.self.now c.args.at.now.rest.first c.args.at.now.rest.last _ c.requires.some c.requires.three.more in
     let t = c.take_first-at.ensures.taken c.args.at.now.rest.last _ ys (subst (λ (l : List Candidate). IsHeld c.args.self.now c.args.at.now.rest.first c.args.at.now.rest.last l) e c.requires.three.more) in
     held_named _ c.args.at.now.dropped.first c.args.at.now.dropped.last _
-    (two_stays _ _ _ c.args.at.now.rest.first c.args.at.now.rest.last _ c.args.at.now.dropped.first c.args.at.now.dropped.last _ ys _ t c.write_q.ensures.written (c.requires.three.rest_two c.requires.some) c.requires.three.two)
+    (two_stays _ _ _ c.args.at.now.rest.first c.args.at.now.rest.last _ c.args.at.now.dropped.first c.args.at.now.dropped.last _ ys _ t c.rewrite.ensures.written (c.requires.three.rest_two c.requires.some) c.requires.three.two)
 
 pub put_after-at-requires-else-q-at-clause-two : goal.put_after-at-requires-else-q-at-clause-two
-put_after-at-requires-else-q-at-clause-two c = held_named _ c.args.at.now.rest.first c.args.at.now.rest.first _ c.write_q.ensures.written.one
+put_after-at-requires-else-q-at-clause-two c = held_named _ c.args.at.now.rest.first c.args.at.now.rest.first _ c.rewrite.ensures.written.one
 
 pub put_after-at-requires-else-q-at-clause-differ : goal.put_after-at-requires-else-q-at-clause-differ
 put_after-at-requires-else-q-at-clause-differ c = λ e. absurd (c.requires.three.rest_two c.requires.some (sym e))
@@ -61,9 +61,9 @@ returns-then-q-at c = λ x xs ks ds sieve.
     let best_is = to_z-of_z {w = w128} {z = c.args.at.now.best} (search rules) in
     let t = c.take_first-at.ensures.taken c.args.at.now.rest.last x xs sieve.more in
     let same = (one_slot _ _ _ _ t.one).shows in
-    let is_y = y_is _ _ x _ c.args.q c.write_q.ensures.there q_is same in
+    let is_y = y_is _ _ x _ c.args.q c.args.c c.rewrite.ensures.there q_is same in
     let sifted = sift _ _ _ _ c.args.at.now.rest.first c.args.at.now.rest.last c.args.at.now.kept.first c.args.at.now.kept.last c.args.at.now.dropped.first c.args.at.now.dropped.last c.take_first-at.result _ _ x _ xs ks ds sieve c.requires.some t
-    c.write_q.ensures.written is_y c.put_after-at.ensures in
+    c.rewrite.ensures.written is_y c.put_after-at.ensures in
     rw q_is (turn_kept _ _ c.args.at.now _ _ xs ks ds _ (rw (q_is, best_is) at c.if-q-at.true) sifted)
 
 pub returns-else-q-at : goal.returns-else-q-at
@@ -72,7 +72,7 @@ returns-else-q-at c = λ x xs ks ds sieve.
     let best_is = to_z-of_z {w = w128} {z = c.args.at.now.best} (search rules) in
     let t = c.take_first-at.ensures.taken c.args.at.now.rest.last x xs sieve.more in
     let same = (one_slot _ _ _ _ t.one).shows in
-    let is_y = y_is _ _ x _ c.args.q c.write_q.ensures.there q_is same in
+    let is_y = y_is _ _ x _ c.args.q c.args.c c.rewrite.ensures.there q_is same in
     let sifted = sift _ _ _ _ c.args.at.now.rest.first c.args.at.now.rest.last c.args.at.now.dropped.first c.args.at.now.dropped.last c.args.at.now.kept.first c.args.at.now.kept.last c.take_first-at.result _ _ x _ xs ds ks (turned _ _ _ _ _ _ _ sieve)
-    c.requires.some t c.write_q.ensures.written is_y c.put_after-at-else-q-at.ensures in
+    c.requires.some t c.rewrite.ensures.written is_y c.put_after-at-else-q-at.ensures in
     turn_dropped _ _ c.args.at.now _ _ xs ks ds _ (rw (q_is, best_is) at c.if-q-at.false) sifted

@@ -9,8 +9,8 @@ after_wire-q-requires-clause-there g c = live_low c.args.self.now c.args.at.now.
 
 pub returns-clause-wiring : goal.returns-clause-wiring
 returns-clause-wiring g c = λ s list all w.
-    let q_is = to_z-of_z {w = w128} {z = c.after_wire-q.result} (search rules) ∙ c.after_wire-q.ensures in
-    wire_turned c.args.r s list all c.args.self.now c.turn.new.self c.args.at.now c.turn.new.at _ w c.requires.some q_is c.turn.ensures
+    let q_is = to_z-of_z {w = w128} {z = c.after_wire-q.result.0} (search rules) ∙ c.after_wire-q.ensures.q in
+    wire_turned c.args.r c.args.c s list all c.args.self.now c.turn.new.self c.args.at.now c.turn.new.at _ _ w c.requires.some q_is c.after_wire-q.ensures.c c.turn.ensures
 
 pub returns-clause-fewer : goal.returns-clause-fewer
-returns-clause-fewer g c = turn_fewer c.args.self.now c.turn.new.self c.args.at.now c.turn.new.at _ _ _ _ c.requires.three c.requires.some c.turn.ensures
+returns-clause-fewer g c = turn_fewer c.args.self.now c.turn.new.self c.args.at.now c.turn.new.at _ _ _ _ _ c.requires.three c.requires.some c.turn.ensures

@@ -6,6 +6,7 @@ use Rattle.cand_turns.proofs.SwapLemmas.{turn_then}
 use Rattle.cand_turns.proofs.AddLemmas.{none_turn}
 use Rattle.cand_turns.proofs.SwapLemmas.{beside, swap_then}
 use Rattle.cand_turns.proofs.CellLemmas.{bare_closed}
+use Rattle.cand_turns.proofs.ClassLemmas.{branch_rises}
 use Rattle.cand_turns.proofs.CloseLemmas.{beside_cells, cells_closed, cells_few}
 use Rattle.cand_turns.proofs.branch.Branch.close.Goals as goal
 
@@ -15,8 +16,13 @@ returns-then-not-as_slice-node-clause-closed g c =
     (ap (λ l. slice_index_or l c.args.node false) (sym c.as_slice.ensures) ∙ c.if-not-as_slice-node.true) c.requires.«open»
 
 pub absorb-requires : goal.absorb-requires
-absorb-requires g c =
-    record { held = (beside_cells (search c.args.pool.now c.args.arena.now) (search c.with_cells.new.pool c.with_cells.new.arena) c.args.self c.in-Ok.cells c.requires.held c.in-Ok.ensures.turn).held }
+absorb-requires g c = record {
+  held = (beside_cells (search c.args.pool.now c.args.arena.now) (search c.with_cells.new.pool c.with_cells.new.arena) c.args.self c.in-Ok.cells c.requires.held c.in-Ok.ensures.turn).held;
+  rising =
+      branch_rises (search c.args.pool.now c.args.arena.now) (search c.with_cells.new.pool c.with_cells.new.arena) c.args.self (lists_of c.in-Ok.cells) c.requires.held c.in-Ok.ensures.turn
+      (λ odd. (c.requires.«open».part.exact odd).rising);
+  rising_other = λ odd. (c.in-Ok.ensures.best odd).exact.rising;
+}
 
 pub give_up-requires : goal.give_up-requires
 give_up-requires g c =

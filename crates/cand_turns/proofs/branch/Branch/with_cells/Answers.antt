@@ -1,4 +1,4 @@
-use Rattle.std.proofs.Common.{Bool, ◌+◌, [], false, sym, subst, arith}
+use Rattle.std.proofs.Common.{Bool, ◌+◌, [], true, false, sym, subst, arith}
 use Rattle.sol_arena.specs.Arenas.{slots_of, made_of}
 use Rattle.cand_pool.specs.Candidates.{Candidates}
 use Rattle.cand_turns.specs.Swaps.{search}
@@ -7,7 +7,7 @@ use Rattle.cand_turns.specs.Solved.{IsOpenAt}
 use Rattle.cand_turns.specs.Celled.{AreBest, IsMadeOfClasses}
 use Rattle.cand_turns.proofs.SwapLemmas.{beside, turn_then, swap_then}
 use Rattle.cand_turns.proofs.AddLemmas.{none_turn, grown, grown_turn, grown_classes}
-use Rattle.cand_turns.proofs.ClassLemmas.{branch_held, branch_open, spare_less, both_made, both_less}
+use Rattle.cand_turns.proofs.ClassLemmas.{branch_held, branch_open, spare_less, made_rises, branch_rises, both_made, both_less}
 use Rattle.cand_turns.proofs.CloseLemmas.{beside_cells}
 use Rattle.cand_turns.proofs.branch.Branch.with_cells.Goals as goal
 
@@ -33,8 +33,13 @@ cells_before-requires-2-clause-open g c =
     branch_open c.args.p.now c.args.node c.args.self.now c.args.arena.now c.cells_before.new.arena c.reserve.new.self c.cells_before.new.pool (lists_of c.in_ok-cells.cells) held c.in_ok-cells.ensures.turn still_open
 
 pub absorb-requires : goal.absorb-requires
-absorb-requires g c =
-    record { held = (beside_cells (search c.cells_before.new.pool c.cells_before.new.arena) (search c.cells_before-2.new.pool c.cells_before-2.new.arena) c.in_ok-cells.cells c.in-Ok.others c.in_ok-cells.ensures.turn.held c.in-Ok.ensures.turn).held }
+absorb-requires g c = record {
+  held = (beside_cells (search c.cells_before.new.pool c.cells_before.new.arena) (search c.cells_before-2.new.pool c.cells_before-2.new.arena) c.in_ok-cells.cells c.in-Ok.others c.in_ok-cells.ensures.turn.held c.in-Ok.ensures.turn).held;
+  rising =
+      branch_rises (search c.cells_before.new.pool c.cells_before.new.arena) (search c.cells_before-2.new.pool c.cells_before-2.new.arena) c.in_ok-cells.cells (lists_of c.in-Ok.others)
+      c.in_ok-cells.ensures.turn.held c.in-Ok.ensures.turn (made_rises c.args.p.now c.args.node false _ _ _ c.in_ok-cells.ensures.best);
+  rising_other = made_rises c.args.p.now c.args.node true _ _ _ c.in-Ok.ensures.best;
+}
 
 pub give_up-requires : goal.give_up-requires
 give_up-requires g c =

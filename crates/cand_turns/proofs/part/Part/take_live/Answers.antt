@@ -1,26 +1,31 @@
-use Rattle.std.proofs.Common.{◌+◌, ◌++◌, [], map, subst, sym, ap, arith}
+use Rattle.std.proofs.Common.{◌≡◌, ℕ, ◌+◌, ◌++◌, [], map, subst, sym, ap, ◌∙◌, arith}
 use Rattle.std.proofs.lemmas.List.Sorted.{IsPermutation-append_comm}
 use Rattle.elmore.specs.Trees.{parent_of}
-use Rattle.sol_arena.specs.Arenas.{slots_of, made_of}
+use Rattle.sol_arena.specs.Arenas.{made_of}
 use Rattle.cand_laws.proofs.JoinLemmas.{parent_within}
 use Rattle.cand_pool.specs.Candidates.{loaded}
 use Rattle.cand_turns.specs.Swaps.{search, AreHeld, IsTurn, IsSwap}
 use Rattle.cand_turns.specs.Branches.{classes_in, lists_of}
-use Rattle.cand_turns.specs.Parts.{IsPart, lists_in, size_in}
+use Rattle.cand_turns.specs.Parts.{IsPart, lists_in, load_beside, size_in}
+use Rattle.cand_turns.specs.Solved.{carried_classes}
+use Rattle.cand_turns.proofs.WireLemmas.{carried_bare}
 use Rattle.cand_turns.proofs.SwapLemmas.{turn_then, turn_among, swap_then, order_held, front_held}
-use Rattle.cand_turns.proofs.PartLemmas.{err_answers, class_beside, live_dead, open_at_modest, open_at_as, open_at_beside}
+use Rattle.cand_turns.proofs.PartLemmas.{err_answers, class_beside, live_dead, beside_small, open_at_as, open_at_beside}
 use Rattle.cand_turns.proofs.part.Part.take_live.Goals as goal
 
 pub carry-requires-clause-held : goal.carry-requires-clause-held
 carry-requires-clause-held g c =
     front_held (search c.args.pool.now c.args.arena.now) (lists_of c.args.branch) (lists_in c.args.self) (order_held (search c.args.pool.now c.args.arena.now) (lists_in c.args.self ++ lists_of c.args.branch) (lists_of c.args.branch ++ lists_in c.args.self) (IsPermutation-append_comm (lists_in c.args.self) (lists_of c.args.branch)) c.requires.held)
 
-pub load-requires-clause-modest : goal.load-requires-clause-modest
-load-requires-clause-modest g c =
-    open_at_modest c.args.p.now c.args.node (parent_of c.args.p.now.tree.nodes c.args.node) (made_of c.carry.new.arena) (λ odd. map (loaded c.in-Dead.c) (classes_in c.carry.new.pool c.carry.new.self odd))
-    (parent_within c.args.p.now c.args.node c.requires.below_root c.requires.node)
-    (live_dead c.args.p.now c.args.node c.in-Dead.c c.requires.below_root c.requires.node c.requires.live (subst (λ part. IsPart c.args.p.now (c.args.node + 1) (parent_of c.args.p.now.tree.nodes c.args.node) (made_of c.args.arena.now) c.args.pool.now part) c.in-Dead.is c.requires.part) (made_of c.carry.new.arena) _
-    (classes_in c.carry.new.pool c.carry.new.self) c.carry.ensures.above)
+pub carry-requires-clause-load : goal.carry-requires-clause-load
+carry-requires-clause-load g c =
+    let small = beside_small c.args.p.now (c.args.node + 1) (parent_of c.args.p.now.tree.nodes c.args.node) (made_of c.args.arena.now) c.args.pool.now c.args.self
+    (parent_within c.args.p.now c.args.node c.requires.below_root c.requires.node) c.requires.part in
+    omega (arith, small, c.load_beside.ensures)
+
+pub meet-requires-clause-lower : goal.meet-requires-clause-lower
+meet-requires-clause-lower g c =
+    carried_bare c.args.p.now c.args.node _ _ _ _ _ (c.load_beside.ensures ∙ ap load_beside c.in-Live.is) c.carry.ensures.classes c.carry.ensures.above
 
 pub meet-requires-clause-held : goal.meet-requires-clause-held
 meet-requires-clause-held g c =
@@ -45,14 +50,17 @@ returns-in_err-both-in-Live-clause-turn g c =
 
 pub returns-in-Dead-clause-turn : goal.returns-in-Dead-clause-turn
 returns-in-Dead-clause-turn g c =
-    subst (λ part. IsTurn (search c.args.pool.now c.args.arena.now) (lists_in part ++ lists_of c.args.branch) (search c.load.new.pool c.carry.new.arena) (lists_of c.load.new.self)) (sym c.in-Dead.is)
-    (turn_then (search c.args.pool.now c.args.arena.now) (search c.carry.new.pool c.carry.new.arena) (search c.load.new.pool c.carry.new.arena) _ _ _ c.carry.ensures.turn (c.load.ensures.turn (slots_of c.carry.new.arena) c.carry.ensures.turn.held))
+    subst (λ part. IsTurn (search c.args.pool.now c.args.arena.now) (lists_in part ++ lists_of c.args.branch) (search c.carry.new.pool c.carry.new.arena) (lists_of c.carry.new.self)) (sym c.in-Dead.is)
+    c.carry.ensures.turn
 
 pub returns-in-Dead-clause-part : goal.returns-in-Dead-clause-part
 returns-in-Dead-clause-part g c =
-    open_at_as c.args.p.now c.args.node (parent_of c.args.p.now.tree.nodes c.args.node) (made_of c.carry.new.arena) c.load.new.pool c.load.new.self (λ odd. map (loaded c.in-Dead.c) (classes_in c.carry.new.pool c.carry.new.self odd)) c.load.ensures.classes
-    (live_dead c.args.p.now c.args.node c.in-Dead.c c.requires.below_root c.requires.node c.requires.live (subst (λ part. IsPart c.args.p.now (c.args.node + 1) (parent_of c.args.p.now.tree.nodes c.args.node) (made_of c.args.arena.now) c.args.pool.now part) c.in-Dead.is c.requires.part) (made_of c.carry.new.arena) _
-    (classes_in c.carry.new.pool c.carry.new.self) c.carry.ensures.above)
+    let load : c.load_beside.result ≡ load_beside c.args.self = c.load_beside.ensures in
+    let is : load_beside c.args.self ≡ c.in-Dead.field-0 = ap load_beside c.in-Dead.is in
+    open_at_as c.args.p.now c.args.node (parent_of c.args.p.now.tree.nodes c.args.node) (made_of c.carry.new.arena) c.carry.new.pool c.carry.new.self (λ odd. map (loaded c.in-Dead.field-0) (carried_classes c.args.p.now c.args.node (classes_in c.args.pool.now c.args.branch) odd))
+    (λ odd. c.carry.ensures.classes odd ∙ ap (λ (k : ℕ). map (loaded k) (carried_classes c.args.p.now c.args.node (classes_in c.args.pool.now c.args.branch) odd)) (load ∙ is))
+    (live_dead c.args.p.now c.args.node c.in-Dead.field-0 c.requires.below_root c.requires.node c.requires.live (subst (λ part. IsPart c.args.p.now (c.args.node + 1) (parent_of c.args.p.now.tree.nodes c.args.node) (made_of c.args.arena.now) c.args.pool.now part) c.in-Dead.is c.requires.part) (made_of c.carry.new.arena) _
+    (carried_classes c.args.p.now c.args.node (classes_in c.args.pool.now c.args.branch)) c.carry.ensures.above)
 
 pub returns-in_ok-both-in-Live-clause-turn : goal.returns-in_ok-both-in-Live-clause-turn
 returns-in_ok-both-in-Live-clause-turn g c =

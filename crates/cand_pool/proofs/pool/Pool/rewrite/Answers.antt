@@ -2,10 +2,10 @@ use Rattle.std.proofs.Common.{rules, [], ◌∷◌, sym, ◌∙◌, subst, arith
 use Rattle.std.specs.Int.{w128}
 use Rattle.cand_pool.specs.Pools.{Block, candidate, IsHeld}
 use Rattle.cand_pool.proofs.PoolSlots.{one_slot, write, read, written}
-use Rattle.cand_pool.proofs.pool.Pool.write_q.Goals as goal
+use Rattle.cand_pool.proofs.pool.Pool.rewrite.Goals as goal
 
-pub index_mut-requires : goal.index_mut-requires
-index_mut-requires c =
+pub index_mut-numbers-requires : goal.index_mut-numbers-requires
+index_mut-numbers-requires c =
     let held = subst (λ (s : Block). IsHeld s c.args.slot c.args.slot (candidate s c.args.slot ∷ [])) (sym c.self.view_is) c.requires in
     let low = (one_slot _ c.args.slot c.args.slot _ held).low in
     let all = c.self.invariant.all in
@@ -21,5 +21,5 @@ returns-clause-there c =
     let held = subst (λ (s : Block). IsHeld s c.args.slot c.args.slot (candidate s c.args.slot ∷ [])) (sym c.self.view_is) c.requires in
     let q_is = to_z-of_z {w = w128} {z = c.args.q} (search rules) in
     let low = (one_slot _ c.args.slot c.args.slot _ held).low in
-    let old = read _ c.args.slot c.index_mut.result.now c.self.invariant low c.index_mut.ensures.value in
-    rw (← c.self.view_is) (written _ c.args.slot c.args.slot _ _ c.self.invariant held ∙ (λ i. record { q = q_is i; c = (old i).c; tag = (old i).tag }))
+    let old = read _ c.args.slot c.index_mut-numbers.result.now c.self.invariant low c.index_mut-numbers.ensures.value in
+    rw (← c.self.view_is) (written _ c.args.slot c.args.slot _ _ c.self.invariant held ∙ (λ i. record { q = q_is i; c = c.args.c; tag = (old i).tag }))
