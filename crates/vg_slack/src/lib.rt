@@ -4,10 +4,12 @@
 mod answer;
 mod climb;
 mod lists;
+mod room;
 mod root;
 mod search;
 mod waiting;
 
 pub use answer::{Answer, Best};
 pub use lists::{Lists, NodeLists};
+pub use room::Room;
 pub use search::{best, best_in};

@@ -1,6 +1,6 @@
 //! The search for a best placement of a net.
 
-ghost use Rattle.std.specs.Prelude.{◌≡◌, ◌≢◌, ℕ, ◌<◌, [], length, IfOk};
+ghost use Rattle.std.specs.Prelude.{◌≡◌, ◌≢◌, ℕ, ◌<◌, [], length, IfOk, OnOk};
 ghost use Rattle.sol_arena.specs.Arenas.{slots_of, made_of};
 ghost use Rattle.sol_arena.specs.Reach.{IsRestored};
 ghost use Rattle.cand_turns.specs.Swaps.{AreHeld, IsSwap, search};
@@ -86,29 +86,30 @@ fn answer_of_parts<L: Ledger>(
     answer_at_root(alloc, pool, arena, p, root, tools, lists, steps)
 }
 
-/// A best placement of a problem, or none, by a search whose solutions stand in a lent arena. Answers `Memory` when out of
-/// memory.
+/// A best placement of a problem, or none, by a search whose lists stand in a lent pool, and its solutions in a lent arena. Answers
+/// `Memory` when out of memory.
 fn answer_in<L: Ledger>(
     alloc: Global,
     p: &Problem,
+    pool: &mut Pool,
     arena: &mut Arena,
     lists: &mut Lists,
     steps: &mut Steps<L>,
 ) -> Result<Option<Best>, Memory>
     requires none { (v : ℕ) → AreEmpty (lists_at lists.old v) }
     ensures answer { IfOk result (IsAnswer p.now) }
+    ensures swap { OnOk result (IsSwap (search pool.old arena.old) [] (search pool.new arena.new) []) }
     ensures restored { IsRestored (slots_of arena.old) (slots_of arena.new) }
     ensures nodes { length lists.new.nodes.items ≡ length lists.old.nodes.items }
     ensures kept { IfOk result (λ _. AreAllKept p.now lists.new) }
 {
-    let mut pool = Pool::new(alloc);
     let mut parts = Vec::new(alloc);
     let mut waiting = Waiting::of(alloc, p)?;
     let mut tools = Tools::new(alloc, p)?;
-    start(&mut pool, arena, p, &mut parts)?;
+    start(pool, arena, p, &mut parts)?;
     answer_of_parts(
         alloc,
-        &mut pool,
+        pool,
         arena,
         p,
         &mut parts,
@@ -117,6 +118,28 @@ fn answer_in<L: Ledger>(
         lists,
         steps,
     )
+}
+
+/// A best placement of a problem, or none where no placement is good. With `keep`, the undominated candidates of each node come
+/// with it. The lists of the search stand in a lent pool, which loses no slot to them, and its solutions in a lent arena, which
+/// afterwards is as before. Answers `Memory` when out of memory.
+pub(crate) fn best_with<L: Ledger>(
+    alloc: Global,
+    p: &Problem,
+    keep: bool,
+    pool: &mut Pool,
+    arena: &mut Arena,
+    steps: &mut Steps<L>,
+) -> Result<Answer, Memory>
+    ensures found { IfOk result (λ answer. IsAnswer p.now answer.found) }
+    ensures lists { IfOk result (λ answer. AreListsOf p.now keep answer.lists) }
+    ensures swap { OnOk result (IsSwap (search pool.old arena.old) [] (search pool.new arena.new) []) }
+    ensures restored { IsRestored (slots_of arena.old) (slots_of arena.new) }
+{
+    let nodes = if keep { p.tree.nodes.len() } else { 0 };
+    let mut lists = Lists::new(alloc, nodes)?;
+    let found = answer_in(alloc, p, pool, arena, &mut lists, steps)?;
+    Ok(Answer { found, lists })
 }
 
 /// A best placement of a problem (van Ginneken 1990; Lillis, Cheng and Lin 1996), or none where no placement is good. With
@@ -133,10 +156,8 @@ pub fn best_in<L: Ledger>(
     ensures lists { IfOk result (λ answer. AreListsOf p.now keep answer.lists) }
     ensures restored { IsRestored (slots_of arena.old) (slots_of arena.new) }
 {
-    let nodes = if keep { p.tree.nodes.len() } else { 0 };
-    let mut lists = Lists::new(alloc, nodes)?;
-    let found = answer_in(alloc, p, arena, &mut lists, steps)?;
-    Ok(Answer { found, lists })
+    let mut pool = Pool::new(alloc);
+    best_with(alloc, p, keep, &mut pool, arena, steps)
 }
 
 /// A best placement of a problem, or none where no placement is good. With `keep`, the undominated candidates of each node come
