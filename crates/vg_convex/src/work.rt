@@ -1,6 +1,6 @@
 //! Room to work in.
 
-ghost use Rattle.std.specs.Prelude.{◌≡◌, ℕ, OnOk, [], length, None};
+ghost use Rattle.std.specs.Prelude.{◌≡◌, ◌≤◌, ℕ, OnOk, [], length, None};
 ghost use Rattle.vg_convex.specs.Answers.{found_at};
 
 use elmore::Pair;
@@ -49,15 +49,26 @@ impl Work {
         }
     }
 
-    /// Empties the stack, and makes a row of so many results, which have found nothing.
+    /// Takes all results away. Their places stay.
+    fn forget(&mut self)
+        ensures stack { self.new.stack.items ≡ self.old.stack.items }
+        ensures rows { length self.new.found.items ≡ length self.old.found.items }
+        ensures found { (b : ℕ) → found_at self.new.found.items b ≡ None }
+    {
+        'results: for at in 0..self.found.len() {
+            self.found[at] = None;
+        }
+    }
+
+    /// Empties the stack, and makes a row with places for so many results, which have found nothing.
     pub(crate) fn clear(&mut self, results: usize) -> Result<(), Memory>
         ensures stack { OnOk result (self.new.stack.items ≡ []) }
-        ensures rows { OnOk result (length self.new.found.items ≡ results) }
+        ensures rows { OnOk result (results ≤ length self.new.found.items) }
         ensures found { OnOk result ((b : ℕ) → found_at self.new.found.items b ≡ None) }
     {
         self.stack.clear();
-        self.found.clear();
-        'results: for _ in 0..results {
+        self.forget();
+        'results: for _ in self.found.len()..results {
             self.found.push(None)?;
         }
         Ok(())
