@@ -50,35 +50,26 @@ impl Pool {
     }
 
     /// One turn of a union, at the first of both lists together, of which none is used up.
-    fn union_turn<L: Ledger>(&mut self, at: Union, steps: &mut Steps<L>) -> Union
-        requires left { AreLeft self.old at (items self.old at.sieve.rest.first) (items self.old at.other.first) }
-        requires one { at.sieve.rest.first ≢ NONE }
-        requires two { at.other.first ≢ NONE }
-        ensures uniting { (s : Block) (one two : ℕ) (all : Candidates) → IsUniting s one two all self.old at → IsUniting s one two all self.new result }
-        ensures fewer { length (items self.new result.sieve.rest.first) + length (items self.new result.other.first) + 1
-            ≡ length (items self.old at.sieve.rest.first) + length (items self.old at.other.first) }
+    fn union_turn<L: Ledger>(&mut self, at: &mut Union, steps: &mut Steps<L>)
+        requires left { AreLeft self.old at.old (items self.old at.old.sieve.rest.first) (items self.old at.old.other.first) }
+        requires one { at.old.sieve.rest.first ≢ NONE }
+        requires two { at.old.other.first ≢ NONE }
+        ensures uniting { (s : Block) (one two : ℕ) (all : Candidates) → IsUniting s one two all self.old at.old → IsUniting s one two all self.new at.new }
+        ensures fewer { length (items self.new at.new.sieve.rest.first) + length (items self.new at.new.other.first) + 1
+            ≡ length (items self.old at.old.sieve.rest.first) + length (items self.old at.old.other.first) }
         ensures steps { steps.new ≤ steps.old + 2 }
     {
         steps.tick();
-        if self.comes_first(at.other.first, at.sieve.rest.first) {
+        let rest = at.sieve.rest;
+        if self.comes_first(at.other.first, rest.first) {
             let x = self.look(at.other.first, steps);
-            let mut sieve = Sieve {
-                rest: at.other,
-                ..at.sieve
-            };
-            self.turn(&mut sieve, x.q, x.c);
-            Union {
-                other: sieve.rest,
-                sieve: Sieve {
-                    rest: at.sieve.rest,
-                    ..sieve
-                },
-            }
+            at.sieve.rest = at.other;
+            self.turn(&mut at.sieve, x.q, x.c);
+            at.other = at.sieve.rest;
+            at.sieve.rest = rest;
         } else {
-            let x = self.look(at.sieve.rest.first, steps);
-            let mut sieve = at.sieve;
-            self.turn(&mut sieve, x.q, x.c);
-            Union { sieve, ..at }
+            let x = self.look(rest.first, steps);
+            self.turn(&mut at.sieve, x.q, x.c);
         }
     }
 
@@ -126,7 +117,7 @@ impl Pool {
             other: ends,
         };
         'turns: while at.sieve.rest.first != NONE && at.other.first != NONE {
-            at = self.union_turn(at, steps);
+            self.union_turn(&mut at, steps);
         }
         let mut sieve = at.left();
         self.drop_dominated(&mut sieve, steps);

@@ -18,8 +18,8 @@ turns-init g c = record {
   steps = omega arith;
 }
 
-pub union_turn-at-requires-clause-left : goal.union_turn-at-requires-clause-left
-union_turn-at-requires-clause-left g c = let w = c.turns.invariant.uniting in left_items _ _ _ _ _ _ w.sieve w.other
+pub union_turn-requires-clause-left : goal.union_turn-requires-clause-left
+union_turn-requires-clause-left g c = let w = c.turns.invariant.uniting in left_items _ _ _ _ _ _ w.sieve w.other
 
 pub left-sieve-requires : goal.left-sieve-requires
 left-sieve-requires g c = elim c.turns-test.branch [
