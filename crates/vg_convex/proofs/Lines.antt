@@ -1,7 +1,7 @@
 -- Values of pairs on, above and below a line.
-use Rattle.std.proofs.Common.{◌≡◌, ℕ, ◌+◌, ◌-◌, ◌*◌, ◌<◌, ◌≤◌, ◌⊎◌, ℤ, pos, negsuc, ◌-ℤ◌, ◌*ℤ◌, ◌≤ℤ◌, ◌<ℤ◌, refl, ap, arith, inl, inr}
+use Rattle.std.proofs.Common.{◌≡◌, ℕ, ◌+◌, ◌-◌, ◌*◌, ◌<◌, ◌≤◌, ◌⊎◌, ℤ, pos, negsuc, ◌-ℤ◌, ◌*ℤ◌, ◌≤ℤ◌, ◌<ℤ◌, int_lt, MatchBool, refl, ap, ◌∙◌, arith, inl, inr}
 use Rattle.std.proofs.lemmas.Int.{ints}
-use Rattle.std.proofs.lemmas.Bool.{cases_lt}
+use Rattle.std.proofs.lemmas.Bool.{cases_lt, cases_Bool}
 use Rattle.std.proofs.Math.Nat.{mul-le-mul_left, lt_of_mul-lt-mul_left}
 use Rattle.elmore.specs.Pairs.{IsBelow}
 use Rattle.vg_convex.specs.Hulls.{value, Bends, Sags}
@@ -64,6 +64,18 @@ follows a b below =
 
 room_of : (a b : Pair) (s u : ℕ) → Follows a b s u → b.c - a.c ≡ u
 room_of a b s u f = omega (arith, f.room)
+
+-- of two pairs that rise the first is worth less just where the further load of the second loses less than its further time
+pub loses : (r : ℕ) (a b : Pair) (lost : ℤ) → IsBelow a b → lost ≡ pos (r * (b.c - a.c))
+    → MatchBool (int_lt lost (b.q -ℤ a.q)) (value r a <ℤ value r b) (value r b ≤ℤ value r a)
+loses r a b lost below lost_is =
+    let (s, u, f) = follows a b below in
+    let is : lost ≡ pos (r * u) = lost_is ∙ ap (λ k. pos (r * k)) (room_of a b s u f) in
+    let more : r * b.c ≡ r * (a.c + u) = ap (λ k. r * k) f.room in
+    elim (cases_Bool (int_lt lost (b.q -ℤ a.q))) [
+      | inl t ↦ rw t (omega (arith, ints, t, is, f.time, more))
+      | inr e ↦ rw e (omega (arith, ints, e, is, f.time, more))
+    ]
 
 bends_as : (a b c : Pair) (s t u w : ℕ) → Follows a b s u → Follows b c t w → Bends a b c → t * u < s * w
 bends_as a b c s t u w f g bends =

@@ -146,6 +146,16 @@ pub worth_no_more : (xs : Candidates) (r i j : ℕ) (a b : Point) → IsPointOf 
 worth_no_more xs r i j a b a_at b_at less =
     subst (λ (p : Pair). value r p ≤ℤ value r (row xs j)) (pair_is xs a i a_at) (subst (λ (p : Pair). value r (pair_in a) ≤ℤ value r p) (pair_is xs b j b_at) less)
 
+-- a later point of the stack has more time and more load
+pub points_rise : (xs : Candidates) (n : ℕ) (stack : List Point) (h : IsHullOf xs n stack) (i j : ℕ) (a b : Point) → i < j → j < length stack
+    → IsPointOf xs a (h.numbers i) → IsPointOf xs b (h.numbers j) → IsBelow (pair_in a) (pair_in b)
+points_rise xs n stack h i j a b less low a_at b_at =
+    let chain = (h.hull.some (some_hull xs n stack h (omega (arith, low)))).chain in
+    let below : IsBelow (row xs (h.numbers i)) (row xs (h.numbers j))
+    = h.rise (h.numbers i) (h.numbers j) (chain.rising i j less low) (omega (arith, chain.inside j low, h.few)) in
+    subst (λ (p : Pair). IsBelow p (pair_in b)) (sym (pair_is xs a (h.numbers i) a_at))
+    (subst (λ (p : Pair). IsBelow (row xs (h.numbers i)) p) (sym (pair_is xs b (h.numbers j) b_at)) below)
+
 -- a point of the stack that is worth more than the one before it, and no less than the one after it
 pub peak_of : (xs : Candidates) (n : ℕ) (stack : List Point) (h : IsHullOf xs n stack) (r p : ℕ) → p < length stack
     → ((j : ℕ) → j + 1 ≡ p → value r (row xs (h.numbers j)) <ℤ value r (row xs (h.numbers p)))

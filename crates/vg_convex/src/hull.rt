@@ -63,23 +63,25 @@ pub(crate) fn put_on<L: Ledger>(
     Ok(())
 }
 
-/// What a point is worth above a resistance.
-fn worth(point: Point, r: u64) -> i128
-    requires { IsModest (told_by point) }
-    ensures { result ≡ value r (pair_in point) }
+/// What a load loses above a resistance.
+fn loss(r: u64, load: u64) -> i128
+    requires { load ≤ 10 ^ 11 }
+    ensures { result ≡ pos (r * load) }
 {
-    point.q - i128::from(r) * i128::from(point.c)
+    i128::from(r) * i128::from(load)
 }
 
-/// Whether the first of two points is worth less above a resistance.
+/// Whether the first of two points, which rise, is worth less above a resistance: the further load of the second loses less than
+/// its further time.
 fn is_less<L: Ledger>(a: Point, b: Point, r: u64, steps: &mut Steps<L>) -> bool
     requires a { IsModest (told_by a) }
     requires b { IsModest (told_by b) }
+    requires a_b { IsBelow (pair_in a) (pair_in b) }
     ensures order { MatchBool result (value r (pair_in a) <ℤ value r (pair_in b)) (value r (pair_in b) ≤ℤ value r (pair_in a)) }
     ensures step { steps.new ≡ suc steps.old }
 {
     steps.tick();
-    worth(a, r) < worth(b, r)
+    loss(r, b.c - a.c) < b.q - a.q
 }
 
 /// The point of a hull that is worth the most above a resistance, found by halves: along a hull the worth rises and then falls.

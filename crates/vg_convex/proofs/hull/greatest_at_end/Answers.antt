@@ -1,9 +1,9 @@
-use Rattle.std.proofs.Common.{◌≡◌, ◌-◌, ◌<◌, List, get_or, sym, ap, ◌∙◌, subst, arith}
-use Rattle.std.proofs.lemmas.List.{take_all, get_or-take}
+use Rattle.std.proofs.Common.{◌≡◌, ◌-◌, ◌<◌, List, length, get_or, sym, ap, ◌∙◌, subst, arith}
+use Rattle.std.proofs.lemmas.List.{take_all, get_or-take, length-take-le}
 use Rattle.vg_convex.specs.Places.{IsFrontOf}
 use Rattle.vg_convex.specs.declared.work.Point.{Point}
 use Rattle.vg_convex.proofs.Numbers.{modest_point}
-use Rattle.vg_convex.proofs.Places.{worth_less, worth_no_more}
+use Rattle.vg_convex.proofs.Places.{worth_less, worth_no_more, points_rise}
 use Rattle.vg_convex.proofs.Fronts.{front_turns, front_at, front_less, front_greatest}
 use Rattle.vg_convex.proofs.hull.greatest_at_end.Goals as goal
 use Rattle.vg_convex.proofs.hull.greatest_at_end.Goals.{else-pops-test, then-pops-test+then-is_less}
@@ -51,6 +51,15 @@ is_less-requires-clause-b g c =
     let front = c.pops.invariant.front in
     modest_point g.xs c.index-in-pops.result.now (front.hull.numbers (c.pops.left - 1)) front.hull.modest
     (front_at g.xs c.args.r c.args.stack.now.items c.pops.left c.pops.invariant.few front (c.pops.left - 1) c.index-in-pops.result.now (omega (arith, c.pops-test.true)) c.index-in-pops.ensures)
+
+pub is_less-requires-clause-a_b : goal.is_less-requires-clause-a_b
+is_less-requires-clause-a_b g c =
+    let front = c.pops.invariant.front in
+    let few = c.pops.invariant.few in
+    points_rise g.xs (length g.xs) front.whole front.hull (c.pops.left - 2) (c.pops.left - 1) c.index.result.now c.index-in-pops.result.now (omega (arith, c.pops-test.true))
+    (omega (arith, c.pops-test.true, front.few, length-take-le c.pops.left c.args.stack.now.items few))
+    (front_at g.xs c.args.r c.args.stack.now.items c.pops.left few front (c.pops.left - 2) c.index.result.now (omega (arith, c.pops-test.true)) c.index.ensures)
+    (front_at g.xs c.args.r c.args.stack.now.items c.pops.left few front (c.pops.left - 1) c.index-in-pops.result.now (omega (arith, c.pops-test.true)) c.index-in-pops.ensures)
 
 pub returns-clause-greatest : goal.returns-clause-greatest
 returns-clause-greatest g c =

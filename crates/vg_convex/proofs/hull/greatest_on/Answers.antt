@@ -3,7 +3,7 @@ use Rattle.vg_convex.specs.Hulls.{value}
 use Rattle.vg_convex.specs.Places.{row}
 use Rattle.vg_convex.proofs.Halves.{one_step_more}
 use Rattle.vg_convex.proofs.Numbers.{modest_point}
-use Rattle.vg_convex.proofs.Places.{peak_of, worth_less, worth_no_more}
+use Rattle.vg_convex.proofs.Places.{peak_of, worth_less, worth_no_more, points_rise}
 use Rattle.vg_convex.proofs.hull.greatest_on.Goals as goal
 
 pub is_less-requires-clause-a : goal.is_less-requires-clause-a
@@ -17,6 +17,17 @@ is_less-requires-clause-b g c =
     let (n, h) = c.requires.1.0 in
     modest_point g.xs (get_or c.args.stack.now (c.search.low + (c.search.high - c.search.low) / 2 + 1) (record { q = pos 0; c = 0; tag = 0 })) (h.numbers (c.search.low + (c.search.high - c.search.low) / 2 + 1)) h.modest
     (h.points (c.search.low + (c.search.high - c.search.low) / 2 + 1) (record { q = pos 0; c = 0; tag = 0 }) (omega (arith, c.search.invariant.inside, c.search-test.true)))
+
+pub is_less-requires-clause-a_b : goal.is_less-requires-clause-a_b
+is_less-requires-clause-a_b g c =
+    let (n, h) = c.requires.1.0 in
+    let low : c.search.low + (c.search.high - c.search.low) / 2 < length c.args.stack.now = omega (arith, c.search.invariant.inside, c.search-test.true) in
+    let next : c.search.low + (c.search.high - c.search.low) / 2 + 1 < length c.args.stack.now = omega (arith, c.search.invariant.inside, c.search-test.true) in
+    points_rise g.xs n c.args.stack.now h (c.search.low + (c.search.high - c.search.low) / 2) (c.search.low + (c.search.high - c.search.low) / 2 + 1)
+    (get_or c.args.stack.now (c.search.low + (c.search.high - c.search.low) / 2) (record { q = pos 0; c = 0; tag = 0 }))
+    (get_or c.args.stack.now (c.search.low + (c.search.high - c.search.low) / 2 + 1) (record { q = pos 0; c = 0; tag = 0 })) (omega arith) next
+    (h.points (c.search.low + (c.search.high - c.search.low) / 2) (record { q = pos 0; c = 0; tag = 0 }) low)
+    (h.points (c.search.low + (c.search.high - c.search.low) / 2 + 1) (record { q = pos 0; c = 0; tag = 0 }) next)
 
 pub search-preserved-then-is_less : goal.search-preserved-then-is_less
 search-preserved-then-is_less g c = record {
