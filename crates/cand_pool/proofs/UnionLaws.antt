@@ -173,14 +173,13 @@ beside_same t u at at' other xs ks ds ys sieve beside some turn =
     let k : IsBeside u other at' ys = beside_turned t u at at' other zs ks ds ys (candidate t at.rest.first) done beside in
     held_items u other.first other.last ys k.held ∙ sym (held_items t other.first other.last ys beside.held)
 
--- a candidate whose own numbers are written
-pub same_candidate : (q : ℤ) (c : ℕ) (x y : Candidate) → q ≡ y.q → c ≡ y.c → y ≡ x → record { q = q; c = c; tag = x.tag } ≡ x
-same_candidate q c x y e f g = λ i. record { q = (e ∙ ap (λ (k : Candidate). k.q) g) i; c = (f ∙ ap (λ (k : Candidate). k.c) g) i; tag = x.tag }
-
-pub turned_same : (t u : Block) (at at' : Sieve) (q : ℤ) (c : ℕ) → q ≡ (candidate t at.rest.first).q → c ≡ (candidate t at.rest.first).c
-    → ((x : Candidate) (xs ks ds : Candidates) → Sifts t at (x ∷ xs) ks ds → IsTurned t u at at' xs ks ds (record { q = q; c = c; tag = x.tag }))
+-- a candidate that was told
+pub passed_same : (t u : Block) (at at' : Sieve) (q : ℤ) → q ≡ (candidate t at.rest.first).q
+    → ((x : Candidate) (xs ks ds : Candidates) → Sifts t at (x ∷ xs) ks ds → q ≡ x.q → IsTurned t u at at' xs ks ds (record { q = q; c = x.c; tag = x.tag }))
     → (x : Candidate) (xs ks ds : Candidates) → Sifts t at (x ∷ xs) ks ds → candidate t at.rest.first ≡ x → IsTurned t u at at' xs ks ds x
-turned_same t u at at' q c e f turn x xs ks ds sieve g = subst (λ (y : Candidate). IsTurned t u at at' xs ks ds y) (same_candidate q c x (candidate t at.rest.first) e f g) (turn x xs ks ds sieve)
+passed_same t u at at' q told turn x xs ks ds sieve is =
+    let own : q ≡ x.q = told ∙ ap (λ (y : Candidate). y.q) is in
+    subst (λ (y : Candidate). IsTurned t u at at' xs ks ds y) (λ i. record { q = own i; c = x.c; tag = x.tag }) (turn x xs ks ds sieve own)
 
 -- before the first turn both lists are left
 pub union_start : (s : Block) (one two empty : Ends) (xs ys : Candidates) → empty.first ≡ none → IsAt s one xs → IsAt s two ys → (one.first ≡ two.first → one.first ≡ none)

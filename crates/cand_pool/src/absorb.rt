@@ -64,12 +64,12 @@ impl Pool {
         if self.comes_first(at.other.first, rest.first) {
             let x = self.look(at.other.first, steps);
             at.sieve.rest = at.other;
-            self.turn(&mut at.sieve, x.q, x.c);
+            self.pass(&mut at.sieve, x.q);
             at.other = at.sieve.rest;
             at.sieve.rest = rest;
         } else {
             let x = self.look(rest.first, steps);
-            self.turn(&mut at.sieve, x.q, x.c);
+            self.pass(&mut at.sieve, x.q);
         }
     }
 
@@ -86,7 +86,7 @@ impl Pool {
             if x.q > at.best {
                 break;
             }
-            self.turn(at, x.q, x.c);
+            self.pass(at, x.q);
         }
     }
 

@@ -1,6 +1,6 @@
 //! A sieve of three lists.
 
-ghost use Rattle.std.specs.Prelude.{◌≢◌, ℕ, ◌∷◌, ℤ};
+ghost use Rattle.std.specs.Prelude.{◌≡◌, ◌≢◌, ℕ, ◌∷◌, ℤ};
 ghost use Rattle.cand_pool.specs.Candidates.{Candidate, Candidates};
 ghost use Rattle.cand_pool.specs.Pools.{items};
 ghost use Rattle.cand_pool.specs.Sieves.{Sifts, IsTurned};
@@ -29,6 +29,27 @@ impl Pool {
         let slot = at.rest.first;
         at.rest.first = self.take_first(slot);
         self.rewrite(slot, q, c);
+        let one = Ends {
+            first: slot,
+            last: slot,
+        };
+        if q > at.best {
+            at.kept = self.put_after(at.kept, one);
+            at.best = q;
+        } else {
+            at.dropped = self.put_after(at.dropped, one);
+        }
+    }
+
+    /// Puts the first of the rest, which has this q, after the kept ones if its q is over the best, else after the dropped ones.
+    pub(crate) fn pass(&mut self, at: &mut Sieve, q: i128)
+        requires three { Sifts self.old at.old (items self.old at.old.rest.first) (items self.old at.old.kept.first) (items self.old at.old.dropped.first) }
+        requires some { at.old.rest.first ≢ NONE }
+        ensures { (x : Candidate) (xs ks ds : Candidates) → Sifts self.old at.old (x ∷ xs) ks ds → q ≡ x.q
+            → IsTurned self.old self.new at.old at.new xs ks ds (record { q = q; c = x.c; tag = x.tag }) }
+    {
+        let slot = at.rest.first;
+        at.rest.first = self.take_first(slot);
         let one = Ends {
             first: slot,
             last: slot,

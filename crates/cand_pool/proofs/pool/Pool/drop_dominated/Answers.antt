@@ -2,7 +2,7 @@ use Rattle.std.proofs.Common.{rules, ◌∙◌, arith, to_z-of_z}
 use Rattle.std.specs.Int.{w128}
 use Rattle.cand_pool.proofs.PoolMoves.{live_low, held_live}
 use Rattle.cand_pool.proofs.WireLaws.{named_sieve}
-use Rattle.cand_pool.proofs.UnionLaws.{sifted_start, sifted_next, left_rises, over_all, over_none, fewer, turned_same}
+use Rattle.cand_pool.proofs.UnionLaws.{sifted_start, sifted_next, left_rises, over_all, over_none, fewer, passed_same}
 use Rattle.cand_pool.proofs.pool.Pool.drop_dominated.Goals as goal
 
 pub drops-init : goal.drops-init
@@ -11,14 +11,14 @@ drops-init g c = record { sifted = sifted_start c.args.self.now c.args.at.now c.
 pub look-x-requires : goal.look-x-requires
 look-x-requires g c = record { there = live_low _ c.drops.at.rest.first (held_live _ _ _ _ c.drops.invariant.sifted.sieve.more) c.drops-test.true }
 
-pub turn-requires-clause-three : goal.turn-requires-clause-three
-turn-requires-clause-three g c = named_sieve _ _ _ _ _ _ _ c.drops.invariant.sifted.sieve
+pub pass-requires-clause-three : goal.pass-requires-clause-three
+pass-requires-clause-three g c = named_sieve _ _ _ _ _ _ _ c.drops.invariant.sifted.sieve
 
 pub drops-smaller : goal.drops-smaller
 drops-smaller g c =
     let q_is = to_z-of_z {w = w128} {z = c.look-x.result.q} (search rules) ∙ c.look-x.ensures.q in
-    let turn = turned_same _ _ c.drops.at c.turn.new.at _ _ q_is c.look-x.ensures.c c.turn.ensures in
-    let less = fewer _ _ c.drops.at c.turn.new.at _ _ _ c.drops.invariant.sifted.sieve c.drops-test.true turn in
+    let turn = passed_same _ _ c.drops.at c.pass.new.at _ q_is c.pass.ensures in
+    let less = fewer _ _ c.drops.at c.pass.new.at _ _ _ c.drops.invariant.sifted.sieve c.drops-test.true turn in
     omega arith
 
 pub drops-preserved : goal.drops-preserved
@@ -26,13 +26,13 @@ drops-preserved g c =
     let w = c.drops.invariant in
     let some = c.drops-test.true in
     let q_is = to_z-of_z {w = w128} {z = c.look-x.result.q} (search rules) ∙ c.look-x.ensures.q in
-    let turn = turned_same _ _ c.drops.at c.turn.new.at _ _ q_is c.look-x.ensures.c c.turn.ensures in
-    let less = fewer _ _ c.drops.at c.turn.new.at _ _ _ w.sifted.sieve some turn in
+    let turn = passed_same _ _ c.drops.at c.pass.new.at _ q_is c.pass.ensures in
+    let less = fewer _ _ c.drops.at c.pass.new.at _ _ _ w.sifted.sieve some turn in
     let step = c.look-x.ensures.step in
     let total = w.steps in
     record {
-      sifted = sifted_next _ _ _ _ c.drops.at c.turn.new.at w.sifted some turn;
-      rises = left_rises _ _ c.drops.at c.turn.new.at _ _ w.sifted.sieve some w.rises turn;
+      sifted = sifted_next _ _ _ _ c.drops.at c.pass.new.at w.sifted some turn;
+      rises = left_rises _ _ c.drops.at c.pass.new.at _ _ w.sifted.sieve some w.rises turn;
       steps = omega arith;
     }
 
