@@ -3,7 +3,7 @@ use Rattle.std.proofs.Common.{◌≡◌, ◌≢◌, ℕ, suc, ◌<◌, ◌⊎◌
 use Rattle.std.proofs.lemmas.List.{map-append, get_or_default}
 use Rattle.cand_pool.specs.Links.{none, link, IsIn, last_of, IsWhole, IsRelinked}
 use Rattle.cand_pool.specs.Candidates.{Candidate}
-use Rattle.cand_pool.specs.Pools.{Block, candidate, slots_of, spare, IsHeld, IsPool, KeepsOthers}
+use Rattle.cand_pool.specs.Pools.{Block, candidate, slots_of, spare, IsHeld, IsPool, IsSurePool, KeepsOthers}
 use Rattle.cand_pool.specs.Moves.{relinked, IsTaken, IsPut, IsDrawn, IsFirst}
 use Rattle.cand_pool.proofs.LinkLaws.{last_low}
 use Rattle.cand_pool.proofs.MoveLaws.{cut, IsCut, join, IsJoined}
@@ -103,15 +103,16 @@ draw_from s (y ∷ ys) slots_are pool whole some =
 pub draw : (s : Block) → IsPool s → s.free ≢ none → IsDrawn s (relinked s s.free none (link s.links s.free))
 draw s pool some = draw_from s (slots_of s s.free) refl pool pool.free some
 
-live_from : (s : Block) (first : ℕ) (slots : List ℕ) → slots_of s first ≡ slots → IsPool s → IsWhole (link s.links) (length s.links) first slots → (first ≡ s.free → first ≡ none) → first ≢ none → IsPool (relinked s first none s.free)
-live_from s first [] e pool whole kept some = absurd (some whole.chain)
-live_from s first (y ∷ ys) e pool whole kept some =
+live_from : (s : Block) (sure first : ℕ) (slots : List ℕ) → slots_of s first ≡ slots → IsSurePool s sure → IsWhole (link s.links) (length s.links) first slots → (first ≡ s.free → first ≡ none) → first ≢ none
+    → IsSurePool (relinked s first none s.free) sure
+live_from s sure first [] e at whole kept some = absurd (some whole.chain)
+live_from s sure first (y ∷ ys) e at whole kept some =
     let t : IsTaken s first (last_of y ys) (candidate s y) (map (candidate s) ys) (relinked s first none s.free) (link s.links first)
-    = take s first (last_of y ys) (candidate s y) (map (candidate s) ys) pool (record { few = pool.block.few; slots = y ∷ ys; whole = whole; ends = λ _. refl; kept = kept; shows = refl }) in
-    t.pool
+    = take s first (last_of y ys) (candidate s y) (map (candidate s) ys) at.pool (record { few = at.pool.block.few; slots = y ∷ ys; whole = whole; ends = λ _. refl; kept = kept; shows = refl }) in
+    record { pool = t.pool; free = omega (arith, t.free, at.free) }
 
-pub live_pool : (s : Block) (first : ℕ) → IsPool s → IsFirst s first → first ≢ none → IsPool (relinked s first none s.free)
-live_pool s first pool live some = live_from s first (slots_of s first) refl pool live.whole live.kept some
+pub live_sure : (s : Block) (sure first : ℕ) → IsSurePool s sure → IsFirst s first → first ≢ none → IsSurePool (relinked s first none s.free) sure
+live_sure s sure first at live some = live_from s sure first (slots_of s first) refl at live.whole live.kept some
 
 pub live_low : (s : Block) (first : ℕ) → IsFirst s first → first ≢ none → first < length s.links
 live_low s first live some = some_low (link s.links) (length s.links) first (slots_of s first) some live.whole.chain

@@ -1,9 +1,9 @@
 -- The public calls, from the moves.
-use Rattle.std.proofs.Common.{◌≡◌, ◌≢◌, ℕ, suc, ◌<◌, ◌≤◌, List, [], ◌∷◌, ◌++◌, length, map, refl, sym, ap, ◌∙◌, subst, inl, inr}
+use Rattle.std.proofs.Common.{arith, ◌≡◌, ◌≢◌, ℕ, suc, ◌<◌, ◌≤◌, List, [], ◌∷◌, ◌++◌, length, map, refl, sym, ap, ◌∙◌, subst, inl, inr}
 use Rattle.std.proofs.lemmas.List.{append-nil}
 use Rattle.cand_pool.specs.Links.{none, link, IsChain, IsIn, last_of}
 use Rattle.cand_pool.specs.Candidates.{Candidate}
-use Rattle.cand_pool.specs.Pools.{Block, candidate, items, IsHeld, IsPool, KeepsOthers, IsFrom, IsPlaceAt, Differ}
+use Rattle.cand_pool.specs.Pools.{Block, candidate, items, IsHeld, IsPool, IsSurePool, KeepsOthers, IsFrom, IsPlaceAt, Differ}
 use Rattle.cand_pool.specs.Moves.{IsNamed, relinked, IsTaken, IsPut, IsAppended, IsDrawn, IsWritten, IsFreed, IsTagTaken}
 use Rattle.cand_pool.proofs.TrailLaws.{trail_is}
 use Rattle.cand_pool.proofs.PoolLaws.{none_empty, whole_none}
@@ -57,9 +57,10 @@ append_both s a a_last b b_last pool one two some_a some_b differ =
       free = p.free;
     }
 
-pub append_pool : (s : Block) (a a_last b b_last : ℕ) → IsPool s → IsNamed s a a_last → IsNamed s b b_last → a ≢ none → b ≢ none → a ≢ b → IsPool (relinked s a_last b s.free)
-append_pool s a a_last b b_last pool one two some_a some_b differ =
-    let p : IsPut s a b b_last (items s a) (items s b) (relinked s a_last b s.free) = put s a a_last b b_last (items s a) (items s b) pool one two some_a some_b differ in p.pool
+pub append_sure : (s : Block) (sure a a_last b b_last : ℕ) → IsSurePool s sure → IsNamed s a a_last → IsNamed s b b_last → a ≢ none → b ≢ none → a ≢ b → IsSurePool (relinked s a_last b s.free) sure
+append_sure s sure a a_last b b_last at one two some_a some_b differ =
+    let p : IsPut s a b b_last (items s a) (items s b) (relinked s a_last b s.free) = put s a a_last b b_last (items s a) (items s b) at.pool one two some_a some_b differ in
+    record { pool = p.pool; free = omega (arith, p.free, at.free) }
 
 pub append_low : (s : Block) (a a_last : ℕ) → IsPool s → IsNamed s a a_last → a ≢ none → a_last < length s.links
 append_low s a a_last pool one some = low_from s a a_last one.slots one.whole.chain (one.ends some) some

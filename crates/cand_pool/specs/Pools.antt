@@ -44,6 +44,11 @@ pub record IsPool (s : Block) : Type 0 where
   pub all : length s.links ≤ length s.candidates
   pub free : IsWhole (link s.links) (length s.links) s.free (slots_of s s.free)
 
+-- and so many of its slots are known to be free
+pub record IsSurePool (s : Block) (sure : ℕ) : Type 0 where
+  pub pool : IsPool s
+  pub free : sure ≤ spare s
+
 -- the list or bag with these ends is live, and is this sequence
 pub record IsHeld (s : Block) (first last : ℕ) (xs : Candidates) : Type 0 where
   pub few : length s.links ≤ none

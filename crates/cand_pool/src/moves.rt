@@ -40,6 +40,7 @@ impl Pool {
         let slot = self.free;
         self.free = self.links[slot as usize];
         self.links[slot as usize] = NONE;
+        self.sure = self.sure.saturating_sub(1);
         slot
     }
 
@@ -50,6 +51,7 @@ impl Pool {
     {
         self.links[slot as usize] = self.free;
         self.free = slot;
+        self.sure = self.sure.saturating_add(1);
     }
 
     /// Writes the slot of a list of one.

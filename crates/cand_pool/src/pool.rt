@@ -15,16 +15,18 @@ pub struct Pool {
     pub(crate) links: Vec<u32>,
     pub(crate) candidates: Vec<Numbers>,
     pub(crate) free: u32,
+    /// So many slots are known to be free, so that they need not be counted.
+    pub(crate) sure: usize,
 }
 
 impl Model for Pool {
-    ghost use Rattle.cand_pool.specs.Pools.{Block, IsPool};
+    ghost use Rattle.cand_pool.specs.Pools.{Block, IsSurePool};
 
     ghost Value = { Block };
 
     ghost view = { λ p. record { links = p.links.items; candidates = p.candidates.items; free = p.free } };
 
-    ghost invariant = { λ p. IsPool (record { links = p.links.items; candidates = p.candidates.items; free = p.free }) };
+    ghost invariant = { λ p. IsSurePool (record { links = p.links.items; candidates = p.candidates.items; free = p.free }) p.sure };
 }
 
 impl Pool {
@@ -36,6 +38,7 @@ impl Pool {
             links: Vec::new(alloc),
             candidates: Vec::new(alloc),
             free: NONE,
+            sure: 0,
         }
     }
 
@@ -76,8 +79,8 @@ impl Pool {
         count
     }
 
-    /// Makes room for `n` candidates, with new slots for those that lack one. All lists and bags stay, also when out of memory.
-    pub fn reserve(&mut self, n: usize) -> Result<(), Memory>
+    /// Counts so many free slots, and adds those that lack.
+    fn make_sure(&mut self, n: usize) -> Result<(), Memory>
         ensures others { KeepsOthers self.old [] self.new [] }
         ensures room { IfOk result (λ _. n ≤ spare self.new) }
         ensures more { spare self.old ≤ spare self.new }
@@ -86,6 +89,20 @@ impl Pool {
         'slots: for at in there..n {
             self.grow()?;
         }
+        self.sure = n;
         Ok(())
+    }
+
+    /// Makes room for `n` candidates, with new slots where there are too few: then for twice as many, so that the next calls need not
+    /// count. All lists and bags stay, also when out of memory.
+    pub fn reserve(&mut self, n: usize) -> Result<(), Memory>
+        ensures others { KeepsOthers self.old [] self.new [] }
+        ensures room { IfOk result (λ _. n ≤ spare self.new) }
+        ensures more { spare self.old ≤ spare self.new }
+    {
+        if n <= self.sure {
+            return Ok(());
+        }
+        self.make_sure(n.saturating_mul(2))
     }
 }

@@ -1,4 +1,4 @@
-use Rattle.std.proofs.Common.{◌≡◌, ◌≢◌, ℕ, ◌<◌, length, sym, subst, get_or}
+use Rattle.std.proofs.Common.{◌≡◌, ◌≢◌, ℕ, ◌<◌, length, sym, subst, arith, get_or}
 use Rattle.cand_pool.specs.Links.{none, link}
 use Rattle.cand_pool.specs.Pools.{Block, slots_of, spare, IsPool}
 use Rattle.cand_pool.specs.Moves.{IsDrawn, relinked}
@@ -15,9 +15,10 @@ drawn s r pool room read =
 pub invariant_of-self : goal.invariant_of-self
 invariant_of-self c =
     let room = subst (λ (s : Block). 0 < spare s) (sym c.self.view_is) c.requires in
-    (drawn _ c.index.result.now c.self.invariant room c.index.ensures).pool
+    let at = drawn _ c.index.result.now c.self.invariant.pool room c.index.ensures in
+    record { pool = at.pool; free = omega (arith, at.free, c.self.invariant.free, c.saturating_sub-self-inside.ensures) }
 
 pub returns-clause-drawn : goal.returns-clause-drawn
 returns-clause-drawn c =
     let room = subst (λ (s : Block). 0 < spare s) (sym c.self.view_is) c.requires in
-    rw (← c.self.view_is) (drawn _ c.index.result.now c.self.invariant room c.index.ensures)
+    rw (← c.self.view_is) (drawn _ c.index.result.now c.self.invariant.pool room c.index.ensures)

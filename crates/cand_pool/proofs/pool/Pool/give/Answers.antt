@@ -12,9 +12,10 @@ index_mut-requires c =
 pub invariant_of-self : goal.invariant_of-self
 invariant_of-self c =
     let held = subst (λ (s : Block). IsHeld s c.args.slot c.args.slot (candidate s c.args.slot ∷ [])) (sym c.self.view_is) c.requires in
-    (give _ c.args.slot c.args.slot _ c.self.invariant held).pool
+    let at = give _ c.args.slot c.args.slot _ c.self.invariant.pool held in
+    record { pool = at.pool; free = omega (arith, at.free, c.self.invariant.free, c.saturating_add-self-inside.ensures) }
 
 pub returns : goal.returns
 returns c =
     let held = subst (λ (s : Block). IsHeld s c.args.slot c.args.slot (candidate s c.args.slot ∷ [])) (sym c.self.view_is) c.requires in
-    rw (← c.self.view_is) (give _ c.args.slot c.args.slot _ c.self.invariant held)
+    rw (← c.self.view_is) (give _ c.args.slot c.args.slot _ c.self.invariant.pool held)

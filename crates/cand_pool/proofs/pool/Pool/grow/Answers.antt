@@ -14,27 +14,28 @@ pushed s links candidates a b pool room = rw (a, b) (grow s pool room)
 
 pub returns-in_err-push-2-clause-others : goal.returns-in_err-push-2-clause-others
 returns-in_err-push-2-clause-others c =
-    rw (← c.self.view_is, c.in_err-push-2.ensures.items, c.in_ok-push.ensures.items) (padded _ c.self.invariant)
+    rw (← c.self.view_is, c.in_err-push-2.ensures.items, c.in_ok-push.ensures.items) (padded _ c.self.invariant.pool)
 
 pub invariant_of-self-2 : goal.invariant_of-self-2
 invariant_of-self-2 c =
     let room : length c.self.inside.links.items < none = omega arith in
-    (pushed _ _ _ c.in_ok-push-2.ensures.items c.in_ok-push.ensures.items c.self.invariant room).pool
+    let at = pushed _ _ _ c.in_ok-push-2.ensures.items c.in_ok-push.ensures.items c.self.invariant.pool room in
+    record { pool = at.pool; free = omega (arith, at.free, c.self.invariant.free) }
 
 pub give-requires : goal.give-requires
 give-requires c =
     let room : length c.self.inside.links.items < none = omega arith in
     let slot : c.len-slot.result ≡ length c.self.inside.links.items = omega arith in
-    rw slot (one_held _ _ _ _ (pushed _ _ _ c.in_ok-push-2.ensures.items c.in_ok-push.ensures.items c.self.invariant room).one)
+    rw slot (one_held _ _ _ _ (pushed _ _ _ c.in_ok-push-2.ensures.items c.in_ok-push.ensures.items c.self.invariant.pool room).one)
 
 pub returns-clause-others : goal.returns-clause-others
 returns-clause-others c =
     let room : length c.self.inside.links.items < none = omega arith in
     let slot : c.len-slot.result ≡ length c.self.inside.links.items = omega arith in
-    rw (← c.self.view_is) (grown_freed _ _ _ c.len-slot.result (pushed _ _ _ c.in_ok-push-2.ensures.items c.in_ok-push.ensures.items c.self.invariant room) slot c.give.ensures)
+    rw (← c.self.view_is) (grown_freed _ _ _ c.len-slot.result (pushed _ _ _ c.in_ok-push-2.ensures.items c.in_ok-push.ensures.items c.self.invariant.pool room) slot c.give.ensures)
 
 pub returns-clause-spare : goal.returns-clause-spare
 returns-clause-spare c =
     let room : length c.self.inside.links.items < none = omega arith in
-    let g = pushed _ _ _ c.in_ok-push-2.ensures.items c.in_ok-push.ensures.items c.self.invariant room in
+    let g = pushed _ _ _ c.in_ok-push-2.ensures.items c.in_ok-push.ensures.items c.self.invariant.pool room in
     rw (← c.self.view_is) (c.give.ensures.free ∙ ap (λ (n : ℕ). suc n) g.free)

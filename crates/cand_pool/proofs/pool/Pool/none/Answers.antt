@@ -5,4 +5,4 @@ use Rattle.cand_pool.proofs.PublicLaws.{empty_held}
 use Rattle.cand_pool.proofs.pool.Pool.none.Goals as goal
 
 pub returns-clause-list : goal.returns-clause-list
-returns-clause-list c = subst (λ (s : Block). IsHeld s none none []) c.self.view_is (empty_held _ none none c.self.invariant.block.few refl)
+returns-clause-list c = subst (λ (s : Block). IsHeld s none none []) c.self.view_is (empty_held _ none none c.self.invariant.pool.block.few refl)
