@@ -74,6 +74,7 @@ fn give_uses(slots: &mut Vec<Slot>, made: Made)
 
 /// Makes a new solution with one use, and answers its number. Answers `Memory` where there is no room; nothing changes
 /// then.
+#[inline(always)]
 pub(crate) fn make(slots: &mut Vec<Slot>, free: &mut u64, made: Made) -> Result<u64, Memory>
     requires arena { IsArena slots.old.items free.old }
     requires solution { is_solution made ≡ true }
