@@ -194,6 +194,8 @@ fn find_free<L: Ledger>(
 
 /// The greatest time of each repeater of an order by resistance that is allowed, in its place of the row, where the hull is
 /// that of all candidates. None of these repeaters has a limit.
+// Inlined, it would keep less in registers.
+#[inline(never)]
 fn find_each_free<L: Ledger>(
     reps: &[Rep],
     order: &[u32],

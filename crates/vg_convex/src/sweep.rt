@@ -59,6 +59,8 @@ fn keep_found(
 
 /// The undominated ones of the results that stand in the rows of these repeaters, which are in the order of their input
 /// capacitances. Answers `Memory` where there is no room.
+// Inlined, it would keep less in registers.
+#[inline(never)]
 pub(crate) fn sweep(
     reps: &[Rep],
     order: &[u32],
