@@ -103,12 +103,13 @@ draw_from s (y ∷ ys) slots_are pool whole some =
 pub draw : (s : Block) → IsPool s → s.free ≢ none → IsDrawn s (relinked s s.free none (link s.links s.free))
 draw s pool some = draw_from s (slots_of s s.free) refl pool pool.free some
 
-live_from : (s : Block) (sure first : ℕ) (slots : List ℕ) → slots_of s first ≡ slots → IsSurePool s sure → IsWhole (link s.links) (length s.links) first slots → (first ≡ s.free → first ≡ none) → first ≢ none
-    → IsSurePool (relinked s first none s.free) sure
+live_from : (s : Block) (sure first : ℕ) (slots : List ℕ) → slots_of s first ≡ slots → IsSurePool s sure
+    → IsWhole (link s.links) (length s.links) first slots → (first ≡ s.free → first ≡ none) → first ≢ none → IsSurePool (relinked s first none s.free) sure
 live_from s sure first [] e at whole kept some = absurd (some whole.chain)
 live_from s sure first (y ∷ ys) e at whole kept some =
     let t : IsTaken s first (last_of y ys) (candidate s y) (map (candidate s) ys) (relinked s first none s.free) (link s.links first)
-    = take s first (last_of y ys) (candidate s y) (map (candidate s) ys) at.pool (record { few = at.pool.block.few; slots = y ∷ ys; whole = whole; ends = λ _. refl; kept = kept; shows = refl }) in
+    = take s first (last_of y ys) (candidate s y) (map (candidate s) ys) at.pool
+    (record { few = at.pool.block.few; slots = y ∷ ys; whole = whole; ends = λ _. refl; kept = kept; shows = refl }) in
     record { pool = t.pool; free = omega (arith, t.free, at.free) }
 
 pub live_sure : (s : Block) (sure first : ℕ) → IsSurePool s sure → IsFirst s first → first ≢ none → IsSurePool (relinked s first none s.free) sure

@@ -57,9 +57,11 @@ append_both s a a_last b b_last pool one two some_a some_b differ =
       free = p.free;
     }
 
-pub append_sure : (s : Block) (sure a a_last b b_last : ℕ) → IsSurePool s sure → IsNamed s a a_last → IsNamed s b b_last → a ≢ none → b ≢ none → a ≢ b → IsSurePool (relinked s a_last b s.free) sure
+pub append_sure : (s : Block) (sure a a_last b b_last : ℕ) → IsSurePool s sure → IsNamed s a a_last → IsNamed s b b_last → a ≢ none → b ≢ none → a ≢ b
+    → IsSurePool (relinked s a_last b s.free) sure
 append_sure s sure a a_last b b_last at one two some_a some_b differ =
-    let p : IsPut s a b b_last (items s a) (items s b) (relinked s a_last b s.free) = put s a a_last b b_last (items s a) (items s b) at.pool one two some_a some_b differ in
+    let p : IsPut s a b b_last (items s a) (items s b) (relinked s a_last b s.free)
+    = put s a a_last b b_last (items s a) (items s b) at.pool one two some_a some_b differ in
     record { pool = p.pool; free = omega (arith, p.free, at.free) }
 
 pub append_low : (s : Block) (a a_last : ℕ) → IsPool s → IsNamed s a a_last → a ≢ none → a_last < length s.links

@@ -56,8 +56,8 @@ pub is_less-requires-clause-a_b : goal.is_less-requires-clause-a_b
 is_less-requires-clause-a_b g c =
     let front = c.pops.invariant.front in
     let few = c.pops.invariant.few in
-    points_rise g.xs (length g.xs) front.whole front.hull (c.pops.left - 2) (c.pops.left - 1) c.index.result.now c.index-in-pops.result.now (omega (arith, c.pops-test.true))
-    (omega (arith, c.pops-test.true, front.few, length-take-le c.pops.left c.args.stack.now.items few))
+    points_rise g.xs (length g.xs) front.whole front.hull (c.pops.left - 2) (c.pops.left - 1) c.index.result.now c.index-in-pops.result.now
+    (omega (arith, c.pops-test.true)) (omega (arith, c.pops-test.true, front.few, length-take-le c.pops.left c.args.stack.now.items few))
     (front_at g.xs c.args.r c.args.stack.now.items c.pops.left few front (c.pops.left - 2) c.index.result.now (omega (arith, c.pops-test.true)) c.index.ensures)
     (front_at g.xs c.args.r c.args.stack.now.items c.pops.left few front (c.pops.left - 1) c.index-in-pops.result.now (omega (arith, c.pops-test.true)) c.index-in-pops.ensures)
 

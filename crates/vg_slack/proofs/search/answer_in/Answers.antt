@@ -26,11 +26,11 @@ answer_of_parts-requires-clause-kept g c = none_kept c.args.p.now c.in_ok-waitin
 pub returns-clause-restored : goal.returns-clause-restored
 returns-clause-restored g c =
     swap_restores c.args.arena.now c.answer_of_parts.new.arena c.args.pool.now c.answer_of_parts.new.pool
-    (swap_then (search c.args.pool.now c.args.arena.now) (search c.start.new.pool c.args.arena.now) (search c.answer_of_parts.new.pool c.answer_of_parts.new.arena)
-    [] (all_lists c.start.new.parts.items) [] (c.in_ok-start.ensures.turn (slots_of c.args.arena.now)).swap c.answer_of_parts.ensures.swap)
+    (swap_then (search c.args.pool.now c.args.arena.now) (search c.start.new.pool c.args.arena.now)
+    (search c.answer_of_parts.new.pool c.answer_of_parts.new.arena) [] (all_lists c.start.new.parts.items) [] (c.in_ok-start.ensures.turn (slots_of c.args.arena.now)).swap c.answer_of_parts.ensures.swap)
 
 pub returns-clause-swap : goal.returns-clause-swap
 returns-clause-swap g c =
     if_ok c.answer_of_parts.result
-    (swap_then (search c.args.pool.now c.args.arena.now) (search c.start.new.pool c.args.arena.now) (search c.answer_of_parts.new.pool c.answer_of_parts.new.arena)
-    [] (all_lists c.start.new.parts.items) [] (c.in_ok-start.ensures.turn (slots_of c.args.arena.now)).swap c.answer_of_parts.ensures.swap)
+    (swap_then (search c.args.pool.now c.args.arena.now) (search c.start.new.pool c.args.arena.now)
+    (search c.answer_of_parts.new.pool c.answer_of_parts.new.arena) [] (all_lists c.start.new.parts.items) [] (c.in_ok-start.ensures.turn (slots_of c.args.arena.now)).swap c.answer_of_parts.ensures.swap)

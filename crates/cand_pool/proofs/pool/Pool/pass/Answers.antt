@@ -12,7 +12,8 @@ use Rattle.cand_pool.proofs.WireLaws.{turn_kept, turn_dropped}
 use Rattle.cand_pool.proofs.pool.Pool.pass.Goals as goal
 
 -- a list that was not the first one stays while its slot is cut off
-stays : (s t : Block) (first last rest a a_last : ℕ) (x : Candidate) (xs ps : List Candidate) → IsTaken s first last x xs t rest → first ≢ a → IsHeld s a a_last ps → IsHeld t a a_last ps
+stays : (s t : Block) (first last rest a a_last : ℕ) (x : Candidate) (xs ps : List Candidate) → IsTaken s first last x xs t rest → first ≢ a
+    → IsHeld s a a_last ps → IsHeld t a a_last ps
 stays s t first last rest a a_last x xs ps taken differ h =
     let out : a ≢ none → IsIn a (first ∷ []) → ⊥ = λ (z : a ≢ none) (m : IsIn a (first ∷ [])). elim m [ inl e ↦ differ (sym e) | inr o ↦ o ] in
     stays_any s t (first ∷ []) (first ∷ rest ∷ []) a a_last ps taken.others taken.one.few out h
@@ -35,14 +36,17 @@ take_first-at-requires-clause-live c = held_live c.args.self.now c.args.at.now.r
 pub put_after-at-requires-clause-one : goal.put_after-at-requires-clause-one
 put_after-at-requires-clause-one c =
     let (ys, e) = first_held c.args.self.now c.args.at.now.rest.first c.args.at.now.rest.last _ c.requires.some c.requires.three.more in
-    let t = c.take_first-at.ensures.taken c.args.at.now.rest.last _ ys (subst (λ (l : List Candidate). IsHeld c.args.self.now c.args.at.now.rest.first c.args.at.now.rest.last l) e c.requires.three.more) in
+    let t = c.take_first-at.ensures.taken c.args.at.now.rest.last _ ys
+    (subst (λ (l : List Candidate). IsHeld c.args.self.now c.args.at.now.rest.first c.args.at.now.rest.last l) e c.requires.three.more) in
     held_named _ c.args.at.now.kept.first c.args.at.now.kept.last _
-    (stays _ _ c.args.at.now.rest.first c.args.at.now.rest.last _ c.args.at.now.kept.first c.args.at.now.kept.last _ ys _ t (c.requires.three.rest_one c.requires.some) c.requires.three.one)
+    (stays _ _ c.args.at.now.rest.first c.args.at.now.rest.last _ c.args.at.now.kept.first c.args.at.now.kept.last _ ys _ t
+    (c.requires.three.rest_one c.requires.some) c.requires.three.one)
 
 pub put_after-at-requires-clause-two : goal.put_after-at-requires-clause-two
 put_after-at-requires-clause-two c =
     let (ys, e) = first_held c.args.self.now c.args.at.now.rest.first c.args.at.now.rest.last _ c.requires.some c.requires.three.more in
-    let t = c.take_first-at.ensures.taken c.args.at.now.rest.last _ ys (subst (λ (l : List Candidate). IsHeld c.args.self.now c.args.at.now.rest.first c.args.at.now.rest.last l) e c.requires.three.more) in
+    let t = c.take_first-at.ensures.taken c.args.at.now.rest.last _ ys
+    (subst (λ (l : List Candidate). IsHeld c.args.self.now c.args.at.now.rest.first c.args.at.now.rest.last l) e c.requires.three.more) in
     held_named _ c.args.at.now.rest.first c.args.at.now.rest.first _ (one_held _ _ _ _ t.one)
 
 pub put_after-at-requires-clause-differ : goal.put_after-at-requires-clause-differ
@@ -51,14 +55,17 @@ put_after-at-requires-clause-differ c = λ e. absurd (c.requires.three.rest_one 
 pub put_after-at-requires-else-q-at-clause-one : goal.put_after-at-requires-else-q-at-clause-one
 put_after-at-requires-else-q-at-clause-one c =
     let (ys, e) = first_held c.args.self.now c.args.at.now.rest.first c.args.at.now.rest.last _ c.requires.some c.requires.three.more in
-    let t = c.take_first-at.ensures.taken c.args.at.now.rest.last _ ys (subst (λ (l : List Candidate). IsHeld c.args.self.now c.args.at.now.rest.first c.args.at.now.rest.last l) e c.requires.three.more) in
+    let t = c.take_first-at.ensures.taken c.args.at.now.rest.last _ ys
+    (subst (λ (l : List Candidate). IsHeld c.args.self.now c.args.at.now.rest.first c.args.at.now.rest.last l) e c.requires.three.more) in
     held_named _ c.args.at.now.dropped.first c.args.at.now.dropped.last _
-    (stays _ _ c.args.at.now.rest.first c.args.at.now.rest.last _ c.args.at.now.dropped.first c.args.at.now.dropped.last _ ys _ t (c.requires.three.rest_two c.requires.some) c.requires.three.two)
+    (stays _ _ c.args.at.now.rest.first c.args.at.now.rest.last _ c.args.at.now.dropped.first c.args.at.now.dropped.last _ ys _ t
+    (c.requires.three.rest_two c.requires.some) c.requires.three.two)
 
 pub put_after-at-requires-else-q-at-clause-two : goal.put_after-at-requires-else-q-at-clause-two
 put_after-at-requires-else-q-at-clause-two c =
     let (ys, e) = first_held c.args.self.now c.args.at.now.rest.first c.args.at.now.rest.last _ c.requires.some c.requires.three.more in
-    let t = c.take_first-at.ensures.taken c.args.at.now.rest.last _ ys (subst (λ (l : List Candidate). IsHeld c.args.self.now c.args.at.now.rest.first c.args.at.now.rest.last l) e c.requires.three.more) in
+    let t = c.take_first-at.ensures.taken c.args.at.now.rest.last _ ys
+    (subst (λ (l : List Candidate). IsHeld c.args.self.now c.args.at.now.rest.first c.args.at.now.rest.last l) e c.requires.three.more) in
     held_named _ c.args.at.now.rest.first c.args.at.now.rest.first _ (one_held _ _ _ _ t.one)
 
 pub put_after-at-requires-else-q-at-clause-differ : goal.put_after-at-requires-else-q-at-clause-differ
@@ -71,7 +78,9 @@ returns-then-q-at c = λ x xs ks ds sieve own.
     let t = c.take_first-at.ensures.taken c.args.at.now.rest.last x xs sieve.more in
     let same = (one_slot _ _ _ _ t.one).shows in
     let is_y = with_q _ x c.args.q same own in
-    let sifted = sift _ _ _ _ c.args.at.now.rest.first c.args.at.now.rest.last c.args.at.now.kept.first c.args.at.now.kept.last c.args.at.now.dropped.first c.args.at.now.dropped.last c.take_first-at.result _ _ x _ xs ks ds sieve c.requires.some t
+    let sifted = sift _ _ _ _ c.args.at.now.rest.first c.args.at.now.rest.last
+    c.args.at.now.kept.first c.args.at.now.kept.last c.args.at.now.dropped.first c.args.at.now.dropped.last c.take_first-at.result _ _ x
+    _ xs ks ds sieve c.requires.some t
     (not_written _ _ _ _ _ x xs t) is_y c.put_after-at.ensures in
     rw q_is (turn_kept _ _ c.args.at.now _ _ xs ks ds _ (rw (q_is, best_is) at c.if-q-at.true) sifted)
 
@@ -82,6 +91,8 @@ returns-else-q-at c = λ x xs ks ds sieve own.
     let t = c.take_first-at.ensures.taken c.args.at.now.rest.last x xs sieve.more in
     let same = (one_slot _ _ _ _ t.one).shows in
     let is_y = with_q _ x c.args.q same own in
-    let sifted = sift _ _ _ _ c.args.at.now.rest.first c.args.at.now.rest.last c.args.at.now.dropped.first c.args.at.now.dropped.last c.args.at.now.kept.first c.args.at.now.kept.last c.take_first-at.result _ _ x _ xs ds ks (turned _ _ _ _ _ _ _ sieve)
+    let sifted = sift _ _ _ _ c.args.at.now.rest.first c.args.at.now.rest.last
+    c.args.at.now.dropped.first c.args.at.now.dropped.last c.args.at.now.kept.first c.args.at.now.kept.last c.take_first-at.result _ _ x
+    _ xs ds ks (turned _ _ _ _ _ _ _ sieve)
     c.requires.some t (not_written _ _ _ _ _ x xs t) is_y c.put_after-at-else-q-at.ensures in
     turn_dropped _ _ c.args.at.now _ _ xs ks ds _ (rw (q_is, best_is) at c.if-q-at.false) sifted
