@@ -16,7 +16,7 @@ use std::marker::Brand;
 use std::sync::ledger::{Blank, Ledger};
 use std::test::Fail;
 use vg_num::Memory;
-use vg_slack::{Answer, Lists, NodeLists, best, best_in};
+use vg_slack::{Answer, Lists, NodeLists, Room, best, best_in};
 
 /// Whether two searches found the same placement.
 fn is_same(one: &Answer, other: &Answer) -> bool {
@@ -40,18 +40,25 @@ fn are_same(one: &Lists, other: &Lists) -> bool {
     one.nodes.len() == other.nodes.len() && pairs.all(|(a, b)| are_equal(a, b))
 }
 
-/// Whether a search in a lent arena answers what one in an arena of its own does.
+/// Whether two searches found the same placement and kept the same lists.
+fn are_alike(one: &Answer, other: &Answer) -> bool {
+    is_same(one, other) && are_same(&one.lists, &other.lists)
+}
+
+/// Whether a search in a lent arena, and one in a room that others used before, answer what one in an arena of its own does.
 fn agrees<L: Ledger>(
     alloc: Global,
     p: &Problem,
     arena: &mut Arena,
+    room: &mut Room,
     steps: &mut Steps<L>,
 ) -> Result<bool, Memory>
     ensures { IsRestored (slots_of arena.old) (slots_of arena.new) }
 {
     let lent = best_in(alloc, p, true, arena, steps)?;
+    let later = room.best(alloc, p, true, steps)?;
     let own = best(alloc, p, true, steps)?;
-    Ok(is_same(&lent, &own) && are_same(&lent.lists, &own.lists))
+    Ok(are_alike(&lent, &own) && are_alike(&later, &own))
 }
 
 /// Whether these are the cells of a solution, and so many solutions are live.
@@ -82,7 +89,7 @@ fn held(arena: &mut Arena) -> Result<Sol, Memory>
 }
 
 /// Searches so many problems at random in an arena where a solution of someone else stands. Answers the first one for which
-/// another placement or other lists come than in an arena of its own, or after which the solution is not as before.
+/// another placement or other lists come than in an arena of its own, there or in one room for all of them, or after which the solution is not as before.
 fn first_wrong<L: Ledger>(alloc: Global, blank: Blank, cases: u32) -> Result<Option<u32>, Fail>
     requires name { blank.name ≡ L.name }
     requires parts { blank.parts ≡ L.parts }
@@ -91,11 +98,12 @@ fn first_wrong<L: Ledger>(alloc: Global, blank: Blank, cases: u32) -> Result<Opt
     let mut steps = Steps::<L>::new(blank);
     let mut random = Random::after(3);
     let mut arena = Arena::new(alloc);
+    let mut room = Room::new(alloc);
     let sol = held(&mut arena)?;
     'cases: for case in 0..cases {
         let draft = Draft::draw(alloc, &mut random, 8)?;
         let problem = draft.problem(alloc)?;
-        let same = agrees(alloc, &problem, &mut arena, &mut steps)?;
+        let same = agrees(alloc, &problem, &mut arena, &mut room, &mut steps)?;
         let kept = is_kept(alloc, &arena, sol, &[None, Some(0), Some(1)], 3)?;
         if !same || !kept {
             return Ok(Some(case));
