@@ -18,86 +18,87 @@ use Rattle.cand_pool.proofs.LengthLaws.{parts_long, union_long, map_long}
 use Rattle.cand_pool.specs.Laws.{RisesInTime}
 use Rattle.cand_pool.proofs.RisingLaws.{AreBefore, before_append, rises_append}
 use Rattle.tests_pool.specs.Rows.{IsMade, AreRising}
-use Rattle.tests_pool.specs.declared.rows.Row.{Row}
 
 modest_append : (xs : List Candidate) (x : Candidate) → AreModest xs → IsModest x → AreModest (xs ++ x ∷ [])
 modest_append [] x all one = (one, tt)
 modest_append (y ∷ ys) x all one = (all.0, modest_append ys x all.1 one)
 
--- how the times of candidates that were made of the first n rows rise
-pub record AreRisingTo (rows : List Row) (n : ℕ) (xs : Candidates) : Type 0 where
-  pub rises : RisesInTime xs
-  pub before : (k : ℕ) (d : Row) → n ≤ k → k < length rows → AreBefore (get_or rows k d).q xs
+-- rows of which each has a time
+module _ {R : Type 0} (time : R → ℤ) where
+  -- how the times of candidates that were made of the first n rows rise
+  pub record AreRisingTo (rows : List R) (n : ℕ) (xs : Candidates) : Type 0 where
+    pub rises : RisesInTime xs
+    pub before : (k : ℕ) (d : R) → n ≤ k → k < length rows → AreBefore (time (get_or rows k d)) xs
 
-rising_more : (rows : List Row) (n : ℕ) (xs : Candidates) (x : Candidate) (e : Row) → AreRising rows → n < length rows → x.q ≡ (get_or rows n e).q → AreRisingTo rows n xs
-    → AreRisingTo rows (n + 1) (xs ++ x ∷ [])
-rising_more rows n xs x e all low time are = record {
-  rises = rises_append xs x are.rises (subst (λ (q : ℤ). AreBefore q xs) (sym time) (are.before n e (omega arith) low));
-  before = λ k d n_k k_n.
-      let later : (get_or rows n d).q <ℤ (get_or rows k d).q = all n k d (omega arith) k_n in
-      let same : (get_or rows n e).q ≡ (get_or rows n d).q = ap (λ (r : Row). r.q) (get_or_default rows n e d low) in
-      let early : x.q <ℤ (get_or rows k d).q = subst (λ (q : ℤ). q <ℤ (get_or rows k d).q) (sym (time ∙ same)) later in
-      before_append (get_or rows k d).q xs x (are.before k d (omega arith) k_n) early;
-}
+  rising_more : (rows : List R) (n : ℕ) (xs : Candidates) (x : Candidate) (e : R) → AreRising time rows → n < length rows → x.q ≡ time (get_or rows n e) → AreRisingTo rows n xs
+      → AreRisingTo rows (n + 1) (xs ++ x ∷ [])
+  rising_more rows n xs x e all low is_time are = record {
+    rises = rises_append xs x are.rises (subst (λ (q : ℤ). AreBefore q xs) (sym is_time) (are.before n e (omega arith) low));
+    before = λ k d n_k k_n.
+        let later : time (get_or rows n d) <ℤ time (get_or rows k d) = all n k d (omega arith) k_n in
+        let same : time (get_or rows n e) ≡ time (get_or rows n d) = ap time (get_or_default rows n e d low) in
+        let early : x.q <ℤ time (get_or rows k d) = subst (λ (q : ℤ). q <ℤ time (get_or rows k d)) (sym (is_time ∙ same)) later in
+        before_append (time (get_or rows k d)) xs x (are.before k d (omega arith) k_n) early;
+  }
 
--- rows of which one more was looked at
-pub rows_more : (rows : List Row) (i : ℕ) (e : Row) → 0 < i → i < length rows → (get_or rows (i - 1) e).q <ℤ (get_or rows i e).q
-    → ((k j : ℕ) (d : Row) → k < j → j < i → (get_or rows k d).q <ℤ (get_or rows j d).q)
-    → (k j : ℕ) (d : Row) → k < j → j < i + 1 → (get_or rows k d).q <ℤ (get_or rows j d).q
-rows_more rows i e some low next before k j d k_j j_i = elim (cases_eq j i) [
-  | inr less ↦ before k j d k_j (omega arith)
-  | inl is ↦
-      let one : (get_or rows (i - 1) e).q ≡ (get_or rows (i - 1) d).q = ap (λ (r : Row). r.q) (get_or_default rows (i - 1) e d (omega arith)) in
-      let two : (get_or rows i e).q ≡ (get_or rows i d).q = ap (λ (r : Row). r.q) (get_or_default rows i e d low) in
-      let last : (get_or rows (i - 1) d).q <ℤ (get_or rows i d).q = omega (arith, ints, next, one, two) in
-      rw is
-      (elim (cases_eq k (i - 1)) [
-        | inl first ↦ rw first last
-        | inr less ↦ let more : (get_or rows k d).q <ℤ (get_or rows (i - 1) d).q = before k (i - 1) d (omega arith) (omega arith) in omega (arith, ints, more, last)
-      ])
-]
+  -- rows of which one more was looked at
+  pub rows_more : (rows : List R) (i : ℕ) (e : R) → 0 < i → i < length rows → time (get_or rows (i - 1) e) <ℤ time (get_or rows i e)
+      → ((k j : ℕ) (d : R) → k < j → j < i → time (get_or rows k d) <ℤ time (get_or rows j d))
+      → (k j : ℕ) (d : R) → k < j → j < i + 1 → time (get_or rows k d) <ℤ time (get_or rows j d)
+  rows_more rows i e some low next before k j d k_j j_i = elim (cases_eq j i) [
+    | inr less ↦ before k j d k_j (omega arith)
+    | inl is ↦
+        let one : time (get_or rows (i - 1) e) ≡ time (get_or rows (i - 1) d) = ap time (get_or_default rows (i - 1) e d (omega arith)) in
+        let two : time (get_or rows i e) ≡ time (get_or rows i d) = ap time (get_or_default rows i e d low) in
+        let last : time (get_or rows (i - 1) d) <ℤ time (get_or rows i d) = omega (arith, ints, next, one, two) in
+        rw is
+        (elim (cases_eq k (i - 1)) [
+          | inl first ↦ rw first last
+          | inr less ↦ let more : time (get_or rows k d) <ℤ time (get_or rows (i - 1) d) = before k (i - 1) d (omega arith) (omega arith) in omega (arith, ints, more, last)
+        ])
+  ]
 
--- how far a list is made of rows: it has n candidates
-pub record IsMaking (rows : List Row) (s t : Block) (list : NamedList) (n : ℕ) : Type 0 where
-  pub xs : Candidates
-  pub held : Holds t list xs
-  pub modest : AreModest xs
-  pub long : length xs ≡ n
-  pub rises : AreRising rows → AreRisingTo rows n xs
-  pub others : KeepsOthers s [] t (name list ∷ [])
-  pub free : spare s ≡ spare t + n
+  -- how far a list is made of rows: it has n candidates
+  pub record IsMaking (rows : List R) (s t : Block) (list : NamedList) (n : ℕ) : Type 0 where
+    pub xs : Candidates
+    pub held : Holds t list xs
+    pub modest : AreModest xs
+    pub long : length xs ≡ n
+    pub rises : AreRising time rows → AreRisingTo rows n xs
+    pub others : KeepsOthers s [] t (name list ∷ [])
+    pub free : spare s ≡ spare t + n
 
-pub making_start : (rows : List Row) (s t : Block) (list : NamedList) → t ≡ s → Holds t list [] → IsMaking rows s t list 0
-making_start rows s t list same h = record {
-  xs = [];
-  rises = λ all. record { rises = tt; before = λ k d n_k k_n. tt };
-  held = h;
-  modest = tt;
-  long = refl;
-  others = subst (λ (b : Block). KeepsOthers b [] t (name list ∷ [])) same (keeps_none t (name list) (nothing_held t list.ends.first list.ends.last h));
-  free = let e : spare t ≡ spare s = ap spare same in omega (arith, e);
-}
+  pub making_start : (rows : List R) (s t : Block) (list : NamedList) → t ≡ s → Holds t list [] → IsMaking rows s t list 0
+  making_start rows s t list same h = record {
+    xs = [];
+    rises = λ all. record { rises = tt; before = λ k d n_k k_n. tt };
+    held = h;
+    modest = tt;
+    long = refl;
+    others = subst (λ (b : Block). KeepsOthers b [] t (name list ∷ [])) same (keeps_none t (name list) (nothing_held t list.ends.first list.ends.last h));
+    free = let e : spare t ≡ spare s = ap spare same in omega (arith, e);
+  }
 
-pub making_more : (rows : List Row) (s t u : Block) (list list' : NamedList) (n : ℕ) (x : Candidate) (e : Row) → n < length rows → x.q ≡ (get_or rows n e).q
-    → IsMaking rows s t list n → IsModest x → ((xs : Candidates) → Holds t list xs → Holds u list' (xs ++ x ∷ []))
-    → KeepsOthers t (name list ∷ []) u (name list' ∷ []) → spare t ≡ suc (spare u) → IsMaking rows s u list' (n + 1)
-making_more rows s t u list list' n x e low time f modest pushed others free = record {
-  xs = f.xs ++ x ∷ [];
-  rises = λ all. rising_more rows n f.xs x e all low time (f.rises all);
-  held = pushed f.xs f.held;
-  modest = modest_append f.xs x f.modest modest;
-  long = let long = f.long in omega (arith, long, length-append f.xs (x ∷ []));
-  others = keeps_then s t u [] (name list ∷ []) (name list ∷ []) (name list' ∷ []) (name list' ∷ []) f.others others (λ k m. m) (λ k m. inl m);
-  free = let before = f.free in omega (arith, before, free);
-}
+  pub making_more : (rows : List R) (s t u : Block) (list list' : NamedList) (n : ℕ) (x : Candidate) (e : R) → n < length rows → x.q ≡ time (get_or rows n e)
+      → IsMaking rows s t list n → IsModest x → ((xs : Candidates) → Holds t list xs → Holds u list' (xs ++ x ∷ []))
+      → KeepsOthers t (name list ∷ []) u (name list' ∷ []) → spare t ≡ suc (spare u) → IsMaking rows s u list' (n + 1)
+  making_more rows s t u list list' n x e low is_time f modest pushed others free = record {
+    xs = f.xs ++ x ∷ [];
+    rises = λ all. rising_more rows n f.xs x e all low is_time (f.rises all);
+    held = pushed f.xs f.held;
+    modest = modest_append f.xs x f.modest modest;
+    long = let long = f.long in omega (arith, long, length-append f.xs (x ∷ []));
+    others = keeps_then s t u [] (name list ∷ []) (name list ∷ []) (name list' ∷ []) (name list' ∷ []) f.others others (λ k m. m) (λ k m. inl m);
+    free = let before = f.free in omega (arith, before, free);
+  }
 
-pub making_rises : (rows : List Row) (s t : Block) (list : NamedList) (n : ℕ) → IsMaking rows s t list n → AreRising rows → RisesInTime (items_of t list)
-making_rises rows s t list n f all = subst RisesInTime (sym (held_items t list.ends.first list.ends.last f.xs f.held)) (f.rises all).rises
+  pub making_rises : (rows : List R) (s t : Block) (list : NamedList) (n : ℕ) → IsMaking rows s t list n → AreRising time rows → RisesInTime (items_of t list)
+  making_rises rows s t list n f all = subst RisesInTime (sym (held_items t list.ends.first list.ends.last f.xs f.held)) (f.rises all).rises
 
-pub making_end : (rows : List Row) (s t : Block) (list : NamedList) (m n : ℕ) → IsMaking rows s t list m → m ≡ n → IsMade t list n
-making_end rows s t list m n f e =
-    let is : items_of t list ≡ f.xs = held_items t list.ends.first list.ends.last f.xs f.held in
-    (held_named t list.ends.first list.ends.last f.xs f.held, subst AreModest (sym is) f.modest, ap length is ∙ f.long ∙ e)
+  pub making_end : (rows : List R) (s t : Block) (list : NamedList) (m n : ℕ) → IsMaking rows s t list m → m ≡ n → IsMade t list n
+  making_end rows s t list m n f e =
+      let is : items_of t list ≡ f.xs = held_items t list.ends.first list.ends.last f.xs f.held in
+      (held_named t list.ends.first list.ends.last f.xs f.held, subst AreModest (sym is) f.modest, ap length is ∙ f.long ∙ e)
 
 -- how far a bag is emptied
 pub record IsEmptying (s t : Block) (bag bag' : Bag) : Type 0 where

@@ -52,7 +52,7 @@ impl Tags {
 pub fn make(pool: &mut Pool, rows: &[Row]) -> List
     requires { length rows.now ≤ spare pool.old }
     ensures made { IsMade pool.new result (length rows.now) }
-    ensures rises { AreRising rows.now → RisesInTime (items_of pool.new result) }
+    ensures rises { AreRising (λ row. row.q) rows.now → RisesInTime (items_of pool.new result) }
     ensures others { KeepsOthers pool.old [] pool.new (name result ∷ []) }
     ensures spare { spare pool.old ≡ spare pool.new + length rows.now }
 {

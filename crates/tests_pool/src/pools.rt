@@ -63,8 +63,8 @@ fn absorbed<L: Ledger>(
     steps: &mut Steps<L>,
 ) -> (bool, Split)
     requires room { length one.now + length two.now ≤ spare pool.old }
-    requires one { AreRising one.now }
-    requires two { AreRising two.now }
+    requires one { AreRising (λ row. row.q) one.now }
+    requires two { AreRising (λ row. row.q) two.now }
     ensures { spare pool.new ≡ spare pool.old }
 {
     let mut list = make(pool, one);

@@ -123,7 +123,7 @@ fn is_over(row: Row, other: Row) -> bool
 
 /// Whether the q of these rows rises.
 pub fn rises(rows: &[Row]) -> bool
-    ensures { IsTrue result → AreRising rows.now }
+    ensures { IsTrue result → AreRising (λ row. row.q) rows.now }
 {
     'rows: for i in 1..rows.len() {
         if !is_over(rows[i], rows[i - 1]) {
