@@ -1,20 +1,25 @@
 -- What `clap` makes of the command: its arguments, as it reads them, and of words alone.
-use Rattle.std.proofs.Common.{◌≡◌, ℕ, Bool, true, false, List, [], ◌∷◌, map, refl, sym, ap, ◌∙◌, Some, None, Result, Ok, Err, IfOk}
-use Rattle.std.specs.List.{fold}
+use Rattle.std.proofs.Common.{◌≡◌, ℕ, Bool, true, false, not, List, [], ◌∷◌, map, refl, sym, ap, ◌∙◌, subst, Some, None, Result, Ok, Err, IfOk, if◌then◌else◌}
+use Rattle.std.proofs.lemmas.Bool.{false≢true}
+use Rattle.std.specs.List.{fold, list_all}
 use Rattle.std.specs.Str.{bytes_eq}
 use Rattle.std.proofs.lemmas.Slice.Eq.{bytes_eq-Decides}
 use Rattle.clap.specs.Faults.{check_fault, defaults_fault, default_fault, settle_fault, turn_fault, use_fault, walk_fault}
 use Rattle.clap.specs.Kinds.{Kinds, or_else}
 use Rattle.clap.specs.Simple.{filled}
 use Rattle.clap.specs.Walk.{Held, Walk, arg_by_id, arg_by_long, finished, has_row, nothing_held, settled, used, walk, walk_from, walked, with_default}
-use Rattle.clap.specs.Words.{App, Row, Rule, Shape, HasMatchesOf, fault_of, found_of, is_simple, matches_of, rows_of}
+use Rattle.clap.specs.Words.{App, Row, Rule, Shape, HasMatchesOf, fault_of, found_of, is_simple, matches_of, new_rule, rows_of}
+use Rattle.clap.specs.declared.builder.action.ArgAction.{ArgAction}
+use Rattle.clap.specs.declared.builder.action.ArgAction.TheVariants.{Set, SetTrue}
 use Rattle.clap.specs.declared.error.Error.{Error}
 use Rattle.clap.specs.declared.parser.matches.ArgMatches.{ArgMatches}
 use Rattle.clap.proofs.FaultLemmas.{leaf_fault}
-use Rattle.vg_words.specs.Command.{app, bare, long_name, rule_for}
-use Rattle.vg_words.specs.Options.{options}
+use Rattle.clap.proofs.WalkLemmas.{both}
+use Rattle.vg_words.specs.Command.{action_for, app, bare, long_name}
+use Rattle.vg_words.specs.Options.{is_flag, options}
 use Rattle.vg_words.specs.declared.option.Opt.{Opt}
-use Rattle.vg_words.proofs.OptionLemmas.{each}
+use Rattle.vg_words.specs.declared.option.Opt.TheVariants.{Mode, Spef, Lib, Verilog, Cons, Net, All, OutSpef, OutVerilog, Prefix}
+use Rattle.vg_words.proofs.OptionLemmas.{each_valued, one_flag}
 
 -- the matches of a simple command, by another name
 pub matches_at : (a b : App) (words : List (List ℕ)) (r : Result ArgMatches Error) → a ≡ b → is_simple b ≡ true → IfOk r (HasMatchesOf a words)
@@ -26,22 +31,35 @@ pub app-simple : is_simple app ≡ true
 app-simple = refl
 
 -- an argument as it is built
+abbrev acting : ArgAction → Opt → Rule
+acting action o = filled (record (new_rule (long_name o)) { long = Some (long_name o); action = Some action })
+
+abbrev built : Opt → Rule
+built o = acting (action_for o) o
+
+-- that of an option with a value, and that of a flag
 abbrev pub rule : Opt → Rule
-rule o = filled (rule_for o)
+rule o = acting Set o
+
+abbrev pub flag_rule : Opt → Rule
+flag_rule o = acting SetTrue o
 
 abbrev pub rules : List Rule
-rules = map rule options
+rules = map built options
 
 -- the command as it is built
 abbrev pub shape : Shape
 shape = record bare.top { rules = rules; disable_help_subcommand = true; is_built = true }
 
 -- the argument of a name
-pub by_id : (o : Opt) → arg_by_id rules (long_name o) ≡ Some (rule o)
-by_id = each (λ o. arg_by_id rules (long_name o) ≡ Some (rule o)) refl refl refl refl refl refl refl refl refl
+pub by_id : (o : Opt) → is_flag o ≡ false → arg_by_id rules (long_name o) ≡ Some (rule o)
+by_id = each_valued (λ o. arg_by_id rules (long_name o) ≡ Some (rule o)) refl refl refl refl refl refl refl refl refl
 
-pub by_long : (o : Opt) → arg_by_long rules (long_name o) ≡ Some (rule o)
-by_long = each (λ o. arg_by_long rules (long_name o) ≡ Some (rule o)) refl refl refl refl refl refl refl refl refl
+pub by_long : (o : Opt) → is_flag o ≡ false → arg_by_long rules (long_name o) ≡ Some (rule o)
+by_long = each_valued (λ o. arg_by_long rules (long_name o) ≡ Some (rule o)) refl refl refl refl refl refl refl refl refl
+
+pub flag_by_long : (o : Opt) → is_flag o ≡ true → arg_by_long rules (long_name o) ≡ Some (flag_rule o)
+flag_by_long o e = subst (λ o. arg_by_long rules (long_name o) ≡ Some (flag_rule o)) (sym (one_flag o e)) refl
 
 no_rule : (a : Rule) → None ≡ Some a → ⊥
 no_rule a e = cc
@@ -50,36 +68,69 @@ no_rule a e = cc
 abbrev pub IsKnown : List ℕ → Type 0
 IsKnown name = (o : Opt) × (name ≡ long_name o)
 
-long_in : (os : List Opt) (name : List ℕ) (a : Rule) → arg_by_long (map rule os) name ≡ Some a → IsKnown name
+long_in : (os : List Opt) (name : List ℕ) (a : Rule) → arg_by_long (map built os) name ≡ Some a → IsKnown name
 long_in [] name a e = absurd (no_rule a e)
 long_in (o ∷ os) name a e = go (bytes_eq (long_name o) name) refl (long_in os name a)
   where
-    go : (b : Bool) → bytes_eq (long_name o) name ≡ b → (arg_by_long (map rule os) name ≡ Some a → IsKnown name) → IsKnown name
+    go : (b : Bool) → bytes_eq (long_name o) name ≡ b → (arg_by_long (map built os) name ≡ Some a → IsKnown name) → IsKnown name
     go true is later = (o, sym ((bytes_eq-Decides (long_name o) name).0 is))
     go false is later = later (sym (rw is refl) ∙ e)
 
 pub long_known : (name : List ℕ) (a : Rule) → arg_by_long rules name ≡ Some a → IsKnown name
 long_known name a e = long_in options name a e
 
--- no argument has a default
-no_default : (os : List Opt) (rows : List Row) → fold with_default rows (map rule os) ≡ rows
-no_default [] rows = refl
-no_default (o ∷ os) rows = ap (λ rs. fold with_default rs (map rule os)) (go (has_row (long_name o) rows) refl) ∙ no_default os rows
+-- an argument with a value has no default
+no_default : (o : Opt) (rows : List Row) → with_default rows (rule o) ≡ rows
+no_default o rows = go (has_row (long_name o) rows) refl
   where
     go : (b : Bool) → has_row (long_name o) rows ≡ b → with_default rows (rule o) ≡ rows
     go true is = rw is refl
     go false is = rw is refl
 
-no_default_fault : (os : List Opt) (rows : List Row) → defaults_fault rows (map rule os) ≡ []
-unfolding defaults_fault
-no_default_fault [] rows = refl
-no_default_fault (o ∷ os) rows =
-    let later = with_default rows (rule o) in
-    ap (λ ks. or_else ks (defaults_fault later (map rule os))) (go (has_row (long_name o) rows) refl) ∙ no_default_fault os later
+abbrev are_valued : List Opt → Bool
+are_valued os = list_all (λ o. not (is_flag o)) os
+
+no_flag : (b : Bool) → not b ≡ true → b ≡ false
+no_flag true e = absurd (false≢true e)
+no_flag false e = refl
+
+no_defaults : (os : List Opt) (rows : List Row) → are_valued os ≡ true → fold with_default rows (map built os) ≡ rows
+no_defaults [] rows e = refl
+no_defaults (o ∷ os) rows e =
+    let (first, more) = both (not (is_flag o)) (are_valued os) e in
+    let is : with_default rows (built o) ≡ rows =
+    ap (λ f. with_default rows (acting (if f then SetTrue else Set) o)) (no_flag (is_flag o) first) ∙ no_default o rows in
+    ap (λ rs. fold with_default rs (map built os)) is ∙ no_defaults os rows more
+
+-- the flag has one
+abbrev pub with_flag : List Row → List Row
+with_flag rows = with_default rows (flag_rule All)
+
+abbrev before_flag : List Opt
+before_flag = Mode ∷ Spef ∷ Lib ∷ Verilog ∷ Cons ∷ Net ∷ []
+
+abbrev after_flag : List Opt
+after_flag = OutSpef ∷ OutVerilog ∷ Prefix ∷ []
+
+with_defaults : (rows : List Row) → fold with_default rows rules ≡ with_flag rows
+with_defaults rows =
+    ap (λ rs. fold with_default (with_flag rs) (map built after_flag)) (no_defaults before_flag rows refl) ∙ no_defaults after_flag (with_flag rows) refl
+
+no_default_fault : (f : Bool) (o : Opt) (rows : List Row) → default_fault rows (acting (if f then SetTrue else Set) o) ≡ []
+no_default_fault f o rows = go f (has_row (long_name o) rows) refl
   where
-    go : (b : Bool) → has_row (long_name o) rows ≡ b → default_fault rows (rule o) ≡ []
-    go true is = rw is refl
-    go false is = rw is refl
+    go : (f b : Bool) → has_row (long_name o) rows ≡ b → default_fault rows (acting (if f then SetTrue else Set) o) ≡ []
+    go true true is = rw is refl
+    go true false is = rw is refl
+    go false true is = rw is refl
+    go false false is = rw is refl
+
+no_default_faults : (os : List Opt) (rows : List Row) → defaults_fault rows (map built os) ≡ []
+unfolding defaults_fault
+no_default_faults [] rows = refl
+no_default_faults (o ∷ os) rows =
+    let later = with_default rows (built o) in
+    ap (λ ks. or_else ks (defaults_fault later (map built os))) (no_default_fault (is_flag o) o rows) ∙ no_default_faults os later
 
 -- ---- the walk over the words
 
@@ -103,6 +154,13 @@ value_rows o v rows = used (rule o) (v ∷ []) rows
 abbrev pub value_fault : Opt → List ℕ → List Row → Kinds
 value_fault o v rows = use_fault false (rule o) (v ∷ []) rows
 
+-- the same after a flag
+abbrev pub flag_rows : Opt → List Row → List Row
+flag_rows o rows = used (flag_rule o) [] rows
+
+abbrev pub flag_fault : Opt → List Row → Kinds
+flag_fault o rows = use_fault false (flag_rule o) [] rows
+
 -- the faults from a place of the walk on, and the rows at its end
 abbrev pub faults : Walk → List (List ℕ) → Kinds
 faults w words = or_else (walk_fault shape [] w words) (held_fault (fold next_walk w words).held)
@@ -117,12 +175,12 @@ or_else-nil (k ∷ ks) = refl
 -- the checks after the walk find nothing
 end_fault : (h : Held)
     → or_else (held_fault h) (or_else (defaults_fault (rows_in h) rules) (check_fault shape (finished rules h) false)) ≡ held_fault h
-end_fault h = ap (λ ks. or_else (held_fault h) (or_else ks [])) (no_default_fault options (rows_in h)) ∙ or_else-nil (held_fault h)
+end_fault h = ap (λ ks. or_else (held_fault h) (or_else ks [])) (no_default_faults options (rows_in h)) ∙ or_else-nil (held_fault h)
 
 pub fault-walk : (words : List (List ℕ)) → fault_of app words ≡ faults (walk_from nothing_held) words
 fault-walk words =
     leaf_fault (record { top = shape; subs = [] }) nothing_held words refl
     ∙ ap (or_else (walk_fault shape [] (walk_from nothing_held) words)) (end_fault (walk rules [] nothing_held words).held)
 
-pub matches-walk : (words : List (List ℕ)) → matches_of app words ≡ rows_after (walk_from nothing_held) words
-matches-walk words = no_default options (rows_after (walk_from nothing_held) words)
+pub matches-walk : (words : List (List ℕ)) → matches_of app words ≡ with_flag (rows_after (walk_from nothing_held) words)
+matches-walk words = with_defaults (rows_after (walk_from nothing_held) words)

@@ -1,17 +1,21 @@
 -- What a judgment of the given values says of the words.
-use Rattle.std.proofs.Common.{◌≡◌, ℕ, true, false, List, refl, sym, ap, ◌∙◌, subst, Option, Some, None, Result, Ok, Err, codes, if◌then◌else◌}
-use Rattle.std.specs.List.{find}
+use Rattle.std.proofs.Common.{◌≡◌, ℕ, Bool, true, false, not, ◌&&◌, ◌||◌, ◌⊎◌, inl, inr, List, [], ◌∷◌, refl, sym, ap, ◌∙◌, subst, Option, Some, None, is_some, Result, Ok, Err, codes, if◌then◌else◌}
+use Rattle.std.proofs.Math.Bool.{or-true}
+use Rattle.std.proofs.lemmas.Bool.{false≢true, true≢false}
+use Rattle.std.specs.List.{find, list_any}
 use Rattle.std.specs.Result.{IsErrAnd}
 use Rattle.std.specs.Str.{bytes_eq}
 use Rattle.std.proofs.lemmas.Slice.Eq.{bytes_eq-Decides}
+use Rattle.vg_words.proofs.OptionLemmas.{same_option}
 use Rattle.vg_words.proofs.SpellingLemmas.{one_setting}
+use Rattle.vg_words.specs.Laws.{AsksForAll, AsksForNet}
 use Rattle.vg_words.specs.Views.{AreValues}
 use Rattle.vg_words.specs.declared.ask.Ask.{Ask}
 use mathlib.Core.Path.{fun_ext}
-use Rattle.vg_words.specs.Options.{options, file_options, required, mode_of, mode_name}
-use Rattle.vg_words.specs.Request.{Setting, Sets, Values, values_in, value_of, IsRequest, is_unset, is_excluded, is_bad, or_else, of_first, of_pair, first_equal, fault_in, fault_of_mode, fault_of_name, fault_of, HasMode, IsRefused, ReadsWords, value}
+use Rattle.vg_words.specs.Options.{options, file_options, is_same, required, mode_of, mode_name}
+use Rattle.vg_words.specs.Request.{Setting, Sets, Values, values_in, value_of, IsRequest, may_be_given, is_missing, is_excluded, flag_value, is_bad, or_else, of_first, of_pair, first_equal, fault_in, fault_of_mode, fault_of_name, fault_of, HasMode, IsRefused, ReadsWords, value}
 use Rattle.vg_words.specs.declared.option.Opt.{Opt}
-use Rattle.vg_words.specs.declared.option.Opt.TheVariants.{Mode, Spef, Lib, Verilog, Cons, Net, OutSpef, OutVerilog, Prefix}
+use Rattle.vg_words.specs.declared.option.Opt.TheVariants.{Mode, Spef, Lib, Verilog, Cons, Net, All, OutSpef, OutVerilog, Prefix}
 use Rattle.vg_words.specs.declared.ask.Mode.{Mode as ModeSpec}
 use Rattle.vg_words.specs.declared.ask.Mode.TheVariants.{Wire, Time, Best}
 use Rattle.vg_words.specs.declared.ask.WordFault.{WordFault}
@@ -52,9 +56,9 @@ told_in mode values =
     let equal = of_pair (first_equal values file_options) in
     let bad = of_first BadValue (find (is_bad values) options) in
     let excluded = of_first Excluded (find (is_excluded mode values) options) in
-    let missing = of_first Missing (find (is_unset values) (required mode)) in
+    let missing = of_first Missing (find (is_missing mode values) (required mode)) in
     let told_last = told_or bad equal (told_bad (find (is_bad values) options)) (told_pair (first_equal values file_options)) in
-    told_or missing (or_else excluded (or_else bad equal)) (told_missing (find (is_unset values) (required mode)))
+    told_or missing (or_else excluded (or_else bad equal)) (told_missing (find (is_missing mode values) (required mode)))
     (told_or excluded (or_else bad equal) (told_excluded (find (is_excluded mode values) options)) told_last)
 
 told_mode : (values : Values) (mode : Option ModeSpec) → IsTold (fault_of_mode values mode)
@@ -93,17 +97,18 @@ some_mode : (a b : ModeSpec) → Some a ≡ Some b → a ≡ b
 some_mode a b e = cc
 
 requested_values : (values : Values) (ask : Ask) → values Mode ≡ Some (mode_name ask.mode) → values Spef ≡ ask.spef → values Lib ≡ ask.lib
-    → values Verilog ≡ ask.verilog → values Cons ≡ ask.cons → values Net ≡ ask.net → values OutSpef ≡ ask.out_spef
-    → values OutVerilog ≡ ask.out_verilog → values Prefix ≡ ask.prefix → (option : Opt) → values option ≡ value ask option
-requested_values values ask m s l v c n os ov p Mode = m
-requested_values values ask m s l v c n os ov p Spef = s
-requested_values values ask m s l v c n os ov p Lib = l
-requested_values values ask m s l v c n os ov p Verilog = v
-requested_values values ask m s l v c n os ov p Cons = c
-requested_values values ask m s l v c n os ov p Net = n
-requested_values values ask m s l v c n os ov p OutSpef = os
-requested_values values ask m s l v c n os ov p OutVerilog = ov
-requested_values values ask m s l v c n os ov p Prefix = p
+    → values Verilog ≡ ask.verilog → values Cons ≡ ask.cons → values Net ≡ ask.net → values All ≡ flag_value ask.all
+    → values OutSpef ≡ ask.out_spef → values OutVerilog ≡ ask.out_verilog → values Prefix ≡ ask.prefix → (option : Opt) → values option ≡ value ask option
+requested_values values ask m s l v c n a os ov p Mode = m
+requested_values values ask m s l v c n a os ov p Spef = s
+requested_values values ask m s l v c n a os ov p Lib = l
+requested_values values ask m s l v c n a os ov p Verilog = v
+requested_values values ask m s l v c n a os ov p Cons = c
+requested_values values ask m s l v c n a os ov p Net = n
+requested_values values ask m s l v c n a os ov p All = a
+requested_values values ask m s l v c n a os ov p OutSpef = os
+requested_values values ask m s l v c n a os ov p OutVerilog = ov
+requested_values values ask m s l v c n a os ov p Prefix = p
 
 -- a text that is the name of one mode, or else names another
 named_or : (text : List ℕ) (own mode : ModeSpec) (rest : Option ModeSpec) → (if bytes_eq text (mode_name own) then Some own else rest) ≡ Some mode
@@ -129,10 +134,11 @@ mode_given (Some name) mode h = ap (λ text. Some text) (mode_named name mode h)
 pub requested : (words : List (List ℕ)) (values : Values) (mode : ModeSpec) (ask : Ask) → AreValues words values
     → (fault_of values ≡ None) × HasMode (values Mode) mode
     → ask.mode ≡ mode → ask.spef ≡ values Spef → ask.lib ≡ values Lib → ask.verilog ≡ values Verilog → ask.cons ≡ values Cons → ask.net ≡ values Net
-    → ask.out_spef ≡ values OutSpef → ask.out_verilog ≡ values OutVerilog → ask.prefix ≡ values Prefix → IsRequest words ask
-requested words values mode ask given (e, h) m s l v c n os ov p =
+    → flag_value ask.all ≡ values All → ask.out_spef ≡ values OutSpef → ask.out_verilog ≡ values OutVerilog → ask.prefix ≡ values Prefix
+    → IsRequest words ask
+requested words values mode ask given (e, h) m s l v c n a os ov p =
     let named = mode_given (values Mode) mode h ∙ ap (λ x. Some (mode_name x)) (sym m) in
-    let kept = requested_values values ask named (sym s) (sym l) (sym v) (sym c) (sym n) (sym os) (sym ov) (sym p) in
+    let kept = requested_values values ask named (sym s) (sym l) (sym v) (sym c) (sym n) (sym a) (sym os) (sym ov) (sym p) in
     record {
       settings = given.settings;
       set = given.set;
@@ -152,10 +158,18 @@ one_mode a b e = some_mode a b (sym (named_mode a) ∙ ap mode_of e ∙ named_mo
 some_text : (a b : List ℕ) → Some a ≡ Some b → a ≡ b
 some_text a b e = cc
 
+given_flag : (a : Bool) → is_some (flag_value a) ≡ a
+given_flag true = refl
+given_flag false = refl
+
+one_all : (a b : Bool) → flag_value a ≡ flag_value b → a ≡ b
+one_all a b e = sym (given_flag a) ∙ ap (λ (o : Option (List ℕ)). is_some o) e ∙ given_flag b
+
 pub one : (words : List (List ℕ)) (a b : Ask) → IsRequest words a → IsRequest words b → a ≡ b
 one words a b x y =
     let same = one_setting words x.settings y.settings x.set y.set in
     let values : (option : Opt) → value a option ≡ value b option = λ option. sym (x.values option) ∙ ap (value_of option) same ∙ y.values option in
+    let all = one_all a.all b.all (values All) in
     let mode = one_mode a.mode b.mode (some_text (mode_name a.mode) (mode_name b.mode) (values Mode)) in
     λ i. record {
       mode = mode i;
@@ -164,6 +178,7 @@ one words a b x y =
       verilog = values Verilog i;
       cons = values Cons i;
       net = values Net i;
+      all = all i;
       out_spef = values OutSpef i;
       out_verilog = values OutVerilog i;
       prefix = values Prefix i;
@@ -183,3 +198,76 @@ refused_none words (Excluded o) refused request is = fault_apart words (Excluded
 refused_none words (BadValue o) refused request is = fault_apart words (BadValue o) refused request is
 refused_none words (Equal a b) refused request is = fault_apart words (Equal a b) refused request is
 refused_none words Memory refused request is = absurd refused
+
+-- ---- one net or all
+
+no_option : (o : Opt) → Some o ≡ None → ⊥
+no_option o e = cc
+
+-- where no option of a list is found, none of them is meant
+none_found : (p : Opt → Bool) (os : List Opt) (o : Opt) → find p os ≡ None → list_any (is_same o) os ≡ true → p o ≡ false
+none_found p [] o e among = absurd (false≢true among)
+none_found p (x ∷ xs) o e among = go (p x) refl (is_same o x) refl (none_found p xs o)
+  where
+    go : (a : Bool) → p x ≡ a → (b : Bool) → is_same o x ≡ b → (find p xs ≡ None → list_any (is_same o) xs ≡ true → p o ≡ false) → p o ≡ false
+    go true is b same later = absurd (no_option x (sym (rw is refl) ∙ e))
+    go false is true same later = ap p (same_option o x same) ∙ is
+    go false is false same later = later (sym (rw is refl) ∙ e) (sym (rw same refl) ∙ among)
+
+no_first : (fault : Opt → WordFault) (o : Option Opt) → of_first fault o ≡ None → o ≡ None
+no_first fault None e = refl
+no_first fault (Some o) e = absurd (cc)
+
+no_faults : (a b : Option WordFault) → or_else a b ≡ None → (a ≡ None) × (b ≡ None)
+no_faults None b e = (refl, e)
+no_faults (Some fault) b e = absurd (cc)
+
+-- what a judgment without a fault says of `--net` and `--all`
+record IsWhole (mode : ModeSpec) (values : Values) : Type 0 where
+  net : is_missing mode values Net ≡ false
+  all : is_excluded mode values All ≡ false
+
+asks_for_net : (mode : ModeSpec) → list_any (is_same Net) (required mode) ≡ true
+asks_for_net Wire = refl
+asks_for_net Time = refl
+asks_for_net Best = refl
+
+whole : (mode : ModeSpec) (values : Values) → fault_in mode values ≡ None → IsWhole mode values
+whole mode values e =
+    let (missing, later) = no_faults _ _ e in
+    let (excluded, _) = no_faults _ _ later in
+    record {
+      net = none_found (is_missing mode values) (required mode) Net (no_first Missing _ missing) (asks_for_net mode);
+      all = none_found (is_excluded mode values) options All (no_first Excluded _ excluded) refl;
+    }
+
+whole_request : (words : List (List ℕ)) (ask : Ask) → IsRequest words ask → IsWhole ask.mode (value ask)
+unfolding fault_of
+whole_request words ask is =
+    let same : values_in is.settings ≡ value ask = fun_ext is.values in
+    let named : fault_of_mode (value ask) (mode_of (mode_name ask.mode)) ≡ None = sym (ap fault_of same) ∙ is.faultless in
+    whole ask.mode (value ask) (sym (ap (fault_of_mode (value ask)) (named_mode ask.mode)) ∙ named)
+
+-- with a mode, what is said of the net, and whether all are asked for
+abbrev AreOneOrAll : ModeSpec → Option (List ℕ) → Bool → Type 0
+AreOneOrAll mode net all =
+    (((is_some net ≡ true) × (all ≡ false)) ⊎ ((net ≡ None) × (all ≡ true))) × (mode ≡ Wire → (is_some net ≡ true) × (all ≡ false))
+
+not_wire : (mode : ModeSpec) → may_be_given mode All ≡ true → mode ≡ Wire → ⊥
+not_wire mode may e = false≢true (sym (ap (λ m. may_be_given m All) e) ∙ may)
+
+only_all : (mode : ModeSpec) → not (may_be_given mode All) ≡ false → may_be_given mode All ≡ true
+only_all Wire e = absurd (true≢false e)
+only_all Time e = refl
+only_all Best e = refl
+
+one_or_all_of : (mode : ModeSpec) (net : Option (List ℕ)) (all : Bool)
+    → not (is_some net || (is_some (flag_value all) && may_be_given mode All)) ≡ false
+    → (is_some (flag_value all) && (not (may_be_given mode All) || is_some net)) ≡ false → AreOneOrAll mode net all
+one_or_all_of mode (Some n) false missing excluded = (inl (refl, refl), λ _. (refl, refl))
+one_or_all_of mode (Some n) true missing excluded = absurd (true≢false (sym (or-true (not (may_be_given mode All))) ∙ excluded))
+one_or_all_of mode None false missing excluded = absurd (true≢false missing)
+one_or_all_of mode None true missing excluded = (inr (refl, refl), λ e. absurd (not_wire mode (only_all mode missing) e))
+
+pub one_or_all : (words : List (List ℕ)) (ask : Ask) → IsRequest words ask → (AsksForNet ask ⊎ AsksForAll ask) × (ask.mode ≡ Wire → AsksForNet ask)
+one_or_all words ask is = let w = whole_request words ask is in one_or_all_of ask.mode ask.net ask.all w.net w.all

@@ -1,16 +1,22 @@
 -- Settings of which no option is set twice, and the rows that `clap` keeps of them.
-use Rattle.std.proofs.Common.{◌≡◌, ℕ, ◌+◌, ◌<◌, ◌||◌, Bool, true, false, nat_lt, List, [], ◌∷◌, ◌++◌, map, refl, sym, ap, ap₂, ◌∙◌, subst, arith, cond, lt-ltb, ltb-true}
-use Rattle.std.proofs.lemmas.Bool.{true≢false}
+use Rattle.std.proofs.Common.{◌≡◌, ℕ, ◌+◌, ◌<◌, ◌||◌, Bool, true, false, nat_lt, List, [], ◌∷◌, ◌++◌, map, refl, sym, ap, ap₂, ◌∙◌, subst, arith, cond, lt-ltb, ltb-true, Some, None, codes}
+use Rattle.std.proofs.lemmas.Bool.{false≢true, true≢false}
 use Rattle.std.proofs.lemmas.List.Sums.{sum_by-append, sum_by-cons}
 use Rattle.std.specs.List.{count_by, list_any}
-use Rattle.clap.specs.Walk.{has_row}
-use Rattle.clap.specs.Words.{first_of}
+use Rattle.std.specs.Str.{bytes_eq}
+use Rattle.clap.specs.Values.{bool_text}
+use Rattle.clap.specs.Walk.{has_row, more_values}
+use Rattle.clap.specs.Words.{Row, first_of, one_of}
+use Rattle.clap.specs.declared.builder.value_parser.Reading.TheVariants.{AsWritten}
+use Rattle.clap.specs.declared.parser.matches.ValueSource.TheVariants.{DefaultValue}
 use Rattle.vg_words.specs.Command.{long_name}
-use Rattle.vg_words.specs.Options.{is_same, options}
+use Rattle.vg_words.specs.Options.{is_flag, is_same, options}
 use Rattle.vg_words.specs.Request.{Setting, is_of, are_once, value_of}
 use Rattle.vg_words.specs.declared.option.Opt.{Opt}
-use Rattle.vg_words.proofs.OptionLemmas.{all-each, each-all, same-long, same_option, same_self}
-use Rattle.vg_words.proofs.WalkLemmas.{row}
+use Rattle.vg_words.specs.declared.option.Opt.TheVariants.{All}
+use Rattle.vg_words.proofs.OptionLemmas.{all-each, each-all, other_name, same-long, same_option, same_self}
+use Rattle.vg_words.proofs.CommandLemmas.{with_flag}
+use Rattle.vg_words.proofs.WalkLemmas.{at_row-missing, none_or, row, shown, shown_flag, shown_value}
 
 abbrev pub AreOnce : List Setting → Type 0
 AreOnce ss = (o : Opt) → count_by (is_of o) ss < 2
@@ -68,11 +74,68 @@ pub has_row-row : (o : Opt) (ss : List Setting) → has_row (long_name o) (map r
 has_row-row o [] = refl
 has_row-row o ((p, v) ∷ ss) = ap₂ (λ a b. a || b) (same-long p o) (has_row-row o ss)
 
-pub first_of-row : (o : Opt) (ss : List Setting) → first_of (long_name o) (map row ss) ≡ value_of o ss
-first_of-row o [] = refl
-first_of-row o ((p, v) ∷ ss) = go (is_same p o) refl (first_of-row o ss)
+pub first_of-row : (o : Opt) (ss : List Setting) → is_flag o ≡ false → first_of (long_name o) (map row ss) ≡ value_of o ss
+first_of-row o [] valued = refl
+first_of-row o ((p, v) ∷ ss) valued = go (is_same p o) refl (first_of-row o ss valued)
   where
     go : (b : Bool) → is_same p o ≡ b → first_of (long_name o) (map row ss) ≡ value_of o ss
         → first_of (long_name o) (map row ((p, v) ∷ ss)) ≡ value_of o ((p, v) ∷ ss)
-    go true is more = rw (same-long p o, is) refl
+    go true is more =
+        let own : shown p v ≡ v = shown_value p v (ap is_flag (same_option p o is) ∙ valued) in
+        rw (same-long p o, is) (ap (λ (text : List ℕ). Some text) own)
     go false is more = rw (same-long p o, is) more
+
+-- a flag that is set has the text `true`
+set_text : (o : Opt) (ss : List Setting) → is_flag o ≡ true → list_any (is_of o) ss ≡ true → one_of (long_name o) (map row ss) ≡ Some (codes "true")
+set_text o [] flag e = absurd (false≢true e)
+set_text o ((p, v) ∷ ss) flag e = go (is_same p o) refl (set_text o ss flag)
+  where
+    go : (b : Bool) → is_same p o ≡ b → (list_any (is_of o) ss ≡ true → one_of (long_name o) (map row ss) ≡ Some (codes "true"))
+        → one_of (long_name o) (map row ((p, v) ∷ ss)) ≡ Some (codes "true")
+    go true is more =
+        let own : shown p v ≡ codes "true" = shown_flag p v (ap is_flag (same_option p o is) ∙ flag) in
+        rw (same-long p o, is) (ap (λ (text : List ℕ). Some text) own)
+    go false is more = rw (same-long p o, is) (more (sym (rw is refl) ∙ e))
+
+-- the row that the flag has by default
+abbrev default_row : Row
+default_row = record { id = long_name All; values = codes "false" ∷ []; count = None; source = Some DefaultValue; reading = AsWritten }
+
+with_flag-set : (rows : List Row) → has_row (long_name All) rows ≡ true → with_flag rows ≡ rows
+with_flag-set rows e = rw e refl
+
+with_flag-unset : (rows : List Row) → has_row (long_name All) rows ≡ false → with_flag rows ≡ rows ++ default_row ∷ []
+with_flag-unset rows e = rw e (at_row-missing (long_name All) (more_values DefaultValue (codes "false" ∷ [])) (default_row ∷ []) rows e)
+
+-- it is read where there is no other row of the flag
+default_text : (rows : List Row) → has_row (long_name All) rows ≡ false → one_of (long_name All) (rows ++ default_row ∷ []) ≡ Some (codes "false")
+default_text [] e = refl
+default_text (r ∷ rs) e = let (first, later) = none_or (bytes_eq r.id (long_name All)) (has_row (long_name All) rs) e in rw first (default_text rs later)
+
+-- and leaves the other options as they were
+other_first : (o : Opt) (rows : List Row) → is_flag o ≡ false → first_of (long_name o) (rows ++ default_row ∷ []) ≡ first_of (long_name o) rows
+other_first o [] valued = rw (other_name o valued) refl
+other_first o (r ∷ rs) valued = go (bytes_eq r.id (long_name o)) refl (other_first o rs valued)
+  where
+    go : (b : Bool) → bytes_eq r.id (long_name o) ≡ b → first_of (long_name o) (rs ++ default_row ∷ []) ≡ first_of (long_name o) rs
+        → first_of (long_name o) (r ∷ rs ++ default_row ∷ []) ≡ first_of (long_name o) (r ∷ rs)
+    go true is more = rw is refl
+    go false is more = rw is more
+
+-- what is found of an option with a value is the value that is set
+pub value_found : (o : Opt) (ss : List Setting) → is_flag o ≡ false → first_of (long_name o) (with_flag (map row ss)) ≡ value_of o ss
+value_found o ss valued = go (has_row (long_name All) (map row ss)) refl ∙ first_of-row o ss valued
+  where
+    go : (b : Bool) → has_row (long_name All) (map row ss) ≡ b → first_of (long_name o) (with_flag (map row ss)) ≡ first_of (long_name o) (map row ss)
+    go true is = ap (first_of (long_name o)) (with_flag-set (map row ss) is)
+    go false is = ap (first_of (long_name o)) (with_flag-unset (map row ss) is) ∙ other_first o (map row ss) valued
+
+-- and of the flag, whether it is set
+pub flag_found : (ss : List Setting) → one_of (long_name All) (with_flag (map row ss)) ≡ Some (bool_text (list_any (is_of All) ss))
+flag_found ss = go (list_any (is_of All) ss) refl
+  where
+    go : (b : Bool) → list_any (is_of All) ss ≡ b → one_of (long_name All) (with_flag (map row ss)) ≡ Some (bool_text b)
+    go true is = ap (one_of (long_name All)) (with_flag-set (map row ss) (has_row-row All ss ∙ is)) ∙ set_text All ss refl is
+    go false is =
+        let none : has_row (long_name All) (map row ss) ≡ false = has_row-row All ss ∙ is in
+        ap (one_of (long_name All)) (with_flag-unset (map row ss) none) ∙ default_text (map row ss) none

@@ -1,8 +1,8 @@
 -- The options of the command line, and the modes.
-use Rattle.std.specs.Prelude.{ℕ, ◌==◌, Bool, List, [], ◌∷◌, ◌++◌, codes, Option, Some, None, if◌then◌else◌}
+use Rattle.std.specs.Prelude.{ℕ, ◌==◌, Bool, true, false, List, [], ◌∷◌, ◌++◌, codes, Option, Some, None, if◌then◌else◌}
 use Rattle.std.specs.Str.{bytes_eq}
 use Rattle.vg_words.specs.declared.option.Opt.{Opt}
-use Rattle.vg_words.specs.declared.option.Opt.TheVariants.{Mode, Spef, Lib, Verilog, Cons, Net, OutSpef, OutVerilog, Prefix}
+use Rattle.vg_words.specs.declared.option.Opt.TheVariants.{Mode, Spef, Lib, Verilog, Cons, Net, All, OutSpef, OutVerilog, Prefix}
 use Rattle.vg_words.specs.declared.ask.Mode.{Mode as ModeSpec}
 use Rattle.vg_words.specs.declared.ask.Mode.TheVariants.{Wire, Time, Best}
 
@@ -13,6 +13,7 @@ name_of Lib = codes "--lib"
 name_of Verilog = codes "--verilog"
 name_of Cons = codes "--cons"
 name_of Net = codes "--net"
+name_of All = codes "--all"
 name_of OutSpef = codes "--out-spef"
 name_of OutVerilog = codes "--out-verilog"
 name_of Prefix = codes "--prefix"
@@ -25,15 +26,21 @@ place_of Lib = 2
 place_of Verilog = 3
 place_of Cons = 4
 place_of Net = 5
-place_of OutSpef = 6
-place_of OutVerilog = 7
-place_of Prefix = 8
+place_of All = 6
+place_of OutSpef = 7
+place_of OutVerilog = 8
+place_of Prefix = 9
 
 abbrev pub is_same : Opt → Opt → Bool
 is_same a b = place_of a == place_of b
 
 abbrev pub options : List Opt
-options = Mode ∷ Spef ∷ Lib ∷ Verilog ∷ Cons ∷ Net ∷ OutSpef ∷ OutVerilog ∷ Prefix ∷ []
+options = Mode ∷ Spef ∷ Lib ∷ Verilog ∷ Cons ∷ Net ∷ All ∷ OutSpef ∷ OutVerilog ∷ Prefix ∷ []
+
+-- the option has no value: its name alone says all
+abbrev pub is_flag : Opt → Bool
+is_flag All = true
+is_flag option = false
 
 -- the options that name files
 abbrev pub file_options : List Opt
@@ -51,7 +58,7 @@ mode_name Wire = codes "wire"
 mode_name Time = codes "time"
 mode_name Best = codes "best"
 
--- the options that a mode asks for
+-- the options that a mode asks for; `--all` may stand for `--net` where the mode may be given it
 abbrev pub required : ModeSpec → List Opt
 required Wire = Spef ∷ Net ∷ []
 required Time = Spef ∷ Lib ∷ Verilog ∷ Cons ∷ Net ∷ []
@@ -60,8 +67,8 @@ required Best = Spef ∷ Lib ∷ Verilog ∷ Cons ∷ Net ∷ OutSpef ∷ OutVer
 -- those that it may be given besides
 abbrev pub optional : ModeSpec → List Opt
 optional Wire = []
-optional Time = Prefix ∷ []
-optional Best = Prefix ∷ []
+optional Time = All ∷ Prefix ∷ []
+optional Best = All ∷ Prefix ∷ []
 
 -- those that it may be given; it has no use for others
 abbrev pub allowed : ModeSpec → List Opt

@@ -4,9 +4,9 @@ use Rattle.std.specs.List.{count_by, list_all, list_any, find}
 use Rattle.std.specs.Str.{bytes_eq}
 use Rattle.std.specs.Str.Parse.{starts_with_minus}
 use Rattle.std.specs.declared.alloc.Global.{Global}
-use Rattle.vg_words.specs.Options.{name_of, mode_of, mode_name, is_same, options, file_options, required, allowed}
+use Rattle.vg_words.specs.Options.{name_of, mode_of, mode_name, is_flag, is_same, options, file_options, required, allowed}
 use Rattle.vg_words.specs.declared.option.Opt.{Opt}
-use Rattle.vg_words.specs.declared.option.Opt.TheVariants.{Mode, Spef, Lib, Verilog, Cons, Net, OutSpef, OutVerilog, Prefix}
+use Rattle.vg_words.specs.declared.option.Opt.TheVariants.{Mode, Spef, Lib, Verilog, Cons, Net, All, OutSpef, OutVerilog, Prefix}
 use Rattle.vg_words.specs.declared.ask.Mode.{Mode as ModeSpec}
 use Rattle.vg_words.specs.declared.ask.Ask.{Ask}
 use Rattle.vg_words.specs.declared.ask.WordFault.{WordFault}
@@ -16,15 +16,25 @@ use Rattle.vg_words.specs.declared.ask.WordFault.TheVariants.{Unread, Missing, E
 abbrev pub texts : List (String Global) → List (List ℕ)
 texts words = map string_bytes words
 
--- an option and its value
+-- an option and its value, which is empty for a flag
 abbrev pub Setting : Type 0
 Setting = Opt × List ℕ
 
 -- the first words are the option and its value: `--name value`, where the value does not begin with `-`, or `--name=value`
-abbrev pub Spells : List (List ℕ) → Setting → List (List ℕ) → Type 0
-Spells words (option, value) rest =
+abbrev pub SpellsValue : List (List ℕ) → Setting → List (List ℕ) → Type 0
+SpellsValue words (option, value) rest =
     ((words ≡ name_of option ∷ value ∷ rest) × (starts_with_minus value ≡ false))
     ⊎ (words ≡ (name_of option ++ (codes "=" ++ value)) ∷ rest)
+
+-- the first word is the flag: `--name`, and its value is empty
+abbrev pub SpellsFlag : List (List ℕ) → Setting → List (List ℕ) → Type 0
+SpellsFlag words (option, value) rest = (words ≡ name_of option ∷ rest) × (value ≡ [])
+
+-- a flag is one word, and another option comes with its value
+abbrev pub Spells : List (List ℕ) → Setting → List (List ℕ) → Type 0
+Spells words (option, value) rest =
+    ((is_flag option ≡ true) × SpellsFlag words (option, value) rest)
+    ⊎ ((is_flag option ≡ false) × SpellsValue words (option, value) rest)
 
 -- the words are these settings, one after another
 abbrev pub AreSpelled : List (List ℕ) → List Setting → Type 0
@@ -54,11 +64,28 @@ Values = Opt → Option (List ℕ)
 abbrev pub values_in : List Setting → Values
 values_in settings option = value_of option settings
 
-abbrev pub is_unset : Values → Opt → Bool
-is_unset values option = not (is_some (values option))
+abbrev pub is_given : Values → Opt → Bool
+is_given values option = is_some (values option)
 
+abbrev pub may_be_given : ModeSpec → Opt → Bool
+may_be_given mode option = list_any (is_same option) (allowed mode)
+
+-- `--all` stands for `--net`, where the mode may be given it
+abbrev pub has_stand_in : ModeSpec → Values → Opt → Bool
+has_stand_in mode values Net = is_given values All && may_be_given mode All
+has_stand_in mode values option = false
+
+abbrev pub is_missing : ModeSpec → Values → Opt → Bool
+is_missing mode values option = not (is_given values option || has_stand_in mode values option)
+
+-- `--all` has no use beside `--net`
+abbrev pub is_beside_net : Values → Opt → Bool
+is_beside_net values All = is_given values Net
+is_beside_net values option = false
+
+-- the option is given, and the mode has no use for it, or has none beside what else is given
 abbrev pub is_excluded : ModeSpec → Values → Opt → Bool
-is_excluded mode values option = is_some (values option) && not (list_any (is_same option) (allowed mode))
+is_excluded mode values option = is_given values option && (not (may_be_given mode option) || is_beside_net values option)
 
 -- a letter or `_`
 abbrev pub is_letter : ℕ → Bool
@@ -72,8 +99,9 @@ abbrev pub is_prefix : List ℕ → Bool
 is_prefix [] = false
 is_prefix (b ∷ bytes) = nat_le (length bytes) 31 && (is_letter b && list_all is_name_byte bytes)
 
--- an empty value, or a prefix of another form
+-- an empty value, or a prefix of another form; a flag has no bad value
 abbrev pub is_bad_value : Opt → List ℕ → Bool
+is_bad_value All value = false
 is_bad_value Prefix value = not (is_prefix value)
 is_bad_value option value = not (nat_lt 0 (length value))
 
@@ -109,10 +137,10 @@ unfoldable pub first_equal : Values → List Opt → Option (Opt × Opt)
 first_equal values [] = None
 first_equal values (one ∷ others) = with_one one (find (λ other. are_equal (values one) (values other)) others) (first_equal values others)
 
--- the first missing option, else the first that the mode has no use for, else the first bad value, else equal names
+-- the first missing option, else the first that is excluded, else the first bad value, else equal names
 abbrev pub fault_in : ModeSpec → Values → Option WordFault
 fault_in mode values =
-    or_else (of_first Missing (find (is_unset values) (required mode)))
+    or_else (of_first Missing (find (is_missing mode values) (required mode)))
     (or_else (of_first Excluded (find (is_excluded mode values) options))
     (or_else (of_first BadValue (find (is_bad values) options)) (of_pair (first_equal values file_options))))
 
@@ -137,6 +165,10 @@ abbrev pub Judges : Result ModeSpec WordFault → Values → Type 0
 Judges (Ok mode) values = (fault_of values ≡ None) × HasMode (values Mode) mode
 Judges (Err fault) values = fault_of values ≡ Some fault
 
+-- the value of a flag, if it is given
+abbrev pub flag_value : Bool → Option (List ℕ)
+flag_value given = if given then Some [] else None
+
 -- the value of an option in a request, if it has one
 abbrev pub value : Ask → Opt → Option (List ℕ)
 value ask Mode = Some (mode_name ask.mode)
@@ -145,6 +177,7 @@ value ask Lib = ask.lib
 value ask Verilog = ask.verilog
 value ask Cons = ask.cons
 value ask Net = ask.net
+value ask All = flag_value ask.all
 value ask OutSpef = ask.out_spef
 value ask OutVerilog = ask.out_verilog
 value ask Prefix = ask.prefix

@@ -1,9 +1,8 @@
 ghost use Rattle.std.specs.Prelude.{◌≡◌};
-ghost use Rattle.std.specs.List.{list_any};
 ghost use Rattle.clap.specs.Words.{kind_of};
 ghost use Rattle.vg_words.specs.Command.{fault_for};
-ghost use Rattle.vg_words.specs.Options.{allowed, is_same, mode_name, required};
-ghost use Rattle.vg_words.specs.Request.{prefix_of, text_for};
+ghost use Rattle.vg_words.specs.Options.{mode_name, required};
+ghost use Rattle.vg_words.specs.Request.{may_be_given, prefix_of, text_for};
 ghost use Rattle.vg_words.specs.declared.ask.WordFault.TheVariants.{Memory as out_of_memory};
 
 use crate::option::Opt;
@@ -15,9 +14,9 @@ use vg_num::{Memory, Text};
 pub enum Mode {
     /// Prints the wire delays of one net.
     Wire,
-    /// Prints the slack of one net through the cells that were put in, and whether its sinks have their wanted polarity.
+    /// Prints the slack of one net or of all through the cells that were put in, and whether the sinks have their wanted polarity.
     Time,
-    /// Prints a best placement of repeaters on one net, and its slack, and writes the netlist and the parasitics with its cells.
+    /// Prints a best placement of repeaters on one net or on each, and the slack, and writes the netlist and the parasitics with the cells.
     Best,
 }
 
@@ -35,8 +34,11 @@ const CHANGE_OPTIONS: [Opt; 7] = [
     Opt::OutVerilog,
 ];
 
+/// What modes `time` and `best` may be given besides.
+const DESIGN_EXTRAS: [Opt; 2] = [Opt::All, Opt::Prefix];
+
 impl Mode {
-    /// The options that the mode asks for.
+    /// The options that the mode asks for, where `--all` may stand for `--net`.
     pub(crate) fn required_options(self) -> &'static [Opt]
         ensures { result.now ≡ required self }
     {
@@ -49,11 +51,11 @@ impl Mode {
 
     /// Whether the mode may be given an option.
     pub(crate) fn allows(self, option: Opt) -> bool
-        ensures { result ≡ list_any (is_same option) (allowed self) }
+        ensures { result ≡ may_be_given self option }
     {
         option == Opt::Mode
             || option.is_among(self.required_options())
-            || (self != Mode::Wire && option == Opt::Prefix)
+            || (self != Mode::Wire && option.is_among(&DESIGN_EXTRAS))
     }
 
     /// The mode's name in the words.
@@ -82,6 +84,8 @@ pub struct Ask {
     pub cons: Option<Text>,
     /// The name of the net.
     pub net: Option<Text>,
+    /// Whether all nets are asked for, in the place of one.
+    pub all: bool,
     /// The name of the SPEF file that is written.
     pub out_spef: Option<Text>,
     /// The name of the netlist that is written.
@@ -105,6 +109,7 @@ impl Ask {
             Opt::Verilog => &self.verilog,
             Opt::Cons => &self.cons,
             Opt::Net => &self.net,
+            Opt::All => return "",
             Opt::OutSpef => &self.out_spef,
             Opt::OutVerilog => &self.out_verilog,
             Opt::Prefix => &self.prefix,
@@ -131,11 +136,11 @@ impl Ask {
 /// Why the words ask for nothing: the first of these, in this order.
 #[derive(Clone, Copy, Debug, PartialEq, Eq)]
 pub enum WordFault {
-    /// Some word is neither an option with its value nor its value, or an option is given twice.
+    /// Some word is neither an option with its value, nor its value, nor a flag alone, or an option is given twice.
     Unread,
-    /// The mode asks for this option, or it is the mode, and it is not given.
+    /// The mode asks for this option, or it is the mode, and neither it is given nor, for `--net`, `--all` in its place.
     Missing(Opt),
-    /// The option is given, and the mode has no use for it.
+    /// The option is given, and the mode has no use for it, or it is `--all` and `--net` is given too.
     Excluded(Opt),
     /// The option's value is empty, or is no mode; or a prefix is not a letter or `_`, followed by at most 31 letters, digits or `_`.
     BadValue(Opt),

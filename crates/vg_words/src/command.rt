@@ -8,13 +8,13 @@ use crate::option::{OPTIONS, Opt};
 use clap::{Arg, ArgMatches, Command, Error};
 use std::alloc::{AllocError, Global};
 
-/// The argument of an option, under the option's name: it takes one value.
+/// The argument of an option, under the option's name: it takes one value, or is a flag.
 fn argument(alloc: Global, option: Opt) -> Arg<'static>
     ensures rule { rule_of result ≡ rule_for option }
     ensures local { result.global ≡ false }
 {
     let name = option.long();
-    Arg::new(alloc, name).long(name)
+    Arg::new(alloc, name).long(name).action(option.action())
 }
 
 /// The command with its options. It has no flag for help, and none for a version, since it has no version.

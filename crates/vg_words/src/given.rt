@@ -2,7 +2,7 @@
 ghost use Rattle.std.specs.Prelude.{◌≡◌, option_map};
 ghost use Rattle.std.specs.List.{list_all};
 ghost use Rattle.vg_words.specs.Command.{is_value_or_long};
-ghost use Rattle.vg_words.specs.Request.{texts};
+ghost use Rattle.vg_words.specs.Request.{flag_value, texts};
 ghost use Rattle.vg_words.specs.Views.{given_by, Gives};
 
 use crate::ask::WordFault;
@@ -15,6 +15,8 @@ use std::alloc::Global;
 #[derive(Drop)]
 pub struct Given<'a> {
     matches: ArgMatches<'a>,
+    /// Whether the flag `--all` is given.
+    all: bool,
 }
 
 /// Whether a word is a value, which begins with no `-`, or a long option.
@@ -44,13 +46,25 @@ impl<'a> Given<'a> {
             return Err(WordFault::Unread);
         }
         let matches = parse(alloc, words)?;
-        Ok(Given { matches })
+        let all = matches.get_flag(Opt::All.long());
+        Ok(Given { matches, all })
     }
 
-    /// The value of an option.
+    /// The value of the flag.
+    fn flag(&self) -> Option<&'a str>
+        ensures { option_map (λ value. value.now) result ≡ flag_value self.now.all }
+    {
+        if self.all { Some("") } else { None }
+    }
+
+    /// The value of an option, which is empty for a flag that is given.
     pub fn get(&self, option: Opt) -> Option<&'a str>
         ensures { option_map (λ value. value.now) result ≡ given_by self.now option }
     {
-        self.matches.get_str(option.long())
+        if option.is_flag() {
+            self.flag()
+        } else {
+            self.matches.get_str(option.long())
+        }
     }
 }

@@ -2,7 +2,7 @@
 ghost use Rattle.std.specs.Prelude.{◌≡◌, Some, None, IfOk, option_map};
 ghost use Rattle.std.specs.List.{find, list_all};
 ghost use Rattle.vg_words.specs.Options.{mode_of, options, file_options, required};
-ghost use Rattle.vg_words.specs.Request.{texts, is_unset, is_excluded, is_letter, is_name_byte, is_prefix, is_bad_value, is_bad, are_equal, first_equal, fault_in, Judges, ReadsWords};
+ghost use Rattle.vg_words.specs.Request.{texts, flag_value, has_stand_in, is_beside_net, is_given, is_missing, is_excluded, is_letter, is_name_byte, is_prefix, is_bad_value, is_bad, are_equal, first_equal, fault_in, Judges, ReadsWords};
 ghost use Rattle.vg_words.specs.declared.option.Opt.{Opt};
 ghost use Rattle.vg_words.specs.Views.{given_by};
 
@@ -27,16 +27,42 @@ fn mode_of(name: &str) -> Option<Mode>
     }
 }
 
-fn is_unset(given: &Given<'_>, option: Opt) -> bool
-    ensures { result ≡ is_unset (given_by given.now) option }
+fn is_given(given: &Given<'_>, option: Opt) -> bool
+    ensures { result ≡ is_given (given_by given.now) option }
 {
-    given.get(option).is_none()
+    given.get(option).is_some()
+}
+
+/// Whether `--all` stands for an option, which is `--net`.
+fn has_stand_in(mode: Mode, given: &Given<'_>, option: Opt) -> bool
+    ensures { result ≡ has_stand_in mode (given_by given.now) option }
+{
+    match option {
+        Opt::Net => is_given(given, Opt::All) && mode.allows(Opt::All),
+        _ => false,
+    }
+}
+
+fn is_missing(mode: Mode, given: &Given<'_>, option: Opt) -> bool
+    ensures { result ≡ is_missing mode (given_by given.now) option }
+{
+    !(is_given(given, option) || has_stand_in(mode, given, option))
+}
+
+/// Whether an option, which is `--all`, has no use beside another, which is `--net`.
+fn is_beside_net(given: &Given<'_>, option: Opt) -> bool
+    ensures { result ≡ is_beside_net (given_by given.now) option }
+{
+    match option {
+        Opt::All => is_given(given, Opt::Net),
+        _ => false,
+    }
 }
 
 fn is_excluded(mode: Mode, given: &Given<'_>, option: Opt) -> bool
     ensures { result ≡ is_excluded mode (given_by given.now) option }
 {
-    given.get(option).is_some() && !mode.allows(option)
+    is_given(given, option) && (!mode.allows(option) || is_beside_net(given, option))
 }
 
 /// Whether a byte is a letter or `_`.
@@ -73,6 +99,7 @@ fn is_bad_value(option: Opt, value: &str) -> bool
     ensures { result ≡ is_bad_value option value.now }
 {
     match option {
+        Opt::All => false,
         Opt::Prefix => !is_prefix(value.as_bytes()),
         _ => value.is_empty(),
     }
@@ -88,12 +115,12 @@ fn is_bad(given: &Given<'_>, option: Opt) -> bool
 }
 
 fn first_missing(mode: Mode, given: &Given<'_>) -> Option<Opt>
-    ensures { result ≡ find (is_unset (given_by given.now)) (required mode) }
+    ensures { result ≡ find (is_missing mode (given_by given.now)) (required mode) }
 {
     mode.required_options()
         .iter()
         .copied()
-        .find(|option| is_unset(given, *option))
+        .find(|option| is_missing(mode, given, *option))
 }
 
 fn first_excluded(mode: Mode, given: &Given<'_>) -> Option<Opt>
@@ -205,6 +232,7 @@ fn ask_of(alloc: Global, mode: Mode, given: &Given<'_>) -> Result<Ask, Memory>
     ensures verilog { IfOk result (λ ask. ask.verilog ≡ given_by given.now Opt.Verilog) }
     ensures cons { IfOk result (λ ask. ask.cons ≡ given_by given.now Opt.Cons) }
     ensures net { IfOk result (λ ask. ask.net ≡ given_by given.now Opt.Net) }
+    ensures all { IfOk result (λ ask. flag_value ask.all ≡ given_by given.now Opt.All) }
     ensures out_spef { IfOk result (λ ask. ask.out_spef ≡ given_by given.now Opt.OutSpef) }
     ensures out_verilog { IfOk result (λ ask. ask.out_verilog ≡ given_by given.now Opt.OutVerilog) }
     ensures prefix { IfOk result (λ ask. ask.prefix ≡ given_by given.now Opt.Prefix) }
@@ -224,6 +252,7 @@ fn ask_of(alloc: Global, mode: Mode, given: &Given<'_>) -> Result<Ask, Memory>
         verilog,
         cons,
         net,
+        all: is_given(given, Opt::All),
         out_spef,
         out_verilog,
         prefix,
@@ -232,11 +261,11 @@ fn ask_of(alloc: Global, mode: Mode, given: &Given<'_>) -> Result<Ask, Memory>
 
 /// Reads the words of the command line, without the program's own name.
 ///
-/// Each option is `--name value` or `--name=value`, in any order, at most once; a value that stands in a word of its
-/// own does not begin with `-`. Mode `wire` asks for `--spef` and `--net`, mode `time` for `--lib`, `--verilog` and `--cons` too, and mode
-/// `best` besides for `--out-spef` and `--out-verilog`. Modes `time` and `best` may be given `--prefix`. The faults come in the order of
-/// `WordFault`, and of one kind the first option in the order of `Opt`. Answers `Memory` where
-/// there is no room.
+/// Each option is `--name value` or `--name=value`, in any order, at most once; a value that stands in a word of its own does not begin
+/// with `-`. The option `--all` is that word alone. Mode `wire` asks for `--spef` and `--net`, mode `time` for `--lib`, `--verilog` and
+/// `--cons` too, and mode `best` besides for `--out-spef` and `--out-verilog`. Modes `time` and `best` may be given `--prefix`, and `--all`
+/// in the place of `--net`. The faults come in the order of `WordFault`, and of one kind the first option in the order of `Opt`. Answers
+/// `Memory` where there is no room.
 pub fn read_words(alloc: Global, words: &[String]) -> Result<Ask, WordFault>
     ensures { ReadsWords result (texts words.now) }
 {

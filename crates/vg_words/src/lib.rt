@@ -10,5 +10,5 @@ mod option;
 
 pub use ask::{Ask, Mode, WordFault};
 pub use judge::read_words;
-pub use laws::one_request;
-pub use option::Opt;
+pub use laws::{one_or_all, one_request};
+pub use option::{Opt, options};

@@ -1,7 +1,9 @@
 ghost use Rattle.std.specs.Prelude.{◌≡◌};
 ghost use Rattle.std.specs.List.{list_any};
-ghost use Rattle.vg_words.specs.Command.{long_name};
-ghost use Rattle.vg_words.specs.Options.{name_of, is_same};
+ghost use Rattle.vg_words.specs.Command.{action_for, long_name};
+ghost use Rattle.vg_words.specs.Options.{name_of, is_flag, is_same, options};
+
+use clap::ArgAction;
 
 /// An option of the command line. Refusals name the first in this order.
 #[derive(Clone, Copy, Debug, PartialEq, Eq)]
@@ -18,6 +20,8 @@ pub enum Opt {
     Cons,
     /// The name of the net.
     Net,
+    /// All nets, in the place of one. It has no value.
+    All,
     /// The name of the SPEF file that is written.
     OutSpef,
     /// The name of the netlist that is written.
@@ -27,13 +31,14 @@ pub enum Opt {
 }
 
 /// All options, in order.
-pub const OPTIONS: [Opt; 9] = [
+pub const OPTIONS: [Opt; 10] = [
     Opt::Mode,
     Opt::Spef,
     Opt::Lib,
     Opt::Verilog,
     Opt::Cons,
     Opt::Net,
+    Opt::All,
     Opt::OutSpef,
     Opt::OutVerilog,
     Opt::Prefix,
@@ -49,6 +54,13 @@ pub const FILE_OPTIONS: [Opt; 6] = [
     Opt::OutVerilog,
 ];
 
+/// All options, in the order in which refusals name them.
+pub fn options() -> &'static [Opt]
+    ensures { result.now ≡ options }
+{
+    &OPTIONS
+}
+
 impl Opt {
     /// The option as a word.
     pub fn name(self) -> &'static str
@@ -61,6 +73,7 @@ impl Opt {
             Opt::Verilog => "--verilog",
             Opt::Cons => "--cons",
             Opt::Net => "--net",
+            Opt::All => "--all",
             Opt::OutSpef => "--out-spef",
             Opt::OutVerilog => "--out-verilog",
             Opt::Prefix => "--prefix",
@@ -72,6 +85,24 @@ impl Opt {
         ensures { result.now ≡ long_name self }
     {
         &self.name()[2..]
+    }
+
+    /// Whether it has no value.
+    pub(crate) fn is_flag(self) -> bool
+        ensures { result ≡ is_flag self }
+    {
+        self == Opt::All
+    }
+
+    /// What its use does: it sets its value, or tells that the flag is given.
+    pub(crate) fn action(self) -> ArgAction
+        ensures { result ≡ action_for self }
+    {
+        if self.is_flag() {
+            ArgAction::SetTrue
+        } else {
+            ArgAction::Set
+        }
     }
 
     /// Whether it is one of some options.
