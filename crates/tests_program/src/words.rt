@@ -4,7 +4,7 @@ use crate::texts::words_of;
 use std::alloc::Global;
 use std::test::Fail;
 use vg_num::Text;
-use vg_words::{Mode, Opt, WordFault, read_words};
+use vg_words::{Mode, Opt, WordFault, options, read_words};
 
 /// Words, their mode, and the files of a library, of a netlist and of constraints.
 type Request = (
@@ -351,5 +351,181 @@ fn refuses_in_order(rt: HostRuntime) -> Result<(), Fail> {
     }
     let fault = read_words(rt.alloc(), &[]).err();
     assert!(rt; fault == Some(WordFault::Missing(Opt::Mode)));
+    Ok(())
+}
+
+/// Words, whether they ask for all nets, and the net that they ask for.
+static NETS: [(&str, bool, Option<&'static str>); 7] = [
+    (
+        "--mode time --spef a --lib l --verilog v --cons c --all",
+        true,
+        None,
+    ),
+    (
+        "--all --mode=time --cons c --verilog v --lib l --spef a --prefix w_",
+        true,
+        None,
+    ),
+    (
+        "--mode best --spef a --lib l --all --verilog v --cons c --out-spef o --out-verilog w",
+        true,
+        None,
+    ),
+    (
+        "--out-verilog=w --out-spef=o --cons=c --all --verilog=v --lib=l --spef=a --mode=best",
+        true,
+        None,
+    ),
+    (
+        "--mode time --spef a --lib l --verilog v --cons c --net n",
+        false,
+        Some("n"),
+    ),
+    (
+        "--mode best --spef a --lib l --verilog v --cons c --net=--all --out-spef o --out-verilog w",
+        false,
+        Some("--all"),
+    ),
+    ("--mode wire --spef a --net all", false, Some("all")),
+];
+
+/// Whether the words ask for all nets, or for this one.
+fn asks_nets(alloc: Global, line: &str, all: bool, net: Option<&str>) -> Result<bool, Fail> {
+    let words = words_of(alloc, line)?;
+    let Ok(ask) = read_words(alloc, &words) else {
+        return Ok(false);
+    };
+    Ok(ask.all == all && is_value(&ask.net, net) && ask.text(Opt::All).is_empty())
+}
+
+#[test]
+fn reads_one_net_or_all(rt: HostRuntime) -> Result<(), Fail> {
+    for (line, all, net) in &NETS {
+        assert!(rt; asks_nets(rt.alloc(), line, *all, *net)?, "{line}");
+    }
+    Ok(())
+}
+
+/// Faults of words that ask for all nets, or for none.
+static FAULTY_NETS: [(&str, WordFault); 27] = [
+    (
+        "--mode time --spef a --lib l --verilog v --cons c --net n --all",
+        WordFault::Excluded(Opt::All),
+    ),
+    (
+        "--all --mode best --spef a --lib l --verilog v --cons c --out-spef o --out-verilog w --net n",
+        WordFault::Excluded(Opt::All),
+    ),
+    (
+        "--mode time --spef a --lib l --verilog v --cons c --all --net= --prefix 9w",
+        WordFault::Excluded(Opt::All),
+    ),
+    (
+        "--mode time --spef a --lib l --verilog v --cons c --out-spef o --net n --all",
+        WordFault::Excluded(Opt::All),
+    ),
+    (
+        "--mode time --spef a --lib l --verilog v --cons c --out-spef o --all",
+        WordFault::Excluded(Opt::OutSpef),
+    ),
+    (
+        "--mode time --spef a --lib l --verilog v --cons c",
+        WordFault::Missing(Opt::Net),
+    ),
+    (
+        "--mode best --spef a --lib l --verilog v --cons c --out-verilog w",
+        WordFault::Missing(Opt::Net),
+    ),
+    (
+        "--mode best --spef a --lib l --verilog v --cons c --all",
+        WordFault::Missing(Opt::OutSpef),
+    ),
+    (
+        "--mode best --spef a --lib l --verilog v --all",
+        WordFault::Missing(Opt::Cons),
+    ),
+    (
+        "--mode best --spef a --lib l --verilog v --cons c --net n --all",
+        WordFault::Missing(Opt::OutSpef),
+    ),
+    ("--mode time --all", WordFault::Missing(Opt::Spef)),
+    ("--all", WordFault::Missing(Opt::Mode)),
+    ("--mode all --all", WordFault::BadValue(Opt::Mode)),
+    (
+        "--mode wire --spef a --net n --all",
+        WordFault::Excluded(Opt::All),
+    ),
+    ("--mode wire --spef a --all", WordFault::Missing(Opt::Net)),
+    (
+        "--mode wire --spef a --net n --prefix w_ --all",
+        WordFault::Excluded(Opt::All),
+    ),
+    (
+        "--mode wire --spef a --net n --cons c --all",
+        WordFault::Excluded(Opt::Cons),
+    ),
+    (
+        "--mode time --spef a --lib l --verilog v --cons c --all=x",
+        WordFault::Unread,
+    ),
+    (
+        "--mode time --spef a --lib l --verilog v --cons c --all=",
+        WordFault::Unread,
+    ),
+    (
+        "--mode time --spef a --lib l --verilog v --cons c --all x",
+        WordFault::Unread,
+    ),
+    (
+        "--mode time --spef a --lib l --verilog v --cons c --all ~",
+        WordFault::Unread,
+    ),
+    (
+        "--all --mode time --spef a --lib l --verilog v --cons c --all",
+        WordFault::Unread,
+    ),
+    (
+        "--mode time --spef --all --lib l --verilog v --cons c",
+        WordFault::Unread,
+    ),
+    (
+        "--mode time --spef a --lib l --verilog v --cons c --al",
+        WordFault::Unread,
+    ),
+    ("--mode first --all=true", WordFault::Unread),
+    (
+        "--mode time --spef= --lib l --verilog v --cons c --all",
+        WordFault::BadValue(Opt::Spef),
+    ),
+    (
+        "--mode time --spef a --lib l --verilog v --cons a --all",
+        WordFault::Equal(Opt::Spef, Opt::Cons),
+    ),
+];
+
+#[test]
+fn refuses_one_net_and_all(rt: HostRuntime) -> Result<(), Fail> {
+    for (line, fault) in &FAULTY_NETS {
+        assert!(rt; fault_of(rt.alloc(), line)? == Some(*fault), "{line}");
+    }
+    Ok(())
+}
+
+#[test]
+fn lists_options_in_order(rt: HostRuntime) -> Result<(), Fail> {
+    let names = [
+        "--mode",
+        "--spef",
+        "--lib",
+        "--verilog",
+        "--cons",
+        "--net",
+        "--all",
+        "--out-spef",
+        "--out-verilog",
+        "--prefix",
+    ];
+    let found = options().iter().map(|option| option.name());
+    assert!(rt; found.eq(names.iter().copied()));
     Ok(())
 }
