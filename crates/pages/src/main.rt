@@ -1,13 +1,15 @@
-//! Compares the runs that pages show with what the program prints, and the slacks of a design with those of the files that are
-//! written, and tries outputs that cannot be written.
+//! Compares the runs that pages show with what the program prints, the options that the manual page lists with those of the program, and
+//! the slacks of a design with those of the files that are written, and tries outputs that cannot be written.
 #![tactic(auto)]
 
 mod design;
+mod manual;
 mod page;
 mod report;
 mod unwritable;
 
 use crate::design::report_design;
+use crate::manual::report_manual;
 use crate::report::{copy_files, report_pages};
 use crate::unwritable::report_unwritable;
 use std::process::ExitCode;
@@ -15,6 +17,9 @@ use vg_store::RealFiles;
 
 /// The pages, by their paths.
 const PAGES: [&str; 2] = ["README.md", "examples/README.md"];
+
+/// The manual page.
+const MANUAL: &str = "vginsert.1";
 
 /// The files that the runs on the pages read.
 const EXAMPLES: [&str; 8] = [
@@ -35,10 +40,11 @@ fn main(rt: HostRuntime) -> ExitCode {
     };
     let mut report = String::new(rt.alloc());
     let compared = report_pages(rt.alloc(), &mut files, &PAGES, &mut report);
+    let listed = report_manual(rt.alloc(), &mut real, MANUAL, &mut report);
     let retimed = report_design(rt.alloc(), &mut files, &mut report);
     let refused = report_unwritable(rt.alloc(), &mut real, &mut report);
     let printed = rt.print(report.as_str());
-    let all = [compared, retimed, refused];
+    let all = [compared, listed, retimed, refused];
     if all.iter().all(|each| matches!(each, Ok(true))) && printed.is_ok() {
         ExitCode::SUCCESS
     } else {
