@@ -41,7 +41,8 @@ fn first_words(line: &[u8]) -> (&[u8], &[u8])
 /// Adds the option that a line lists, where the section of options is open or not, and answers whether it is after the line.
 fn take_line<'a>(line: &'a [u8], is_open: bool, found: &mut Vec<&'a [u8]>) -> Result<bool, Memory>
     ensures after { IfOk result (λ after. after ≡ is_open_after (words line.now) is_open) }
-    ensures found { IfOk result (λ _. map (λ option. option.now) found.new.items ≡ map (λ option. option.now) found.old.items ++ listed_by (words line.now) is_open) }
+    ensures found { IfOk result (λ _. map (λ option. option.now) found.new.items
+        ≡ map (λ option. option.now) found.old.items ++ listed_by (words line.now) is_open) }
 {
     let (request, argument) = first_words(line);
     if is_open && request == ITEM {

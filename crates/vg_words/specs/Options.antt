@@ -37,7 +37,7 @@ is_same a b = place_of a == place_of b
 abbrev pub options : List Opt
 options = Mode ∷ Spef ∷ Lib ∷ Verilog ∷ Cons ∷ Net ∷ All ∷ OutSpef ∷ OutVerilog ∷ Prefix ∷ []
 
--- the option has no value: its name alone says all
+-- the option has no value: it is given, or it is not
 abbrev pub is_flag : Opt → Bool
 is_flag All = true
 is_flag option = false
