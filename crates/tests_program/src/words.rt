@@ -511,6 +511,76 @@ fn refuses_one_net_and_all(rt: HostRuntime) -> Result<(), Fail> {
     Ok(())
 }
 
+/// Words, and the size that they ask for.
+static SIZES: [(&str, u32); 5] = [
+    ("--mode gen --size 1", 1),
+    ("--size=4000 --mode=gen", 4000),
+    ("--mode gen --size 0001", 1),
+    ("--mode gen --size=0120", 120),
+    ("--mode wire --spef a --net n", 0),
+];
+
+/// Whether the words ask for this size.
+fn asks_size(alloc: Global, line: &str, size: u32) -> Result<bool, Fail> {
+    let words = words_of(alloc, line)?;
+    let Ok(ask) = read_words(alloc, &words) else {
+        return Ok(false);
+    };
+    Ok(ask.size() == size && (ask.mode == Mode::Gen) == (size > 0))
+}
+
+#[test]
+fn reads_sizes(rt: HostRuntime) -> Result<(), Fail> {
+    for (line, size) in &SIZES {
+        assert!(rt; asks_size(rt.alloc(), line, *size)?, "{line}");
+    }
+    Ok(())
+}
+
+/// Faults of words that ask for a size, or are to ask for one.
+static FAULTY_SIZES: [(&str, WordFault); 20] = [
+    ("--mode gen --size 0", WordFault::BadValue(Opt::Size)),
+    ("--mode gen --size 4001", WordFault::BadValue(Opt::Size)),
+    ("--mode gen --size 00001", WordFault::BadValue(Opt::Size)),
+    ("--mode gen --size 00000", WordFault::BadValue(Opt::Size)),
+    ("--mode gen --size 12a", WordFault::BadValue(Opt::Size)),
+    ("--mode gen --size=", WordFault::BadValue(Opt::Size)),
+    ("--mode gen --size ~", WordFault::BadValue(Opt::Size)),
+    ("--mode gen --size +5", WordFault::BadValue(Opt::Size)),
+    ("--mode gen --size=-5", WordFault::BadValue(Opt::Size)),
+    ("--mode gen --size 1e2", WordFault::BadValue(Opt::Size)),
+    ("--mode gen --size -5", WordFault::Unread),
+    ("--mode gen --size", WordFault::Unread),
+    ("--mode gen --size 1 --size 1", WordFault::Unread),
+    ("--mode gen", WordFault::Missing(Opt::Size)),
+    ("--mode gen --spef a", WordFault::Missing(Opt::Size)),
+    (
+        "--mode gen --size 1 --prefix x_",
+        WordFault::Excluded(Opt::Prefix),
+    ),
+    (
+        "--mode gen --size 0 --net n --prefix x_",
+        WordFault::Excluded(Opt::Net),
+    ),
+    ("--mode gen --size 1 --all", WordFault::Excluded(Opt::All)),
+    (
+        "--mode time --spef a --lib l --verilog v --cons c --net n --size 1",
+        WordFault::Excluded(Opt::Size),
+    ),
+    (
+        "--mode best --size 0 --spef a --lib l --verilog v --cons c --net n --out-spef o --out-verilog w --prefix 9w",
+        WordFault::Excluded(Opt::Size),
+    ),
+];
+
+#[test]
+fn refuses_sizes(rt: HostRuntime) -> Result<(), Fail> {
+    for (line, fault) in &FAULTY_SIZES {
+        assert!(rt; fault_of(rt.alloc(), line)? == Some(*fault), "{line}");
+    }
+    Ok(())
+}
+
 #[test]
 fn lists_options_in_order(rt: HostRuntime) -> Result<(), Fail> {
     let names = [
@@ -524,6 +594,7 @@ fn lists_options_in_order(rt: HostRuntime) -> Result<(), Fail> {
         "--out-spef",
         "--out-verilog",
         "--prefix",
+        "--size",
     ];
     let found = options().iter().map(|option| option.name());
     assert!(rt; found.eq(names.iter().copied()));

@@ -8,7 +8,7 @@ use Rattle.clap.specs.Faults.{check_fault, defaults_fault, default_fault, settle
 use Rattle.clap.specs.Kinds.{Kinds, or_else}
 use Rattle.clap.specs.Simple.{filled}
 use Rattle.clap.specs.Walk.{Held, Walk, arg_by_id, arg_by_long, finished, has_row, nothing_held, settled, used, walk, walk_from, walked, with_default}
-use Rattle.clap.specs.Words.{App, Row, Rule, Shape, HasMatchesOf, fault_of, found_of, is_simple, matches_of, new_rule, rows_of}
+use Rattle.clap.specs.Words.{App, Row, Rule, Shape, HasMatchesOf, FailsBy, fault_of, found_of, is_simple, is_simple_and_free, matches_of, new_rule, rows_of}
 use Rattle.clap.specs.declared.builder.action.ArgAction.{ArgAction}
 use Rattle.clap.specs.declared.builder.action.ArgAction.TheVariants.{Set, SetTrue}
 use Rattle.clap.specs.declared.error.Error.{Error}
@@ -18,7 +18,7 @@ use Rattle.clap.proofs.WalkLemmas.{both}
 use Rattle.vg_words.specs.Command.{action_for, app, bare, long_name}
 use Rattle.vg_words.specs.Options.{is_flag, options}
 use Rattle.vg_words.specs.declared.option.Opt.{Opt}
-use Rattle.vg_words.specs.declared.option.Opt.TheVariants.{Mode, Spef, Lib, Verilog, Cons, Net, All, OutSpef, OutVerilog, Prefix}
+use Rattle.vg_words.specs.declared.option.Opt.TheVariants.{Mode, Spef, Lib, Verilog, Cons, Net, All, OutSpef, OutVerilog, Prefix, Size}
 use Rattle.vg_words.proofs.OptionLemmas.{each_valued, one_flag}
 
 -- the matches of a simple command, by another name
@@ -27,8 +27,16 @@ pub matches_at : (a b : App) (words : List (List ℕ)) (r : Result ArgMatches Er
 matches_at a b words (Ok m) e simple h = (h (ap is_simple e ∙ simple)).0 ∙ ap (λ x. matches_of x words) e
 matches_at a b words (Err fault) e simple h = tt
 
+-- and the errors
+pub fails_at : (a b : App) (words : List (List ℕ)) (r : Result ArgMatches Error) → a ≡ b → is_simple_and_free b ≡ true
+    → (is_simple_and_free a ≡ true → FailsBy (fault_of a words) r) → FailsBy (fault_of b words) r
+fails_at a b words r e free h = subst (λ x. FailsBy (fault_of x words) r) e (h (ap is_simple_and_free e ∙ free))
+
 pub app-simple : is_simple app ≡ true
 app-simple = refl
+
+pub app-free : is_simple_and_free app ≡ true
+app-free = refl
 
 -- an argument as it is built
 abbrev acting : ArgAction → Opt → Rule
@@ -53,10 +61,10 @@ shape = record bare.top { rules = rules; disable_help_subcommand = true; is_buil
 
 -- the argument of a name
 pub by_id : (o : Opt) → is_flag o ≡ false → arg_by_id rules (long_name o) ≡ Some (rule o)
-by_id = each_valued (λ o. arg_by_id rules (long_name o) ≡ Some (rule o)) refl refl refl refl refl refl refl refl refl
+by_id = each_valued (λ o. arg_by_id rules (long_name o) ≡ Some (rule o)) refl refl refl refl refl refl refl refl refl refl
 
 pub by_long : (o : Opt) → is_flag o ≡ false → arg_by_long rules (long_name o) ≡ Some (rule o)
-by_long = each_valued (λ o. arg_by_long rules (long_name o) ≡ Some (rule o)) refl refl refl refl refl refl refl refl refl
+by_long = each_valued (λ o. arg_by_long rules (long_name o) ≡ Some (rule o)) refl refl refl refl refl refl refl refl refl refl
 
 pub flag_by_long : (o : Opt) → is_flag o ≡ true → arg_by_long rules (long_name o) ≡ Some (flag_rule o)
 flag_by_long o e = subst (λ o. arg_by_long rules (long_name o) ≡ Some (flag_rule o)) (sym (one_flag o e)) refl
@@ -110,7 +118,7 @@ abbrev before_flag : List Opt
 before_flag = Mode ∷ Spef ∷ Lib ∷ Verilog ∷ Cons ∷ Net ∷ []
 
 abbrev after_flag : List Opt
-after_flag = OutSpef ∷ OutVerilog ∷ Prefix ∷ []
+after_flag = OutSpef ∷ OutVerilog ∷ Prefix ∷ Size ∷ []
 
 with_defaults : (rows : List Row) → fold with_default rows rules ≡ with_flag rows
 with_defaults rows =

@@ -1,23 +1,23 @@
 -- What a judgment of the given values says of the words.
-use Rattle.std.proofs.Common.{◌≡◌, ℕ, Bool, true, false, not, ◌&&◌, ◌||◌, ◌⊎◌, inl, inr, List, [], ◌∷◌, refl, sym, ap, ◌∙◌, subst, Option, Some, None, is_some, Result, Ok, Err, codes, if◌then◌else◌}
-use Rattle.std.proofs.Math.Bool.{or-true}
+use Rattle.std.proofs.Common.{◌≡◌, ◌≤◌, ℕ, Bool, true, false, not, ◌&&◌, ◌||◌, ◌⊎◌, inl, inr, List, [], ◌∷◌, refl, sym, ap, ◌∙◌, subst, Option, Some, None, is_some, unwrap_or, Result, Ok, Err, codes, if◌then◌else◌}
 use Rattle.std.proofs.lemmas.Bool.{false≢true, true≢false}
 use Rattle.std.specs.List.{find, list_any}
 use Rattle.std.specs.Result.{IsErrAnd}
 use Rattle.std.specs.Str.{bytes_eq}
 use Rattle.std.proofs.lemmas.Slice.Eq.{bytes_eq-Decides}
-use Rattle.vg_words.proofs.OptionLemmas.{same_option}
+use Rattle.vg_words.proofs.OptionLemmas.{each, same_option}
+use Rattle.vg_words.proofs.SizeLemmas.{size_small}
 use Rattle.vg_words.proofs.SpellingLemmas.{one_setting}
-use Rattle.vg_words.specs.Laws.{AsksForAll, AsksForNet}
+use Rattle.vg_words.specs.Laws.{AsksAsIn}
 use Rattle.vg_words.specs.Views.{AreValues}
 use Rattle.vg_words.specs.declared.ask.Ask.{Ask}
 use mathlib.Core.Path.{fun_ext}
 use Rattle.vg_words.specs.Options.{options, file_options, is_same, required, mode_of, mode_name}
-use Rattle.vg_words.specs.Request.{Setting, Sets, Values, values_in, value_of, IsRequest, may_be_given, is_missing, is_excluded, flag_value, is_bad, or_else, of_first, of_pair, first_equal, fault_in, fault_of_mode, fault_of_name, fault_of, HasMode, IsRefused, ReadsWords, value}
+use Rattle.vg_words.specs.Request.{Setting, Sets, Values, values_in, value_of, IsRequest, is_missing, is_excluded, flag_value, has_bad_value, is_bad, is_size, or_else, of_first, of_pair, first_equal, fault_in, fault_of_mode, fault_of_name, fault_of, HasMode, IsRefused, ReadsWords, value, size_in, size_of}
 use Rattle.vg_words.specs.declared.option.Opt.{Opt}
-use Rattle.vg_words.specs.declared.option.Opt.TheVariants.{Mode, Spef, Lib, Verilog, Cons, Net, All, OutSpef, OutVerilog, Prefix}
+use Rattle.vg_words.specs.declared.option.Opt.TheVariants.{Mode, Spef, Lib, Verilog, Cons, Net, All, OutSpef, OutVerilog, Prefix, Size}
 use Rattle.vg_words.specs.declared.ask.Mode.{Mode as ModeSpec}
-use Rattle.vg_words.specs.declared.ask.Mode.TheVariants.{Wire, Time, Best}
+use Rattle.vg_words.specs.declared.ask.Mode.TheVariants.{Wire, Time, Best, Gen}
 use Rattle.vg_words.specs.declared.ask.WordFault.{WordFault}
 use Rattle.vg_words.specs.declared.ask.WordFault.TheVariants.{Unread, Missing, Excluded, BadValue, Equal, Memory}
 
@@ -98,17 +98,19 @@ some_mode a b e = cc
 
 requested_values : (values : Values) (ask : Ask) → values Mode ≡ Some (mode_name ask.mode) → values Spef ≡ ask.spef → values Lib ≡ ask.lib
     → values Verilog ≡ ask.verilog → values Cons ≡ ask.cons → values Net ≡ ask.net → values All ≡ flag_value ask.all
-    → values OutSpef ≡ ask.out_spef → values OutVerilog ≡ ask.out_verilog → values Prefix ≡ ask.prefix → (option : Opt) → values option ≡ value ask option
-requested_values values ask m s l v c n a os ov p Mode = m
-requested_values values ask m s l v c n a os ov p Spef = s
-requested_values values ask m s l v c n a os ov p Lib = l
-requested_values values ask m s l v c n a os ov p Verilog = v
-requested_values values ask m s l v c n a os ov p Cons = c
-requested_values values ask m s l v c n a os ov p Net = n
-requested_values values ask m s l v c n a os ov p All = a
-requested_values values ask m s l v c n a os ov p OutSpef = os
-requested_values values ask m s l v c n a os ov p OutVerilog = ov
-requested_values values ask m s l v c n a os ov p Prefix = p
+    → values OutSpef ≡ ask.out_spef → values OutVerilog ≡ ask.out_verilog → values Prefix ≡ ask.prefix → values Size ≡ ask.size
+    → (option : Opt) → values option ≡ value ask option
+requested_values values ask m s l v c n a os ov p z Mode = m
+requested_values values ask m s l v c n a os ov p z Spef = s
+requested_values values ask m s l v c n a os ov p z Lib = l
+requested_values values ask m s l v c n a os ov p z Verilog = v
+requested_values values ask m s l v c n a os ov p z Cons = c
+requested_values values ask m s l v c n a os ov p z Net = n
+requested_values values ask m s l v c n a os ov p z All = a
+requested_values values ask m s l v c n a os ov p z OutSpef = os
+requested_values values ask m s l v c n a os ov p z OutVerilog = ov
+requested_values values ask m s l v c n a os ov p z Prefix = p
+requested_values values ask m s l v c n a os ov p z Size = z
 
 -- a text that is the name of one mode, or else names another
 named_or : (text : List ℕ) (own mode : ModeSpec) (rest : Option ModeSpec) → (if bytes_eq text (mode_name own) then Some own else rest) ≡ Some mode
@@ -122,9 +124,13 @@ named_or text own mode rest e later =
 -- a text that names a mode is its name
 mode_named : (text : List ℕ) (mode : ModeSpec) → mode_of text ≡ Some mode → text ≡ mode_name mode
 mode_named text mode e =
-    let after_time : Option ModeSpec = if bytes_eq text (codes "best") then Some Best else None in
+    let after_best : Option ModeSpec = if bytes_eq text (codes "gen") then Some Gen else None in
+    let after_time : Option ModeSpec = if bytes_eq text (codes "best") then Some Best else after_best in
     let after_wire : Option ModeSpec = if bytes_eq text (codes "time") then Some Time else after_time in
-    named_or text Wire mode after_wire e (λ e. named_or text Time mode after_time e (λ e. named_or text Best mode None e (λ none. absurd (cc))))
+    named_or text Wire mode after_wire e
+    (λ e. named_or text Time mode after_time e
+    (λ e. named_or text Best mode after_best e
+    (λ e. named_or text Gen mode None e (λ none. absurd (cc)))))
 
 mode_given : (name : Option (List ℕ)) (mode : ModeSpec) → HasMode name mode → name ≡ Some (mode_name mode)
 mode_given None mode h = absurd h
@@ -135,10 +141,10 @@ pub requested : (words : List (List ℕ)) (values : Values) (mode : ModeSpec) (a
     → (fault_of values ≡ None) × HasMode (values Mode) mode
     → ask.mode ≡ mode → ask.spef ≡ values Spef → ask.lib ≡ values Lib → ask.verilog ≡ values Verilog → ask.cons ≡ values Cons → ask.net ≡ values Net
     → flag_value ask.all ≡ values All → ask.out_spef ≡ values OutSpef → ask.out_verilog ≡ values OutVerilog → ask.prefix ≡ values Prefix
-    → IsRequest words ask
-requested words values mode ask given (e, h) m s l v c n a os ov p =
+    → ask.size ≡ values Size → IsRequest words ask
+requested words values mode ask given (e, h) m s l v c n a os ov p z =
     let named = mode_given (values Mode) mode h ∙ ap (λ x. Some (mode_name x)) (sym m) in
-    let kept = requested_values values ask named (sym s) (sym l) (sym v) (sym c) (sym n) (sym a) (sym os) (sym ov) (sym p) in
+    let kept = requested_values values ask named (sym s) (sym l) (sym v) (sym c) (sym n) (sym a) (sym os) (sym ov) (sym p) (sym z) in
     record {
       settings = given.settings;
       set = given.set;
@@ -151,6 +157,7 @@ named_mode : (mode : ModeSpec) → mode_of (mode_name mode) ≡ Some mode
 named_mode Wire = refl
 named_mode Time = refl
 named_mode Best = refl
+named_mode Gen = refl
 
 one_mode : (a b : ModeSpec) → mode_name a ≡ mode_name b → a ≡ b
 one_mode a b e = some_mode a b (sym (named_mode a) ∙ ap mode_of e ∙ named_mode b)
@@ -182,6 +189,7 @@ one words a b x y =
       out_spef = values OutSpef i;
       out_verilog = values OutVerilog i;
       prefix = values Prefix i;
+      size = values Size i;
     }
 
 -- words that are refused are no request
@@ -199,7 +207,7 @@ refused_none words (BadValue o) refused request is = fault_apart words (BadValue
 refused_none words (Equal a b) refused request is = fault_apart words (Equal a b) refused request is
 refused_none words Memory refused request is = absurd refused
 
--- ---- one net or all
+-- ---- what is asked for
 
 no_option : (o : Opt) → Some o ≡ None → ⊥
 no_option o e = cc
@@ -222,23 +230,24 @@ no_faults : (a b : Option WordFault) → or_else a b ≡ None → (a ≡ None) �
 no_faults None b e = (refl, e)
 no_faults (Some fault) b e = absurd (cc)
 
--- what a judgment without a fault says of `--net` and `--all`
-record IsWhole (mode : ModeSpec) (values : Values) : Type 0 where
-  net : is_missing mode values Net ≡ false
-  all : is_excluded mode values All ≡ false
+all_options : (o : Opt) → list_any (is_same o) options ≡ true
+all_options = each (λ o. list_any (is_same o) options ≡ true) refl refl refl refl refl refl refl refl refl refl refl
 
-asks_for_net : (mode : ModeSpec) → list_any (is_same Net) (required mode) ≡ true
-asks_for_net Wire = refl
-asks_for_net Time = refl
-asks_for_net Best = refl
+-- what a judgment without a fault says of each option
+record IsWhole (mode : ModeSpec) (values : Values) : Type 0 where
+  found : (o : Opt) → list_any (is_same o) (required mode) ≡ true → is_missing mode values o ≡ false
+  allowed : (o : Opt) → is_excluded mode values o ≡ false
+  good : (o : Opt) → is_bad values o ≡ false
 
 whole : (mode : ModeSpec) (values : Values) → fault_in mode values ≡ None → IsWhole mode values
 whole mode values e =
     let (missing, later) = no_faults _ _ e in
-    let (excluded, _) = no_faults _ _ later in
+    let (excluded, last) = no_faults _ _ later in
+    let (bad, _) = no_faults _ _ last in
     record {
-      net = none_found (is_missing mode values) (required mode) Net (no_first Missing _ missing) (asks_for_net mode);
-      all = none_found (is_excluded mode values) options All (no_first Excluded _ excluded) refl;
+      found = λ o. none_found (is_missing mode values) (required mode) o (no_first Missing _ missing);
+      allowed = λ o. none_found (is_excluded mode values) options o (no_first Excluded _ excluded) (all_options o);
+      good = λ o. none_found (is_bad values) options o (no_first BadValue _ bad) (all_options o);
     }
 
 whole_request : (words : List (List ℕ)) (ask : Ask) → IsRequest words ask → IsWhole ask.mode (value ask)
@@ -248,26 +257,47 @@ whole_request words ask is =
     let named : fault_of_mode (value ask) (mode_of (mode_name ask.mode)) ≡ None = sym (ap fault_of same) ∙ is.faultless in
     whole ask.mode (value ask) (sym (ap (fault_of_mode (value ask)) (named_mode ask.mode)) ∙ named)
 
--- with a mode, what is said of the net, and whether all are asked for
-abbrev AreOneOrAll : ModeSpec → Option (List ℕ) → Bool → Type 0
-AreOneOrAll mode net all =
-    (((is_some net ≡ true) × (all ≡ false)) ⊎ ((net ≡ None) × (all ≡ true))) × (mode ≡ Wire → (is_some net ≡ true) × (all ≡ false))
+-- one net or all, from what is missing and what is excluded
+one_net : (net : Option (List ℕ)) (all : Bool) → not (is_some net || (is_some (flag_value all) && false)) ≡ false
+    → (is_some (flag_value all) && true) ≡ false → (is_some net ≡ true) × (all ≡ false)
+one_net (Some n) false found allowed = (refl, refl)
+one_net (Some n) true found allowed = absurd (true≢false allowed)
+one_net None false found allowed = absurd (true≢false found)
+one_net None true found allowed = absurd (true≢false found)
 
-not_wire : (mode : ModeSpec) → may_be_given mode All ≡ true → mode ≡ Wire → ⊥
-not_wire mode may e = false≢true (sym (ap (λ m. may_be_given m All) e) ∙ may)
+net_or_all : (net : Option (List ℕ)) (all : Bool) → not (is_some net || (is_some (flag_value all) && true)) ≡ false
+    → (is_some (flag_value all) && is_some net) ≡ false → ((is_some net ≡ true) × (all ≡ false)) ⊎ ((net ≡ None) × (all ≡ true))
+net_or_all (Some n) false found allowed = inl (refl, refl)
+net_or_all (Some n) true found allowed = absurd (true≢false allowed)
+net_or_all None false found allowed = absurd (true≢false found)
+net_or_all None true found allowed = inr (refl, refl)
 
-only_all : (mode : ModeSpec) → not (may_be_given mode All) ≡ false → may_be_given mode All ≡ true
-only_all Wire e = absurd (true≢false e)
-only_all Time e = refl
-only_all Best e = refl
+no_net : (net : Option (List ℕ)) (all : Bool) → (is_some net && true) ≡ false → (is_some (flag_value all) && true) ≡ false
+    → (net ≡ None) × (all ≡ false)
+no_net None false allowed alone = (refl, refl)
+no_net None true allowed alone = absurd (true≢false alone)
+no_net (Some n) all allowed alone = absurd (true≢false allowed)
 
-one_or_all_of : (mode : ModeSpec) (net : Option (List ℕ)) (all : Bool)
-    → not (is_some net || (is_some (flag_value all) && may_be_given mode All)) ≡ false
-    → (is_some (flag_value all) && (not (may_be_given mode All) || is_some net)) ≡ false → AreOneOrAll mode net all
-one_or_all_of mode (Some n) false missing excluded = (inl (refl, refl), λ _. (refl, refl))
-one_or_all_of mode (Some n) true missing excluded = absurd (true≢false (sym (or-true (not (may_be_given mode All))) ∙ excluded))
-one_or_all_of mode None false missing excluded = absurd (true≢false missing)
-one_or_all_of mode None true missing excluded = (inr (refl, refl), λ e. absurd (not_wire mode (only_all mode missing) e))
+asks_as_in : (mode : ModeSpec) (ask : Ask) → IsWhole mode (value ask) → AsksAsIn mode ask
+asks_as_in Wire ask w = one_net ask.net ask.all (w.found Net refl) (w.allowed All)
+asks_as_in Time ask w = net_or_all ask.net ask.all (w.found Net refl) (w.allowed All)
+asks_as_in Best ask w = net_or_all ask.net ask.all (w.found Net refl) (w.allowed All)
+asks_as_in Gen ask w = no_net ask.net ask.all (w.allowed Net) (w.allowed All)
 
-pub one_or_all : (words : List (List ℕ)) (ask : Ask) → IsRequest words ask → (AsksForNet ask ⊎ AsksForAll ask) × (ask.mode ≡ Wire → AsksForNet ask)
-one_or_all words ask is = let w = whole_request words ask is in one_or_all_of ask.mode ask.net ask.all w.net w.all
+pub one_or_all : (words : List (List ℕ)) (ask : Ask) → IsRequest words ask → AsksAsIn ask.mode ask
+one_or_all words ask is = asks_as_in ask.mode ask (whole_request words ask is)
+
+not_not : (b : Bool) → not b ≡ false → b ≡ true
+not_not true e = refl
+not_not false e = absurd (true≢false e)
+
+-- a size, from the same
+small_size : (size : Option (List ℕ)) → not (is_some size || false) ≡ false → has_bad_value Size size ≡ false
+    → let n = unwrap_or (size_in (unwrap_or size [])) 0 in (1 ≤ n) × (n ≤ 4000)
+small_size None found good = absurd (true≢false found)
+small_size (Some text) found good = size_small text (not_not (is_size text) good)
+
+pub small : (words : List (List ℕ)) (ask : Ask) → IsRequest words ask → ask.mode ≡ Gen → (1 ≤ size_of ask) × (size_of ask ≤ 4000)
+small words ask is e =
+    let w : IsWhole Gen (value ask) = subst (λ mode. IsWhole mode (value ask)) e (whole_request words ask is) in
+    small_size ask.size (w.found Size refl) (w.good Size)

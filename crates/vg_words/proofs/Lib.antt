@@ -1,5 +1,6 @@
 pub mod OptionLemmas
 pub mod SpellingLemmas
+pub mod SizeLemmas
 pub mod JudgeLemmas
 pub mod EqualLemmas
 pub mod CommandLemmas

@@ -1,8 +1,9 @@
--- Words ask for one thing at most, and for one net or for all.
-use Rattle.std.specs.Prelude.{◌≡◌, ◌⊎◌, ℕ, true, false, List, None, is_some}
-use Rattle.vg_words.specs.Request.{IsRequest}
+-- Words ask for one thing at most, and for as many nets as their mode has a use for, or for a size.
+use Rattle.std.specs.Prelude.{◌≡◌, ◌≤◌, ◌⊎◌, ℕ, true, false, List, None, is_some}
+use Rattle.vg_words.specs.Request.{IsRequest, size_of}
 use Rattle.vg_words.specs.declared.ask.Ask.{Ask}
-use Rattle.vg_words.specs.declared.ask.Mode.TheVariants.{Wire}
+use Rattle.vg_words.specs.declared.ask.Mode.{Mode}
+use Rattle.vg_words.specs.declared.ask.Mode.TheVariants.{Wire, Time, Best, Gen}
 
 abbrev pub OneRequest : Type 0
 OneRequest = (words : List (List ℕ)) (a b : Ask) → IsRequest words a → IsRequest words b → a ≡ b
@@ -15,7 +16,21 @@ AsksForNet ask = (is_some ask.net ≡ true) × (ask.all ≡ false)
 abbrev pub AsksForAll : Ask → Type 0
 AsksForAll ask = (ask.net ≡ None) × (ask.all ≡ true)
 
--- a request asks for one net or for all, and in mode `wire` for one
+-- the request names no net, and does not ask for all
+abbrev pub AsksForNone : Ask → Type 0
+AsksForNone ask = (ask.net ≡ None) × (ask.all ≡ false)
+
+-- as a mode has it: one net, or one or all, or none
+abbrev pub AsksAsIn : Mode → Ask → Type 0
+AsksAsIn Wire ask = AsksForNet ask
+AsksAsIn Time ask = AsksForNet ask ⊎ AsksForAll ask
+AsksAsIn Best ask = AsksForNet ask ⊎ AsksForAll ask
+AsksAsIn Gen ask = AsksForNone ask
+
+-- in mode `wire` a request asks for one net, in modes `time` and `best` for one or for all, and in mode `gen` for none
 abbrev pub OneOrAll : Type 0
-OneOrAll = (words : List (List ℕ)) (ask : Ask) → IsRequest words ask
-    → (AsksForNet ask ⊎ AsksForAll ask) × (ask.mode ≡ Wire → AsksForNet ask)
+OneOrAll = (words : List (List ℕ)) (ask : Ask) → IsRequest words ask → AsksAsIn ask.mode ask
+
+-- in mode `gen` a request asks for a size of 1 to 4000
+abbrev pub SizesAreSmall : Type 0
+SizesAreSmall = (words : List (List ℕ)) (ask : Ask) → IsRequest words ask → ask.mode ≡ Gen → (1 ≤ size_of ask) × (size_of ask ≤ 4000)

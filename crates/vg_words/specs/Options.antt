@@ -2,9 +2,9 @@
 use Rattle.std.specs.Prelude.{ℕ, ◌==◌, Bool, true, false, List, [], ◌∷◌, ◌++◌, codes, Option, Some, None, if◌then◌else◌}
 use Rattle.std.specs.Str.{bytes_eq}
 use Rattle.vg_words.specs.declared.option.Opt.{Opt}
-use Rattle.vg_words.specs.declared.option.Opt.TheVariants.{Mode, Spef, Lib, Verilog, Cons, Net, All, OutSpef, OutVerilog, Prefix}
+use Rattle.vg_words.specs.declared.option.Opt.TheVariants.{Mode, Spef, Lib, Verilog, Cons, Net, All, OutSpef, OutVerilog, Prefix, Size}
 use Rattle.vg_words.specs.declared.ask.Mode.{Mode as ModeSpec}
-use Rattle.vg_words.specs.declared.ask.Mode.TheVariants.{Wire, Time, Best}
+use Rattle.vg_words.specs.declared.ask.Mode.TheVariants.{Wire, Time, Best, Gen}
 
 abbrev pub name_of : Opt → List ℕ
 name_of Mode = codes "--mode"
@@ -17,6 +17,7 @@ name_of All = codes "--all"
 name_of OutSpef = codes "--out-spef"
 name_of OutVerilog = codes "--out-verilog"
 name_of Prefix = codes "--prefix"
+name_of Size = codes "--size"
 
 -- the place of an option in the order of options
 abbrev pub place_of : Opt → ℕ
@@ -30,12 +31,13 @@ place_of All = 6
 place_of OutSpef = 7
 place_of OutVerilog = 8
 place_of Prefix = 9
+place_of Size = 10
 
 abbrev pub is_same : Opt → Opt → Bool
 is_same a b = place_of a == place_of b
 
 abbrev pub options : List Opt
-options = Mode ∷ Spef ∷ Lib ∷ Verilog ∷ Cons ∷ Net ∷ All ∷ OutSpef ∷ OutVerilog ∷ Prefix ∷ []
+options = Mode ∷ Spef ∷ Lib ∷ Verilog ∷ Cons ∷ Net ∷ All ∷ OutSpef ∷ OutVerilog ∷ Prefix ∷ Size ∷ []
 
 -- the option has no value: it is given, or it is not
 abbrev pub is_flag : Opt → Bool
@@ -51,24 +53,28 @@ abbrev pub mode_of : List ℕ → Option ModeSpec
 mode_of text =
     if bytes_eq text (codes "wire") then Some Wire
     else (if bytes_eq text (codes "time") then Some Time
-    else (if bytes_eq text (codes "best") then Some Best else None))
+    else (if bytes_eq text (codes "best") then Some Best
+    else (if bytes_eq text (codes "gen") then Some Gen else None)))
 
 abbrev pub mode_name : ModeSpec → List ℕ
 mode_name Wire = codes "wire"
 mode_name Time = codes "time"
 mode_name Best = codes "best"
+mode_name Gen = codes "gen"
 
 -- the options that a mode asks for; `--all` may stand for `--net` where the mode may be given it
 abbrev pub required : ModeSpec → List Opt
 required Wire = Spef ∷ Net ∷ []
 required Time = Spef ∷ Lib ∷ Verilog ∷ Cons ∷ Net ∷ []
 required Best = Spef ∷ Lib ∷ Verilog ∷ Cons ∷ Net ∷ OutSpef ∷ OutVerilog ∷ []
+required Gen = Size ∷ []
 
 -- those that it may be given besides
 abbrev pub optional : ModeSpec → List Opt
 optional Wire = []
 optional Time = All ∷ Prefix ∷ []
 optional Best = All ∷ Prefix ∷ []
+optional Gen = []
 
 -- those that it may be given; it has no use for others
 abbrev pub allowed : ModeSpec → List Opt

@@ -4,9 +4,10 @@ use Rattle.std.specs.List.{count_by, list_all, list_any, find}
 use Rattle.std.specs.Str.{bytes_eq}
 use Rattle.std.specs.Str.Parse.{starts_with_minus}
 use Rattle.std.specs.declared.alloc.Global.{Global}
+use Rattle.vg_num.specs.Number.{are_digits, value_of as number_of}
 use Rattle.vg_words.specs.Options.{name_of, mode_of, mode_name, is_flag, is_same, options, file_options, required, allowed}
 use Rattle.vg_words.specs.declared.option.Opt.{Opt}
-use Rattle.vg_words.specs.declared.option.Opt.TheVariants.{Mode, Spef, Lib, Verilog, Cons, Net, All, OutSpef, OutVerilog, Prefix}
+use Rattle.vg_words.specs.declared.option.Opt.TheVariants.{Mode, Spef, Lib, Verilog, Cons, Net, All, OutSpef, OutVerilog, Prefix, Size}
 use Rattle.vg_words.specs.declared.ask.Mode.{Mode as ModeSpec}
 use Rattle.vg_words.specs.declared.ask.Ask.{Ask}
 use Rattle.vg_words.specs.declared.ask.WordFault.{WordFault}
@@ -99,10 +100,15 @@ abbrev pub is_prefix : List ℕ → Bool
 is_prefix [] = false
 is_prefix (b ∷ bytes) = nat_le (length bytes) 31 && (is_letter b && list_all is_name_byte bytes)
 
--- an empty value, or a prefix of another form; a flag has no bad value
+-- one to four digits, which write 1 to 4000
+abbrev pub is_size : List ℕ → Bool
+is_size text = are_digits text && (nat_le (length text) 4 && (nat_le 1 (number_of text) && nat_le (number_of text) 4000))
+
+-- an empty value, or a prefix or a size of another form; a flag has no bad value
 abbrev pub is_bad_value : Opt → List ℕ → Bool
 is_bad_value All value = false
 is_bad_value Prefix value = not (is_prefix value)
+is_bad_value Size value = not (is_size value)
 is_bad_value option value = not (nat_lt 0 (length value))
 
 abbrev pub has_bad_value : Opt → Option (List ℕ) → Bool
@@ -181,6 +187,7 @@ value ask All = flag_value ask.all
 value ask OutSpef = ask.out_spef
 value ask OutVerilog = ask.out_verilog
 value ask Prefix = ask.prefix
+value ask Size = ask.size
 
 -- that value as a text, empty where there is none
 abbrev pub text_for : Ask → Opt → List ℕ
@@ -189,6 +196,14 @@ text_for ask option = unwrap_or (value ask option) []
 -- what the names of cells that are put in begin with
 abbrev pub prefix_of : Ask → List ℕ
 prefix_of ask = unwrap_or ask.prefix (codes "vgi_")
+
+-- the number that a text writes, if it is a size
+abbrev pub size_in : List ℕ → Option ℕ
+size_in text = if is_size text then Some (number_of text) else None
+
+-- the size of the design that is to be made up; 0 where there is none
+abbrev pub size_of : Ask → ℕ
+size_of ask = unwrap_or (size_in (text_for ask Size)) 0
 
 -- the words denote the request: they give each option its value, and no reason is against them
 pub record IsRequest (words : List (List ℕ)) (ask : Ask) : Type 0 where

@@ -1,11 +1,12 @@
 ghost use Rattle.std.specs.Prelude.{◌≡◌};
 ghost use Rattle.clap.specs.Words.{kind_of};
 ghost use Rattle.vg_words.specs.Command.{fault_for};
-ghost use Rattle.vg_words.specs.Options.{mode_name, required};
-ghost use Rattle.vg_words.specs.Request.{may_be_given, prefix_of, text_for};
+ghost use Rattle.vg_words.specs.Options.{mode_name, optional, required};
+ghost use Rattle.vg_words.specs.Request.{may_be_given, prefix_of, size_of, text_for};
 ghost use Rattle.vg_words.specs.declared.ask.WordFault.TheVariants.{Memory as out_of_memory};
 
 use crate::option::Opt;
+use crate::size::size_in;
 use clap::error::ErrorKind;
 use vg_num::{Memory, Text};
 
@@ -18,6 +19,8 @@ pub enum Mode {
     Time,
     /// Prints a best placement of repeaters on one net or on each, and the slack, and writes the netlist and the parasitics with the cells.
     Best,
+    /// Makes up a design of a given size.
+    Gen,
 }
 
 const WIRE_OPTIONS: [Opt; 2] = [Opt::Spef, Opt::Net];
@@ -34,6 +37,8 @@ const CHANGE_OPTIONS: [Opt; 7] = [
     Opt::OutVerilog,
 ];
 
+const SIZE_OPTIONS: [Opt; 1] = [Opt::Size];
+
 /// What modes `time` and `best` may be given besides.
 const DESIGN_EXTRAS: [Opt; 2] = [Opt::All, Opt::Prefix];
 
@@ -46,6 +51,17 @@ impl Mode {
             Mode::Wire => &WIRE_OPTIONS,
             Mode::Time => &DESIGN_OPTIONS,
             Mode::Best => &CHANGE_OPTIONS,
+            Mode::Gen => &SIZE_OPTIONS,
+        }
+    }
+
+    /// Those that it may be given besides.
+    pub(crate) fn optional_options(self) -> &'static [Opt]
+        ensures { result.now ≡ optional self }
+    {
+        match self {
+            Mode::Wire | Mode::Gen => &[],
+            Mode::Time | Mode::Best => &DESIGN_EXTRAS,
         }
     }
 
@@ -55,7 +71,7 @@ impl Mode {
     {
         option == Opt::Mode
             || option.is_among(self.required_options())
-            || (self != Mode::Wire && option.is_among(&DESIGN_EXTRAS))
+            || option.is_among(self.optional_options())
     }
 
     /// The mode's name in the words.
@@ -66,6 +82,7 @@ impl Mode {
             Mode::Wire => "wire",
             Mode::Time => "time",
             Mode::Best => "best",
+            Mode::Gen => "gen",
         }
     }
 }
@@ -92,6 +109,8 @@ pub struct Ask {
     pub out_verilog: Option<Text>,
     /// What the names of cells that are put in begin with.
     pub prefix: Option<Text>,
+    /// The size of the design that is made up, as it is written.
+    pub size: Option<Text>,
 }
 
 /// What the names of cells that are put in begin with, where the words do not say.
@@ -113,6 +132,7 @@ impl Ask {
             Opt::OutSpef => &self.out_spef,
             Opt::OutVerilog => &self.out_verilog,
             Opt::Prefix => &self.prefix,
+            Opt::Size => &self.size,
         };
         match value {
             Some(text) => text.as_str(),
@@ -131,6 +151,13 @@ impl Ask {
             None => PREFIX,
         }
     }
+
+    /// The size of the design that is to be made up, which is 1 to 4000 in mode `gen`. It is 0 where there is none.
+    pub fn size(&self) -> u32
+        ensures { result ≡ size_of self.now }
+    {
+        size_in(self.text(Opt::Size).as_bytes()).unwrap_or(0)
+    }
 }
 
 /// Why the words ask for nothing: the first of these, in this order.
@@ -142,7 +169,8 @@ pub enum WordFault {
     Missing(Opt),
     /// The option is given, and the mode has no use for it, or it is `--all` and `--net` is given too.
     Excluded(Opt),
-    /// The option's value is empty, or is no mode; or a prefix is not a letter or `_`, followed by at most 31 letters, digits or `_`.
+    /// The option's value is empty, or is no mode; or a prefix is not a letter or `_`, followed by at most 31 letters, digits or `_`; or a size is not one
+    /// to four digits, which write 1 to 4000.
     BadValue(Opt),
     /// Both options name one file.
     Equal(Opt, Opt),

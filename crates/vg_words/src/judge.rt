@@ -9,6 +9,7 @@ ghost use Rattle.vg_words.specs.Views.{given_by};
 use crate::ask::{Ask, Mode, WordFault};
 use crate::given::Given;
 use crate::option::{FILE_OPTIONS, OPTIONS, Opt};
+use crate::size::size_in;
 use std::alloc::Global;
 use vg_num::{Memory, Text};
 
@@ -22,6 +23,8 @@ fn mode_of(name: &str) -> Option<Mode>
         Some(Mode::Time)
     } else if name == "best" {
         Some(Mode::Best)
+    } else if name == "gen" {
+        Some(Mode::Gen)
     } else {
         None
     }
@@ -101,6 +104,7 @@ fn is_bad_value(option: Opt, value: &str) -> bool
     match option {
         Opt::All => false,
         Opt::Prefix => !is_prefix(value.as_bytes()),
+        Opt::Size => size_in(value.as_bytes()).is_none(),
         _ => value.is_empty(),
     }
 }
@@ -236,6 +240,7 @@ fn ask_of(alloc: Global, mode: Mode, given: &Given<'_>) -> Result<Ask, Memory>
     ensures out_spef { IfOk result (λ ask. ask.out_spef ≡ given_by given.now Opt.OutSpef) }
     ensures out_verilog { IfOk result (λ ask. ask.out_verilog ≡ given_by given.now Opt.OutVerilog) }
     ensures prefix { IfOk result (λ ask. ask.prefix ≡ given_by given.now Opt.Prefix) }
+    ensures size { IfOk result (λ ask. ask.size ≡ given_by given.now Opt.Size) }
 {
     let spef = text_of(alloc, given.get(Opt::Spef))?;
     let lib = text_of(alloc, given.get(Opt::Lib))?;
@@ -245,6 +250,7 @@ fn ask_of(alloc: Global, mode: Mode, given: &Given<'_>) -> Result<Ask, Memory>
     let out_spef = text_of(alloc, given.get(Opt::OutSpef))?;
     let out_verilog = text_of(alloc, given.get(Opt::OutVerilog))?;
     let prefix = text_of(alloc, given.get(Opt::Prefix))?;
+    let size = text_of(alloc, given.get(Opt::Size))?;
     Ok(Ask {
         mode,
         spef,
@@ -256,6 +262,7 @@ fn ask_of(alloc: Global, mode: Mode, given: &Given<'_>) -> Result<Ask, Memory>
         out_spef,
         out_verilog,
         prefix,
+        size,
     })
 }
 
@@ -264,8 +271,8 @@ fn ask_of(alloc: Global, mode: Mode, given: &Given<'_>) -> Result<Ask, Memory>
 /// Each option is `--name value` or `--name=value`, in any order, at most once; a value that stands in a word of its own does not begin
 /// with `-`. The option `--all` is that word alone. Mode `wire` asks for `--spef` and `--net`, mode `time` for `--lib`, `--verilog` and
 /// `--cons` too, and mode `best` besides for `--out-spef` and `--out-verilog`. Modes `time` and `best` may be given `--prefix`, and `--all`
-/// in the place of `--net`. The faults come in the order of `WordFault`, and of one kind the first option in the order of `Opt`. Answers
-/// `Memory` where there is no room.
+/// in the place of `--net`. Mode `gen` asks for `--size` alone. The faults come in the order of `WordFault`, and of one kind the first option
+/// in the order of `Opt`. Answers `Memory` where there is no room.
 pub fn read_words(alloc: Global, words: &[String]) -> Result<Ask, WordFault>
     ensures { ReadsWords result (texts words.now) }
 {

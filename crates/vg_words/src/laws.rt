@@ -1,12 +1,17 @@
-ghost use Rattle.vg_words.specs.Laws.{OneOrAll, OneRequest};
+ghost use Rattle.vg_words.specs.Laws.{OneOrAll, OneRequest, SizesAreSmall};
 
 /// Words are one request at most. The function does nothing: its contract is the law, which a proof may cite.
 pub fn one_request()
     ensures { OneRequest }
 {}
 
-/// A request asks for one net or for all nets, and in mode `wire` for one net. The function does nothing: its contract is the law, which a
-/// proof may cite.
+/// A request asks for one net in mode `wire`, for one net or for all nets in modes `time` and `best`, and for none in mode `gen`. The
+/// function does nothing: its contract is the law, which a proof may cite.
 pub fn one_or_all()
     ensures { OneOrAll }
+{}
+
+/// In mode `gen` a request asks for a size of 1 to 4000. The function does nothing: its contract is the law, which a proof may cite.
+pub fn sizes_are_small()
+    ensures { SizesAreSmall }
 {}

@@ -7,8 +7,9 @@ mod given;
 mod judge;
 mod laws;
 mod option;
+mod size;
 
 pub use ask::{Ask, Mode, WordFault};
 pub use judge::read_words;
-pub use laws::{one_or_all, one_request};
+pub use laws::{one_or_all, one_request, sizes_are_small};
 pub use option::{Opt, options};

@@ -28,10 +28,12 @@ pub enum Opt {
     OutVerilog,
     /// What the names of cells that were put in begin with.
     Prefix,
+    /// The size of the design that is made up.
+    Size,
 }
 
 /// All options, in order.
-pub const OPTIONS: [Opt; 10] = [
+pub const OPTIONS: [Opt; 11] = [
     Opt::Mode,
     Opt::Spef,
     Opt::Lib,
@@ -42,6 +44,7 @@ pub const OPTIONS: [Opt; 10] = [
     Opt::OutSpef,
     Opt::OutVerilog,
     Opt::Prefix,
+    Opt::Size,
 ];
 
 /// Those that name files.
@@ -77,6 +80,7 @@ impl Opt {
             Opt::OutSpef => "--out-spef",
             Opt::OutVerilog => "--out-verilog",
             Opt::Prefix => "--prefix",
+            Opt::Size => "--size",
         }
     }
 
