@@ -1,3 +1,4 @@
 pub mod NetLemmas
 pub mod LineLemmas
+pub mod SizeLemmas
 pub mod LawLemmas

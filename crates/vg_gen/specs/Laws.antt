@@ -1,8 +1,8 @@
--- What the texts of a generated design say of its net.
-use Rattle.std.specs.Prelude.{◌≡◌, ℕ, ◌+◌, ◌*◌, ◌<◌, ◌≤◌, List, [], length, slice_index_or}
+-- What the texts of a generated design say of its net, and how long they are.
+use Rattle.std.specs.Prelude.{◌≡◌, ℕ, ◌+◌, ◌*◌, ◌^◌, ◌<◌, ◌≤◌, List, [], length, slice_index_or}
 use Rattle.vg_gen.specs.Nets.{branch_count, resistance, capacitance, total, line_resistor, last_resistor, branch_resistor}
 use Rattle.vg_gen.specs.Lines.{cap_line, res_line}
-use Rattle.vg_gen.specs.Texts.{cap_lines, res_lines}
+use Rattle.vg_gen.specs.Texts.{cap_lines, res_lines, spef_text, library_text, netlist_text, constraints_text}
 
 -- a line of a part of the net, counted from the part's title, which is line 0
 abbrev pub line_at : List (List ℕ) → ℕ → List ℕ
@@ -23,3 +23,10 @@ pub record ValuesAreSmall (size : ℕ) : Type 0 where
   pub resistors : (i : ℕ) → (100 ≤ resistance size i) × (resistance size i < 200)
   pub capacitors : (i : ℕ) → (10 ≤ capacitance size i) × (capacitance size i < 20)
   pub sum : (10 * size ≤ total size) × (total size ≤ 19 * size)
+
+-- no text has more than 2^28 bytes
+pub record TextsAreShort (size : ℕ) : Type 0 where
+  pub spef : length (spef_text size) ≤ 2 ^ 28
+  pub lib : length library_text ≤ 2 ^ 28
+  pub verilog : length (netlist_text (branch_count size)) ≤ 2 ^ 28
+  pub cons : length (constraints_text (branch_count size)) ≤ 2 ^ 28

@@ -13,4 +13,4 @@ mod random;
 mod spef;
 
 pub use design::{Generated, generate};
-pub use laws::{lines_are_numbered, values_are_small};
+pub use laws::{lines_are_numbered, texts_are_short, values_are_small};

@@ -64,7 +64,8 @@ placed = each (λ o. get_or options (place_of o) Mode ≡ o) refl refl refl refl
 within : (o : Opt) → place_of o < length options
 within =
     each (λ o. place_of o < length options)
-    (omega arith) (omega arith) (omega arith) (omega arith) (omega arith) (omega arith) (omega arith) (omega arith) (omega arith) (omega arith) (omega arith)
+    (omega arith) (omega arith) (omega arith) (omega arith) (omega arith) (omega arith)
+    (omega arith) (omega arith) (omega arith) (omega arith) (omega arith)
 
 some_option : (a b : Opt) → Some a ≡ Some b → a ≡ b
 some_option a b e = cc
