@@ -29,7 +29,7 @@ pub record ArePutEdits (old : Changes) (nets : List PlacedNet) (all : List Edit)
   pub behind : all ≡ old.sections ++ edits
   pub each : AllZip (IsSectionEdit old.design.spef) (splits old.design old.prefix (length old.cells) nets) edits
 
-cell_count : (old : Changes) (p : PlacedNet) (x : Split)
+pub cell_count : (old : Changes) (p : PlacedNet) (x : Split)
     → length (old.cells ++ cells_of old.design.netlist p.net.id x) ≡ length old.cells + length (cell_stages x)
 cell_count old p x =
     omega (arith, length-append old.cells (cells_of old.design.netlist p.net.id x), length-map (cell_stages x) (new_cell old.design.netlist p.net.id x))

@@ -37,7 +37,7 @@ module _ (text : List ℕ) (index : SpefIndex) (of : IsIndexOf text index) where
   head_at k row e = ap (λ hs. slice_get hs k) (sym heads_are) ∙ slice_get-map head_in index.sections k ∙ ap (option_map head_in) e
 
   -- later sections stand on later lines
-  lines_rise : (j k : ℕ) (a b : NetRow) → slice_get index.sections j ≡ Some a → slice_get index.sections k ≡ Some b → j < k → a.1.line < b.1.line
+  pub lines_rise : (j k : ℕ) (a b : NetRow) → slice_get index.sections j ≡ Some a → slice_get index.sections k ≡ Some b → j < k → a.1.line < b.1.line
   lines_rise j k a b e f l = heads_rise [] (file_lines text) j k (head_in a) (head_in b) (head_at j a e) (head_at k b f) l
 
   few_from : (low line : ℕ) (rs : List Replacement) → NumbersRise low rs → All (HasRow index) rs → line ≤ 2 ^ 28
@@ -67,7 +67,7 @@ pub split_count : (d : Design) (prefix : List ℕ) (first : ℕ) (nets : List Pl
 split_count d prefix first [] = refl
 split_count d prefix first (p ∷ nets) = ap suc (split_count d prefix (first + length (cell_stages (split_of d prefix first p))) nets)
 
-few_cells : (x : Split) → length (cell_stages x) ≤ 65536
+pub few_cells : (x : Split) → length (cell_stages x) ≤ 65536
 few_cells x =
     omega (arith, length-range_with_len 1 (length (heads (forest x)) - 1), few_heads (forest x) (length x.problem.tree.nodes), x.problem.within.nodes)
 

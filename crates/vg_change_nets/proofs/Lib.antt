@@ -10,3 +10,5 @@ pub mod OwnLemmas
 pub mod ReplacedLemmas
 pub mod ReadLemmas
 pub mod PieceLemmas
+pub mod OrderLemmas
+pub mod KeepsLemmas

@@ -1,3 +1,4 @@
 pub mod Nets
+pub mod Order
 pub mod Replaced
 pub mod Laws
