@@ -1,10 +1,9 @@
 pub mod LibraryLemmas
 pub mod FewLemmas
-pub mod OneLemmas
+pub mod StartLemmas
 pub mod DesignLemmas
 pub mod PlacingLemmas
 pub mod RetimeLemmas
-pub mod BestLemmas
 pub mod SameLemmas
 pub mod OtherLemmas
 pub mod BareLemmas

@@ -9,8 +9,7 @@ use Rattle.vg_design.specs.declared.net_problem.NetProblem.{NetProblem}
 use Rattle.vg_design.specs.declared.time.Timed.{Timed}
 use Rattle.vg_inputs.specs.Designs.{IsDesign, Texts}
 use Rattle.vg_retime.specs.Retimings.{Retimes}
-use Rattle.vg_slack.specs.declared.answer.Best.{Best}
-use Rattle.vg_signoff.specs.Written.{AreWrittenAnew, IsBestWritten, RetimesTo}
+use Rattle.vg_signoff.specs.Written.{AreWrittenAnew, RetimesTo}
 
 -- texts are a design with the library and the constraints of another
 pub record AreDesignLike (d : Design) (texts : Texts) : Type 0 where
@@ -51,14 +50,8 @@ OtherNetsRetime = (texts : Texts) (d : Design) (prefix : List ℕ) (nets : List 
     → (again : Design) → IsDesign new again → (name : List ℕ) → ((p : PlacedNet) → Contains nets p → name ≢ p.net.par.name)
     → (timed : Timed) → IsTimedOf d name timed → Retimes 17 d prefix name timed × Retimes 17 again prefix name timed
 
--- ---- one net, with a best placement
-
--- the texts are a design, in which the net re-times to the best slack
+-- the texts are a design, in which the net re-times to this slack
 pub record RetimesInTexts (texts : Texts) (prefix name : List ℕ) (slack : ℤ) : Type 0 where
   pub design : Design
   pub is : IsDesign texts design
   pub retimes : RetimesTo design prefix name slack
-
-abbrev pub BestNetsRetime : Type 0
-BestNetsRetime = (texts : Texts) (d : Design) (prefix name : List ℕ) (best : Best) (new : Texts) → IsBestWritten texts d prefix name best new
-    → RetimesInTexts new prefix name best.slack

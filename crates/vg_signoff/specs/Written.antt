@@ -1,19 +1,13 @@
 -- Cells are put into nets of a design of four texts, and those of its parasitics and its netlist are written anew.
 use Rattle.std.specs.Prelude.{◌≡◌, ◌≢◌, ℕ, true, List, ℤ, None}
 use Rattle.std.specs.List.{All, AllPairs}
-use Rattle.vg_change.specs.Changes.{AreTexts, Changes, HasPut, HavePut, IsChange, nothing}
+use Rattle.vg_change.specs.Changes.{AreTexts, Changes, HavePut, IsChange, nothing}
 use Rattle.vg_change.specs.Placed.{PlacedNet}
-use Rattle.vg_change.specs.Steps.{placed_net}
-use Rattle.vg_change.specs.Taken.{taken}
 use Rattle.vg_change_nets.specs.Nets.{IsPlacedNet}
 use Rattle.vg_design.specs.Designs.{Design}
-use Rattle.vg_design.specs.Nets.{IsPosedNet}
-use Rattle.vg_design.specs.declared.net_problem.PosedNet.{PosedNet}
 use Rattle.vg_design.specs.declared.time.Timed.{Timed}
 use Rattle.vg_inputs.specs.Designs.{IsDesign, Texts}
 use Rattle.vg_retime.specs.Retimings.{IsFirstRefusal, Retimes}
-use Rattle.vg_slack.specs.Bests.{IsFound}
-use Rattle.vg_slack.specs.declared.answer.Best.{Best}
 use Rattle.vg_wire.specs.declared.refusal.Refusal.{Refusal}
 use Rattle.vg_wire.specs.declared.refusal.Refusal.TheVariants.{TooLarge}
 use Rattle.vg_words.specs.Request.{is_prefix}
@@ -34,19 +28,6 @@ pub record AreWrittenAnew (texts : Texts) (d : Design) (prefix : List ℕ) (nets
   pub changes : Changes
   pub put : HavePut (nothing d prefix) nets changes
   pub keeps : IsChange changes
-  pub texts_are : AreTextsWith texts changes new
-
--- The cells of a best placement are put into the net of a name, where new names begin with a prefix that may be asked for and that no
--- name of the design begins with; and `new` are the texts with this change.
-pub record IsBestWritten (texts : Texts) (d : Design) (prefix name : List ℕ) (best : Best) (new : Texts) : Type 0 where
-  pub design : IsDesign texts d
-  pub prefix_is : is_prefix prefix ≡ true
-  pub free : taken d prefix ≡ None
-  pub posed : PosedNet
-  pub net : IsPosedNet d name posed
-  pub found : IsFound posed.problem best
-  pub changes : Changes
-  pub put : HasPut (nothing d prefix) (placed_net posed best.placement.cells) changes
   pub texts_are : AreTextsWith texts changes new
 
 -- The net of a name re-times to this slack, with no sink of the wrong polarity, and nothing refuses a net on the way but perhaps its

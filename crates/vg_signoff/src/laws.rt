@@ -1,7 +1,7 @@
 //! Laws of the written files of a changed design. Their functions do nothing: each one's contract is the law, which a proof may
 //! cite.
 
-ghost use Rattle.vg_signoff.specs.Laws.{BestNetsRetime, ChangedTextsAreADesign, OtherNetsKeepProblems, OtherNetsKeepSlacks, OtherNetsRetime, PlacedNetsRetimeInTexts};
+ghost use Rattle.vg_signoff.specs.Laws.{ChangedTextsAreADesign, OtherNetsKeepProblems, OtherNetsKeepSlacks, OtherNetsRetime, PlacedNetsRetimeInTexts};
 
 /// Let the cells of placements be put into different nets of the design of four texts, one after another, and let the texts of
 /// its parasitics and its netlist be written anew with these changes. Then the new texts, with the same library and
@@ -15,13 +15,6 @@ pub fn changed_texts_are_a_design()
 /// the way is too large.
 pub fn placed_nets_retime_in_texts()
     ensures { PlacedNetsRetimeInTexts }
-{}
-
-/// Let the cells of a best placement be put into a net of the design of four texts, and let the texts of its parasitics and its
-/// netlist be written anew. Then the new texts are a design in which the net re-times to exactly the best slack that was
-/// found, with no sink of the wrong polarity.
-pub fn best_nets_retime()
-    ensures { BestNetsRetime }
 {}
 
 /// Every net of the design that nothing refuses, and into which no cells are put, has the same problem in the design of the new

@@ -7,6 +7,5 @@
 mod laws;
 
 pub use laws::{
-    best_nets_retime, changed_texts_are_a_design, other_nets_time_as_before,
-    placed_nets_retime_in_texts,
+    changed_texts_are_a_design, other_nets_time_as_before, placed_nets_retime_in_texts,
 };

@@ -1,5 +1,5 @@
 -- What is said of a net is one answer, and none where an input is faulty.
-use Rattle.std.proofs.Common.{◌≡◌, inl, inr, ℕ, ◌<◌, List, length, refl, sym, ◌∙◌, subst, arith, Option, Some, None, Bool, false}
+use Rattle.std.proofs.Common.{◌≡◌, inl, inr, ℕ, ◌<◌, List, length, refl, sym, ap, ◌∙◌, subst, arith, Option, Some, None, Bool, false}
 use Rattle.std.specs.Prelude.{slice_index_or}
 use Rattle.vg_scan.specs.declared.fault.LineFault.{LineFault}
 use Rattle.elmore.specs.Allowances.{allowed_at}
@@ -14,7 +14,7 @@ use Rattle.elmore.specs.declared.parts.Sink.{Sink}
 use Rattle.elmore.specs.declared.rep.Rep.{Rep}
 use Rattle.elmore.specs.declared.tree.Node.{Node}
 use Rattle.vg_words.specs.declared.ask.Mode.{Mode}
-use Rattle.vg_words.specs.declared.ask.Mode.TheVariants.{Wire, Time, Best}
+use Rattle.vg_words.specs.declared.ask.Mode.TheVariants.{Wire, Time, Best, Gen}
 use Rattle.spef_file.specs.Files.{File, IsFileOf, IsFileFault}
 use Rattle.spef_file.proofs.LawLemmas.{file_or_fault}
 use Rattle.spef_file.specs.declared.fault.SpefKind.{SpefKind}
@@ -29,20 +29,25 @@ use Rattle.vg_design.specs.Nets.{IsNetProblem, IsPosedNet}
 use Rattle.vg_design.specs.Refusals.{IsFirstRefusal}
 use Rattle.vg_design.specs.declared.net_problem.NetProblem.{NetProblem}
 use Rattle.vg_design.specs.declared.net_problem.PosedNet.{PosedNet}
+use Rattle.vg_design.specs.declared.time.Timed.{Timed}
 use Rattle.vg_design.proofs.AcceptLemmas.{problem_is}
 use Rattle.vg_design.proofs.LawLemmas.{one_problem}
-use Rattle.vg_retime.specs.Retimings.{IsFirstRefusal as IsFirstOnWay}
+use Rattle.vg_retime.specs.Retimings.{Retimes, IsFirstRefusal as IsFirstOnWay}
 use Rattle.vg_retime.proofs.LawLemmas.{retimed_not_refused}
 use Rattle.vg_change.specs.Taken.{taken}
-use Rattle.vg_inputs.specs.Designs.{IsSpef, IsDesign}
+use Rattle.vg_slack.specs.Bests.{HasNoGood, IsFound}
+use Rattle.vg_slack.specs.declared.answer.Best.{Best as BestFound}
+use Rattle.vg_inputs.specs.Designs.{IsSpef, IsDesign, Texts}
 use Rattle.vg_inputs.proofs.LawLemmas.{apart_faults, library_apart, module_apart, one_is}
-use Rattle.vginsert_top.specs.Answer.{IsAnswerFor, IsNoneFor, IsReportFor, IsRefusalFor, IsTakenFor, design_texts}
-use Rattle.vginsert_top.specs.Inputs.{design_inputs, inputs, IsFirstFault}
-use Rattle.vginsert_top.specs.Results.{Asked, Said, IsDesignRefusal, IsFreeDesign, IsTaken, IsTimes, IsTimeRefusal, problem_in}
+use Rattle.vginsert_top.specs.Answer.{IsAnswerFor, IsGenAnswer, IsTakenFor, IsWireAnswer, design_texts, one_net}
+use Rattle.vginsert_top.specs.Inputs.{design_inputs, judged_inputs, made_up, IsFaultFor, IsFirstFault}
+use Rattle.vginsert_top.specs.Results.{Asked, Said, IsBestSaid, IsFreeDesign, IsMadeRefusal, IsSummary, IsTaken, IsTimeSaid, made_net, nets_for, nets_to_time, problem_in}
+use Rattle.vginsert_top.specs.Verdicts.{Verdict, AreSaid}
 use Rattle.vginsert_top.specs.declared.answer.AnswerKind.{AnswerKind}
 use Rattle.vginsert_top.specs.declared.answer.AnswerKind.TheVariants.{Report, NoneGood, Refusal as Refused}
 use Rattle.vginsert_top.specs.declared.input.Input.{Input}
 use Rattle.vginsert_top.specs.declared.input.Input.TheVariants.{Spef, Lib, Verilog, Cons}
+use Rattle.vginsert_top.proofs.VerdictLemmas.{one_kind_of_all}
 
 abbrev Bytes : Type 0
 Bytes = List ℕ
@@ -124,96 +129,134 @@ few_refusals Loop = omega arith
 few_refusals NoSink = omega arith
 few_refusals TooLarge = omega arith
 
+-- ---- of a net one kind is said
+
+-- a net that has a problem is not refused
+not_refused : (d : Design) (name : Bytes) (posed : PosedNet) (refusal : Refusal) → IsPosedNet d name posed → IsFirstRefusal d name refusal → ⊥
+not_refused d name posed refusal net_of refused = net_of.accepted refusal (few_refusals refusal) refused.holds
+
+problem_of_posed : (d : Design) (name : Bytes) (posed : PosedNet) → IsPosedNet d name posed → IsNetProblem d name (problem_in posed)
+problem_of_posed d name posed is = problem_is d name posed (problem_in posed) is refl refl
+
+-- a net with a best placement has a good one, whatever problem it is read as
+found_not_none : (d : Design) (name : Bytes) (net other : PosedNet) (best : BestFound) → IsPosedNet d name net → IsPosedNet d name other → IsFound net.problem best
+    → HasNoGood other.problem → ⊥
+found_not_none d name net other best of of_other found none =
+    let problems : AreSame (problem_in net) (problem_in other)
+    = one_problem d name (problem_in net) (problem_in other) (problem_of_posed d name net of) (problem_of_posed d name other of_other) in
+    none best.placement.cells (good_as (problem_in net) (problem_in other) problems best.placement.cells found.best.good)
+
+kind_is : (u : Verdict) (w : Verdict) → u ≡ w → u.kind ≡ w.kind
+kind_is u w e = ap (λ (v : Verdict). v.kind) e
+
+one_best_kind : (d : Design) (name : Bytes) (u v : Verdict) → IsBestSaid d name u → IsBestSaid d name v → u.kind ≡ v.kind
+one_best_kind d name u v (IsBestSaid.told_best net of best found is) (IsBestSaid.told_best other of_other best_other found_other is_other) =
+    kind_is u _ is ∙ sym (kind_is v _ is_other)
+one_best_kind d name u v (IsBestSaid.told_best net of best found is) (IsBestSaid.told_none other of_other none is_other) =
+    absurd (found_not_none d name net other best of of_other found none)
+one_best_kind d name u v (IsBestSaid.told_best net of best found is) (IsBestSaid.told_refusal refusal refused is_other) = absurd (not_refused d name net refusal of refused)
+one_best_kind d name u v (IsBestSaid.told_none net of none is) (IsBestSaid.told_best other of_other best found is_other) =
+    absurd (found_not_none d name other net best of_other of found none)
+one_best_kind d name u v (IsBestSaid.told_none net of none is) (IsBestSaid.told_none other of_other none_other is_other) = kind_is u _ is ∙ sym (kind_is v _ is_other)
+one_best_kind d name u v (IsBestSaid.told_none net of none is) (IsBestSaid.told_refusal refusal refused is_other) = absurd (not_refused d name net refusal of refused)
+one_best_kind d name u v (IsBestSaid.told_refusal refusal refused is) (IsBestSaid.told_best net of best found is_other) = absurd (not_refused d name net refusal of refused)
+one_best_kind d name u v (IsBestSaid.told_refusal refusal refused is) (IsBestSaid.told_none net of none is_other) = absurd (not_refused d name net refusal of refused)
+one_best_kind d name u v (IsBestSaid.told_refusal refusal refused is) (IsBestSaid.told_refusal other refused_other is_other) = kind_is u _ is ∙ sym (kind_is v _ is_other)
+
+-- a net that re-times is not refused
+not_stopped : (d : Design) (prefix name : Bytes) (timed : Timed) (refusal : Refusal) → Retimes 17 d prefix name timed → IsFirstOnWay d prefix name refusal → ⊥
+not_stopped d prefix name timed refusal is refused = omega (arith, few_refusals refusal, retimed_not_refused 17 d prefix name timed refusal is refused)
+
+one_time_kind : (d : Design) (prefix name : Bytes) (u v : Verdict) → IsTimeSaid d prefix name u → IsTimeSaid d prefix name v → u.kind ≡ v.kind
+one_time_kind d prefix name u v (IsTimeSaid.told_slack timed of is) (IsTimeSaid.told_slack other of_other is_other) = kind_is u _ is ∙ sym (kind_is v _ is_other)
+one_time_kind d prefix name u v (IsTimeSaid.told_slack timed of is) (IsTimeSaid.told_stop refusal refused is_other) = absurd (not_stopped d prefix name timed refusal of refused)
+one_time_kind d prefix name u v (IsTimeSaid.told_stop refusal refused is) (IsTimeSaid.told_slack timed of is_other) = absurd (not_stopped d prefix name timed refusal of refused)
+one_time_kind d prefix name u v (IsTimeSaid.told_stop refusal refused is) (IsTimeSaid.told_stop other refused_other is_other) = kind_is u _ is ∙ sym (kind_is v _ is_other)
+
+-- texts of a design have no fault
+design_not_faulty : (texts : Input → Bytes) (design : Design) (line : Bytes) (input : Input) → IsDesign (design_texts texts) design → IsFirstFault texts design_inputs line input → ⊥
+design_not_faulty texts d line input is (inl (_, f)) = no_both is.is_spef.0 f.fault (texts Spef) is.is_spef.1 f.found
+design_not_faulty texts d line input is (inr (_, inl (_, f))) = library_apart (texts Lib) d.library f.fault is.library f.found
+design_not_faulty texts d line input is (inr (_, inr (_, inl (_, f)))) = module_apart (texts Verilog) d.netlist f.fault is.netlist f.found
+design_not_faulty texts d line input is (inr (_, inr (_, inr (_, inl (_, f))))) = apart_faults (texts Cons) f.fault is.rows.faultless f.found
+design_not_faulty texts d line input is (inr (_, inr (_, inr (_, inr (_, none))))) = none
+
+-- nor is the net of a made-up design
+summed_not_refused : (texts : Texts) (t u : Bytes) → IsSummary texts t → IsMadeRefusal texts u → ⊥
+summed_not_refused texts t u p q =
+    let same : q.design ≡ p.design = one_is texts q.design p.design q.design_of p.design_of in
+    not_refused p.design made_net p.net q.refusal p.net_of (subst (λ (d : Design). IsFirstRefusal d made_net q.refusal) same q.refused)
+
+one_gen_kind : (texts : Texts) (a b : AnswerKind) (t u : Said) → IsGenAnswer a texts t → IsGenAnswer b texts u → a ≡ b
+one_gen_kind texts Report Report t u p q = refl
+one_gen_kind texts Report NoneGood t u p q = absurd q
+one_gen_kind texts Report Refused t u (p, _) (q, _) = absurd (summed_not_refused texts t.text u.text p q)
+one_gen_kind texts NoneGood b t u p q = absurd p
+one_gen_kind texts Refused Report t u (p, _) (q, _) = absurd (summed_not_refused texts u.text t.text q p)
+one_gen_kind texts Refused NoneGood t u p q = absurd q
+one_gen_kind texts Refused Refused t u p q = refl
+
 -- of the texts of a mode an answer has one kind
-module _ (net : Asked) (texts : Input → Bytes) where
-  -- a net that has a problem is not refused
-  not_refused : (d : Design) (posed : PosedNet) (u : Said) → IsDesign (design_texts texts) d → IsPosedNet d net.net posed → IsDesignRefusal (design_texts texts) net u → ⊥
-  not_refused d posed u design_of net_of r =
-      let same : d ≡ r.design = one_is (design_texts texts) d r.design design_of r.design_of.design_of in
-      let refused : IsFirstRefusal d net.net r.refusal = subst (λ (design : Design). IsFirstRefusal design net.net r.refusal) (sym same) r.refused in
-      net_of.accepted r.refusal (few_refusals r.refusal) refused.holds
+module _ (asked : Asked) (texts : Input → Bytes) where
+  wire_not_refused : (t u : Said) → IsWireAnswer Report (texts Spef) (one_net asked) t → IsWireAnswer Refused (texts Spef) (one_net asked) u → ⊥
+  wire_not_refused t u (d, _) (r, _) =
+      passed_is (texts Spef) (one_net asked) d.wire_of.net 17 r.refusal d.wire_of.named d.wire_of.accepted (omega arith) r.refused (few_refusals r.refusal)
 
-  problem_of_posed : (d : Design) (posed : PosedNet) → IsPosedNet d net.net posed → IsNetProblem d net.net (problem_in posed)
-  problem_of_posed d posed is = problem_is d net.net posed (problem_in posed) is refl refl
+  one_wire_kind : (a b : AnswerKind) (t u : Said) → IsWireAnswer a (texts Spef) (one_net asked) t → IsWireAnswer b (texts Spef) (one_net asked) u → a ≡ b
+  one_wire_kind Report Report t u p q = refl
+  one_wire_kind Report NoneGood t u p q = absurd q
+  one_wire_kind Report Refused t u p q = absurd (wire_not_refused t u p q)
+  one_wire_kind NoneGood b t u p q = absurd p
+  one_wire_kind Refused Report t u p q = absurd (wire_not_refused u t q p)
+  one_wire_kind Refused NoneGood t u p q = absurd q
+  one_wire_kind Refused Refused t u p q = refl
 
-  -- a net that re-times is not refused
-  not_stopped : (t u : Bytes) → IsTimes (design_texts texts) net t → IsTimeRefusal (design_texts texts) net u → ⊥
-  not_stopped t u d r =
-      let same : d.design ≡ r.design = one_is (design_texts texts) d.design r.design d.design_of r.design_of in
-      let refused : IsFirstOnWay d.design net.prefix net.net r.refusal
-      = subst (λ (design : Design). IsFirstOnWay design net.prefix net.net r.refusal) (sym same) r.refused in
-      omega (arith, few_refusals r.refusal, retimed_not_refused 17 d.design net.prefix net.net d.timed r.refusal d.timed_of refused)
-
-  report_not_refusal : (mode : Mode) (t u : Said) → IsReportFor mode texts net t → IsRefusalFor mode texts net u → ⊥
-  report_not_refusal Wire t u (d, _) (r, _) = passed_is (texts Spef) net.net d.wire_of.net 17 r.refusal d.wire_of.named d.wire_of.accepted (omega arith) r.refused (few_refusals r.refusal)
-  report_not_refusal Time t u (d, _) (r, _) = not_stopped t.text u.text d r
-  report_not_refusal Best t u d r = not_refused d.design d.net u d.design_of.design_of d.net_of r
-
-  none_not_refusal : (mode : Mode) (t u : Said) → IsNoneFor mode texts net t → IsRefusalFor mode texts net u → ⊥
-  none_not_refusal Wire t u none r = none
-  none_not_refusal Time t u none r = none
-  none_not_refusal Best t u none r = not_refused none.design none.net u none.design_of.design_of none.net_of r
-
-  report_not_none : (mode : Mode) (t u : Said) → IsReportFor mode texts net t → IsNoneFor mode texts net u → ⊥
-  report_not_none Wire t u d none = none
-  report_not_none Time t u d none = none
-  report_not_none Best t u d none =
-      let same : d.design ≡ none.design = one_is (design_texts texts) d.design none.design d.design_of.design_of none.design_of.design_of in
-      let here : IsPosedNet none.design net.net d.net = subst (λ (design : Design). IsPosedNet design net.net d.net) same d.net_of in
-      let problems : AreSame (problem_in d.net) (problem_in none.net)
-      = one_problem none.design net.net (problem_in d.net) (problem_in none.net) (problem_of_posed none.design d.net here) (problem_of_posed none.design none.net none.net_of) in
-      none.none d.best.placement.cells (good_as (problem_in d.net) (problem_in none.net) problems d.best.placement.cells d.best_of.best.good)
-
-  pub one_kind : (mode : Mode) (a b : AnswerKind) (t u : Said) → IsAnswerFor a mode texts net t → IsAnswerFor b mode texts net u → a ≡ b
-  one_kind mode Report Report t u p q = refl
-  one_kind mode Report NoneGood t u p q = absurd (report_not_none mode t u p q)
-  one_kind mode Report Refused t u p q = absurd (report_not_refusal mode t u p q)
-  one_kind mode NoneGood Report t u p q = absurd (report_not_none mode u t q p)
-  one_kind mode NoneGood NoneGood t u p q = refl
-  one_kind mode NoneGood Refused t u p q = absurd (none_not_refusal mode t u p q)
-  one_kind mode Refused Report t u p q = absurd (report_not_refusal mode u t q p)
-  one_kind mode Refused NoneGood t u p q = absurd (none_not_refusal mode u t q p)
-  one_kind mode Refused Refused t u p q = refl
+  pub one_kind : (mode : Mode) (a b : AnswerKind) (t u : Said) → IsAnswerFor a mode texts asked t → IsAnswerFor b mode texts asked u → a ≡ b
+  one_kind Wire a b t u p q = one_wire_kind a b t u p q
+  one_kind Time a b t u p q =
+      let same : q.design ≡ p.design = one_is (design_texts texts) q.design p.design q.design_of p.design_of in
+      let other = subst (λ (d : Design). AreSaid (IsTimeSaid d asked.prefix) (nets_to_time d asked.prefix asked.net) b u.text) same q.nets in
+      one_kind_of_all (IsTimeSaid p.design asked.prefix) (one_time_kind p.design asked.prefix) (nets_to_time p.design asked.prefix asked.net) a b t.text u.text p.nets other
+  one_kind Best a b t u p q =
+      let same : q.design ≡ p.design = one_is (design_texts texts) q.design p.design q.design_of.design_of p.design_of.design_of in
+      let other = subst (λ (d : Design). AreSaid (IsBestSaid d) (nets_for d asked.net) b u.text) same q.best_of.nets in
+      one_kind_of_all (IsBestSaid p.design) (one_best_kind p.design) (nets_for p.design asked.net) a b t.text u.text p.best_of.nets other
+  one_kind Gen a b t u p q = one_gen_kind (design_texts (made_up asked.size)) a b t u p q
 
   -- texts with an answer have no fault
-  design_not_faulty : (design : Design) (line : Bytes) (input : Input) → IsDesign (design_texts texts) design → IsFirstFault texts design_inputs line input → ⊥
-  design_not_faulty d line input is (inl (_, f)) = no_both is.is_spef.0 f.fault (texts Spef) is.is_spef.1 f.found
-  design_not_faulty d line input is (inr (_, inl (_, f))) = library_apart (texts Lib) d.library f.fault is.library f.found
-  design_not_faulty d line input is (inr (_, inr (_, inl (_, f)))) = module_apart (texts Verilog) d.netlist f.fault is.netlist f.found
-  design_not_faulty d line input is (inr (_, inr (_, inr (_, inl (_, f))))) = apart_faults (texts Cons) f.fault is.rows.faultless f.found
-  design_not_faulty d line input is (inr (_, inr (_, inr (_, inr (_, none))))) = none
-
-  file_not_faulty : (file : File) (line : Bytes) (input : Input) → IsFileOf (texts Spef) file → IsFirstFault texts (inputs Wire) line input → ⊥
+  file_not_faulty : (file : File) (line : Bytes) (input : Input) → IsFileOf (texts Spef) file → IsFirstFault texts (judged_inputs Wire) line input → ⊥
   file_not_faulty file line input is (inl (_, f)) = no_both file f.fault (texts Spef) is f.found
   file_not_faulty file line input is (inr (_, none)) = none
 
-  pub not_faulty : (kind : AnswerKind) (mode : Mode) (t : Said) (line : Bytes) (input : Input) → IsAnswerFor kind mode texts net t → IsFirstFault texts (inputs mode) line input → ⊥
+  gen_not_faulty : (kind : AnswerKind) (t : Said) (line : Bytes) (input : Input) → IsGenAnswer kind (design_texts (made_up asked.size)) t → IsFirstFault (made_up asked.size) design_inputs line input → ⊥
+  gen_not_faulty Report t line input (d, _) f = design_not_faulty (made_up asked.size) d.design line input d.design_of f
+  gen_not_faulty NoneGood t line input none f = none
+  gen_not_faulty Refused t line input (r, _) f = design_not_faulty (made_up asked.size) r.design line input r.design_of f
+
+  pub not_faulty : (kind : AnswerKind) (mode : Mode) (t : Said) (line : Bytes) (input : Input) → IsAnswerFor kind mode texts asked t → IsFaultFor mode texts asked line input → ⊥
   not_faulty Report Wire t line input (d, _) f = file_not_faulty d.wire_of.named.file line input d.wire_of.named.head_of.said f
-  not_faulty Report Time t line input (d, _) f = design_not_faulty d.design line input d.design_of f
-  not_faulty Report Best t line input d f = design_not_faulty d.design line input d.design_of.design_of f
   not_faulty NoneGood Wire t line input none f = none
-  not_faulty NoneGood Time t line input none f = none
-  not_faulty NoneGood Best t line input none f = design_not_faulty none.design line input none.design_of.design_of f
-  not_faulty Refused Wire t line input (r, _) f = (let file = has_file (texts Spef) net.net r.refusal r.refused in file_not_faulty file.0 line input file.1 f)
-  not_faulty Refused Time t line input (r, _) f = design_not_faulty r.design line input r.design_of f
-  not_faulty Refused Best t line input r f = design_not_faulty r.design line input r.design_of.design_of f
+  not_faulty Refused Wire t line input (r, _) f = (let file = has_file (texts Spef) (one_net asked) r.refusal r.refused in file_not_faulty file.0 line input file.1 f)
+  not_faulty kind Time t line input d f = design_not_faulty texts d.design line input d.design_of f
+  not_faulty kind Best t line input d f = design_not_faulty texts d.design line input d.design_of.design_of f
+  not_faulty kind Gen t line input is f = gen_not_faulty kind t line input is f
 
   -- nor does a name of them begin with the prefix
-  free_not_taken : (d : Design) (name : Bytes) → IsFreeDesign (design_texts texts) net.prefix d → IsTaken (design_texts texts) net.prefix name → ⊥
+  free_not_taken : (d : Design) (name : Bytes) → IsFreeDesign (design_texts texts) asked.prefix d → IsTaken (design_texts texts) asked.prefix name → ⊥
   free_not_taken d name free taken_by =
       let same : d ≡ taken_by.design = one_is (design_texts texts) d taken_by.design free.design_of taken_by.design_of in
-      let first : taken d net.prefix ≡ Some name = subst (λ (design : Design). taken design net.prefix ≡ Some name) (sym same) taken_by.first in
+      let first : taken d asked.prefix ≡ Some name = subst (λ (design : Design). taken design asked.prefix ≡ Some name) (sym same) taken_by.first in
       let e : None ≡ Some name = sym free.free ∙ first in
       cc
 
-  pub not_taken : (kind : AnswerKind) (mode : Mode) (t : Said) (name : Bytes) → IsAnswerFor kind mode texts net t → IsTakenFor mode texts net name → ⊥
+  pub not_taken : (kind : AnswerKind) (mode : Mode) (t : Said) (name : Bytes) → IsAnswerFor kind mode texts asked t → IsTakenFor mode texts asked name → ⊥
   not_taken kind Wire t name is taken_by = taken_by
   not_taken kind Time t name is taken_by = taken_by
-  not_taken Report Best t name d taken_by = free_not_taken d.design name d.design_of taken_by
-  not_taken NoneGood Best t name none taken_by = free_not_taken none.design name none.design_of taken_by
-  not_taken Refused Best t name r taken_by = free_not_taken r.design name r.design_of taken_by
+  not_taken kind Best t name d taken_by = free_not_taken d.design name d.design_of taken_by
+  not_taken kind Gen t name is taken_by = taken_by
 
-  pub taken_not_faulty : (mode : Mode) (name line : Bytes) (input : Input) → IsTakenFor mode texts net name → IsFirstFault texts (inputs mode) line input → ⊥
+  pub taken_not_faulty : (mode : Mode) (name line : Bytes) (input : Input) → IsTakenFor mode texts asked name → IsFaultFor mode texts asked line input → ⊥
   taken_not_faulty Wire name line input taken_by f = taken_by
   taken_not_faulty Time name line input taken_by f = taken_by
-  taken_not_faulty Best name line input taken_by f = design_not_faulty taken_by.design line input taken_by.design_of f
+  taken_not_faulty Best name line input taken_by f = design_not_faulty texts taken_by.design line input taken_by.design_of f
+  taken_not_faulty Gen name line input taken_by f = taken_by

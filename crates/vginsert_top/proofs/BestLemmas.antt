@@ -1,7 +1,10 @@
--- The files that mode `best` writes.
-use Rattle.std.proofs.Common.{◌≡◌, ℕ, zero, suc, List, [], ◌∷◌, refl, sym, ap, ◌∙◌, subst, arith, length, Option, Some, None, Result, Ok, Err}
-use Rattle.std.specs.Prelude.{IfOk}
-use Rattle.std.specs.List.{All}
+-- What mode `best` says, and the files that it writes.
+use Rattle.std.proofs.Common.{◌≡◌, ℕ, zero, suc, ◌+◌, ◌==◌, ◌||◌, Bool, true, false, List, [], ◌∷◌, ◌++◌, refl, sym, ap, ◌∙◌, subst, arith, length, Option, Some, None, Result, Ok, Err}
+use Rattle.std.specs.Prelude.{IfOk, if◌then◌else◌}
+use Rattle.std.specs.List.{All, flat_map, slice_get}
+use Rattle.std.specs.declared.alloc.Global.{Global}
+use Rattle.std.specs.declared.vec.Vec.{Vec}
+use Rattle.std.proofs.lemmas.Bool.{eqb-true}
 use Rattle.std.proofs.lemmas.List.Elements.{All-weaker}
 use Rattle.elmore.specs.Best.{IsGood}
 use Rattle.elmore.specs.Legal.{IsPlaced}
@@ -11,29 +14,33 @@ use Rattle.lib_linear.specs.declared.repeater.Repeater.{Repeater}
 use Rattle.lib_names.specs.Laws.{HasPrintableNames}
 use Rattle.lib_names.proofs.NameLemmas.{are_words}
 use Rattle.ver_file.specs.Modules.{Denotes}
-use Rattle.vg_change.specs.Changes.{Changes, HasPut, nothing}
+use Rattle.vg_change.specs.Changes.{Changes, HasPut, HavePut, nothing}
 use Rattle.vg_change.specs.Patches.{ArePatchesOf}
 use Rattle.vg_change.specs.Placed.{PlacedNet}
+use Rattle.vg_change.specs.Steps.{placed_net}
 use Rattle.vg_change.specs.declared.changes.Patches.{Patches}
-use Rattle.vg_design.specs.Designs.{Design}
+use Rattle.vg_change_nets.specs.Order.{AreOpenFrom}
+use Rattle.vg_change_nets.proofs.OrderLemmas.{open_later, open_put}
+use Rattle.vg_design.specs.Designs.{Design, net_names}
 use Rattle.vg_design.specs.Nets.{names_of, IsPosedNet}
 use Rattle.vg_design.specs.Parts.{cells_of}
-use Rattle.vg_design.specs.Refusals.{IsFirstRefusal}
 use Rattle.vg_design.specs.declared.net_problem.NetProblem.{NetProblem}
 use Rattle.vg_design.specs.declared.net_problem.PosedNet.{PosedNet}
+use Rattle.vg_design.specs.Refusals.{IsFirstRefusal}
 use Rattle.vg_num.specs.declared.memory.Memory.{Memory}
 use Rattle.vg_patch.specs.Edits.{Edit, Rise, patched}
-use Rattle.vg_change.specs.Steps.{placed_net}
 use Rattle.vg_slack.specs.Bests.{HasNoCell, HasNoGood, IsFound}
 use Rattle.vg_slack.specs.declared.answer.Best.{Best}
 use Rattle.vg_split.specs.Conditions.{IsNamed}
-use Rattle.vginsert_top.specs.Best.{ArePatchesFor, FitIn, IsAnswerIn, IsBestSaid, IsJudged, IsJudgedNet, IsUnchanged, files_with, said_with}
 use Rattle.vg_wire.specs.declared.refusal.Refusal.{Refusal}
+use Rattle.vginsert_top.specs.Best.{AreFinished, AreJudged, ArePatchesFor, ArePut, FitIn, HaveChange, IsJudged, IsOneMore, JudgesOne, files_with, has_any}
 use Rattle.vginsert_top.specs.Reports.{best_report, cell_count, none_line, refusal_line}
-use Rattle.vginsert_top.specs.Results.{Asked, Files, AreChanged, AreFilesOf, problem_in}
-use Rattle.vginsert_top.specs.declared.answer.AnswerKind.{AnswerKind}
+use Rattle.vginsert_top.specs.Results.{Asked, Files, AreFilesOf, IsBestSaid, best_verdict, nets_for, problem_in, put_of}
+use Rattle.vginsert_top.specs.Verdicts.{Verdict, AreSaid, bare_verdict, put_in, worse}
 use Rattle.vginsert_top.specs.declared.answer.AnswerKind.TheVariants.{Report, NoneGood, Refusal as Refused}
 use Rattle.vginsert_top.specs.declared.best.Judged.{Judged}
+use Rattle.vginsert_top.specs.declared.judging.Judging.{Judging}
+use Rattle.vginsert_top.proofs.VerdictLemmas.{put_more, said_more}
 
 -- no node has a cell just where their count is zero
 pub without_cells : (cells : List (Option ℕ)) → cell_count cells ≡ 0 → HasNoCell cells
@@ -50,13 +57,6 @@ count_without (Some b ∷ cells) none = (let e : Some b ≡ None = none 0 in abs
 -- the cells of a good placement stand at places
 pub good_is_placed : (p : Problem) (cells : List (Option ℕ)) → IsGood p cells → IsPlaced p cells
 good_is_placed p cells good v b has = ((good.legal v).cell b has).at_place
-
-pub kept_files : (read : Files) (d : Design) (prefix : List ℕ) (placed : PlacedNet) → cell_count placed.cells ≡ 0 → AreFilesOf read d prefix placed read
-kept_files read d prefix placed none = record { bare = λ _. refl; changed = λ some. absurd (some (without_cells placed.cells none)) }
-
-pub changed_files : (read : Files) (d : Design) (prefix : List ℕ) (placed : PlacedNet) (files : Files) → (cell_count placed.cells ≡ 0 → ⊥) → AreChanged read d prefix placed files
-    → AreFilesOf read d prefix placed files
-changed_files read d prefix placed files some changed = record { bare = λ none. absurd (some (count_without placed.cells none)); changed = λ _. changed }
 
 -- the names of a library's repeaters can be words
 pub repeaters_are_named : (lib : List ℕ) (library : Cells) → DenotesLibrary lib library → All IsNamed library.repeaters
@@ -76,92 +76,185 @@ module _ (patches : Patches) (verilog : patches.verilog ≡ []) (spef : patches.
   pub files_stay : (read : Files) → files_with patches read ≡ read
   files_stay read = λ i. record { verilog = ap (patched read.verilog) verilog i; spef = ap (patched read.spef) spef i }
 
-  pub no_change : (d : Design) (prefix : List ℕ) (placed : PlacedNet) → cell_count placed.cells ≡ 0 → ArePatchesFor d prefix placed patches
-  no_change d prefix placed none = record {
-    fit = nothing_fits d;
-    make = λ read _. subst (AreFilesOf read d prefix placed) (sym (files_stay read)) (kept_files read d prefix placed none);
+-- ---- cells that are put into nets
+
+pub put_both : (a b c : Changes) (xs ys : List PlacedNet) → HavePut a xs b → HavePut b ys c → HavePut a (xs ++ ys) c
+put_both a b c [] ys first second = subst (λ (s : Changes). HavePut s ys c) first second
+put_both a b c (x ∷ xs) ys (mid, one, more) second = (mid, one, put_both mid b c xs ys more second)
+
+-- the design and the prefix stay
+pub put_stays : (old : Changes) (nets : List PlacedNet) (c : Changes) → HavePut old nets c → (c.design ≡ old.design) × (c.prefix ≡ old.prefix)
+put_stays old [] c put = (ap (λ (s : Changes). s.design) put, ap (λ (s : Changes). s.prefix) put)
+put_stays old (p ∷ nets) c (mid, one, more) =
+    let rest = put_stays mid nets c more in
+    (rest.0 ∙ ap (λ (s : Changes). s.design) one.is, rest.1 ∙ ap (λ (s : Changes). s.prefix) one.is)
+
+any_both : (xs ys : List PlacedNet) → has_any (xs ++ ys) ≡ (has_any xs || has_any ys)
+any_both [] ys = refl
+any_both (x ∷ xs) ys = refl
+
+-- without a cell nothing is put, and else the net
+pub put_bare : (c : Changes) (net : PosedNet) (cells : List (Option ℕ)) → cell_count cells ≡ 0 → ArePut c (put_of net cells) c false
+put_bare c net cells none = by_test (cell_count cells == 0) (eq_is none)
+  where
+    eq_is : cell_count cells ≡ 0 → (cell_count cells == 0) ≡ true
+    eq_is e = ap (λ n. n == 0) e
+
+    by_test : (b : Bool) → b ≡ true → ArePut c (if b then [] else placed_net net cells ∷ []) c false
+    by_test true e = record { put = refl; told = refl }
+    by_test false e = absurd cc
+
+pub put_celled : (c new : Changes) (net : PosedNet) (cells : List (Option ℕ)) → (cell_count cells ≡ 0 → ⊥) → HasPut c (placed_net net cells) new
+    → ArePut c (put_of net cells) new true
+put_celled c new net cells some put = by_test (cell_count cells == 0) (λ e. some (eqb-true (cell_count cells) 0 e))
+  where
+    by_test : (b : Bool) → (b ≡ true → ⊥) → ArePut c (if b then [] else placed_net net cells ∷ []) new true
+    by_test true other = absurd (other refl)
+    by_test false other = record { put = (new, put, refl); told = refl }
+
+-- ---- one net more is judged
+
+module _ (d : Design) (prefix : List ℕ) (names : List (List ℕ)) (old new : Judging) (name : List ℕ) (are : AreJudged d prefix names old) (one : JudgesOne d name old new) where
+  abbrev v : Verdict
+  v = one.verdict
+
+  abbrev more_said : AreSaid (IsBestSaid d) (names ++ name ∷ []) (worse old.kind v.kind) (old.text.items ++ v.text)
+  more_said = said_more (IsBestSaid d) names old.kind old.text.items are.nets name v one.says
+
+  pub judged_more : AreJudged d prefix (names ++ name ∷ []) new
+  judged_more = record {
+    nets = record { verdicts = more_said.verdicts; each = more_said.each; kind_is = one.more.kind ∙ more_said.kind_is; text_is = one.more.text ∙ more_said.text_is };
+    put =
+        let puts : flat_map put_in more_said.verdicts ≡ flat_map put_in are.nets.verdicts ++ v.put
+        = put_more (IsBestSaid d) names old.kind old.text.items are.nets name v one.says in
+        subst (λ (nets : List PlacedNet). ArePut (nothing d prefix) nets new.changes new.changed) (sym puts) (record {
+          put = put_both (nothing d prefix) old.changes new.changes (flat_map put_in are.nets.verdicts) v.put are.put.put one.more.put;
+          told =
+              one.more.changed ∙ ap (λ (b : Bool). b || has_any v.put) are.put.told ∙ sym (any_both (flat_map put_in are.nets.verdicts) v.put);
+        });
   }
 
--- what is replaced for cells that are put into a net
-module _ (d : Design) (prefix : List ℕ) (placed : PlacedNet) (changes : Changes) (put : HasPut (nothing d prefix) placed changes) (some : cell_count placed.cells ≡ 0 → ⊥) where
-  same_netlist : changes.design.netlist ≡ d.netlist
-  same_netlist = ap (λ (c : Changes). c.design.netlist) put.is
+-- cells may be put into the nets behind the one that was judged
+put_open : (d : Design) (c new : Changes) (at : ℕ) (name : List ℕ) (net : PosedNet) (cells : List (Option ℕ)) → c.design ≡ d → AreOpenFrom c at
+    → slice_get (net_names d.spef) at ≡ Some name → IsPosedNet d name net → (b : Bool) → HavePut c (if b then [] else placed_net net cells ∷ []) new → AreOpenFrom new (at + 1)
+put_open d c new at name net cells same free here is true put = subst (λ (made : Changes). AreOpenFrom made (at + 1)) (sym put) (open_later c at free)
+put_open d c new at name net cells same free here is false (mid, one, e) =
+    subst (λ (made : Changes). AreOpenFrom made (at + 1)) (sym e)
+    (open_put c mid at name free (subst (λ (x : Design). slice_get (net_names x.spef) at ≡ Some name) (sym same) here) net
+    (subst (λ (x : Design). IsPosedNet x name net) (sym same) is) cells one)
 
-  some_change : (patches : Patches) → ArePatchesOf changes patches → ArePatchesFor d prefix placed patches
-  some_change patches are = record {
+pub open_more : (d : Design) (old new : Judging) (at : ℕ) (name : List ℕ) → old.changes.design ≡ d → AreOpenFrom old.changes at
+    → slice_get (net_names d.spef) at ≡ Some name → JudgesOne d name old new → AreOpenFrom new.changes (at + 1)
+open_more d old new at name same free here one = by_said one.says
+  where
+    put : HavePut old.changes one.verdict.put new.changes
+    put = one.more.put
+
+    bare : (v : Verdict) → one.verdict ≡ v → v.put ≡ [] → AreOpenFrom new.changes (at + 1)
+    bare v is none =
+        let stays : new.changes ≡ old.changes = subst (λ (nets : List PlacedNet). HavePut old.changes nets new.changes) (ap put_in is ∙ none) put in
+        subst (λ (made : Changes). AreOpenFrom made (at + 1)) (sym stays) (open_later old.changes at free)
+
+    by_said : IsBestSaid d name one.verdict → AreOpenFrom new.changes (at + 1)
+    by_said (IsBestSaid.told_best net of best found is) =
+        put_open d old.changes new.changes at name net best.placement.cells same free here of (cell_count best.placement.cells == 0)
+        (subst (λ (nets : List PlacedNet). HavePut old.changes nets new.changes) (ap put_in is) put)
+    by_said (IsBestSaid.told_none net of none is) = bare (bare_verdict NoneGood (none_line name)) is refl
+    by_said (IsBestSaid.told_refusal refusal first is) = bare (bare_verdict Refused (refusal_line name refusal)) is refl
+
+-- ---- the files
+
+module _ (d : Design) (prefix : List ℕ) (nets : List PlacedNet) (c : Changes) (patches : Patches) where
+  same_netlist : HavePut (nothing d prefix) nets c → c.design.netlist ≡ d.netlist
+  same_netlist put = ap (λ (x : Design). x.netlist) (put_stays (nothing d prefix) nets c put).0
+
+  no_change : nets ≡ [] → (patches.verilog ≡ []) × (patches.spef ≡ []) → ArePatchesFor d prefix nets patches
+  no_change none (verilog, spef) = record {
+    fit = nothing_fits patches verilog spef d;
+    make = λ read _.
+        subst (AreFilesOf read d prefix nets) (sym (files_stay patches verilog spef read)) (record { bare = λ _. refl; changed = λ some. absurd (some none) });
+  }
+
+  some_change : (nets ≡ [] → ⊥) → HavePut (nothing d prefix) nets c → ArePatchesOf c patches → ArePatchesFor d prefix nets patches
+  some_change some put are = record {
     fit = record {
-      verilog = λ text denotes. are.fit_verilog text (subst (Denotes text) (sym same_netlist) denotes);
-      spef = subst (λ (c : Changes). Rise 0 (length c.design.spef) patches.spef) put.is are.fit_spef;
+      verilog = λ text denotes. are.fit_verilog text (subst (Denotes text) (sym (same_netlist put)) denotes);
+      spef = subst (λ (x : Design). Rise 0 (length x.spef) patches.spef) (put_stays (nothing d prefix) nets c put).0 are.fit_spef;
     };
-    make = λ read denotes.
-        changed_files read d prefix placed (files_with patches read) some
-        (record { changes = changes; put = put; made = are.make read.spef read.verilog (subst (Denotes read.verilog) (sym same_netlist) denotes) });
+    make = λ read denotes. record {
+      bare = λ none. absurd (some none);
+      changed = λ _. record { changes = c; put = put; made = are.make read.spef read.verilog (subst (Denotes read.verilog) (sym (same_netlist put)) denotes) };
+    };
   }
 
-  pub changed_patches : (result : Result Patches Memory) → IfOk result (ArePatchesOf changes) → IfOk result (ArePatchesFor d prefix placed)
-  changed_patches (Ok patches) are = some_change patches are
-  changed_patches (Err memory) are = tt
+  pub patches_are : (changed : Bool) → ArePut (nothing d prefix) nets c changed → HaveChange c changed patches → ArePatchesFor d prefix nets patches
+  patches_are true put have = some_change (λ none. (let e : true ≡ false = put.told ∙ ap has_any none in absurd cc)) put.put have
+  patches_are false put have = no_change (by_any nets (sym put.told)) have
+    where
+      by_any : (ps : List PlacedNet) → has_any ps ≡ false → ps ≡ []
+      by_any [] e = refl
+      by_any (p ∷ ps) e = absurd cc
 
 -- ---- what is said
 
 -- a report of a net's problem, by the parts of the problem
-same_report : (name : List ℕ) (repeaters all : List Repeater) (part : NetProblem) (net : PosedNet) (best : Best) → repeaters ≡ all → part.problem ≡ net.problem
+pub same_report : (name : List ℕ) (repeaters all : List Repeater) (part : NetProblem) (net : PosedNet) (best : Best) → repeaters ≡ all → part.problem ≡ net.problem
     → part.names ≡ names_of net.ready.pinned.net.par net.ready.order
     → best_report name (cells_of repeaters) part best ≡ best_report name (cells_of all) (problem_in net) best
 same_report name repeaters all part net best same problem names =
     ap (λ (rs : List Repeater). best_report name (cells_of rs) part best) same
     ∙ ap (λ (x : NetProblem). best_report name (cells_of all) x best) (λ i. record { problem = problem i; names = names i })
 
--- where a best placement is reported
-pub placed_judged : (d : Design) (asked : Asked) (net : PosedNet) (found : Judged) (best : Best) (text : List ℕ) → found.kind ≡ Report → IsFound net.problem best
-    → ArePatchesFor d asked.prefix (placed_net net best.placement.cells) found.patches → found.text.items ≡ text
-    → text ≡ best_report asked.net (cells_of d.library.repeaters) (problem_in net) best → IsJudgedNet d asked net found
-placed_judged d asked net found best text kind best_of are told is = record {
-  fit = are.fit;
-  says = λ read denotes.
-      subst (λ (k : AnswerKind). IsBestSaid k read d asked net (said_with found read)) (sym kind)
-      (record {
-        best = best;
-        best_of = best_of;
-        text_is = told ∙ is;
+-- the nets that are asked for are judged, with what is to be replaced
+pub finished : (d : Design) (asked : Asked) (all : Judging) (found : Judged) → AreJudged d asked.prefix (nets_for d asked.net) all → AreFinished all found → IsJudged d asked found
+finished d asked all found are is =
+    let patches = patches_are d asked.prefix (flat_map put_in are.nets.verdicts) all.changes found.patches all.changed are.put is.patches in
+    record {
+      fit = patches.fit;
+      says = λ read denotes. record {
+        nets = record {
+          verdicts = are.nets.verdicts;
+          each = are.nets.each;
+          kind_is = is.kind ∙ are.nets.kind_is;
+          text_is = is.text ∙ are.nets.text_is;
+        };
         files = files_with found.patches read;
-        files_of = are.make read denotes;
+        files_of = patches.make read denotes;
         files_are = refl;
-      });
+      };
+    }
+
+-- ---- what is said of one net, out of memory or not
+
+pub best_judged : (d : Design) (name : List ℕ) (old : Judging) (net : PosedNet) (best : Best) (result : Result Judging Memory) → IsPosedNet d name net
+    → IsFound net.problem best → IfOk result (IsOneMore old (best_verdict d name net best)) → IfOk result (JudgesOne d name old)
+best_judged d name old net best (Ok new) of found more = record { verdict = best_verdict d name net best; says = IsBestSaid.told_best net of best found refl; more = more }
+best_judged d name old net best (Err memory) of found more = tt
+
+pub none_judged : (d : Design) (name : List ℕ) (old : Judging) (net : PosedNet) (result : Result Judging Memory) → IsPosedNet d name net → HasNoGood net.problem
+    → IfOk result (IsOneMore old (bare_verdict NoneGood (none_line name))) → IfOk result (JudgesOne d name old)
+none_judged d name old net (Ok new) of none more = record { verdict = bare_verdict NoneGood (none_line name); says = IsBestSaid.told_none net of none refl; more = more }
+none_judged d name old net (Err memory) of none more = tt
+
+pub refused_judged : (d : Design) (name : List ℕ) (old : Judging) (refusal : Refusal) (result : Result Judging Memory) → IsFirstRefusal d name refusal
+    → IfOk result (IsOneMore old (bare_verdict Refused (refusal_line name refusal))) → IfOk result (JudgesOne d name old)
+refused_judged d name old refusal (Ok new) first more = record {
+  verdict = bare_verdict Refused (refusal_line name refusal);
+  says = IsBestSaid.told_refusal refusal first refl;
+  more = more;
+}
+refused_judged d name old refusal (Err memory) first more = tt
+
+-- before a net is judged
+pub nothing_judged : (c : Changes) (text : Vec ℕ Global) → text.items ≡ [] → c ≡ nothing c.design c.prefix
+    → AreJudged c.design c.prefix [] (record { changes = c; changed = false; kind = Report; text = text })
+nothing_judged c text none same = record {
+  nets = record { verdicts = []; each = tt; kind_is = refl; text_is = none };
+  put = record { put = same; told = refl };
 }
 
-pub reported : (d : Design) (asked : Asked) (net : PosedNet) (best : Best) (repeaters : List Repeater) (part : NetProblem) (text : List ℕ)
-    → repeaters ≡ d.library.repeaters → part.problem ≡ net.problem → part.names ≡ names_of net.ready.pinned.net.par net.ready.order
-    → text ≡ best_report asked.net (cells_of repeaters) part best → text ≡ best_report asked.net (cells_of d.library.repeaters) (problem_in net) best
-reported d asked net best repeaters part text same problem names is = is ∙ same_report asked.net repeaters d.library.repeaters part net best same problem names
-
--- where no placement is good
-none_judged : (d : Design) (asked : Asked) (net : PosedNet) (found : Judged) → HasNoGood net.problem → IsUnchanged NoneGood (none_line asked.net) found
-    → IsJudgedNet d asked net found
-none_judged d asked net found none is = record {
-  fit = nothing_fits found.patches is.verilog_stays is.spef_stays d;
-  says = λ read denotes.
-      subst (λ (k : AnswerKind). IsBestSaid k read d asked net (said_with found read)) (sym is.kind_is)
-      (record { none = none; text_is = is.text_is; files_are = ap (λ (files : Files). Some files) (files_stay found.patches is.verilog_stays is.spef_stays read) });
-}
-
-pub none_judges : (d : Design) (asked : Asked) (net : PosedNet) (result : Result Judged Memory) → HasNoGood net.problem
-    → IfOk result (IsUnchanged NoneGood (none_line asked.net)) → IfOk result (IsJudgedNet d asked net)
-none_judges d asked net (Ok found) none is = none_judged d asked net found none is
-none_judges d asked net (Err memory) none is = tt
-
--- where the net is refused
-pub refused_judged : (d : Design) (asked : Asked) (refusal : Refusal) (found : Judged) → IsFirstRefusal d asked.net refusal
-    → IsUnchanged Refused (refusal_line asked.net refusal) found → IsJudged d asked found
-refused_judged d asked refusal found first is = record {
-  fit = nothing_fits found.patches is.verilog_stays is.spef_stays d;
-  says = λ read denotes.
-      IsAnswerIn.refused refusal first is.kind_is
-      (λ i. record { text = is.text_is i; files = Some (files_stay found.patches is.verilog_stays is.spef_stays read i) });
-}
-
--- of a posed net, as of the net that is asked for
-pub judged_net : (d : Design) (asked : Asked) (net : PosedNet) (result : Result Judged Memory) → IsPosedNet d asked.net net
-    → IfOk result (IsJudgedNet d asked net) → IfOk result (IsJudged d asked)
-judged_net d asked net (Ok found) net_of is = record { fit = is.fit; says = λ read denotes. IsAnswerIn.judged net net_of (is.says read denotes) }
-judged_net d asked net (Err memory) net_of is = tt
+-- of one net alone
+pub one_judged : (d : Design) (prefix name : List ℕ) (old : Judging) (result : Result Judging Memory) → AreJudged d prefix [] old
+    → IfOk result (JudgesOne d name old) → IfOk result (AreJudged d prefix (name ∷ []))
+one_judged d prefix name old (Ok new) are one = judged_more d prefix [] old new name are one
+one_judged d prefix name old (Err memory) are one = tt

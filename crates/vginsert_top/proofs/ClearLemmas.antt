@@ -22,7 +22,7 @@ use Rattle.vg_wire.specs.declared.refusal.Refusal.{Refusal}
 use Rattle.vg_wire.specs.declared.refusal.Refusal.TheVariants.{UnknownNet, Section as Faulty, Reduced, Inductive, Bidirectional, NoDriver, ManyDrivers, Mismatch, Tied, NoDrive, NoLoad, Floating, Loop, NoSink, Unconstrained, TooLarge}
 use Rattle.vg_wire.specs.declared.wire.WireNet.{WireNet}
 use Rattle.vg_words.specs.declared.ask.Mode.TheVariants.{Wire}
-use Rattle.vginsert_top.specs.Answer.{AnswersFor, IsAnswerFor, said_by, texts_of}
+use Rattle.vginsert_top.specs.Answer.{AnswersFor, IsAnswerFor, one_net, said_by, texts_of}
 use Rattle.vginsert_top.specs.Results.{Asked, Said, IsSpefFault}
 use Rattle.vginsert_top.specs.declared.answer.Answer.{Answer}
 use Rattle.vginsert_top.specs.declared.answer.AnswerKind.{AnswerKind}
@@ -87,9 +87,9 @@ module _ (raw clear : List ℕ) (same : without_comments Spef clear ≡ without_
 
   -- an answer of the one is an answer of the other
   wire_kind : (lib verilog cons : List ℕ) (name : Asked) (said : Said) (kind : AnswerKind) → IsAnswerFor kind Wire (texts_of clear [] [] []) name said → IsAnswerFor kind Wire (texts_of raw lib verilog cons) name said
-  wire_kind lib verilog cons name said Report (h, none) = (record { wire = h.wire; wire_of = wire_same name.net h.wire h.wire_of; text_is = h.text_is }, none)
+  wire_kind lib verilog cons name said Report (h, none) = (record { wire = h.wire; wire_of = wire_same (one_net name) h.wire h.wire_of; text_is = h.text_is }, none)
   wire_kind lib verilog cons name said NoneGood h = h
-  wire_kind lib verilog cons name said Refused (h, none) = (record { refusal = h.refusal; refused = refusal_same name.net h.refusal h.refused; text_is = h.text_is }, none)
+  wire_kind lib verilog cons name said Refused (h, none) = (record { refusal = h.refusal; refused = refusal_same (one_net name) h.refusal h.refused; text_is = h.text_is }, none)
 
   pub wire_answers : (lib verilog cons : List ℕ) (name : Asked) (result : Result Answer NoAnswer) → AnswersFor Wire (texts_of clear [] [] []) name result → AnswersFor Wire (texts_of raw lib verilog cons) name result
   wire_answers lib verilog cons name (Ok answer) h = wire_kind lib verilog cons name (said_by answer) answer.kind h

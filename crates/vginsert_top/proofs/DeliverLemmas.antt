@@ -5,10 +5,10 @@ use Rattle.vg_store.specs.Reading.{FilesState}
 use Rattle.vg_store.specs.Writing.{OutState, StaysOrPrefix, WriteFaultAt}
 use Rattle.vg_words.specs.declared.ask.Ask.{Ask}
 use Rattle.vginsert_top.specs.Answer.{IsAnswerFor, said_by}
-use Rattle.vginsert_top.specs.Inputs.{AreRead, Change}
+use Rattle.vginsert_top.specs.Inputs.{asked_by, AreRead, Change}
 use Rattle.vginsert_top.specs.Outcomes.{Ends, IsDelivered}
 use Rattle.vginsert_top.specs.Results.{Files}
-use Rattle.vginsert_top.specs.Run.{HoldAfter, StaysOrBegins, asked_by}
+use Rattle.vginsert_top.specs.Run.{HoldAfter, StaysOrBegins}
 use Rattle.vginsert_top.specs.declared.answer.Answer.{Answer}
 use Rattle.vginsert_top.specs.declared.input.Input.{Input}
 use Rattle.vginsert_top.specs.declared.outcome.Outcome.{Outcome}

@@ -1,5 +1,6 @@
 pub mod GainLemmas
 pub mod InputLemmas
+pub mod VerdictLemmas
 pub mod BestLemmas
 pub mod RequestLemmas
 pub mod DeliverLemmas

@@ -10,7 +10,7 @@ use Rattle.std.proofs.lemmas.Bool.Decides.{nat_tests}
 use Rattle.std.proofs.lemmas.Slice.Eq.{bytes_eq-Decides}
 use Rattle.vg_scan.specs.Printed.{is_solid}
 use Rattle.vg_words.specs.Options.{file_options, options, required, mode_of}
-use Rattle.vg_words.specs.Request.{Values, IsRequest, are_equal, fault_in, fault_of, fault_of_mode, fault_of_name, first_equal, has_bad_value, is_bad, is_excluded, is_letter, is_name_byte, is_prefix, is_unset, of_first}
+use Rattle.vg_words.specs.Request.{Values, IsRequest, are_equal, fault_in, fault_of, fault_of_mode, fault_of_name, first_equal, has_bad_value, is_bad, is_excluded, is_letter, is_name_byte, is_missing, is_prefix, of_first}
 use Rattle.vg_words.specs.Request.{of_pair, or_else, prefix_of, values_in, with_one}
 use Rattle.vg_words.specs.declared.ask.Ask.{Ask}
 use Rattle.vg_words.specs.declared.ask.Mode.{Mode as ModeSpec}
@@ -18,7 +18,8 @@ use Rattle.vg_words.specs.declared.ask.WordFault.{WordFault}
 use Rattle.vg_words.specs.declared.ask.WordFault.TheVariants.{Missing, Excluded, BadValue}
 use Rattle.vg_words.specs.declared.option.Opt.{Opt}
 use Rattle.vg_words.specs.declared.option.Opt.TheVariants.{Mode, Spef, Lib, Verilog, Cons, OutSpef, OutVerilog, Prefix}
-use Rattle.vginsert_top.specs.Run.{AreApart}
+use Rattle.vg_words.proofs.JudgeLemmas.{small}
+use Rattle.vginsert_top.specs.Run.{AreApart, IsSized}
 
 -- ---- no fault
 
@@ -44,7 +45,7 @@ of_mode mode values e =
     let equal = of_pair (first_equal values file_options) in
     let bad = of_first BadValue (find (is_bad values) options) in
     let excluded = of_first Excluded (find (is_excluded mode values) options) in
-    let (_, rest) = neither (of_first Missing (find (is_unset values) (required mode))) (or_else excluded (or_else bad equal)) e in
+    let (_, rest) = neither (of_first Missing (find (is_missing mode values) (required mode))) (or_else excluded (or_else bad equal)) e in
     let (_, last) = neither excluded (or_else bad equal) rest in
     let (no_bad, no_equal) = neither bad equal last in
     record { bad = none_found BadValue (find (is_bad values) options) no_bad; equal = no_pair (first_equal values file_options) no_equal }
@@ -134,9 +135,13 @@ good_prefix (Some prefix) e = by_test (is_prefix prefix) e
 pub prefix_is : (words : List (List ℕ)) (ask : Ask) → IsRequest words ask → is_prefix (prefix_of ask) ≡ true
 prefix_is words ask is =
     let values = values_in is.settings in
-    let not_bad : is_bad values Prefix ≡ false = none_at (is_bad values) options 8 Mode (faultless values is.faultless).bad (omega arith) in
+    let not_bad : is_bad values Prefix ≡ false = none_at (is_bad values) options 9 Mode (faultless values is.faultless).bad (omega arith) in
     good_prefix ask.prefix (ap (has_bad_value Prefix) (sym (is.values Prefix)) ∙ not_bad)
 
 -- which can stand in words
 pub prefix_is_solid : (words : List (List ℕ)) (ask : Ask) → IsRequest words ask → AllPass is_solid (prefix_of ask)
 prefix_is_solid words ask is = solid_bytes (prefix_of ask) (prefix_bytes (prefix_of ask) (prefix_is words ask is))
+
+-- a design that is to be made up has a size that it can have
+pub size_is : (words : List (List ℕ)) (ask : Ask) → IsRequest words ask → IsSized ask
+size_is words ask is made = small words ask is made

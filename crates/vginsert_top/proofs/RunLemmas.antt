@@ -7,14 +7,14 @@ use Rattle.vg_store.specs.Writing.{OutState, Gains}
 use Rattle.vg_words.specs.Request.{IsRequest, IsRefused, ReadsWords}
 use Rattle.vg_words.specs.declared.ask.Ask.{Ask}
 use Rattle.vg_words.specs.declared.ask.Mode.{Mode}
-use Rattle.vg_words.specs.declared.ask.Mode.TheVariants.{Wire, Time, Best}
+use Rattle.vg_words.specs.declared.ask.Mode.TheVariants.{Wire, Time, Best, Gen}
 use Rattle.vg_words.specs.declared.ask.WordFault.{WordFault}
 use Rattle.vg_words.specs.declared.ask.WordFault.TheVariants.{Unread, Missing, Excluded, BadValue, Equal, Memory as NoRoom}
 use Rattle.vg_words.proofs.JudgeLemmas.{refused_none, one}
 use Rattle.vginsert_top.specs.Answer.{IsAnswerFor, IsTakenFor, texts_of}
-use Rattle.vginsert_top.specs.Inputs.{design_inputs, inputs, told, Change, IsShort, IsLong, IsRead, IsFirstFault}
+use Rattle.vginsert_top.specs.Inputs.{asked_by, design_inputs, inputs, told, Change, IsShort, IsLong, IsRead, IsFaultFor}
 use Rattle.vginsert_top.specs.Results.{Asked, Said}
-use Rattle.vginsert_top.specs.Run.{asked_by, AllStay, AreTold, AreShort, IsExact, IsStatusFor, Prints, Says, TellsFlaw, TellsRefusedInput, TellsWriteFault, prints_nothing, status_for}
+use Rattle.vginsert_top.specs.Run.{AllStay, AreTold, AreShort, IsExact, IsStatusFor, Prints, Says, TellsFlaw, TellsRefusedInput, TellsWriteFault, prints_nothing, status_for}
 use Rattle.vginsert_top.specs.Outcomes.{Ends, IsStatusOf, Tells, status_of, fault_status}
 use Rattle.vginsert_top.specs.declared.answer.AnswerKind.{AnswerKind}
 use Rattle.vginsert_top.specs.declared.answer.AnswerKind.TheVariants.{Report, NoneGood, Refusal}
@@ -55,7 +55,7 @@ module _ (ask : Ask) (texts : Input → Bytes) where
     answer = λ _ other u r. ap status_for (one_kind (asked_by ask) texts ask.mode kind other t u is r);
   }
 
-  faulty_status : (line : Bytes) (input : Input) → IsFirstFault texts (inputs ask.mode) line input → IsStatusFor ask texts 4
+  faulty_status : (line : Bytes) (input : Input) → IsFaultFor ask.mode texts (asked_by ask) line input → IsStatusFor ask texts 4
   faulty_status line input is = record {
     too_long = λ _. refl;
     faulty = λ _ _ _ _. refl;
@@ -87,6 +87,7 @@ abbrev Agree : Mode → (Input → Bytes) → (Input → Bytes) → Type 0
 Agree Wire a b = a Spef ≡ b Spef
 Agree Time a b = AgreeOnAll a b
 Agree Best a b = AgreeOnAll a b
+Agree Gen a b = Unit {0}
 
 told_is : (file : Option Bytes) (a b : Bytes) → IsRead file a → file ≡ Some b → a ≡ b
 told_is file a b read is = subst (λ (o : Option Bytes). IfSome o (λ bytes. a ≡ bytes)) is read.is_file
@@ -103,6 +104,7 @@ agree : (mode : Mode) (tell : Input → Option Bytes) (a b : Input → Bytes) �
 agree Wire tell a b read told = told_is (tell Spef) (a Spef) (b Spef) (read 0 Spef (omega arith)) (told 0 Spef (omega arith))
 agree Time tell a b read told = agree_on_all tell a b read told
 agree Best tell a b read told = agree_on_all tell a b read told
+agree Gen tell a b read told = tt
 
 -- what is said of the ones is said of the others
 along : (P : (Input → Bytes) → Type 0) (a b : Input → Bytes) → AgreeOnAll a b → P (texts_of (a Spef) (a Lib) (a Verilog) (a Cons)) → P (texts_of (b Spef) (b Lib) (b Verilog) (b Cons))
@@ -111,26 +113,23 @@ along P a b (s, l, v, c) p =
     (subst (λ (verilog : Bytes). P (texts_of (b Spef) (b Lib) verilog (a Cons))) v
     (subst (λ (lib : Bytes). P (texts_of (b Spef) lib (a Verilog) (a Cons))) l (subst (λ (spef : Bytes). P (texts_of spef (a Lib) (a Verilog) (a Cons))) s p)))
 
-answer_as : (kind : AnswerKind) (mode : Mode) (a b : Input → Bytes) (net : Asked) (t : Said) → Agree mode a b → IsAnswerFor kind mode a net t → IsAnswerFor kind mode b net t
-answer_as Report Wire a b net t e is = subst (λ (s : Bytes). IsAnswerFor Report Wire (texts_of s (b Lib) (b Verilog) (b Cons)) net t) e is
-answer_as Report Time a b net t e is = along (λ texts. IsAnswerFor Report Time texts net t) a b e is
-answer_as Report Best a b net t e is = along (λ texts. IsAnswerFor Report Best texts net t) a b e is
-answer_as NoneGood Wire a b net t e is = is
-answer_as NoneGood Time a b net t e is = is
-answer_as NoneGood Best a b net t e is = along (λ texts. IsAnswerFor NoneGood Best texts net t) a b e is
-answer_as Refusal Wire a b net t e is = subst (λ (s : Bytes). IsAnswerFor Refusal Wire (texts_of s (b Lib) (b Verilog) (b Cons)) net t) e is
-answer_as Refusal Time a b net t e is = along (λ texts. IsAnswerFor Refusal Time texts net t) a b e is
-answer_as Refusal Best a b net t e is = along (λ texts. IsAnswerFor Refusal Best texts net t) a b e is
+answer_as : (kind : AnswerKind) (mode : Mode) (a b : Input → Bytes) (asked : Asked) (t : Said) → Agree mode a b → IsAnswerFor kind mode a asked t → IsAnswerFor kind mode b asked t
+answer_as kind Wire a b asked t e is = subst (λ (s : Bytes). IsAnswerFor kind Wire (texts_of s (b Lib) (b Verilog) (b Cons)) asked t) e is
+answer_as kind Time a b asked t e is = along (λ texts. IsAnswerFor kind Time texts asked t) a b e is
+answer_as kind Best a b asked t e is = along (λ texts. IsAnswerFor kind Best texts asked t) a b e is
+answer_as kind Gen a b asked t e is = is
 
 taken_as : (mode : Mode) (a b : Input → Bytes) (net : Asked) (name : Bytes) → Agree mode a b → IsTakenFor mode a net name → IsTakenFor mode b net name
 taken_as Wire a b net name e is = is
 taken_as Time a b net name e is = is
 taken_as Best a b net name e is = along (λ texts. IsTakenFor Best texts net name) a b e is
+taken_as Gen a b net name e is = is
 
-faulty_as : (mode : Mode) (a b : Input → Bytes) (line : Bytes) (input : Input) → Agree mode a b → IsFirstFault a (inputs mode) line input → IsFirstFault b (inputs mode) line input
-faulty_as Wire a b line input e is = subst (λ (s : Bytes). IsFirstFault (texts_of s (b Lib) (b Verilog) (b Cons)) (inputs Wire) line input) e is
-faulty_as Time a b line input e is = along (λ texts. IsFirstFault texts design_inputs line input) a b e is
-faulty_as Best a b line input e is = along (λ texts. IsFirstFault texts design_inputs line input) a b e is
+faulty_as : (mode : Mode) (a b : Input → Bytes) (asked : Asked) (line : Bytes) (input : Input) → Agree mode a b → IsFaultFor mode a asked line input → IsFaultFor mode b asked line input
+faulty_as Wire a b asked line input e is = subst (λ (s : Bytes). IsFaultFor Wire (texts_of s (b Lib) (b Verilog) (b Cons)) asked line input) e is
+faulty_as Time a b asked line input e is = along (λ texts. IsFaultFor Time texts asked line input) a b e is
+faulty_as Best a b asked line input e is = along (λ texts. IsFaultFor Best texts asked line input) a b e is
+faulty_as Gen a b asked line input e is = is
 
 all_short : (tell : Input → Option Bytes) (a b : Input → Bytes) → All (λ i. IsRead (tell i) (a i)) design_inputs → AgreeOnAll a b → All (λ i. IsShort (b i)) design_inputs
 all_short tell a b read e =
@@ -142,6 +141,7 @@ shorts : (mode : Mode) (tell : Input → Option Bytes) (a b : Input → Bytes) �
 shorts Wire tell a b read e = all_one (λ i. IsShort (b i)) Spef (subst (λ (s : Bytes). IsShort s) e (read 0 Spef (omega arith)).short)
 shorts Time tell a b read e = all_short tell a b read e
 shorts Best tell a b read e = all_short tell a b read e
+shorts Gen tell a b read e = λ i d low. absurd (omega (arith, low))
 
 -- what is told and short is not too long
 not_long : (file : Option Bytes) (text : Bytes) → (file ≡ Some text) → IsShort text → IsLong file → ⊥
@@ -177,7 +177,7 @@ module _ (ask : Ask) (files : Change FilesState) (out : Change OutState) where
       answer_status ask b (shorts ask.mode (told files.0 ask) a b read e) kind t (answer_as kind ask.mode a b (asked_by ask) t e is)
   exact_is (Flawed input (Faulty line)) (flawed, _, _) b tells five six seven =
       let e = agree ask.mode (told files.0 ask) flawed.texts b flawed.first.0 tells in
-      faulty_status ask b line input (faulty_as ask.mode flawed.texts b line input e flawed.first.1)
+      faulty_status ask b line input (faulty_as ask.mode flawed.texts b (asked_by ask) line input e flawed.first.1)
   exact_is (Flawed input TooLong) (flawed, _, _) b tells five six seven =
       long_status ask b (λ short.
       none_first (λ i. IsRead (told files.0 ask i) (flawed.texts i)) (λ i. IsLong (told files.0 ask i)) (λ i. (told files.0 ask i ≡ Some (b i)) × IsShort (b i)) (inputs ask.mode) input flawed.first

@@ -1,17 +1,19 @@
--- What is said of the net that is asked for.
-use Rattle.std.specs.Prelude.{◌≡◌, ℕ, List, Option, Some, None, Result, Ok, Err}
+-- What is said of the nets that are asked for.
+use Rattle.std.specs.Prelude.{◌≡◌, ℕ, List, [], Option, Some, None, Result, Ok, Err, unwrap_or}
 use Rattle.spef_file.specs.Indexes.{IsIndexOf}
 use Rattle.spef_file.specs.declared.spef_index.SpefIndex.{SpefIndex}
+use Rattle.vg_design.specs.Designs.{Design}
 use Rattle.vg_inputs.specs.Designs.{Texts, texts_of as design_of}
 use Rattle.vg_inputs.specs.declared.design_fault.DesignFault.{DesignFault}
 use Rattle.vg_inputs.specs.declared.design_fault.DesignFault.TheVariants.{Spef as SpefFaulty, Lib as LibFaulty, Ver as VerFaulty, Cons as ConsFaulty, Memory as NoRoom}
 use Rattle.vg_scan.specs.Comments.{without_comments}
 use Rattle.vg_scan.specs.declared.comments.Comments.TheVariants.{Spef as SpefComments}
 use Rattle.vg_words.specs.declared.ask.Mode.{Mode}
-use Rattle.vg_words.specs.declared.ask.Mode.TheVariants.{Wire, Time, Best}
-use Rattle.vginsert_top.specs.Inputs.{inputs, IsFirstFault}
+use Rattle.vg_words.specs.declared.ask.Mode.TheVariants.{Wire, Time, Best, Gen}
+use Rattle.vginsert_top.specs.Inputs.{inputs, made_up, IsFaultFor, IsFirstFault}
 use Rattle.vginsert_top.specs.Faults.{cons_fault, lib_fault, spef_fault, ver_fault}
-use Rattle.vginsert_top.specs.Results.{Asked, Files, Said, IsBestReport, IsDelays, IsDesignRefusal, IsNoneReport, IsRefusal, IsTaken, IsTimes, IsTimeRefusal, IsSpefFault}
+use Rattle.vginsert_top.specs.Results.{Asked, Files, Said, IsBestAnswer, IsDelays, IsMadeRefusal, IsRefusal, IsSummary, IsTaken, IsTimeAnswer, IsTimeSaid, IsSpefFault, nets_to_time}
+use Rattle.vginsert_top.specs.Verdicts.{AreSaid}
 use Rattle.vginsert_top.specs.declared.input.Input.{Input}
 use Rattle.vginsert_top.specs.declared.input.Input.TheVariants.{Spef, Lib, Verilog, Cons}
 use Rattle.vginsert_top.specs.declared.input.Texts.{Texts as TextsRead}
@@ -30,35 +32,35 @@ design_texts texts = record { spef = texts Spef; lib = texts Lib; verilog = text
 abbrev pub IsText : (List ℕ → Type 0) → Said → Type 0
 IsText P said = P said.text × (said.files ≡ None)
 
--- this is the report of a mode
-abbrev pub IsReportFor : Mode → (Input → List ℕ) → Asked → Said → Type 0
-IsReportFor Wire texts asked said = IsText (IsDelays (texts Spef) asked.net) said
-IsReportFor Time texts asked said = IsText (IsTimes (design_texts texts) asked) said
-IsReportFor Best texts asked said = IsBestReport (design_texts texts) asked said
+-- the wire delays of a net of a file, or why it is refused
+abbrev pub IsWireAnswer : AnswerKind → List ℕ → List ℕ → Said → Type 0
+IsWireAnswer Report file name said = IsText (IsDelays file name) said
+IsWireAnswer NoneGood file name said = ⊥
+IsWireAnswer Refusal file name said = IsText (IsRefusal file name) said
 
--- no placement is good, which mode `best` alone may say
-abbrev pub IsNoneFor : Mode → (Input → List ℕ) → Asked → Said → Type 0
-IsNoneFor Wire texts asked said = ⊥
-IsNoneFor Time texts asked said = ⊥
-IsNoneFor Best texts asked said = IsNoneReport (design_texts texts) asked said
+-- the net that mode `wire` is asked for
+abbrev pub one_net : Asked → List ℕ
+one_net asked = unwrap_or asked.net []
 
--- the net is refused
-abbrev pub IsRefusalFor : Mode → (Input → List ℕ) → Asked → Said → Type 0
-IsRefusalFor Wire texts asked said = IsText (IsRefusal (texts Spef) asked.net) said
-IsRefusalFor Time texts asked said = IsText (IsTimeRefusal (design_texts texts) asked) said
-IsRefusalFor Best texts asked said = IsDesignRefusal (design_texts texts) asked said
+-- the summary of a made-up design of four texts, or why its net is refused
+abbrev pub IsGenAnswer : AnswerKind → Texts → Said → Type 0
+IsGenAnswer Report texts said = IsText (IsSummary texts) said
+IsGenAnswer NoneGood texts said = ⊥
+IsGenAnswer Refusal texts said = IsText (IsMadeRefusal texts) said
 
 -- this is an answer of this kind
 abbrev pub IsAnswerFor : AnswerKind → Mode → (Input → List ℕ) → Asked → Said → Type 0
-IsAnswerFor Report mode texts asked said = IsReportFor mode texts asked said
-IsAnswerFor NoneGood mode texts asked said = IsNoneFor mode texts asked said
-IsAnswerFor Refusal mode texts asked said = IsRefusalFor mode texts asked said
+IsAnswerFor kind Wire texts asked said = IsWireAnswer kind (texts Spef) (one_net asked) said
+IsAnswerFor kind Time texts asked said = IsTimeAnswer (design_texts texts) asked kind said
+IsAnswerFor kind Best texts asked said = IsBestAnswer (design_texts texts) asked kind said
+IsAnswerFor kind Gen texts asked said = IsGenAnswer kind (design_texts (made_up asked.size)) said
 
 -- a name of the design begins with the prefix, for which mode `best` alone asks
 abbrev pub IsTakenFor : Mode → (Input → List ℕ) → Asked → List ℕ → Type 0
 IsTakenFor Wire texts asked name = ⊥
 IsTakenFor Time texts asked name = ⊥
 IsTakenFor Best texts asked name = IsTaken (design_texts texts) asked.prefix name
+IsTakenFor Gen texts asked name = ⊥
 
 abbrev pub files_by : Written → Files
 files_by written = record { verilog = written.verilog; spef = written.spef }
@@ -71,10 +73,15 @@ files_in (Some written) = Some (files_by written)
 abbrev pub said_by : Answer → Said
 said_by answer = record { text = answer.text.items; files = files_in answer.written }
 
+-- the answer says this of the nets of a design that are to be timed
+pub record TimesNets (d : Design) (asked : Asked) (answer : Answer) : Type 0 where
+  pub nets : AreSaid (IsTimeSaid d asked.prefix) (nets_to_time d asked.prefix asked.net) answer.kind answer.text.items
+  pub no_files : answer.written ≡ None
+
 -- what judging the texts of a mode may answer: an answer, the first fault, a name that begins with the prefix, or out of memory
 abbrev pub AnswersFor : Mode → (Input → List ℕ) → Asked → Result Answer NoAnswer → Type 0
 AnswersFor mode texts asked (Ok answer) = IsAnswerFor answer.kind mode texts asked (said_by answer)
-AnswersFor mode texts asked (Err (Faulty input line)) = IsFirstFault texts (inputs mode) line input
+AnswersFor mode texts asked (Err (Faulty input line)) = IsFaultFor mode texts asked line input
 AnswersFor mode texts asked (Err (Taken name)) = IsTakenFor mode texts asked name
 AnswersFor mode texts asked (Err Memory) = Unit {0}
 

@@ -1,17 +1,19 @@
 -- The inputs of a request, and the first flaw along them.
-use Rattle.std.specs.Prelude.{◌≡◌, ◌⊎◌, ℕ, ◌^◌, ◌<◌, ◌≤◌, List, [], ◌∷◌, length, Option, IfSome}
+use Rattle.std.specs.Prelude.{◌≡◌, ◌⊎◌, ℕ, ◌^◌, ◌<◌, ◌≤◌, List, [], ◌∷◌, length, codes, Option, IfSome}
 use Rattle.std.specs.List.{All}
 use Rattle.vg_store.specs.Reading.{FilesState, ReadFaultAt}
 use Rattle.vg_cons.specs.Lines.{lines_of as cons_lines}
 use Rattle.vg_cons.specs.Faults.{IsFaultless}
-use Rattle.vg_words.specs.Request.{text_for}
+use Rattle.vg_gen.specs.Nets.{branch_count}
+use Rattle.vg_gen.specs.Texts.{constraints_text, library_text, netlist_text, spef_text}
+use Rattle.vg_words.specs.Request.{prefix_of, size_of, text_for}
 use Rattle.vg_words.specs.declared.ask.Ask.{Ask}
 use Rattle.vg_words.specs.declared.ask.Mode.{Mode}
-use Rattle.vg_words.specs.declared.ask.Mode.TheVariants.{Wire, Time, Best}
+use Rattle.vg_words.specs.declared.ask.Mode.TheVariants.{Wire, Time, Best, Gen}
 use Rattle.vg_words.specs.declared.option.Opt.{Opt}
 use Rattle.vg_words.specs.declared.option.Opt.TheVariants.{Spef as SpefOption, Lib as LibOption, Verilog as VerilogOption, Cons as ConsOption}
 use Rattle.vg_inputs.specs.Designs.{IsSpef, IsLib, IsModule}
-use Rattle.vginsert_top.specs.Results.{IsSpefFault, IsLibFault, IsVerFault, IsConsFault}
+use Rattle.vginsert_top.specs.Results.{Asked, IsSpefFault, IsLibFault, IsVerFault, IsConsFault}
 use Rattle.vginsert_top.specs.declared.input.Input.{Input}
 use Rattle.vginsert_top.specs.declared.input.Input.TheVariants.{Spef, Lib, Verilog, Cons}
 use Rattle.vginsert_top.specs.declared.input.Flaw.{Flaw}
@@ -21,11 +23,30 @@ use Rattle.vginsert_top.specs.declared.input.Flaw.TheVariants.{Failed, TooLong, 
 abbrev pub design_inputs : List Input
 design_inputs = Spef ∷ Lib ∷ Verilog ∷ Cons ∷ []
 
--- the inputs of a mode, in the order in which they are read and judged
+-- the inputs of a mode, in the order in which they are read
 abbrev pub inputs : Mode → List Input
 inputs Wire = Spef ∷ []
 inputs Time = design_inputs
 inputs Best = design_inputs
+inputs Gen = []
+
+-- those whose texts it judges, in their order: mode `gen` judges those of the design that it makes up
+abbrev pub judged_inputs : Mode → List Input
+judged_inputs Wire = Spef ∷ []
+judged_inputs Time = design_inputs
+judged_inputs Best = design_inputs
+judged_inputs Gen = design_inputs
+
+-- the texts of the made-up design of a size
+abbrev pub made_up : ℕ → Input → List ℕ
+made_up size Spef = spef_text size
+made_up size Lib = library_text
+made_up size Verilog = netlist_text (branch_count size)
+made_up size Cons = constraints_text (branch_count size)
+
+-- what a request asks
+abbrev pub asked_by : Ask → Asked
+asked_by ask = record { net = ask.net; prefix = prefix_of ask; size = size_of ask }
 
 -- the option that names an input
 abbrev pub option_of : Input → Opt
@@ -48,9 +69,15 @@ IsFault Lib text line = IsLibFault text line
 IsFault Verilog text line = IsVerFault text line
 IsFault Cons text line = IsConsFault text line
 
--- the name of an input in the words
+-- the name of an input: that in the words, or, where the design is made up, `gen`
+abbrev pub name_in : Mode → Ask → Input → List ℕ
+name_in Wire ask input = text_for ask (option_of input)
+name_in Time ask input = text_for ask (option_of input)
+name_in Best ask input = text_for ask (option_of input)
+name_in Gen ask input = codes "gen"
+
 abbrev pub name_of : Ask → Input → List ℕ
-name_of ask input = text_for ask (option_of input)
+name_of ask input = name_in ask.mode ask input
 
 -- the bytes of an input, where the files tell them
 abbrev pub told : FilesState → Ask → Input → Option (List ℕ)
@@ -82,12 +109,19 @@ IsFirst Good Bad (head ∷ tail) input = ((head ≡ input) × Bad head) ⊎ (Goo
 abbrev pub IsFirstFault : (Input → List ℕ) → List Input → List ℕ → Input → Type 0
 IsFirstFault texts list line input = IsFirst (λ i. IsInForm i (texts i)) (λ i. IsFault i (texts i) line) list input
 
+-- that of the texts that a mode judges
+abbrev pub IsFaultFor : Mode → (Input → List ℕ) → Asked → List ℕ → Input → Type 0
+IsFaultFor Wire texts asked line input = IsFirstFault texts (judged_inputs Wire) line input
+IsFaultFor Time texts asked line input = IsFirstFault texts (judged_inputs Time) line input
+IsFaultFor Best texts asked line input = IsFirstFault texts (judged_inputs Best) line input
+IsFaultFor Gen texts asked line input = IsFirstFault (made_up asked.size) (judged_inputs Gen) line input
+
 -- the first flaw: an input could not be read or is too long, and those before it were read; or all were read, one has a
 -- fault, and those before it are in their form
 abbrev pub IsFirstFlaw : FilesState → Ask → (Input → List ℕ) → Flaw → Input → Type 0
 IsFirstFlaw files ask texts Failed input = IsFirst (λ i. IsRead (told files ask i) (texts i)) (λ i. Unit {0}) (inputs ask.mode) input
 IsFirstFlaw files ask texts TooLong input = IsFirst (λ i. IsRead (told files ask i) (texts i)) (λ i. IsLong (told files ask i)) (inputs ask.mode) input
-IsFirstFlaw files ask texts (Faulty line) input = AreRead files ask texts × IsFirstFault texts (inputs ask.mode) line input
+IsFirstFlaw files ask texts (Faulty line) input = AreRead files ask texts × IsFaultFor ask.mode texts (asked_by ask) line input
 
 -- the states before and after
 abbrev pub Change : Type 0 → Type 0

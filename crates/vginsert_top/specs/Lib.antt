@@ -1,8 +1,10 @@
 pub mod Faults
 pub mod Reports
+pub mod Verdicts
 pub mod Results
 pub mod Inputs
 pub mod Answer
 pub mod Run
 pub mod Best
 pub mod Outcomes
+pub mod Gen

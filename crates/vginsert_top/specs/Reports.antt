@@ -1,5 +1,5 @@
 -- The lines of reports.
-use Rattle.std.specs.Prelude.{ℕ, ◌==◌, ℤ, pos, List, [], ◌∷◌, ◌++◌, length, filter, slice_index_or, codes, decimal, if◌then◌else◌, Option, Some, None, is_some}
+use Rattle.std.specs.Prelude.{ℕ, ◌==◌, Bool, ℤ, pos, List, [], ◌∷◌, ◌++◌, length, filter, slice_index_or, codes, decimal, if◌then◌else◌, Option, Some, None, is_some}
 use Rattle.std.specs.Fmt.{signed_decimal}
 use Rattle.std.specs.List.{flat_map, range_with_len}
 use Rattle.elmore.specs.Placements.{cost_of}
@@ -77,6 +77,20 @@ best_report name cells net best =
 -- `net NAME none`
 abbrev pub none_line : List ℕ → List ℕ
 none_line name = codes "net " ++ (name ++ codes " none\n")
+
+-- how many nodes are places
+abbrev pub place_count : List Bool → ℕ
+place_count places = length (filter (λ is_place. is_place) places)
+
+-- the slack of a best placement (zs) and how many cells it has, or that there is none
+abbrev pub found_text : Option Best → List ℕ
+found_text None = codes "none cells 0"
+found_text (Some best) = signed_decimal best.slack ++ (codes " cells " ++ decimal (cell_count best.placement.cells))
+
+-- `gen places N bare B best S cells M`, with B and S in zs
+abbrev pub gen_line : ℕ → ℤ → Option Best → List ℕ
+gen_line places bare found =
+    codes "gen places " ++ (decimal places ++ (codes " bare " ++ (signed_decimal bare ++ (codes " best " ++ (found_text found ++ codes "\n")))))
 
 -- the kind of a refusal, and what it tells
 abbrev pub refusal_kind : Refusal → List ℕ

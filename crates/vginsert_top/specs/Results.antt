@@ -1,5 +1,6 @@
--- What the inputs say of the net that is asked for.
-use Rattle.std.specs.Prelude.{◌≡◌, ℕ, List, Option, Some, None}
+-- What the inputs say of the nets that are asked for.
+use Rattle.std.specs.Prelude.{◌≡◌, ℕ, ◌==◌, not, List, [], ◌∷◌, Option, Some, None, codes, filter, if◌then◌else◌}
+use Rattle.std.specs.List.{flat_map, starts_with}
 use Rattle.lib_cells.specs.declared.fault.LibKind.{LibKind}
 use Rattle.lib_linear.specs.Faults.{IsFirstFault as IsFirstLibFault}
 use Rattle.spef_file.specs.Files.{IsFileFault}
@@ -9,12 +10,12 @@ use Rattle.ver_syntax.specs.declared.fault.VerKind.{VerKind}
 use Rattle.vg_cons.specs.Lines.{lines_of as cons_lines}
 use Rattle.vg_cons.specs.Faults.{IsFaultIn}
 use Rattle.vg_cons.specs.declared.fault.ConsKind.{ConsKind}
-use Rattle.vg_design.specs.Designs.{Design}
-use Rattle.vg_change.specs.Changes.{Changes, nothing, HasPut, AreTexts}
+use Rattle.vg_design.specs.Designs.{Design, net_names}
+use Rattle.vg_change.specs.Changes.{Changes, nothing, HavePut, AreTexts}
 use Rattle.vg_change.specs.Placed.{PlacedNet}
 use Rattle.vg_change.specs.Steps.{placed_net}
 use Rattle.vg_change.specs.Taken.{taken}
-use Rattle.vg_design.specs.Nets.{names_of, IsPosedNet}
+use Rattle.vg_design.specs.Nets.{names_of, IsPosedNet, IsTimedOf}
 use Rattle.vg_design.specs.Refusals.{IsFirstRefusal}
 use Rattle.vg_design.specs.declared.time.Timed.{Timed}
 use Rattle.vg_inputs.specs.Designs.{Texts, IsDesign}
@@ -28,9 +29,12 @@ use Rattle.vginsert_top.specs.Faults.{cons_fault, lib_fault, spef_fault, ver_fau
 use Rattle.vg_design.specs.Parts.{cells_of}
 use Rattle.vg_design.specs.declared.net_problem.NetProblem.{NetProblem}
 use Rattle.vg_design.specs.declared.net_problem.PosedNet.{PosedNet}
-use Rattle.vg_slack.specs.Bests.{HasNoCell, HasNoGood, IsFound}
+use Rattle.vg_slack.specs.Bests.{HasNoGood, IsAnswer, IsFound}
 use Rattle.vg_slack.specs.declared.answer.Best.{Best}
-use Rattle.vginsert_top.specs.Reports.{best_report, none_line, wire_report, slack_line, refusal_line}
+use Rattle.vginsert_top.specs.Reports.{best_report, cell_count, gen_line, none_line, place_count, wire_report, slack_line, refusal_line}
+use Rattle.vginsert_top.specs.Verdicts.{Verdict, AreSaid, bare_verdict, put_in}
+use Rattle.vginsert_top.specs.declared.answer.AnswerKind.{AnswerKind}
+use Rattle.vginsert_top.specs.declared.answer.AnswerKind.TheVariants.{Report, NoneGood, Refusal as Refused}
 
 -- the net of this name has wire delays, and the text is their report
 pub record IsDelays (file name text : List ℕ) : Type 0 where
@@ -68,28 +72,12 @@ pub record IsConsFault (cons text : List ℕ) : Type 0 where
   pub found : IsFaultIn (cons_lines cons) fault
   pub text_is : text ≡ cons_fault fault
 
--- What is asked of a net: its name, and what the names of cells that were put in begin with.
+-- What is asked: one net by its name, or all nets of the parasitics; what the names of cells that were put in begin with; and the size of
+-- a design that is to be made up.
 pub record Asked : Type 0 where
-  pub net : List ℕ
+  pub net : Option (List ℕ)
   pub prefix : List ℕ
-
--- the four texts are a design, the net that is asked for re-times through the cells that were put in, and the text reports it
-pub record IsTimes (texts : Texts) (asked : Asked) (text : List ℕ) : Type 0 where
-  pub design : Design
-  pub design_of : IsDesign texts design
-  pub timed : Timed
-  pub timed_of : Retimes 17 design asked.prefix asked.net timed
-  pub text_is : text ≡ slack_line asked.net timed
-
--- the walk from it is refused, and the text says why
-pub record IsTimeRefusal (texts : Texts) (asked : Asked) (text : List ℕ) : Type 0 where
-  pub design : Design
-  pub design_of : IsDesign texts design
-  pub refusal : Refusal
-  pub refused : IsFirstOnWay design asked.prefix asked.net refusal
-  pub text_is : text ≡ refusal_line asked.net refusal
-
--- ---- best placements
+  pub size : ℕ
 
 -- The netlist and the parasitics that are written.
 pub record Files : Type 0 where
@@ -100,6 +88,33 @@ pub record Files : Type 0 where
 pub record Said : Type 0 where
   pub text : List ℕ
   pub files : Option Files
+
+-- the nets that are asked for, in the order in which they are answered: all of them as the parasitics have them
+abbrev pub nets_for : Design → Option (List ℕ) → List (List ℕ)
+nets_for d (Some name) = name ∷ []
+nets_for d None = net_names d.spef
+
+-- where all are to be timed, those are passed over whose names begin with the prefix
+abbrev pub nets_to_time : Design → List ℕ → Option (List ℕ) → List (List ℕ)
+nets_to_time d prefix (Some name) = name ∷ []
+nets_to_time d prefix None = filter (λ name. not (starts_with ◌==◌ name prefix)) (net_names d.spef)
+
+-- ---- slacks
+
+-- the net re-times through the cells that were put in, and its slack is reported; or the walk from it is refused
+pub data IsTimeSaid (d : Design) (prefix name : List ℕ) (said : Verdict) : Type 0 where
+  told_slack : (timed : Timed) → Retimes 17 d prefix name timed → said ≡ bare_verdict Report (slack_line name timed) → IsTimeSaid d prefix name said
+  told_stop : (refusal : Refusal) → IsFirstOnWay d prefix name refusal → said ≡ bare_verdict Refused (refusal_line name refusal)
+      → IsTimeSaid d prefix name said
+
+-- the four texts are a design, and this is said of the nets that are asked for
+pub record IsTimeAnswer (texts : Texts) (asked : Asked) (kind : AnswerKind) (said : Said) : Type 0 where
+  pub design : Design
+  pub design_of : IsDesign texts design
+  pub nets : AreSaid (IsTimeSaid design asked.prefix) (nets_to_time design asked.prefix asked.net) kind said.text
+  pub no_files : said.files ≡ None
+
+-- ---- best placements
 
 -- the files as they were read
 abbrev pub kept : Texts → Files
@@ -114,52 +129,76 @@ pub record IsFreeDesign (texts : Texts) (prefix : List ℕ) (design : Design) : 
 abbrev pub problem_in : PosedNet → NetProblem
 problem_in posed = record { problem = posed.problem; names = names_of posed.ready.pinned.net.par posed.ready.order }
 
--- these are the files in which the cells of a placement are put into a net
-pub record AreChanged (read : Files) (design : Design) (prefix : List ℕ) (placed : PlacedNet) (files : Files) : Type 0 where
+-- the net with the cells of a placement, where it has any
+abbrev pub put_of : PosedNet → List (Option ℕ) → List PlacedNet
+put_of net cells = if cell_count cells == 0 then [] else placed_net net cells ∷ []
+
+-- what is said of a net where this placement of it is best
+abbrev pub best_verdict : Design → List ℕ → PosedNet → Best → Verdict
+best_verdict d name net best = record {
+  kind = Report;
+  text = best_report name (cells_of d.library.repeaters) (problem_in net) best;
+  put = put_of net best.placement.cells;
+}
+
+-- a best placement of the net is reported, without a cell where one without a cell is best; or no placement is good; or the net is refused
+pub data IsBestSaid (d : Design) (name : List ℕ) (said : Verdict) : Type 0 where
+  told_best : (net : PosedNet) → IsPosedNet d name net → (best : Best) → IsFound net.problem best → said ≡ best_verdict d name net best → IsBestSaid d name said
+  told_none : (net : PosedNet) → IsPosedNet d name net → HasNoGood net.problem → said ≡ bare_verdict NoneGood (none_line name) → IsBestSaid d name said
+  told_refusal : (refusal : Refusal) → IsFirstRefusal d name refusal → said ≡ bare_verdict Refused (refusal_line name refusal) → IsBestSaid d name said
+
+-- these are the files in which the cells of placements are put into nets, one after another
+pub record AreChanged (read : Files) (design : Design) (prefix : List ℕ) (nets : List PlacedNet) (files : Files) : Type 0 where
   pub changes : Changes
-  pub put : HasPut (nothing design prefix) placed changes
+  pub put : HavePut (nothing design prefix) nets changes
   pub made : AreTexts changes read.spef read.verilog files.spef files.verilog
 
--- without a cell the files are as they were read
-pub record AreFilesOf (read : Files) (design : Design) (prefix : List ℕ) (placed : PlacedNet) (files : Files) : Type 0 where
-  pub bare : HasNoCell placed.cells → files ≡ read
-  pub changed : (HasNoCell placed.cells → ⊥) → AreChanged read design prefix placed files
+-- where no net gets a cell, the files are as they were read
+pub record AreFilesOf (read : Files) (design : Design) (prefix : List ℕ) (nets : List PlacedNet) (files : Files) : Type 0 where
+  pub bare : nets ≡ [] → files ≡ read
+  pub changed : (nets ≡ [] → ⊥) → AreChanged read design prefix nets files
 
--- the net that is asked for has a best placement, without a cell where one without a cell is best; the text reports it, and the files
--- have its cells
-pub record IsBestReport (texts : Texts) (asked : Asked) (said : Said) : Type 0 where
-  pub design : Design
-  pub design_of : IsFreeDesign texts asked.prefix design
-  pub net : PosedNet
-  pub net_of : IsPosedNet design asked.net net
-  pub best : Best
-  pub best_of : IsFound net.problem best
-  pub text_is : said.text ≡ best_report asked.net (cells_of design.library.repeaters) (problem_in net) best
+-- this is said of the nets that are asked for, and the files have the new cells of all of them
+pub record IsBestOf (read : Files) (design : Design) (asked : Asked) (kind : AnswerKind) (said : Said) : Type 0 where
+  pub nets : AreSaid (IsBestSaid design) (nets_for design asked.net) kind said.text
   pub files : Files
-  pub files_of : AreFilesOf (kept texts) design asked.prefix (placed_net net best.placement.cells) files
+  pub files_of : AreFilesOf read design asked.prefix (flat_map put_in nets.verdicts) files
   pub files_are : said.files ≡ Some files
 
--- no placement of it is good, and the text says so; the files are as they were read
-pub record IsNoneReport (texts : Texts) (asked : Asked) (said : Said) : Type 0 where
+-- so of four texts that are a design, none of whose names begins with the prefix
+pub record IsBestAnswer (texts : Texts) (asked : Asked) (kind : AnswerKind) (said : Said) : Type 0 where
   pub design : Design
   pub design_of : IsFreeDesign texts asked.prefix design
-  pub net : PosedNet
-  pub net_of : IsPosedNet design asked.net net
-  pub none : HasNoGood net.problem
-  pub text_is : said.text ≡ none_line asked.net
-  pub files_are : said.files ≡ Some (kept texts)
-
--- it is refused, and the text says why; the files are as they were read
-pub record IsDesignRefusal (texts : Texts) (asked : Asked) (said : Said) : Type 0 where
-  pub design : Design
-  pub design_of : IsFreeDesign texts asked.prefix design
-  pub refusal : Refusal
-  pub refused : IsFirstRefusal design asked.net refusal
-  pub text_is : said.text ≡ refusal_line asked.net refusal
-  pub files_are : said.files ≡ Some (kept texts)
+  pub best_of : IsBestOf (kept texts) design asked kind said
 
 -- a name of the design begins with the prefix, and this is the first
 pub record IsTaken (texts : Texts) (prefix name : List ℕ) : Type 0 where
   pub design : Design
   pub design_of : IsDesign texts design
   pub first : taken design prefix ≡ Some name
+
+-- ---- made-up designs
+
+-- the net of a made-up design
+abbrev pub made_net : List ℕ
+made_net = codes "g"
+
+-- four texts are a design whose net has these places, this slack without a cell, and this best placement; the text tells of them
+pub record IsSummary (texts : Texts) (text : List ℕ) : Type 0 where
+  pub design : Design
+  pub design_of : IsDesign texts design
+  pub timed : Timed
+  pub timed_of : IsTimedOf design made_net timed
+  pub net : PosedNet
+  pub net_of : IsPosedNet design made_net net
+  pub found : Option Best
+  pub found_of : IsAnswer net.problem found
+  pub text_is : text ≡ gen_line (place_count net.problem.places) timed.slack found
+
+-- or its net is refused, and the text says why
+pub record IsMadeRefusal (texts : Texts) (text : List ℕ) : Type 0 where
+  pub design : Design
+  pub design_of : IsDesign texts design
+  pub refusal : Refusal
+  pub refused : IsFirstRefusal design made_net refusal
+  pub text_is : text ≡ refusal_line made_net refusal

@@ -1,29 +1,25 @@
 -- What a run of the program promises.
-use Rattle.std.specs.Prelude.{◌≡◌, ◌≢◌, ◌⊎◌, ℕ, ◌<◌, List, [], ◌∷◌, ◌++◌, ◌==◌, Bool, codes, Option, Some, None, IfSome, unwrap_or}
+use Rattle.std.specs.Prelude.{◌≡◌, ◌≢◌, ◌⊎◌, ℕ, ◌<◌, ◌≤◌, List, [], ◌∷◌, ◌++◌, ◌==◌, Bool, codes, Option, Some, None, IfSome, unwrap_or}
 use Rattle.std.specs.List.{All, list_any}
 use Rattle.vg_store.specs.Causes.{Rose}
 use Rattle.vg_store.specs.Reading.{FilesState}
 use Rattle.vg_store.specs.Writing.{OutState, Gains, GainsPrefix, StaysOrPrefix, WriteFaultAt}
 use Rattle.vg_words.specs.Options.{name_of as option_name}
-use Rattle.vg_words.specs.Request.{prefix_of, text_for, IsRequest, IsRefused}
+use Rattle.vg_words.specs.Request.{size_of, IsRequest, IsRefused}
+use Rattle.vg_words.specs.declared.ask.Mode.TheVariants.{Gen}
 use Rattle.vg_words.specs.declared.ask.Ask.{Ask}
 use Rattle.vg_words.specs.declared.ask.WordFault.{WordFault}
 use Rattle.vg_words.specs.declared.ask.WordFault.TheVariants.{Unread, Missing, Excluded, BadValue, Equal, Memory as NoRoom}
-use Rattle.vg_words.specs.declared.option.Opt.TheVariants.{Net}
 use Rattle.vginsert_top.specs.Answer.{IsAnswerFor, IsTakenFor}
 use Rattle.vginsert_top.specs.declared.answer.AnswerKind.{AnswerKind}
 use Rattle.vginsert_top.specs.declared.answer.AnswerKind.TheVariants.{Report, NoneGood, Refusal}
-use Rattle.vginsert_top.specs.Inputs.{inputs, name_of, told, Change, IsShort, AreRead, IsFirstFault, IsFlawed}
-use Rattle.vginsert_top.specs.Results.{Asked, Files, Said}
+use Rattle.vginsert_top.specs.Inputs.{asked_by, inputs, name_of, told, Change, IsShort, AreRead, IsFaultFor, IsFlawed}
+use Rattle.vginsert_top.specs.Results.{Files, Said}
 use Rattle.vginsert_top.specs.declared.input.Input.{Input}
 use Rattle.vginsert_top.specs.declared.output.Output.{Output}
 use Rattle.vginsert_top.specs.declared.output.Output.TheVariants.{Netlist, Parasitics}
 use Rattle.vginsert_top.specs.declared.input.Flaw.{Flaw}
 use Rattle.vginsert_top.specs.declared.input.Flaw.TheVariants.{Failed, TooLong, Faulty}
-
--- what a request asks of its net
-abbrev pub asked_by : Ask → Asked
-asked_by ask = record { net = text_for ask Net; prefix = prefix_of ask }
 
 -- the words are a request, and this holds of it
 abbrev pub ForRequest : List (List ℕ) → (Ask → Type 0) → Type 0
@@ -69,6 +65,10 @@ IsOutput ask file = (ask.out_spef ≡ Some file) ⊎ (ask.out_verilog ≡ Some f
 -- no file is written twice
 abbrev pub AreApart : Ask → Type 0
 AreApart ask = (file : List ℕ) → ask.out_verilog ≡ Some file → ask.out_spef ≡ Some file → ⊥
+
+-- a design that is to be made up has a size that it can have
+abbrev pub IsSized : Ask → Type 0
+IsSized ask = ask.mode ≡ Gen → (1 ≤ size_of ask) × (size_of ask ≤ 4000)
 
 -- where the words name a file, and files tell what it holds, it holds this text
 abbrev pub HoldsAt : FilesState → Option (List ℕ) → List ℕ → Type 0
@@ -177,7 +177,7 @@ AreShort ask texts = All (λ input. IsShort (texts input)) (inputs ask.mode)
 -- the status that the texts and the request ask for, where nothing fails
 pub record IsStatusFor (ask : Ask) (texts : Input → List ℕ) (status : ℕ) : Type 0 where
   pub too_long : (AreShort ask texts → ⊥) → status ≡ 4
-  pub faulty : AreShort ask texts → (line : List ℕ) (input : Input) → IsFirstFault texts (inputs ask.mode) line input → status ≡ 4
+  pub faulty : AreShort ask texts → (line : List ℕ) (input : Input) → IsFaultFor ask.mode texts (asked_by ask) line input → status ≡ 4
   pub taken : AreShort ask texts → (name : List ℕ) → IsTakenFor ask.mode texts (asked_by ask) name → status ≡ 4
   pub answer : AreShort ask texts → (kind : AnswerKind) (said : Said) → IsAnswerFor kind ask.mode texts (asked_by ask) said → status ≡ status_for kind
 

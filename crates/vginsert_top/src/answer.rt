@@ -1,15 +1,14 @@
-//! What is said of a net that is asked for.
+//! What is said of the nets that are asked for.
 
 ghost use Rattle.std.specs.Prelude.{◌≡◌, ◌≤◌, ◌^◌, length, IfOk, IfErr};
 ghost use Rattle.vg_inputs.specs.Designs.{IsDesignOf};
-ghost use Rattle.vginsert_top.specs.Answer.{IsNoDesignOf, IsRefusedWith, Indexes, Tells};
+ghost use Rattle.vginsert_top.specs.Answer.{IsNoDesignOf, Indexes, Tells};
 ghost use Rattle.vginsert_top.specs.Run.{status_for};
-ghost use Rattle.vginsert_top.specs.Reports.{refused_line};
+ghost use Rattle.vginsert_top.specs.Verdicts.{worse};
 ghost use Rattle.vginsert_top.specs.declared.answer.NoAnswer.TheVariants.{Memory as out_of_memory};
 
 use crate::faults::{cons_fault, lib_fault, spef_fault, ver_fault};
 use crate::input::Input;
-use crate::report::print_refused;
 use spef_file::{SpefIndex, SpefKind, SpefText, index};
 use std::alloc::Global;
 use vg_design::Design;
@@ -23,9 +22,9 @@ use vg_scan::Name;
 pub enum AnswerKind {
     /// What was asked for.
     Report,
-    /// That no placement of repeaters is good.
+    /// That no placement of repeaters on a net is good.
     NoneGood,
-    /// Why the net is refused.
+    /// Why a net is refused.
     Refusal,
 }
 
@@ -40,6 +39,17 @@ impl AnswerKind {
             AnswerKind::Refusal => 2,
         }
     }
+
+    /// The kind of two answers together: a refusal where one is, else that no placement is good where one tells that, else a report.
+    pub fn worse(self, other: AnswerKind) -> AnswerKind
+        ensures { result ≡ worse self other }
+    {
+        match (self, other) {
+            (AnswerKind::Refusal, _) | (_, AnswerKind::Refusal) => AnswerKind::Refusal,
+            (AnswerKind::NoneGood, _) | (_, AnswerKind::NoneGood) => AnswerKind::NoneGood,
+            _ => AnswerKind::Report,
+        }
+    }
 }
 
 /// The netlist and the parasitics that are written: those that were read, with what is replaced in them.
@@ -49,7 +59,7 @@ pub struct Written {
     pub spef: Patched,
 }
 
-/// What is said of a net.
+/// What is said of the nets that are asked for.
 #[derive(Drop)]
 pub struct Answer {
     pub kind: AnswerKind,
@@ -59,7 +69,7 @@ pub struct Answer {
     pub written: Option<Written>,
 }
 
-/// Why nothing is said of a net.
+/// Why nothing is said of them.
 #[derive(Drop)]
 pub enum NoAnswer {
     /// An input has a fault: its kind and its line, as text.
@@ -76,19 +86,6 @@ impl From<Memory> for NoAnswer {
     fn from(_: Memory) -> Self {
         NoAnswer::Memory
     }
-}
-
-/// The answer that refuses a net: its number, and its kind with what it tells.
-pub fn refuse_with(alloc: Global, name: &[u8], number: u8, kind: &[u8]) -> Result<Answer, Memory>
-    ensures { IfOk result (IsRefusedWith (refused_line name.now number kind.now)) }
-{
-    let mut text = Vec::new(alloc);
-    print_refused(name, number, kind, &mut text)?;
-    Ok(Answer {
-        kind: AnswerKind::Refusal,
-        text,
-        written: None,
-    })
 }
 
 /// The index of a SPEF file, or the text of its fault.

@@ -1,7 +1,7 @@
 //! The inputs of a request, read in order.
 ghost use Rattle.std.specs.Prelude.{◌≡◌, ◌⊎◌, ◌≤◌, ℕ, List, [], IfOk, IfErr};
 ghost use Rattle.vginsert_top.specs.Answer.{texts_in};
-ghost use Rattle.vginsert_top.specs.Inputs.{inputs as inputs_in, option_of, AreRead};
+ghost use Rattle.vginsert_top.specs.Inputs.{inputs as inputs_in, name_of, option_of, AreRead};
 ghost use Rattle.vginsert_top.specs.Outcomes.{IsUnread};
 
 use std::alloc::Global;
@@ -58,15 +58,26 @@ impl Input {
             Input::Cons => Opt::Cons,
         }
     }
+
+    /// The name of the input: that in the words, or, where the design is made up, `gen`.
+    pub fn name(self, ask: &Ask) -> &str
+        ensures { result.now ≡ name_of ask.now self }
+    {
+        match ask.mode {
+            Mode::Wire | Mode::Time | Mode::Best => ask.text(self.option()),
+            Mode::Gen => "gen",
+        }
+    }
 }
 
-/// The inputs of a mode, in the order in which they are read and judged.
+/// The inputs of a mode, in the order in which they are read.
 fn inputs(mode: Mode) -> &'static [Input]
     ensures { result.now ≡ inputs_in mode }
 {
     match mode {
         Mode::Wire => &WIRE_INPUTS,
         Mode::Time | Mode::Best => &DESIGN_INPUTS,
+        Mode::Gen => &[],
     }
 }
 
@@ -114,7 +125,7 @@ pub fn read_inputs<F: Files>(
     let mut texts = Texts::new(alloc);
     let order = inputs(ask.mode);
     'input: for input in order {
-        match read_all(alloc, files, ask.text(input.option())) {
+        match read_all(alloc, files, input.name(ask)) {
             Ok(text) => texts.set(*input, text),
             Err(cause) => return Err((*input, cause)),
         }

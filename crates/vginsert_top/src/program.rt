@@ -9,9 +9,9 @@ ghost use Rattle.vg_words.specs.Request.{prefix_of, texts, IsRequest};
 ghost use Rattle.vg_words.specs.declared.ask.Ask.{Ask as Request};
 ghost use Rattle.vg_words.specs.declared.ask.Mode.{Mode as ModeSpec};
 ghost use Rattle.vginsert_top.specs.Answer.{AnswersFor, files_by, texts_in, texts_of};
-ghost use Rattle.vginsert_top.specs.Inputs.{IsShort, inputs};
+ghost use Rattle.vginsert_top.specs.Inputs.{IsShort, asked_by, inputs};
 ghost use Rattle.vginsert_top.specs.Outcomes.{Ends, IsDelivered, IsPrinted, IsStatusOf, fault_status};
-ghost use Rattle.vginsert_top.specs.Run.{AllStay, Answered, AreApart, AreRefused, AreWritten, EndsFlawed, ErrorLine, ForRequest, HoldAfter, HoldsAt, IsExact, IsOutput, Says, StaysOrBegins};
+ghost use Rattle.vginsert_top.specs.Run.{AllStay, Answered, AreApart, IsSized, AreRefused, AreWritten, EndsFlawed, ErrorLine, ForRequest, HoldAfter, HoldsAt, IsExact, IsOutput, Says, StaysOrBegins};
 ghost use Rattle.vginsert_top.specs.Run.{TellsRefusedInput, TellsWriteFault, is_status, output_name, prints_nothing};
 ghost use Rattle.vginsert_top.specs.declared.answer.AnswerKind.{AnswerKind as Kind};
 ghost use Rattle.vginsert_top.specs.declared.input.Input.{Input};
@@ -21,6 +21,7 @@ use crate::best::best_for;
 use crate::input::{Flaw, Texts, read_inputs};
 use crate::outcome::Outcome;
 use crate::output::Output;
+use crate::summary::gen_for;
 use crate::tell::{tell, tell_words};
 use crate::time::time_for;
 use crate::wire::wire_for;
@@ -35,28 +36,24 @@ use vg_words::{Ask, Mode, Opt, WordFault, read_words};
 fn wire_in(alloc: Global, spef: Vec<u8>, net: &[u8]) -> Result<Answer, NoAnswer>
     requires { length spef.items ≤ 2 ^ 28 }
     ensures { (lib verilog cons : List ℕ)
-        → AnswersFor ModeSpec.Wire (texts_of spef.items lib verilog cons) (record { net = net.now; prefix = [] }) result }
+        → AnswersFor ModeSpec.Wire (texts_of spef.items lib verilog cons) (record { net = Some net.now; prefix = []; size = 0 }) result }
 {
     let text = SpefText::new(spef);
     wire_for(alloc, &text, net)
 }
 
-/// What is said of a net of the inputs that a mode has read, where the names of cells that were put in begin with the prefix.
-fn answer(
-    alloc: Global,
-    mode: Mode,
-    texts: Texts,
-    net: &[u8],
-    prefix: &[u8],
-) -> Result<Answer, NoAnswer>
-    requires short { All (λ input. IsShort (texts_in texts input)) (inputs mode) }
-    requires prefix { AllPass is_solid prefix.now }
-    ensures { AnswersFor mode (texts_in texts) (record { net = net.now; prefix = prefix.now }) result }
+/// What is said of the nets that are asked for, of the inputs that were read.
+fn answer(alloc: Global, texts: Texts, ask: &Ask) -> Result<Answer, NoAnswer>
+    requires short { All (λ input. IsShort (texts_in texts input)) (inputs ask.now.mode) }
+    requires prefix { AllPass is_solid (prefix_of ask.now) }
+    requires size { IsSized ask.now }
+    ensures { AnswersFor ask.now.mode (texts_in texts) (asked_by ask.now) result }
 {
-    match mode {
-        Mode::Wire => wire_in(alloc, texts.spef, net),
-        Mode::Time => time_for(alloc, texts, net, prefix),
-        Mode::Best => best_for(alloc, texts, net, prefix),
+    match ask.mode {
+        Mode::Wire => wire_in(alloc, texts.spef, ask.text(Opt::Net).as_bytes()),
+        Mode::Time => time_for(alloc, texts, ask),
+        Mode::Best => best_for(alloc, texts, ask),
+        Mode::Gen => gen_for(alloc, ask.size()),
     }
 }
 
@@ -125,6 +122,7 @@ fn deliver<F: Files, O: Out>(ask: &Ask, answer: &Answer, files: &mut F, out: &mu
 fn execute<F: Files, O: Out>(alloc: Global, ask: &Ask, files: &mut F, out: &mut O) -> Outcome
     requires apart { AreApart ask.now }
     requires prefix { AllPass is_solid (prefix_of ask.now) }
+    requires size { IsSized ask.now }
     ensures ends { Ends ask.now (F.state files.old, F.state files.new) (O.state out.old, O.state out.new) result }
     ensures kept { (file : List ℕ) → (IsOutput ask.now file → ⊥) → (F.state files.new).holds file ≡ (F.state files.old).holds file }
 {
@@ -134,8 +132,7 @@ fn execute<F: Files, O: Out>(alloc: Global, ask: &Ask, files: &mut F, out: &mut 
         Err((input, ReadAll::TooLong)) => return Outcome::Flawed(input, Flaw::TooLong),
         Err((_, ReadAll::Memory)) => return Outcome::Memory,
     };
-    let net = ask.text(Opt::Net).as_bytes();
-    match answer(alloc, ask.mode, texts, net, ask.prefix().as_bytes()) {
+    match answer(alloc, texts, ask) {
         Ok(answer) => deliver(ask, &answer, files, out),
         Err(NoAnswer::Faulty(input, line)) => Outcome::Flawed(input, Flaw::Faulty(line)),
         Err(NoAnswer::Taken(name)) => Outcome::Taken(name),
@@ -163,6 +160,7 @@ fn run_request<F: Files, O: Out, E: Out>(
 ) -> u8
     requires apart { AreApart ask.now }
     requires prefix { AllPass is_solid (prefix_of ask.now) }
+    requires size { IsSized ask.now }
     ensures ends { IsStatusOf ask.now (F.state files.old, F.state files.new) (O.state out.old, O.state out.new) (E.state err.old, E.state err.new) result }
     ensures kept { (file : List ℕ) → (IsOutput ask.now file → ⊥) → (F.state files.new).holds file ≡ (F.state files.old).holds file }
 {
@@ -178,17 +176,17 @@ fn run_request<F: Files, O: Out, E: Out>(
 ///
 /// | status | comes |
 /// |---|---|
-/// | 0 | the report was printed |
-/// | 1 | mode `best`: that no placement of repeaters on the net is good was printed |
-/// | 2 | a refusal of the net was printed |
+/// | 0 | the report was printed, of all nets that are asked for |
+/// | 1 | mode `best`: it was printed, and tells of some net that no placement of repeaters on it is good; no net is refused |
+/// | 2 | it was printed, and some net is refused |
 /// | 3 | the words are no request |
 /// | 4 | an input is not in its form, or has more than 2^28 bytes; or, in mode `best`, a name of the design begins with the prefix |
 /// | 5 | reading an input failed |
 /// | 6 | writing a file or printing failed |
 /// | 7 | out of memory |
 ///
-/// In mode `best` the netlist is written first, then the parasitics, and then the report is printed. A net without a cell keeps both
-/// texts. After 3, 4, 5 and 7 nothing was printed, and no file was created or changed. After 6 the files that were finished before are
+/// In mode `best` the netlist is written first, then the parasitics, and then the report is printed. A net without a cell keeps its
+/// part of both texts. After 3, 4, 5 and 7 nothing was printed, and no file was created or changed. After 6 the files that were finished before are
 /// whole, the one whose writing failed is as it was or holds a prefix of its text, and later ones are as they were. A fault of `err`
 /// never changes the status. Files that the words do not name as outputs stay.
 pub fn run<F: Files, O: Out, E: Out>(

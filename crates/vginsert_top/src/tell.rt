@@ -89,7 +89,7 @@ pub fn tell<E: Out>(err: &mut E, ask: &Ask, outcome: &Outcome)
 {
     match outcome {
         Outcome::Printed(_) => {}
-        Outcome::Flawed(input, flaw) => tell_flaw(err, ask.text(input.option()), flaw),
+        Outcome::Flawed(input, flaw) => tell_flaw(err, input.name(ask), flaw),
         Outcome::Taken(name) => tell_taken(err, name.as_bytes()),
         Outcome::Unwritten(output) => tell_unwritten(err, output.text(ask)),
         Outcome::WriteFault => say_line(err, b"vginsert: write failed: standard output\n"),

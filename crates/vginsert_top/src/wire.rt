@@ -1,14 +1,14 @@
 //! The wire delays of a net, as text.
 
-ghost use Rattle.std.specs.Prelude.{◌≡◌, ◌<◌, ◌≤◌, ◌^◌, ◌++◌, [], length, OnOk, IfOk};
+ghost use Rattle.std.specs.Prelude.{◌≡◌, ◌<◌, ◌≤◌, ◌^◌, ◌++◌, [], Some, length, OnOk, IfOk};
 ghost use Rattle.std.specs.List.{flat_map};
 ghost use Rattle.vg_words.specs.declared.ask.Mode.{Mode};
 ghost use Rattle.vginsert_top.specs.Answer.{AnswersFor, IsRefusedWith, texts_of};
 ghost use Rattle.vginsert_top.specs.Reports.{sink_line, wire_report, refusal_kind, refusal_line};
 
-use crate::answer::{Answer, AnswerKind, NoAnswer, index_of, refuse_with};
+use crate::answer::{Answer, AnswerKind, NoAnswer, index_of};
 use crate::faults::print_net_fault;
-use crate::report::{print_node, print_sink, print_total, push};
+use crate::report::{print_node, print_refused, print_sink, print_total, push};
 use spef_file::SpefText;
 use std::alloc::Global;
 use vg_num::Memory;
@@ -73,19 +73,37 @@ fn print_kind(refusal: &Refusal, to: &mut Vec<u8>) -> Result<(), Memory>
     Ok(())
 }
 
+/// Appends the line that tells why a net is refused.
+pub fn print_refusal(
+    alloc: Global,
+    name: &[u8],
+    refusal: &Refusal,
+    to: &mut Vec<u8>,
+) -> Result<(), Memory>
+    ensures { OnOk result (to.new.items ≡ to.old.items ++ refusal_line name.now refusal.now) }
+{
+    let mut kind = Vec::new(alloc);
+    print_kind(refusal, &mut kind)?;
+    print_refused(name, refusal.number(), &kind, to)?;
+    Ok(())
+}
+
 /// The answer that refuses a net.
 pub fn refuse(alloc: Global, name: &[u8], refusal: &Refusal) -> Result<Answer, Memory>
     ensures { IfOk result (IsRefusedWith (refusal_line name.now refusal.now)) }
 {
-    let mut kind = Vec::new(alloc);
-    print_kind(refusal, &mut kind)?;
-    let answer = refuse_with(alloc, name, refusal.number(), &kind)?;
-    Ok(answer)
+    let mut text = Vec::new(alloc);
+    print_refusal(alloc, name, refusal, &mut text)?;
+    Ok(Answer {
+        kind: AnswerKind::Refusal,
+        text,
+        written: None,
+    })
 }
 
 /// What is said of the wire delays of the net of this name.
 pub fn wire_for(alloc: Global, file: &SpefText, name: &[u8]) -> Result<Answer, NoAnswer>
-    ensures { AnswersFor Mode.Wire (texts_of file.now [] [] []) (record { net = name.now; prefix = [] }) result }
+    ensures { AnswersFor Mode.Wire (texts_of file.now [] [] []) (record { net = Some name.now; prefix = []; size = 0 }) result }
 {
     let index = index_of(alloc, file)?;
     let net = Name::from_bytes(alloc, name)?;

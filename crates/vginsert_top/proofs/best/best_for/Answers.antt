@@ -8,6 +8,7 @@ use Rattle.vg_scan.proofs.PieceLemmas.{length-without}
 use Rattle.vg_words.specs.declared.ask.Mode.TheVariants.{Best}
 use Rattle.vginsert_top.specs.Answer.{AnswersFor, design_texts, texts_in}
 use Rattle.vginsert_top.specs.Results.{Asked}
+use Rattle.vginsert_top.specs.Inputs.{asked_by}
 use Rattle.vginsert_top.proofs.AnswerLemmas.{best_answered, design_of_texts, handed, not_judged}
 use Rattle.vginsert_top.proofs.BestLemmas.{repeaters_are_named}
 use Rattle.vginsert_top.proofs.best.best_for.Goals as goal
@@ -38,7 +39,7 @@ pub returns-in_err-judged : goal.returns-in_err-judged
 returns-in_err-judged c =
     let d = c.in_ok-design.design in
     let texts = c.args.texts in
-    let asked : Asked = record { net = c.args.name.now; prefix = c.args.prefix.now } in
+    let asked : Asked = asked_by c.args.ask.now in
     let fault = c.in_err-judged.field-0.0 in
     let of =
     design_of_texts c.from_clear-text.result texts.spef.items c.deref.result.now texts.lib.items c.deref-2.result.now texts.verilog.items c.deref-3.result.now texts.cons.items d
@@ -70,7 +71,7 @@ pub returns : goal.returns
 returns c =
     let d = c.in_ok-design.design in
     let texts = c.args.texts in
-    let asked : Asked = record { net = c.args.name.now; prefix = c.args.prefix.now } in
+    let asked : Asked = asked_by c.args.ask.now in
     let of =
     design_of_texts c.from_clear-text.result texts.spef.items c.deref.result.now texts.lib.items c.deref-2.result.now texts.verilog.items c.deref-3.result.now texts.cons.items d
     c.in_ok-design.ensures.design (c.from_clear-text.ensures ∙ c.in_ok-clear.ensures.clear) c.deref.ensures.value c.deref-2.ensures.value c.deref-3.ensures.value in

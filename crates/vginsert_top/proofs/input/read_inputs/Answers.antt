@@ -13,8 +13,8 @@ use Rattle.vginsert_top.proofs.input.read_inputs.Goals as goal
 pub returns-in-Err-clause-unread : goal.returns-in-Err-clause-unread
 returns-in-Err-clause-unread g c =
     let low : c.input.input-index < length c.inputs-order.result.now = omega (arith, c.input-test.true) in
-    let named = c.text.ensures ∙ ap (text_for c.args.ask.now) c.option.ensures in
-    unread_is c.args.ask.now (g.F.Files.state c.args.files.now) (g.F.Files.state c.input.files) (g.F.Files.state c.read_all.new.files) (texts_in c.input.texts) c.inputs-order.result.now c.input.input-index Spef c.in-Err.cause c.text.result.now
+    let named = c.name.ensures in
+    unread_is c.args.ask.now (g.F.Files.state c.args.files.now) (g.F.Files.state c.input.files) (g.F.Files.state c.read_all.new.files) (texts_in c.input.texts) c.inputs-order.result.now c.input.input-index Spef c.in-Err.cause c.name.result.now
     c.inputs-order.ensures low c.input.invariant.read c.input.invariant.kept c.input.invariant.later named c.in-Err.ensures.failed
     (λ is. (c.in-Err.ensures.too_long is).1)
 
@@ -25,12 +25,12 @@ input-preserved g c =
     let order = c.inputs-order.result.now in
     let i = c.input.input-index in
     let low : i < length order = omega (arith, c.input-test.true) in
-    let named = c.text.ensures ∙ ap (text_for ask) c.option.ensures in
-    let held = c.input.invariant.kept c.text.result.now ∙ ap before.holds named in
+    let named = c.name.ensures in
+    let held = c.input.invariant.kept c.name.result.now ∙ ap before.holds named in
     let short : length c.in-Ok.text.items ≤ 2 ^ 28 = omega (arith, c.in-Ok.ensures.all_taken.0, c.in-Ok.ensures.all_taken.1) in
     record {
       read = reads_next (told before ask) (texts_in c.input.texts) (texts_in c.set.new.self) order i Spef c.in-Ok.text.items low c.input.invariant.read
-          (read_as ((g.F.Files.state c.input.files).holds c.text.result.now) (told before ask (get_or order i Spef)) c.in-Ok.text.items held c.in-Ok.ensures.whole short) c.set.ensures.own c.set.ensures.each;
+          (read_as ((g.F.Files.state c.input.files).holds c.name.result.now) (told before ask (get_or order i Spef)) c.in-Ok.text.items held c.in-Ok.ensures.whole short) c.set.ensures.own c.set.ensures.each;
       kept = λ file. c.in-Ok.ensures.kept file ∙ c.input.invariant.kept file;
       writing = c.in-Ok.ensures.writing.same_faults ∙ c.input.invariant.writing;
       later = omega (arith, c.input.invariant.later, c.in-Ok.ensures.never_falls);

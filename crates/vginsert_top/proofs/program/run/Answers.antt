@@ -1,6 +1,6 @@
 use Rattle.std.proofs.Common.{arith, inl, inr, ◌∙◌}
 use Rattle.vg_words.specs.Request.{texts}
-use Rattle.vginsert_top.proofs.RequestLemmas.{outputs_apart, prefix_is_solid}
+use Rattle.vginsert_top.proofs.RequestLemmas.{outputs_apart, prefix_is_solid, size_is}
 use Rattle.vginsert_top.proofs.RunLemmas.{run_printed, run_not_three, run_unreadable, run_read_fault, run_write_fault, run_stays, run_exact, fault_two, fault_exact}
 use Rattle.vginsert_top.specs.declared.answer.AnswerKind.TheVariants.{Report, NoneGood, Refusal}
 use Rattle.vginsert_top.proofs.program.run.Goals as goal
@@ -57,3 +57,6 @@ run_request-requires-clause-apart g c = outputs_apart (texts c.args.words.now) c
 
 pub run_request-requires-clause-prefix : goal.run_request-requires-clause-prefix
 run_request-requires-clause-prefix g c = prefix_is_solid (texts c.args.words.now) c.in-Ok.ask c.in-Ok.ensures
+
+pub run_request-requires-clause-size : goal.run_request-requires-clause-size
+run_request-requires-clause-size g c = size_is (texts c.args.words.now) c.in-Ok.ask c.in-Ok.ensures

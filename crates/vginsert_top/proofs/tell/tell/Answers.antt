@@ -10,7 +10,7 @@ returns-in-Taken g c =
 pub returns-in-Unwritten : goal.returns-in-Unwritten
 returns-in-Unwritten g c =
     subst (λ outcome. Tells c.args.ask.now (g.E.Out.state c.args.err.now, g.E.Out.state c.tell_unwritten.new.err) outcome) (sym c.in-Unwritten.is)
-    (rw c.text-in-Unwritten.ensures at c.tell_unwritten.ensures)
+    (rw c.text.ensures at c.tell_unwritten.ensures)
 
 pub returns-in-WriteFault : goal.returns-in-WriteFault
 returns-in-WriteFault g c =

@@ -3,8 +3,8 @@ use Rattle.std.proofs.lemmas.List.{get_or-map}
 use Rattle.lib_linear.specs.declared.repeater.Repeater.{Repeater}
 use Rattle.vg_design.specs.Parts.{cells_of}
 use Rattle.vginsert_top.proofs.ReportLemmas.{cell_more, none_more}
-use Rattle.vginsert_top.proofs.best.print_cells.Goals.{in-Some+in_ok-print_at, in_default}
-use Rattle.vginsert_top.proofs.best.print_cells.Goals as goal
+use Rattle.vginsert_top.proofs.placement.print_cells.Goals.{in-Some+in_ok-print_at, in_default}
+use Rattle.vginsert_top.proofs.placement.print_cells.Goals as goal
 
 pub node-preserved : goal.node-preserved
 node-preserved c =
