@@ -1,12 +1,11 @@
 -- The way down, signal by signal.
-use Rattle.std.proofs.Common.{◌≡◌, ◌⊎◌, ℕ, zero, suc, ◌+◌, ◌<◌, ◌≤◌, ◌==◌, ◌||◌, Bool, true, false, cond, ℤ, List, [], ◌∷◌, ◌++◌, map, take, drop, length, get_or, refl, sym, ap, ◌∙◌, subst, arith, inl, inr, All, Contains, Option, Some, None, option_map}
+use Rattle.std.proofs.Common.{◌≡◌, ◌⊎◌, ℕ, zero, suc, ◌+◌, ◌<◌, ◌≤◌, eqb, Bool, true, false, cond, ℤ, List, [], ◌∷◌, ◌++◌, map, take, drop, length, get_or, refl, sym, ap, ◌∙◌, subst, arith, inl, inr, All, Contains, Option, Some, None, option_map}
 use Rattle.std.specs.Prelude.{IfSome}
-use Rattle.std.specs.List.{cons_option, count_by, filter_map, slice_get}
+use Rattle.std.specs.List.{cons_option, filter_map, list_any, slice_get, IsDistinct}
 use Rattle.std.proofs.lemmas.Bool.{false≢true}
-use Rattle.std.proofs.lemmas.List.{get_or-map, get_or_default, length-append, length-map}
+use Rattle.std.proofs.lemmas.List.{get_or-map, get_or-take, get_or_default, length-append, length-map, map-append}
 use Rattle.std.proofs.lemmas.List.Elements.{All-append}
 use Rattle.std.proofs.lemmas.List.FromFn.{get_or-range_with_len, length-range_with_len}
-use Rattle.std.proofs.lemmas.List.Sums.{count_by-le-length}
 use Rattle.std.proofs.lemmas.Option.{slice_get-map, slice_get_read, slice_get_within, get_or_from_slice_get}
 use Rattle.elmore.specs.Path.{nodes as node_numbers}
 use Rattle.vg_cut.specs.Walks.{End, nothing, sink, passes, Signal, end_at, late_at, passed, passed_on, reached, IsStopped}
@@ -16,11 +15,11 @@ use Rattle.vg_wire.specs.declared.refusal.Refusal.TheVariants.{Loop}
 use Rattle.vg_wire.specs.declared.refusal.Refused.{Refused}
 use Rattle.vg_wire.specs.declared.refusal.Refused.TheVariants.{Net, Memory}
 use Rattle.vg_design.proofs.LawLemmas.{few_refusals}
-use Rattle.vg_retime.proofs.ClimbLemmas.{no_net}
+use Rattle.vg_retime.proofs.ClimbLemmas.{few_come, no_net}
 use Rattle.vg_retime.proofs.LeastLemmas.{from_some}
 use Rattle.vg_retime.proofs.ReachedLemmas.{with_net}
 use Rattle.vg_retime.proofs.SizeLemmas.{late_small}
-use Rattle.vg_retime.proofs.TurnLemmas.{all_done, came, came_contains, came_next, contains_came, done_next, flat_next, once_next, parts_at, passed_next, some_next, taken_all}
+use Rattle.vg_retime.proofs.TurnLemmas.{all_done, came, came_contains, contains_came, done_next, flat_next, once_next, parts_at, passed_next, some_next, taken_all}
 use Rattle.vg_retime.specs.Refusals.{IsRefusedHere}
 use Rattle.vg_retime.specs.Steps.{signal_of, signals_of, first_of, ArePassedOn, IsKept, IsSizedEnd, IsSizedNet, IsFirstWithin, IsSizedSignal, IsUnderWay, IsVisited}
 use Rattle.vg_retime.specs.Stops.{IsRefusedDown, IsStoppedDown}
@@ -86,9 +85,8 @@ pub record IsNoted (old mid : Walk) (id : ℕ) : Type 0 where
   pub signals : mid.signals.items ≡ old.signals.items
   pub least : mid.least ≡ old.least
   pub wrong : mid.wrong ≡ old.wrong
-  pub size : length mid.come ≡ length old.come
-  pub noted : (i : ℕ) → get_or mid.come i false ≡ ((i == id) || get_or old.come i false)
-  pub count : count_by (λ b. b) mid.come ≡ count_by (λ b. b) old.come + 1
+  pub come : mid.come ≡ old.come ++ id ∷ []
+  pub once : IsDistinct eqb mid.come
 
 -- the signal of a number, as the walk keeps it
 pub signal_at : (walk : Walk) (at : ℕ) (s : SignalHere) → at < length walk.signals.items → s ≡ get_or walk.signals.items at s
@@ -102,10 +100,20 @@ module _ (d : Design) (prefix : List ℕ) (at : ℕ) (walk : Walk) (way : IsUnde
   -- so many turns have been made as nets have come
   pub few_turns : at ≤ length d.netlist.nets
   few_turns =
-      let count = way.kept.count in
-      let few = count_by-le-length (λ (b : Bool). b) walk.come in
-      let taken = taken_all (signals_of walk) at within in
-      let size = way.size in omega (arith, count, few, taken, size)
+      let few = few_come (length d.netlist.nets) (map (λ (t : Signal). t.net) (take at (signals_of walk))) (subst (IsDistinct eqb) way.kept.come way.kept.once) come_inside in
+      let mapped = length-map (take at (signals_of walk)) (λ (t : Signal). t.net) in
+      let taken = taken_all (signals_of walk) at within in omega (arith, few, mapped, taken)
+    where
+      come_inside : All (λ i. i < length d.netlist.nets) (map (λ (t : Signal). t.net) (take at (signals_of walk)))
+      come_inside k e low =
+          let size = length-map (take at (signals_of walk)) (λ (t : Signal). t.net) in
+          let inside : k < length (take at (signals_of walk)) = omega (arith, size, low) in
+          let taken = taken_all (signals_of walk) at within in
+          let low_at : k < at = omega (arith, taken, inside) in
+          let signal : IsSizedSignal (length d.netlist.nets) at (get_or (take at (signals_of walk)) k (begins walk.first))
+          = subst (IsSizedSignal (length d.netlist.nets) at) (sym (get_or-take at (signals_of walk) k (begins walk.first) low_at))
+          (way.sized k (begins walk.first) (omega (arith, low_at, within))) in
+          subst (λ (i : ℕ). i < length d.netlist.nets) (sym (get_or-map (λ (t : Signal). t.net) (take at (signals_of walk)) k (begins walk.first) e inside)) signal.net
 
 module _ (d : Design) (prefix : List ℕ) (at : ℕ) (old : Walk) (s : Signal) (way : IsUnderWay d prefix at old) (here : slice_get (signals_of old) at ≡ Some s) where
   -- the net of the next signal is one of the netlist, and the signal is small
@@ -136,16 +144,19 @@ module _ (d : Design) (prefix : List ℕ) (at : ℕ) (old : Walk) (s : Signal) (
         sym (get_or-map (λ (t : Signal). t.net) (take at (signals_of old)) k s s.net inside) ∙ is,
       )
 
+  came_old : came (take at (signals_of old)) s.net ≡ list_any (eqb s.net) old.come
+  came_old = ap (list_any (eqb s.net)) (sym way.kept.come)
+
   -- where its net came before, the walk stops
-  pub stops_again : get_or old.come s.net false ≡ true → IsStoppedDown d prefix old.first Loop
+  pub stops_again : list_any (eqb s.net) old.come ≡ true → IsStoppedDown d prefix old.first Loop
   unfolding stopped
   stops_again again =
-      let came_before = came_contains (take at (signals_of old)) s.net (sym (way.kept.noted s.net) ∙ again) in
+      let came_before = came_contains (take at (signals_of old)) s.net (came_old ∙ again) in
       record { nets = way.nets; signal = s; stopped = stopped (inr (again_by came_before)); stops = inl (came_before, refl) }
 
-  module _ (new_net : get_or old.come s.net false ≡ false) where
+  module _ (new_net : list_any (eqb s.net) old.come ≡ false) where
     new : came (take at (signals_of old)) s.net ≡ false
-    new = sym (way.kept.noted s.net) ∙ new_net
+    new = came_old ∙ new_net
 
     -- where it is refused too
     pub stops_refused : (refused : Refused) → IsRefusedHere d prefix (net_name d s.net) refused → IsRefusedDown d prefix old.first refused
@@ -173,14 +184,11 @@ module _ (d : Design) (prefix : List ℕ) (at : ℕ) (old : Walk) (s : Signal) (
       kept : IsKept others (take at (signals_of old) ++ s ∷ []) last
       unfolding others
       kept = record {
-        noted = λ id. ap (λ (xs : List Bool). get_or xs id false) visited.come
-            ∙ noted.noted id
-            ∙ ap (λ (b : Bool). (id == s.net) || b) (way.kept.noted id)
-            ∙ sym (came_next (take at (signals_of old)) s id);
-        count = ap (count_by (λ b. b)) visited.come
-            ∙ noted.count
-            ∙ ap (λ (n : ℕ). n + 1) way.kept.count
-            ∙ sym (length-append (take at (signals_of old)) (s ∷ []));
+        come = visited.come
+            ∙ noted.come
+            ∙ ap (λ (ids : List ℕ). ids ++ s.net ∷ []) way.kept.come
+            ∙ sym (map-append (λ (t : Signal). t.net) (take at (signals_of old)) (s ∷ []));
+        once = subst (IsDistinct eqb) (sym visited.come) noted.once;
         least = subst (λ (xs : List ℤ). IsLeastOf xs last.least) (sym (flat_next timed way.nets (begins old.first) s at net (signals_of old) way.come here new (λ n t. lefts_in (timed n) t)))
             (visited.least (lefts_of (timed_nets way.nets) (take at (signals_of old))) (subst (IsLeastOf (lefts_of (timed_nets way.nets) (take at (signals_of old)))) (sym noted.least) way.kept.least));
         small = visited.small (subst (λ (o : Option ℤ). IfSome o IsTime) (sym noted.least) way.kept.small);
@@ -222,29 +230,26 @@ module _ (d : Design) (prefix : List ℕ) (at : ℕ) (old : Walk) (s : Signal) (
         within = within_more;
         passed = subst (ArePassedOn d prefix (with_net way.nets s.net net)) (sym done_are) passed_more;
         kept = subst (λ (xs : List Signal). IsKept (with_net way.nets s.net net) xs last) (sym done_are) kept;
-        size = ap (λ (xs : List Bool). length xs) visited.come ∙ noted.size ∙ way.size;
         sized = subst (All (IsSizedSignal (length d.netlist.nets) (at + 1))) (sym signals_are) sized_more;
       }
 
 -- ---- the beginning and the end
 
 pub begin_down : (d : Design) (prefix : List ℕ) (walk : Walk) → signals_of walk ≡ begins walk.first ∷ [] → IsFirstWithin (length d.netlist.nets) walk.first
-    → length walk.come ≡ length d.netlist.nets → ((i : ℕ) → get_or walk.come i false ≡ false) → count_by (λ b. b) walk.come ≡ 0
-    → walk.least ≡ None → walk.wrong ≡ None → IsUnderWay d prefix 0 walk
-unfolding reached
-begin_down d prefix walk signals within size none count least wrong = record {
+    → walk.come ≡ [] → walk.least ≡ None → walk.wrong ≡ None → IsUnderWay d prefix 0 walk
+unfolding reached IsDistinct
+begin_down d prefix walk signals within none least wrong = record {
   nets = λ i. no_net;
   come = signals;
   within = omega arith;
   passed = record { accepted = λ k e low. absurd (omega arith); once = λ i j e i_j low. absurd (omega arith) };
   kept = record {
-    noted = none;
-    count = count;
+    come = none;
+    once = subst (IsDistinct eqb) (sym none) tt;
     least = subst (IsLeastOf []) (sym least) refl;
     small = subst (λ (o : Option ℤ). IfSome o IsTime) (sym least) tt;
     wrong = wrong;
   };
-  size = size;
   sized = subst (All (IsSizedSignal (length d.netlist.nets) 0)) (sym signals) first_sized;
 }
   where

@@ -1,12 +1,12 @@
 -- One turn of a walk: the next signal is passed on, by a net that is met for the first time.
-use Rattle.std.proofs.Common.{◌≡◌, ◌≢◌, ℕ, suc, ◌+◌, ◌≤◌, ◌==◌, ◌||◌, Bool, true, false, List, [], ◌∷◌, ◌++◌, map, take, drop, drop-cons, length, get_or, refl, sym, ap, ◌∙◌, subst, arith, All, Contains, eq-eqb, Option, Some}
+use Rattle.std.proofs.Common.{◌≡◌, ◌≢◌, ℕ, suc, ◌+◌, ◌≤◌, eqb, Bool, true, false, List, [], ◌∷◌, ◌++◌, map, take, drop, drop-cons, length, get_or, refl, sym, ap, ◌∙◌, subst, arith, All, Contains, eq-eqb, Option, Some}
 use Rattle.std.specs.List.{AllPairs, cons_option, filter_map, flat_map, list_any, slice_get}
 use Rattle.std.proofs.lemmas.Bool.{eqb-true, false≢true}
 use Rattle.std.proofs.lemmas.Int.{clamps}
 use Rattle.std.proofs.lemmas.Option.{slice_get_within, get_or_from_slice_get}
-use Rattle.std.proofs.lemmas.List.{length-take, take-append-drop, append-nil, get_or-map, get_or_default, length-map, map-append}
+use Rattle.std.proofs.lemmas.List.{length-take, take-append-drop, append-nil, get_or-map, get_or_default, length-map}
 use Rattle.std.proofs.lemmas.List.Elements.{filter_map-append}
-use Rattle.std.proofs.lemmas.List.Folds.{Any-from_list_any, list_any-append, list_any-from_Any}
+use Rattle.std.proofs.lemmas.List.Folds.{Any-from_list_any, list_any-from_Any}
 use Rattle.std.proofs.lemmas.Grind.{flat_map-append}
 use Rattle.vg_cut.specs.Walks.{TimedNet, Signal, passed_on, reached}
 use Rattle.vg_retime.proofs.ReachedLemmas.{net_elsewhere, net_there, reached_next, reached_same, with_net}
@@ -16,49 +16,25 @@ use Rattle.vg_retime.proofs.SignalListLemmas.{all_next, filter_map_same, flat_ma
 
 -- the net of this number is that of one of some signals
 abbrev pub came : List Signal → ℕ → Bool
-came done id = list_any (λ n. n == id) (map (λ (t : Signal). t.net) done)
+came done id = list_any (eqb id) (map (λ (t : Signal). t.net) done)
 
 pub differs : (done : List Signal) (id : ℕ) → came done id ≡ false → All (λ t. t.net ≢ id) done
 differs done id new k d low same =
-    false≢true (sym new ∙ list_any-from_Any (λ n. n == id) (map (λ (t : Signal). t.net) done) (
+    false≢true (sym new ∙ list_any-from_Any (eqb id) (map (λ (t : Signal). t.net) done) (
       k,
       (get_or done k d).net,
       (let size = length-map done (λ (t : Signal). t.net) in omega (arith, size, low)),
       get_or-map (λ (t : Signal). t.net) done k d (get_or done k d).net low,
-      eq-eqb (get_or done k d).net id same,
+      eq-eqb id (get_or done k d).net (sym same),
     ))
 
 pub came_contains : (done : List Signal) (id : ℕ) → came done id ≡ true → Contains (map (λ (t : Signal). t.net) done) id
 came_contains done id found =
-    let (k, n, low, is, same) = Any-from_list_any (λ n. n == id) (map (λ (t : Signal). t.net) done) found in
-    (k, low, get_or_default (map (λ (t : Signal). t.net) done) k id n low ∙ is ∙ eqb-true n id same)
+    let (k, n, low, is, same) = Any-from_list_any (eqb id) (map (λ (t : Signal). t.net) done) found in
+    (k, low, get_or_default (map (λ (t : Signal). t.net) done) k id n low ∙ is ∙ sym (eqb-true id n same))
 
 pub contains_came : (done : List Signal) (id : ℕ) → Contains (map (λ (t : Signal). t.net) done) id → came done id ≡ true
-contains_came done id (k, low, is) = list_any-from_Any (λ n. n == id) (map (λ (t : Signal). t.net) done) (k, id, low, is, eq-eqb id id refl)
-
-pub among_next : (before : List ℕ) (at id : ℕ) → list_any (λ n. n == id) (before ++ at ∷ []) ≡ ((id == at) || list_any (λ n. n == id) before)
-among_next before at id =
-    list_any-append (λ n. n == id) before (at ∷ []) ∙ turned (list_any (λ n. n == id) before) (at == id) (id == at) (same_test at id)
-  where
-    same_test : (a b : ℕ) → (a == b) ≡ (b == a)
-    same_test a b = by_test (a == b) (b == a) refl refl
-      where
-        by_test : (x y : Bool) → (a == b) ≡ x → (b == a) ≡ y → x ≡ y
-        by_test true true e f = refl
-        by_test false false e f = refl
-        by_test true false e f = absurd (false≢true (sym f ∙ eq-eqb b a (sym (eqb-true a b e))))
-        by_test false true e f = absurd (false≢true (sym e ∙ eq-eqb a b (sym (eqb-true b a f))))
-
-    turned : (x y z : Bool) → y ≡ z → (x || (y || false)) ≡ (z || x)
-    turned true true z e = ap (λ (b : Bool). b || true) e
-    turned true false z e = ap (λ (b : Bool). b || true) e
-    turned false true z e = ap (λ (b : Bool). b || false) e
-    turned false false z e = ap (λ (b : Bool). b || false) e
-
-pub came_next : (done : List Signal) (s : Signal) (id : ℕ) → came (done ++ s ∷ []) id ≡ ((id == s.net) || came done id)
-came_next done s id =
-    ap (list_any (λ n. n == id)) (map-append (λ (t : Signal). t.net) done (s ∷ []))
-    ∙ among_next (map (λ (t : Signal). t.net) done) s.net id
+contains_came done id (k, low, is) = list_any-from_Any (eqb id) (map (λ (t : Signal). t.net) done) (k, id, low, is, eq-eqb id id refl)
 
 -- ---- the turn
 

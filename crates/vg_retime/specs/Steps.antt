@@ -1,10 +1,9 @@
 -- A walk on its way down, and the sizes of what it computes with: for the functions between.
-use Rattle.std.specs.Prelude.{◌≡◌, ◌≢◌, ℕ, ◌*◌, ◌^◌, ◌<◌, ◌≤◌, false, List, ◌++◌, map, take, length, ℤ, Option, Some, None, IfSome, slice_index_or}
-use Rattle.std.specs.List.{All, AllPairs, count_by}
+use Rattle.std.specs.Prelude.{◌≡◌, ◌≢◌, ℕ, ◌*◌, ◌^◌, ◌<◌, ◌≤◌, List, ◌++◌, map, take, length, Option, Some, None, IfSome, eqb}
+use Rattle.std.specs.List.{All, AllPairs, IsDistinct}
 use Rattle.elmore.specs.Problems.{IsDriverWithin, IsSmall}
 use Rattle.elmore.specs.Trees.{IsTree, IsWithinLimits}
 use Rattle.elmore.specs.declared.parts.Driver.{Driver}
-use Rattle.ver_net.specs.Connections.{has}
 use Rattle.vg_cut.specs.Walks.{End, nothing, sink, passes, Signal, TimedNet, late_at, passed, passed_on, reached}
 use Rattle.vg_design.specs.Designs.{Design}
 use Rattle.vg_scan.specs.declared.name.NodeName.{NodeName}
@@ -90,8 +89,8 @@ pub record ArePassedOn (d : Design) (prefix : List ℕ) (nets : Nets) (signals :
 
 -- what a walk keeps of the signals that were passed on
 pub record IsKept (nets : Nets) (done : List Signal) (walk : Walk) : Type 0 where
-  pub noted : (id : ℕ) → slice_index_or walk.come id false ≡ has (map (λ s. s.net) done) id
-  pub count : count_by (λ b. b) walk.come ≡ length done
+  pub come : walk.come ≡ map (λ s. s.net) done
+  pub once : IsDistinct eqb walk.come
   pub least : IsLeastOf (lefts_of (timed_nets nets) done) walk.least
   pub small : IfSome walk.least IsTime
   pub wrong : walk.wrong ≡ first_wrong nets done
@@ -103,5 +102,4 @@ pub record IsUnderWay (d : Design) (prefix : List ℕ) (at : ℕ) (walk : Walk) 
   pub within : at ≤ length walk.signals.items
   pub passed : ArePassedOn d prefix nets (take at (signals_of walk))
   pub kept : IsKept nets (take at (signals_of walk)) walk
-  pub size : length walk.come ≡ length d.netlist.nets
   pub sized : All (IsSizedSignal (length d.netlist.nets) at) (signals_of walk)

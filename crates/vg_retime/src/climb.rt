@@ -51,9 +51,9 @@ pub(crate) fn climb(
     ensures within { IfOk result (IsFirstWithin (length design.now.netlist.nets)) }
     ensures refused { IfErr result (IsRefusedUp design.now prefix.now id) }
 {
-    let mut come = Come::none(alloc, design)?;
+    let mut come = Come::none(alloc);
     let mut at = id;
-    'up: while come.note(at) {
+    'up: while come.note(at)? {
         let (above, driver) = look_up(alloc, design, prefix, at)?;
         match above {
             Above::Net(next) => at = next,

@@ -1,51 +1,44 @@
 //! The nets that have come on a way.
 
-ghost use Rattle.std.specs.Prelude.{◌≡◌, ◌<◌, ◌==◌, ◌||◌, ◌+◌, ℕ, not, true, false, length, slice_index_or, IfOk};
-ghost use Rattle.std.specs.List.{count_by};
+ghost use Rattle.std.specs.Prelude.{◌≡◌, ◌++◌, ◌∷◌, [], ℕ, not, true, eqb, IfOk};
+ghost use Rattle.std.specs.List.{list_any, IsDistinct};
 
+use indexmap::IndexSet;
 use std::alloc::Global;
 use std::marker::Model;
-use vg_design::Design;
 use vg_num::Memory;
 
-/// For each net of a netlist whether it has come. Contracts see the list of these marks.
+/// The nets that have come on a way, in the order in which they came. Contracts see the list of their numbers.
 #[derive(Drop)]
 pub(crate) struct Come {
-    marks: Vec<bool>,
+    nets: IndexSet<u32>,
 }
 
 impl Model for Come {
-    ghost use Rattle.std.specs.Prelude.{Bool, List};
+    ghost use Rattle.std.specs.Prelude.{List, ℕ};
 
-    ghost Value = { List Bool };
+    ghost Value = { List ℕ };
 
-    ghost view = { λ come. come.marks.items };
+    ghost view = { λ come. come.nets.keys };
 }
 
 impl Come {
-    /// No net has come. Answers `Memory` where there is no room.
-    pub fn none(alloc: Global, design: &Design) -> Result<Come, Memory>
-        ensures size { IfOk result (λ come. length come ≡ length design.now.netlist.nets) }
-        ensures none { IfOk result (λ come. (i : ℕ) → slice_index_or come i false ≡ false) }
-        ensures count { IfOk result (λ come. count_by (λ has. has) come ≡ 0) }
+    /// No net has come.
+    pub fn none(alloc: Global) -> Come
+        ensures { result ≡ [] }
     {
-        let marks = vec![in alloc; false; design.netlist().net_count()]?;
-        Ok(Come { marks })
+        Come {
+            nets: IndexSet::new(alloc),
+        }
     }
 
-    /// Notes that a net has come. Whether it comes for the first time.
-    pub fn note(&mut self, net: u32) -> bool
-        requires { net < length self.old }
-        ensures first { result ≡ not (slice_index_or self.old net false) }
-        ensures size { length self.new ≡ length self.old }
-        ensures noted { (i : ℕ) → slice_index_or self.new i false ≡ ((i == net) || slice_index_or self.old i false) }
-        ensures count { result ≡ true → count_by (λ has. has) self.new ≡ count_by (λ has. has) self.old + 1 }
+    /// Notes that a net has come, last. Whether it comes for the first time, or `Memory` where there is no room.
+    pub fn note(&mut self, net: u32) -> Result<bool, Memory>
+        ensures first { IfOk result (λ first. first ≡ not (list_any (eqb net) self.old)) }
+        ensures last { IfOk result (λ first. first ≡ true → self.new ≡ self.old ++ net ∷ []) }
+        ensures once { IsDistinct eqb self.new }
     {
-        let at = net as usize;
-        if self.marks[at] {
-            return false;
-        }
-        self.marks[at] = true;
-        true
+        let first = self.nets.insert(net)?;
+        Ok(first)
     }
 }

@@ -1,6 +1,7 @@
 //! The way down from the first net.
 
 ghost use Rattle.std.specs.Prelude.{◌≡◌, ◌<◌, ◌≤◌, ◌+◌, ◌^◌, ℕ, List, length, IfOk, IfErr, OnOk};
+ghost use Rattle.vg_design.specs.Designs.{Design as DesignValue};
 ghost use Rattle.vg_retime.specs.Stops.{IsRefusedDown};
 ghost use Rattle.vg_retime.specs.Ways.{wrong_in};
 ghost use Rattle.vg_retime.specs.Steps.{IsFirstWithin, IsSizedNet, IsSizedSignal, IsUnderWay, IsVisited, first_of, signal_of};
@@ -19,7 +20,7 @@ use vg_wire::{Refusal, Refused};
 #[derive(Drop)]
 pub(crate) struct Walk {
     pub first: First,
-    /// For each net of the netlist whether it has come.
+    /// The nets that have come so far.
     pub come: Come,
     /// The signals so far, breadth first.
     pub signals: Vec<Signal>,
@@ -30,12 +31,10 @@ pub(crate) struct Walk {
 }
 
 /// The walk at the first net. Answers `Memory` where there is no room.
-fn begin(alloc: Global, design: &Design, first: First) -> Result<Walk, Memory>
-    requires { IsFirstWithin (length design.now.netlist.nets) first }
-    ensures walk { IfOk result (λ walk. (prefix : List ℕ) → IsUnderWay design.now prefix 0 walk) }
+fn begin(alloc: Global, first: First) -> Result<Walk, Memory>
+    ensures walk { IfOk result (λ walk. (design : DesignValue) (prefix : List ℕ) → IsFirstWithin (length design.netlist.nets) first → IsUnderWay design prefix 0 walk) }
     ensures first { IfOk result (λ walk. walk.first ≡ first) }
 {
-    let come = Come::none(alloc, design)?;
     let mut signals = Vec::new(alloc);
     signals.push(Signal {
         net: first.net,
@@ -45,7 +44,7 @@ fn begin(alloc: Global, design: &Design, first: First) -> Result<Walk, Memory>
     })?;
     Ok(Walk {
         first,
-        come,
+        come: Come::none(alloc),
         signals,
         least: None,
         wrong: None,
@@ -98,7 +97,7 @@ fn turn(
 {
     design.netlist().is_sound();
     let signal = walk.signals[at];
-    if !walk.come.note(signal.net) {
+    if !walk.come.note(signal.net)? {
         return Err(Refused::Net(Refusal::Loop));
     }
     let net = walk_net(alloc, design, prefix, signal.net)?;
@@ -118,7 +117,7 @@ pub(crate) fn go_down(
     ensures first { IfOk result (λ walk. walk.first ≡ first) }
     ensures refused { IfErr result (IsRefusedDown design.now prefix.now first) }
 {
-    let mut walk = begin(alloc, design, first)?;
+    let mut walk = begin(alloc, first)?;
     let mut at = 0;
     'signal: while at < walk.signals.len() {
         turn(alloc, design, prefix, at, &mut walk)?;

@@ -7,7 +7,7 @@ use Rattle.vg_retime.proofs.DownLemmas.{few_turns}
 use Rattle.vg_retime.proofs.down.go_down.Goals as goal
 
 pub signal-init : goal.signal-init
-signal-init c = record { way = c.in_ok-walk.ensures.walk c.args.prefix.now; first = c.in_ok-walk.ensures.first }
+signal-init c = record { way = c.in_ok-walk.ensures.walk c.args.design.now c.args.prefix.now c.requires; first = c.in_ok-walk.ensures.first }
 
 pub signal-smaller : goal.signal-smaller
 signal-smaller c =

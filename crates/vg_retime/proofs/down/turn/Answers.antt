@@ -7,16 +7,11 @@ use Rattle.vg_retime.proofs.DownLemmas.{few_turns, more_signal, next_sized, sign
 use Rattle.vg_retime.proofs.WalkNetLemmas.{more_sized}
 use Rattle.vg_retime.proofs.down.turn.Goals as goal
 
-pub returns-then-not-note-clause-refused : goal.returns-then-not-note-clause-refused
-returns-then-not-note-clause-refused c =
+pub returns-then-not-branch-clause-refused : goal.returns-then-not-branch-clause-refused
+returns-then-not-branch-clause-refused c =
     stops_again c.args.design.now c.args.prefix.now c.args.at c.args.walk.now (signal_of c.index.result.now) c.requires.walk
     (signal_at c.args.walk.now c.args.at c.index.result.now c.requires.at c.index.ensures)
-    (was_there c.note.result _ c.note.ensures.first c.if-not-note.true)
-
-pub note-requires : goal.note-requires
-note-requires c =
-    let next = next_sized c.args.design.now c.args.prefix.now c.args.at c.args.walk.now (signal_of c.index.result.now) c.requires.walk (signal_at c.args.walk.now c.args.at c.index.result.now c.requires.at c.index.ensures) in
-    let size = c.requires.walk.size in omega (arith, next.net, size)
+    (was_there _ _ c.in_ok-note.ensures.first c.if-not-branch.true)
 
 pub walk_net-requires : goal.walk_net-requires
 walk_net-requires c =
@@ -25,10 +20,10 @@ walk_net-requires c =
 
 pub returns-in_err-net-clause-refused : goal.returns-in_err-net-clause-refused
 returns-in_err-net-clause-refused c =
-    let p = err_from_is_err_and c.from_residual.result c.from_residual.ensures.1 in
+    let p = err_from_is_err_and c.from_residual-in_err-net.result c.from_residual-in_err-net.ensures.1 in
     rw (p.1, p.2) (stops_refused c.args.design.now c.args.prefix.now c.args.at c.args.walk.now (signal_of c.index.result.now) c.requires.walk
     (signal_at c.args.walk.now c.args.at c.index.result.now c.requires.at c.index.ensures)
-    (was_new c.note.result _ c.note.ensures.first c.if-not-note.false) c.in_err-net.field-0.0 c.in_err-net.ensures.refused)
+    (was_new _ _ c.in_ok-note.ensures.first c.if-not-branch.false) c.in_err-net.field-0.0 c.in_err-net.ensures.refused)
 
 pub visit-requires-clause-net : goal.visit-requires-clause-net
 visit-requires-clause-net c =
@@ -48,16 +43,15 @@ pub returns-clause-walk : goal.returns-clause-walk
 returns-clause-walk c =
     under_next c.args.design.now c.args.prefix.now c.args.at c.args.walk.now (signal_of c.index.result.now) c.requires.walk
     (signal_at c.args.walk.now c.args.at c.index.result.now c.requires.at c.index.ensures)
-    (was_new c.note.result _ c.note.ensures.first c.if-not-note.false) c.in_ok-net.net c.in_ok-net.ensures.net c.in_ok-net.ensures.sized
+    (was_new _ _ c.in_ok-note.ensures.first c.if-not-branch.false) c.in_ok-net.net c.in_ok-net.ensures.net c.in_ok-net.ensures.sized
     (record c.args.walk.now { come = c.note.new.self }) c.visit.new.walk
     (record {
       first = refl;
       signals = refl;
       least = refl;
       wrong = refl;
-      size = c.note.ensures.size;
-      noted = c.note.ensures.noted;
-      count = c.note.ensures.count c.if-not-note.false;
+      come = c.in_ok-note.ensures.last c.if-not-branch.false;
+      once = c.note.ensures.once;
     }) c.in_ok-visit.ensures
 
 pub returns-clause-first : goal.returns-clause-first
