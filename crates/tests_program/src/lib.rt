@@ -2,6 +2,8 @@
 #![tactic(auto)]
 
 #[cfg(test)]
+mod all;
+#[cfg(test)]
 mod best;
 #[cfg(test)]
 mod changes;
@@ -13,6 +15,8 @@ mod faults;
 mod program;
 #[cfg(test)]
 mod runs;
+#[cfg(test)]
+mod summary;
 #[cfg(test)]
 mod texts;
 #[cfg(test)]
