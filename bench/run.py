@@ -10,9 +10,10 @@
 | `netlist` | `--mode time` | a small net, with netlists of wires, of escaped names, of bits and of undeclared nets |
 | `library` | `--mode time` | a small net, with libraries of mixed cells, of deep and of wide groups, and of tables |
 | `best` | `--mode best` | chains, random trees and fans of 1,024 to 65,536 nodes, with 2, 16, 64 and 256 repeaters |
+| `all` | `--mode time --all` and `--mode best --all` | all nets of designs of four files |
 
-The sizes are those of the SPEF files in modes `design` and `time` (1, 16, 64 and 256 MB if none is given), of the netlists
-(256 MB) and of the libraries (64 MB). With `--beside OTHER` each row but those of `rows` and `library` also tells the seconds
+The sizes are those of the SPEF files in modes `design` and `time` (1, 16, 64 and 256 MB if none is given) and `all` (1, 16, 64 and 192 MB),
+of the netlists (256 MB) and of the libraries (64 MB). With `--beside OTHER` each row but those of `rows` and `library` also tells the seconds
 and the memory of another program with the same arguments, run right after. In mode `best` the changed files are written, too.
 Seconds are the least of five runs of the whole process, peak memory is what GNU time tells, 1 MB is 2^20 bytes.
 """
@@ -49,11 +50,11 @@ def measure(words):
         return done.returncode, done.stdout, seconds, int(peak.read()) * 1024
 
 
-def measure_good(words):
-    """What a run printed, and the least seconds and memory of five runs; all end with status 0."""
+def measure_good(words, most=0):
+    """What a run printed, and the least seconds and memory of five runs; all end with status 0, or with one up to another."""
     runs = [measure(words) for _ in range(5)]
-    if any(status != 0 for status, _, _, _ in runs):
-        sys.exit(f"run.py: a status that is not 0: {' '.join(words)}")
+    if any(not 0 <= status <= most for status, _, _, _ in runs):
+        sys.exit(f"run.py: a status that is not to come: {' '.join(words)}")
     return runs[0][1], min(run[2] for run in runs), min(run[3] for run in runs)
 
 
@@ -189,6 +190,25 @@ def run_best(programs, *sizes):
                 row(shape, f"{int(nodes):,}", repeaters, f"{runs[0][0].count(b'at '):,}", *cells)
 
 
+def run_all(programs, *sizes):
+    head("SPEF file", "netlist", "nets", "mode", "cells", *titles(programs))
+    files = ["--spef", "net.spef", "--lib", "net.lib", "--verilog", "net.v", "--cons", "net.cons"]
+    written = ["--out-spef", "out.spef", "--out-verilog", "out.v"]
+    for size in sizes or ["1", "16", "64", "192"]:
+        next(iter(designs([size])))
+        with open("net.spef", "rb") as design:
+            nets = sum(line.startswith((b"*D_NET", b"*R_NET")) for line in design)
+        sizes_of = [mb(os.path.getsize(path)) for path in ["net.spef", "net.v"]]
+        for mode, words in [("time", []), ("best", written)]:
+            # A net of the design may be refused: status 2.
+            runs = [measure_good([program, "--mode", mode, *files, "--all", *words], 2) for program in programs]
+            if any(run[0] != runs[0][0] for run in runs):
+                print("run.py: the programs print different reports", file=sys.stderr)
+            cells = [cell for _, seconds, peak in runs for cell in (f"{seconds:.2f}", mb(peak))]
+            put = sum(line.startswith(b"at ") for line in runs[0][0].splitlines())
+            row(*sizes_of, f"{nets:,}", mode, f"{put:,}", *cells)
+
+
 MODES = {
     "wire": run_wire,
     "design": run_design,
@@ -197,6 +217,7 @@ MODES = {
     "netlist": run_netlist,
     "library": run_library,
     "best": run_best,
+    "all": run_all,
 }
 
 
