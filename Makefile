@@ -1,20 +1,23 @@
-# `make` proves and builds the program, once. `make demo` times a net of the design in examples/ as it is, then places
-# repeaters on it, and times it again in the files that this writes to out/; `make wire` prints the wire delays of a net. Where
-# the program is not built yet, they run it without a proof. `make test` is the merge gate.
+# `make` proves and builds the program, once. `make demo` places repeaters on all nets of the design in examples/, writes the files to
+# out/, prints the report, and times all nets before and after; `make wire` prints the wire delays of a net. Where the program is not
+# built yet, they run it without a proof. `make test` is the merge gate.
 .PHONY: build demo wire test
 
 OTHERS = --lib examples/soc.lib --cons examples/soc.cons
 DESIGN = --spef examples/soc.spef --verilog examples/soc.v $(OTHERS)
 WRITTEN = $(CURDIR)/out/soc
+WORST = awk 'NR == 1 || $$4 < least { least = $$4; line = $$0 } END { print line }'
 
 build:
 	VGINSERT_BUILD=only ./vginsert
 
 demo:
-	@VGINSERT_BUILD=try ./vginsert --mode time $(DESIGN) --net 'acc[0]'
 	@mkdir -p out
-	@VGINSERT_BUILD=try ./vginsert --mode best $(DESIGN) --net 'acc[0]' --out-spef '$(WRITTEN).spef' --out-verilog '$(WRITTEN).v'
-	@VGINSERT_BUILD=try ./vginsert --mode time --spef '$(WRITTEN).spef' --verilog '$(WRITTEN).v' $(OTHERS) --net 'acc[0]'
+	@VGINSERT_BUILD=try ./vginsert --mode time $(DESIGN) --all > out/before.txt
+	@VGINSERT_BUILD=try ./vginsert --mode best $(DESIGN) --all --out-spef '$(WRITTEN).spef' --out-verilog '$(WRITTEN).v'
+	@VGINSERT_BUILD=try ./vginsert --mode time --spef '$(WRITTEN).spef' --verilog '$(WRITTEN).v' $(OTHERS) --all > out/after.txt
+	@printf 'worst slack as it is:           ' && $(WORST) out/before.txt
+	@printf 'worst slack with the repeaters: ' && $(WORST) out/after.txt
 
 wire:
 	@VGINSERT_BUILD=try ./vginsert --mode wire --spef examples/fork.spef --net n1

@@ -19,7 +19,7 @@ use vg_store::RealFiles;
 const PAGES: [&str; 2] = ["README.md", "examples/README.md"];
 
 /// The manual page.
-const MANUAL: &str = "vginsert.1";
+const MANUAL: &str = "docs/vginsert.1";
 
 /// The files that the runs on the pages read.
 const EXAMPLES: [&str; 8] = [
