@@ -1,4 +1,5 @@
-//! Whether mode `time` finds in the files that mode `best` writes the slack that it printed, for each net of a design.
+//! Whether mode `time` finds in the files that mode `best` writes the slack that it printed, for each net of a design, and whether a run
+//! over all nets prints what the runs over each of them do.
 
 use crate::report::words_of;
 use std::alloc::Global;
@@ -38,25 +39,54 @@ const NETS: [&str; 28] = [
     "_05_",
 ];
 
-/// The words of mode `best` but for the net.
+/// The words of mode `best` but for the net, or for all nets.
 const BEST: &str =
-    "--mode best --spef examples/soc.spef --lib examples/soc.lib --verilog examples/soc.v --cons examples/soc.cons --out-spef out.spef --out-verilog out.v --net ";
+    "--mode best --spef examples/soc.spef --lib examples/soc.lib --verilog examples/soc.v --cons examples/soc.cons --out-spef out.spef --out-verilog out.v";
 
 /// Those of mode `time` for the files that it writes.
 const TIME: &str =
-    "--mode time --spef out.spef --lib examples/soc.lib --verilog out.v --cons examples/soc.cons --net ";
+    "--mode time --spef out.spef --lib examples/soc.lib --verilog out.v --cons examples/soc.cons";
 
 /// The most bytes that an output takes at once.
 const CHUNK: usize = 1 << 16;
 
-/// What a run with these words and for this net prints; nothing where it does not end with status 0.
+/// What runs in mode `best` print for nets, one after another, and what is to be printed in mode `time` for what they write.
+#[derive(Drop)]
+struct Lines {
+    best: String,
+    time: String,
+}
+
+impl Lines {
+    /// With the report of mode `best` for one net more, which may be empty.
+    fn add(&mut self, best: &str) -> Result<(), Memory> {
+        self.best.push_str(best)?;
+        // The net and its slack.
+        for word in best.split(' ').take(4) {
+            self.time.push_str(word)?;
+            self.time.push_str(" ")?;
+        }
+        self.time.push_str("polarity right\n")?;
+        Ok(())
+    }
+}
+
+/// No lines.
+fn no_lines(alloc: Global) -> Lines {
+    Lines {
+        best: String::new(alloc),
+        time: String::new(alloc),
+    }
+}
+
+/// What a run with these words prints, with those that tell for which nets; nothing where it does not end with status 0.
 fn printed<F: Files>(
     alloc: Global,
     files: &mut F,
     words: &str,
-    net: &str,
+    nets: &str,
 ) -> Result<String, Memory> {
-    let command = format!(in alloc; "{words}{net}")?;
+    let command = format!(in alloc; "{words} {nets}")?;
     let words = words_of(alloc, command.as_bytes())?;
     let mut out = MemOut::new(alloc, CHUNK, &[])?;
     let mut err = MemOut::new(alloc, CHUNK, &[])?;
@@ -66,29 +96,42 @@ fn printed<F: Files>(
     Ok(String::from_utf8_lossy(alloc, out.as_bytes())?)
 }
 
-/// Whether a net of the design re-times to the slack that was printed, and no sink has the wrong polarity.
-fn retimes<F: Files>(alloc: Global, files: &mut F, net: &str) -> Result<bool, Memory> {
-    let best = printed(alloc, files, BEST, net)?;
-    let mut wanted = String::new(alloc);
-    // The net and its slack.
-    for word in best.as_str().split(' ').take(4) {
-        wanted.push_str(word)?;
-        wanted.push_str(" ")?;
-    }
-    wanted.push_str("polarity right\n")?;
-    let time = printed(alloc, files, TIME, net)?;
-    Ok(time == wanted)
-}
-
-/// Tells whether all nets of the design re-time to the slacks that were printed, or which do not.
-pub(crate) fn report_design<F: Files>(
+/// Whether the nets that these words tell re-time to the slacks that were printed for them, and no sink has the wrong polarity.
+fn retime<F: Files>(
     alloc: Global,
     files: &mut F,
+    nets: &str,
+    lines: &Lines,
+) -> Result<bool, Memory> {
+    let time = printed(alloc, files, TIME, nets)?;
+    Ok(time == lines.time)
+}
+
+/// Whether a net of the design re-times to the slack that was printed. Adds its lines to those of all nets.
+fn retimes<F: Files>(
+    alloc: Global,
+    files: &mut F,
+    net: &str,
+    all: &mut Lines,
+) -> Result<bool, Memory> {
+    let nets = format!(in alloc; "--net {net}")?;
+    let best = printed(alloc, files, BEST, nets.as_str())?;
+    let mut lines = no_lines(alloc);
+    lines.add(best.as_str())?;
+    all.add(best.as_str())?;
+    retime(alloc, files, nets.as_str(), &lines)
+}
+
+/// Tells whether each net of the design re-times to the slack that was printed, or which do not. Adds the lines of the nets.
+fn report_nets<F: Files>(
+    alloc: Global,
+    files: &mut F,
+    lines: &mut Lines,
     report: &mut String,
 ) -> Result<bool, Memory> {
     let mut all = true;
     for net in &NETS {
-        if !retimes(alloc, files, net)? {
+        if !retimes(alloc, files, net, lines)? {
             writeln!(report, "{net}: another slack in the written files")?;
             all = false;
         }
@@ -97,4 +140,32 @@ pub(crate) fn report_design<F: Files>(
         writeln!(report, "examples/soc: {} nets re-time", NETS.len())?;
     }
     Ok(all)
+}
+
+/// Whether a run over all nets prints what the runs over each of them did, and all nets re-time in what it writes.
+fn are_as_one_by_one<F: Files>(
+    alloc: Global,
+    files: &mut F,
+    lines: &Lines,
+) -> Result<bool, Memory> {
+    let best = printed(alloc, files, BEST, "--all")?;
+    let retimed = retime(alloc, files, "--all", lines)?;
+    Ok(best == lines.best && retimed)
+}
+
+/// Tells whether the nets of the design re-time to the slacks that were printed, one by one and all at once.
+pub(crate) fn report_design<F: Files>(
+    alloc: Global,
+    files: &mut F,
+    report: &mut String,
+) -> Result<bool, Memory> {
+    let mut lines = no_lines(alloc);
+    let retimed = report_nets(alloc, files, &mut lines, report)?;
+    let same = are_as_one_by_one(alloc, files, &lines)?;
+    if same {
+        writeln!(report, "examples/soc: all nets at once as one by one")?;
+    } else {
+        writeln!(report, "examples/soc: all nets at once not as one by one")?;
+    }
+    Ok(retimed && same)
 }
