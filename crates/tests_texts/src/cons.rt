@@ -2,11 +2,11 @@
 use std::alloc::Global;
 use std::test::Fail;
 use vg_cons::{
-    ConsKind, Constraints, allows, arrival, in_box, is_blocked, port_drive, port_load,
+    ConsKind, Constraints, NodeRef, allows, arrival, in_box, is_blocked, port_drive, port_load,
     read_constraints, required, wants_inverted,
 };
 use vg_num::NumFault;
-use vg_scan::{Name, NodeName};
+use vg_scan::Name;
 
 const FORM: ConsKind = ConsKind::Number(NumFault::Form);
 
@@ -181,21 +181,21 @@ fn read(alloc: Global, text: &str) -> Result<Constraints, Fail> {
     Ok(cons)
 }
 
-fn node(alloc: Global, owner: &str, leaf: &str) -> Result<NodeName, Fail> {
-    Ok(NodeName {
-        owner: Name::from_bytes(alloc, owner.as_bytes())?,
-        leaf: Name::from_bytes(alloc, leaf.as_bytes())?,
-    })
+fn node<'a>(owner: &'a str, leaf: &'a str) -> NodeRef<'a> {
+    NodeRef {
+        owner: owner.as_bytes(),
+        leaf: leaf.as_bytes(),
+    }
 }
 
 fn pin_in(alloc: Global, text: &str, owner: &str, leaf: &str) -> Result<Pin, Fail> {
     let cons = read(alloc, text)?;
-    let pin = node(alloc, owner, leaf)?;
+    let pin = node(owner, leaf);
     Ok((
-        required(&cons, &pin),
-        arrival(&cons, &pin),
-        wants_inverted(&cons, &pin),
-        is_blocked(&cons, &pin),
+        required(&cons, pin),
+        arrival(&cons, pin),
+        wants_inverted(&cons, pin),
+        is_blocked(&cons, pin),
     ))
 }
 
@@ -259,7 +259,7 @@ fn are_cells(cells: &[Name], wanted: &[&str]) -> bool {
 fn allows_these(
     alloc: Global,
     text: &str,
-    node: &NodeName,
+    node: NodeRef<'_>,
     wanted: Option<&[&str]>,
 ) -> Result<bool, Fail> {
     let cons = read(alloc, text)?;
@@ -273,9 +273,9 @@ fn allows_these(
 #[test]
 fn looks_up_allowed_cells(rt: HostRuntime) -> Result<(), Fail> {
     for (text, owner, leaf, wanted) in &ALLOWED {
-        let node = node(rt.alloc(), owner, leaf)?;
+        let node = node(owner, leaf);
         assert!(rt;
-            allows_these(rt.alloc(), text, &node, *wanted)?,
+            allows_these(rt.alloc(), text, node, *wanted)?,
             "{owner}:{leaf}"
         );
     }

@@ -5,16 +5,18 @@ ghost use Rattle.vg_cons.specs.Statements.{default};
 ghost use Rattle.vg_cons.specs.Views.{Adds, Begins, added_as, stored_as, as_statement};
 ghost use Rattle.vg_cons.specs.Rows.{Rows, required_of, arrival_of, wants_inverted_of, drive_of, load_of, is_blocked_of, allowed_of, in_box_of};
 ghost use Rattle.vg_cons.specs.Growth.{no_rows};
+ghost use Rattle.vg_cons.specs.Named.{named};
 
 use crate::boxes::Boxes;
 use crate::fault::ConsKind;
 use crate::format::Format;
+use crate::node::NodeRef;
 use crate::row::Row;
 use crate::tables::{NodeCells, NodeSet, NodeTimes, PortDrives, PortLoads};
 use std::alloc::Global;
 use std::marker::Model;
 use vg_num::Memory;
-use vg_scan::{Name, NodeName};
+use vg_scan::Name;
 
 /// The version of a constraints text, and its rows by kind. Contracts see the record `Rows`, with the rows in the order of the
 /// text.
@@ -158,22 +160,22 @@ fn check_room(stored: Result<(), Memory>) -> Result<(), ConsKind>
 
 /// The time by which a signal has to be at a pin, in zeptoseconds: the pin's own, else the default. `None`: neither is
 /// given.
-pub fn required(cons: &Constraints, pin: &NodeName) -> Option<i128>
-    ensures { result ≡ required_of cons.now pin.now }
+pub fn required(cons: &Constraints, pin: NodeRef<'_>) -> Option<i128>
+    ensures { result ≡ required_of cons.now (named pin.entry) }
 {
     cons.required.get(pin).or(cons.default)
 }
 
 /// When a signal is at a pin, in zeptoseconds: 0 where nothing is given.
-pub fn arrival(cons: &Constraints, pin: &NodeName) -> i128
-    ensures { result ≡ arrival_of cons.now pin.now }
+pub fn arrival(cons: &Constraints, pin: NodeRef<'_>) -> i128
+    ensures { result ≡ arrival_of cons.now (named pin.entry) }
 {
     cons.arrival.get(pin).unwrap_or(0)
 }
 
 /// Whether a pin wants the inverted signal.
-pub fn wants_inverted(cons: &Constraints, pin: &NodeName) -> bool
-    ensures { result ≡ wants_inverted_of cons.now pin.now }
+pub fn wants_inverted(cons: &Constraints, pin: NodeRef<'_>) -> bool
+    ensures { result ≡ wants_inverted_of cons.now (named pin.entry) }
 {
     cons.want.contains(pin)
 }
@@ -193,16 +195,16 @@ pub fn port_load(cons: &Constraints, port: &Name) -> u64
 }
 
 /// Whether nothing may be placed at a node.
-pub fn is_blocked(cons: &Constraints, node: &NodeName) -> bool
-    ensures { result ≡ is_blocked_of cons.now node.now }
+pub fn is_blocked(cons: &Constraints, node: NodeRef<'_>) -> bool
+    ensures { result ≡ is_blocked_of cons.now (named node.entry) }
 {
     cons.block.contains(node)
 }
 
 /// The cells that a row names for a node, in its order: no other may be placed there. `None`: no row names any, and all may be.
 /// It takes no memory.
-pub fn allows<'a>(cons: &'a Constraints, node: &NodeName) -> Option<&'a [Name]>
-    ensures { option_copied result ≡ allowed_of cons.now node.now }
+pub fn allows<'a>(cons: &'a Constraints, node: NodeRef<'_>) -> Option<&'a [Name]>
+    ensures { option_copied result ≡ allowed_of cons.now (named node.entry) }
 {
     cons.allow.get(node)
 }

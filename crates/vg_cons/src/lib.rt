@@ -26,6 +26,7 @@ mod fault;
 mod format;
 mod line;
 mod names;
+mod node;
 mod read;
 mod row;
 mod tables;
@@ -35,4 +36,5 @@ pub use constraints::{
     wants_inverted,
 };
 pub use fault::{ConsFault, ConsKind};
+pub use node::NodeRef;
 pub use read::read_constraints;

@@ -3,8 +3,10 @@
 ghost use Rattle.std.specs.Prelude.{◌≡◌, ℕ, ℤ, List, [], ◌∷◌, ◌++◌, not, is_some, true, IfOk, option_copied};
 ghost use Rattle.vg_scan.specs.Nodes.{node_value, has_node};
 ghost use Rattle.vg_scan.specs.declared.name.NodeName.{NodeName};
+ghost use Rattle.vg_cons.specs.Named.{named};
 ghost use Rattle.vg_cons.specs.Names.{port_value};
 
+use crate::node::NodeRef;
 use indexmap::{IndexMap, IndexSet};
 use std::alloc::Global;
 use std::marker::Model;
@@ -42,8 +44,8 @@ impl NodeTimes {
     }
 
     /// The time of a node.
-    pub fn get(&self, node: &NodeName) -> Option<i128>
-        ensures { result ≡ node_value self.now node.now }
+    pub fn get(&self, node: NodeRef<'_>) -> Option<i128>
+        ensures { result ≡ node_value self.now (named node.entry) }
     {
         self.times.get(node).copied()
     }
@@ -80,8 +82,8 @@ impl NodeSet {
     }
 
     /// Whether the node is one of them.
-    pub fn contains(&self, node: &NodeName) -> bool
-        ensures { result ≡ has_node self.now node.now }
+    pub fn contains(&self, node: NodeRef<'_>) -> bool
+        ensures { result ≡ has_node self.now (named node.entry) }
     {
         self.nodes.contains(node)
     }
@@ -118,8 +120,8 @@ impl NodeCells {
     }
 
     /// The cells of a node.
-    pub fn get(&self, node: &NodeName) -> Option<&[Name]>
-        ensures { option_copied result ≡ node_value self.now node.now }
+    pub fn get(&self, node: NodeRef<'_>) -> Option<&[Name]>
+        ensures { option_copied result ≡ node_value self.now (named node.entry) }
     {
         match self.cells.get(node) {
             Some(cells) => Some(cells.as_slice()),

@@ -7,7 +7,7 @@ ghost use Rattle.vg_design.specs.Parts.{allowance_at, allowed_in, cells_of, numb
 
 use crate::design::Design;
 use crate::numbers::push_where;
-use crate::parts::name_of;
+use crate::parts::node_of;
 use elmore::Allowed;
 use lib_linear::{Repeater, repeaters};
 use spef_net::ParNet;
@@ -41,8 +41,7 @@ fn allowed_at(alloc: Global, design: &Design, net: &ParNet, v: u32) -> Result<Al
     requires { v < length net.now.nodes }
     ensures { IfOk result (λ allowed. allowed ≡ allowance_at design.now net.now v) }
 {
-    let name = name_of(alloc, net, v)?;
-    match allows(&design.cons, &name) {
+    match allows(&design.cons, node_of(net, v)) {
         None => Ok(Allowed::All),
         Some(cells) => {
             let numbers = numbers_of(alloc, repeaters(&design.library), cells)?;

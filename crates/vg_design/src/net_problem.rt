@@ -12,7 +12,7 @@ ghost use Rattle.vg_design.specs.Steps.{FindsUnconstrained, IsReady, MakesProble
 use crate::allowed::allowed_of;
 use crate::design::Design;
 use crate::names::TreeNames;
-use crate::parts::{driver_at, free_of, loaded_nodes, name_of, reps_of, sinks_of};
+use crate::parts::{driver_at, free_of, loaded_nodes, name_of, node_of, reps_of, sinks_of};
 use crate::pins::PinnedNet;
 use crate::ready::{ReadyNet, ready_net};
 use elmore::{Node, Problem, Tree};
@@ -37,37 +37,24 @@ pub struct PosedNet {
     pub problem: Problem,
 }
 
-/// Whether a connection is a sink without a required time. Answers `Memory` where there is no room.
-pub fn is_unconstrained(
-    alloc: Global,
-    cons: &Constraints,
-    net: &ParNet,
-    conn: &ParConn,
-) -> Result<bool, Memory>
+/// Whether a connection is a sink without a required time.
+pub fn is_unconstrained(cons: &Constraints, net: &ParNet, conn: &ParConn) -> bool
     requires { conn.now.node < length net.now.nodes }
-    ensures { IfOk result (λ free. free ≡ is_unconstrained cons.now net.now conn.now) }
+    ensures { result ≡ is_unconstrained cons.now net.now conn.now }
 {
-    if !is_sink(conn) {
-        return Ok(false);
-    }
-    let name = name_of(alloc, net, conn.node)?;
-    Ok(required(cons, &name).is_none())
+    is_sink(conn) && required(cons, node_of(net, conn.node)).is_none()
 }
 
-/// The first sink, in the order of the connections, without a required time. Answers `Memory` where there is no room.
-fn first_unconstrained(
-    alloc: Global,
-    cons: &Constraints,
-    net: &ParNet,
-) -> Result<Option<ParConn>, Memory>
-    ensures { IfOk result (λ first. first ≡ find (is_unconstrained cons.now net.now) net.now.conns) }
+/// The first sink, in the order of the connections, without a required time.
+fn first_unconstrained(cons: &Constraints, net: &ParNet) -> Option<ParConn>
+    ensures { result ≡ find (is_unconstrained cons.now net.now) net.now.conns }
 {
     'connection: for conn in net.conns.as_slice() {
-        if is_unconstrained(alloc, cons, net, conn)? {
-            return Ok(Some(*conn));
+        if is_unconstrained(cons, net, conn) {
+            return Some(*conn);
         }
     }
-    Ok(None)
+    None
 }
 
 /// The name of the first sink without a required time, if there is one. Answers `Memory` where there is no room.
@@ -79,7 +66,7 @@ fn unconstrained_sink(
     ensures { IfOk result (FindsUnconstrained design.now.rows ready.now.pinned.net.par) }
 {
     let par = &ready.pinned.net.par;
-    match first_unconstrained(alloc, design.cons(), par)? {
+    match first_unconstrained(design.cons(), par) {
         None => Ok(None),
         Some(sink) => Ok(Some(name_of(alloc, par, sink.node)?)),
     }

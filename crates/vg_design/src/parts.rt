@@ -5,6 +5,7 @@ ghost use Rattle.std.specs.List.{All};
 ghost use Rattle.spef_net.specs.Positions.{position_of};
 ghost use Rattle.vg_design.specs.Steps.{ArePins};
 ghost use Rattle.elmore.specs.Problems.{AreRising};
+ghost use Rattle.vg_cons.specs.Named.{named};
 ghost use Rattle.elmore.specs.Trees.{node_at};
 ghost use Rattle.vg_wire.specs.Wires.{AreMarks};
 ghost use Rattle.vg_design.specs.Designs.{driver_at as driver_by, name_of as name_in, pin_driver as pin_driver_by, port_driver as port_driver_by, sink_load as sink_load_of, NO_NODE};
@@ -17,7 +18,8 @@ use lib_linear::repeaters;
 use spef_net::{ParNet, position};
 use std::alloc::Global;
 use vg_cons::{
-    Constraints, arrival, in_box, is_blocked, port_drive, port_load, required, wants_inverted,
+    Constraints, NodeRef, arrival, in_box, is_blocked, port_drive, port_load, required,
+    wants_inverted,
 };
 use vg_num::Memory;
 use vg_scan::{Name, NodeName};
@@ -31,33 +33,39 @@ pub(crate) fn name_of(alloc: Global, net: &ParNet, v: u32) -> Result<NodeName, M
     Ok(name)
 }
 
+/// A node of a net by the texts of its name.
+pub(crate) fn node_of(net: &ParNet, v: u32) -> NodeRef<'_>
+    requires { v < length net.now.nodes }
+    ensures { named result ≡ name_in net.now v }
+{
+    let at = v as usize;
+    NodeRef {
+        owner: net.nodes.owner(at),
+        leaf: net.nodes.leaf(at),
+    }
+}
+
 /// What the constraints say of a sink; a sink without a required time has 0.
-fn sink_given(cons: &Constraints, name: &NodeName) -> Sink
-    ensures { result ≡ sink_by cons.now name.now }
+fn sink_given(cons: &Constraints, sink: NodeRef<'_>) -> Sink
+    ensures { result ≡ sink_by cons.now (named sink.entry) }
 {
     Sink {
-        required: required(cons, name).unwrap_or(0),
-        inverted: wants_inverted(cons, name),
+        required: required(cons, sink).unwrap_or(0),
+        inverted: wants_inverted(cons, sink),
     }
 }
 
 /// The sink at a node of a net, if it is one.
-fn sink_at(
-    alloc: Global,
-    cons: &Constraints,
-    net: &ParNet,
-    marks: &[bool],
-    v: u32,
-) -> Result<Option<Sink>, Memory>
+fn sink_at(cons: &Constraints, net: &ParNet, marks: &[bool], v: u32) -> Option<Sink>
     requires node { v < length net.now.nodes }
     requires marks { AreMarks net.now marks.now }
-    ensures { IfOk result (λ sink. sink ≡ sink_in cons.now net.now v) }
+    ensures { result ≡ sink_in cons.now net.now v }
 {
-    if !marks[v as usize] {
-        return Ok(None);
+    if marks[v as usize] {
+        Some(sink_given(cons, node_of(net, v)))
+    } else {
+        None
     }
-    let name = name_of(alloc, net, v)?;
-    Ok(Some(sink_given(cons, &name)))
 }
 
 /// For each node of the tree its sink, if it has one. Answers `Memory` where there is no room.
@@ -74,7 +82,7 @@ pub(crate) fn sinks_of(
 {
     let mut sinks = Vec::with_capacity(alloc, order.len())?;
     'node: for v in order {
-        sinks.push(sink_at(alloc, cons, net, marks, *v)?)?;
+        sinks.push(sink_at(cons, net, marks, *v))?;
     }
     Ok(sinks)
 }
@@ -164,7 +172,7 @@ fn port_driver(cons: &Constraints, name: &NodeName) -> Driver
     ensures { result ≡ port_driver_by cons.now name.now }
 {
     let (r, k) = port_drive(cons, &name.owner);
-    let arrival = arrival(cons, name);
+    let arrival = arrival(cons, NodeRef::of(name));
     Driver {
         k,
         r,
@@ -184,7 +192,7 @@ fn pin_driver(design: &Design, net: &PinnedNet, at: usize, name: &NodeName) -> D
     Driver {
         k: i128::from(k),
         r,
-        arrival: arrival(&design.cons, name),
+        arrival: arrival(&design.cons, NodeRef::of(name)),
         limit: net.limit(design, at),
     }
 }
@@ -218,17 +226,15 @@ fn is_boxed(cons: &Constraints, note: &[u8]) -> bool
     }
 }
 
-/// Whether a node may have a cell. Answers `Memory` where there is no room.
-fn is_free(alloc: Global, cons: &Constraints, net: &ParNet, v: u32) -> Result<bool, Memory>
+/// Whether a node may have a cell.
+fn is_free(cons: &Constraints, net: &ParNet, v: u32) -> bool
     requires { v < length net.now.nodes }
-    ensures { IfOk result (λ free. free ≡ is_free_in cons.now (slice_index_or net.now.nodes v NO_NODE)) }
+    ensures { result ≡ is_free_in cons.now (slice_index_or net.now.nodes v NO_NODE) }
 {
     let at = v as usize;
-    if !net.nodes.is_inner(at) {
-        return Ok(false);
-    }
-    let name = name_of(alloc, net, v)?;
-    Ok(!is_blocked(cons, &name) && !is_boxed(cons, net.nodes.note(at)))
+    net.nodes.is_inner(at)
+        && !is_blocked(cons, node_of(net, v))
+        && !is_boxed(cons, net.nodes.note(at))
 }
 
 /// For each node of the tree whether it may have a cell. Answers `Memory` where there is no room.
@@ -243,7 +249,7 @@ pub(crate) fn free_of(
 {
     let mut free = Vec::with_capacity(alloc, order.len())?;
     'node: for v in order {
-        free.push(is_free(alloc, cons, net, *v)?)?;
+        free.push(is_free(cons, net, *v))?;
     }
     Ok(free)
 }

@@ -67,42 +67,29 @@ impl Model for WalkNet {
     } };
 }
 
-/// Whether a connection is a sink that is not passed and has no required time. Answers `Memory` where there is no room.
-fn is_unconstrained_here(
-    alloc: Global,
-    design: &Design,
-    prefix: &[u8],
-    net: &PinnedNet,
-    conn: &ParConn,
-) -> Result<bool, Memory>
+/// Whether a connection is a sink that is not passed and has no required time.
+fn is_unconstrained_here(design: &Design, prefix: &[u8], net: &PinnedNet, conn: &ParConn) -> bool
     requires pins { ArePins design.now net.now.net net.now.pins }
     requires at { conn.now.node < length net.now.net.par.conns }
-    ensures { IfOk result (λ free. free ≡ is_unconstrained_here design.now prefix.now net.now.net conn.now) }
+    ensures { result ≡ is_unconstrained_here design.now prefix.now net.now.net conn.now }
 {
     if into_at(design, prefix, net, conn.node as usize).is_some() {
-        return Ok(false);
+        return false;
     }
-    let free = is_unconstrained(alloc, design.cons(), &net.net.par, conn)?;
-    Ok(free)
+    is_unconstrained(design.cons(), &net.net.par, conn)
 }
 
-/// The first sink, in the order of the connections, that is not passed and has no required time. Answers `Memory` where there is
-/// no room.
-fn first_unconstrained(
-    alloc: Global,
-    design: &Design,
-    prefix: &[u8],
-    net: &PinnedNet,
-) -> Result<Option<ParConn>, Memory>
+/// The first sink, in the order of the connections, that is not passed and has no required time.
+fn first_unconstrained(design: &Design, prefix: &[u8], net: &PinnedNet) -> Option<ParConn>
     requires { ArePins design.now net.now.net net.now.pins }
-    ensures { IfOk result (λ first. first ≡ find (is_unconstrained_here design.now prefix.now net.now.net) net.now.net.par.conns) }
+    ensures { result ≡ find (is_unconstrained_here design.now prefix.now net.now.net) net.now.net.par.conns }
 {
     'connection: for conn in net.net.par.conns.as_slice() {
-        if is_unconstrained_here(alloc, design, prefix, net, conn)? {
-            return Ok(Some(*conn));
+        if is_unconstrained_here(design, prefix, net, conn) {
+            return Some(*conn);
         }
     }
-    Ok(None)
+    None
 }
 
 /// The name of the first sink that is not passed and has no required time, if there is one. Answers `Memory` where there is no
@@ -116,7 +103,7 @@ fn unconstrained_sink(
     requires { ArePins design.now net.now.net net.now.pins }
     ensures { IfOk result (FindsUnconstrainedHere design.now prefix.now net.now.net) }
 {
-    match first_unconstrained(alloc, design, prefix, net)? {
+    match first_unconstrained(design, prefix, net) {
         None => Ok(None),
         Some(sink) => Ok(Some(net.net.par.nodes.name(alloc, sink.node as usize)?)),
     }

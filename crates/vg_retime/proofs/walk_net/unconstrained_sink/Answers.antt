@@ -8,4 +8,4 @@ pub name-requires : goal.name-requires
 name-requires c =
     subst (λ (p : PinnedNet). c.in-Some.sink.node < length p.net.par.nodes) (sym c.net.view_is)
     (found_within c.args.net.now.net.par (is_unconstrained_here c.args.design.now c.args.prefix.now c.args.net.now.net) c.in-Some.sink
-    (sym c.in_ok-first_unconstrained.ensures ∙ c.in-Some.is))
+    (sym c.first_unconstrained.ensures ∙ c.in-Some.is))
