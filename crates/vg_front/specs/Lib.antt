@@ -1,0 +1,14 @@
+pub mod Offers
+pub mod Seen
+pub mod Held
+pub mod Making
+pub mod Driving
+pub mod Branches
+pub mod Meeting
+pub mod Runs
+pub mod Fronts
+pub mod Joining
+pub mod Parts
+pub mod Sinks
+pub mod Points
+pub mod Roots

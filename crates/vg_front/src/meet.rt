@@ -1,0 +1,160 @@
+//! Two branches meet.
+
+ghost use Rattle.std.specs.Prelude.{[], ◌≡◌, ◌+◌, ◌<◌, ◌≤◌, ◌^◌, length, OnOk};
+ghost use Rattle.std.specs.Int.{int_min};
+ghost use Rattle.vg_front.specs.Offers.{IsPartOf, Adds};
+ghost use Rattle.vg_front.specs.Held.{IsBounded, AreBounded};
+ghost use Rattle.vg_front.specs.Meeting.{met_offer, IsMetOf, IsMet, IsRun, IsAdvance};
+ghost use Rattle.vg_front.specs.Runs.{IsRunOf, AreRunsOfEach, IsMetIn, IsMetAt};
+ghost use Rattle.vg_front.specs.declared.offer.Proposal.{Proposal as ProposalSpec};
+
+use crate::offer::{Candidate, Offer, Origin, Proposal};
+use crate::propose::{Desk, put};
+use crate::runs::{Meeting, end_of_cost, meetings_of, run_in};
+use std::alloc::Global;
+use vg_num::Memory;
+
+/// The lesser of two times (zs).
+fn lesser(a: i128, b: i128) -> i128
+    ensures { result ≡ int_min a b }
+{
+    if a <= b { a } else { b }
+}
+
+/// The costs of two offers together.
+fn both_costs(a: Offer, b: Offer) -> u64
+    requires first { IsBounded a }
+    requires second { IsBounded b }
+    ensures { result ≡ a.cost + b.cost }
+{
+    a.cost + b.cost
+}
+
+/// Two offers of branches that meet, together.
+fn met(a: Offer, b: Offer) -> Offer
+    requires first { IsBounded a }
+    requires second { IsBounded b }
+    ensures { result ≡ met_offer a b }
+{
+    Offer {
+        cost: both_costs(a, b),
+        q: lesser(a.q, b.q),
+        c: a.c + b.c,
+    }
+}
+
+/// Goes on to the next candidates of two lists: past the one with the lesser time, or past both where the times are equal.
+fn advance(x: Offer, y: Offer, i: &mut usize, j: &mut usize)
+    requires i { i.old + 1 < 2 ^ 64 }
+    requires j { j.old + 1 < 2 ^ 64 }
+    ensures { IsAdvance x.q y.q i.old j.old i.new j.new }
+{
+    if x.q < y.q {
+        *i += 1;
+        return;
+    }
+    if y.q < x.q {
+        *j += 1;
+        return;
+    }
+    *i += 1;
+    *j += 1;
+}
+
+/// Proposes the pairs of two runs, but those that others beat (van Ginneken 1990). Answers `Memory` where there is no room.
+fn meet_runs(xs: &[Candidate], ys: &[Candidate], made: &mut Vec<Proposal>) -> Result<(), Memory>
+    requires first { IsRun xs.now }
+    requires second { IsRun ys.now }
+    requires bounded_first { AreBounded xs.now }
+    requires bounded_second { AreBounded ys.now }
+    ensures { OnOk result (Adds (IsMetOf xs.now ys.now) made.old.items made.new.items) }
+{
+    let (mut i, mut j) = (0, 0);
+    'pairs: while i < xs.len() && j < ys.len() {
+        let (x, y) = (xs[i], ys[j]);
+        let origin = Origin::Join { a: x.sol, b: y.sol };
+        let offer = met(x.offer, y.offer);
+        put(made, Proposal { offer, origin })?;
+        advance(x.offer, y.offer, &mut i, &mut j);
+    }
+    Ok(())
+}
+
+/// Proposes the pairs of a meeting, but those that others beat. Answers `Memory` where there is no room.
+fn meet_one(
+    xs: &[Candidate],
+    ys: &[Candidate],
+    meeting: Meeting,
+    made: &mut Vec<Proposal>,
+) -> Result<(), Memory>
+    requires first { IsRunOf xs.now meeting.first }
+    requires second { IsRunOf ys.now meeting.second }
+    requires bounded_first { AreBounded xs.now }
+    requires bounded_second { AreBounded ys.now }
+    ensures { OnOk result (Adds (IsMetIn xs.now ys.now meeting) made.old.items made.new.items) }
+{
+    let first = run_in(xs, meeting.first);
+    let second = run_in(ys, meeting.second);
+    meet_runs(first, second, made)?;
+    Ok(())
+}
+
+/// Proposes the pairs of all these meetings, but those that others beat. Answers `Memory` where there is no room.
+fn meet_each(
+    xs: &[Candidate],
+    ys: &[Candidate],
+    meetings: &[Meeting],
+    made: &mut Vec<Proposal>,
+) -> Result<(), Memory>
+    requires meetings { AreRunsOfEach xs.now ys.now meetings.now }
+    requires bounded_first { AreBounded xs.now }
+    requires bounded_second { AreBounded ys.now }
+    ensures { OnOk result (Adds (IsMetAt xs.now ys.now meetings.now) made.old.items made.new.items) }
+{
+    'meetings: for meeting in meetings {
+        meet_one(xs, ys, *meeting, made)?;
+    }
+    Ok(())
+}
+
+/// Proposes the pairs of all these meetings, and keeps those that no others beat: the meetings of one cost after those of another,
+/// so that only pairs of one cost are to be put in order. Answers `Memory` where there is no room.
+fn meet_by_cost(
+    xs: &[Candidate],
+    ys: &[Candidate],
+    meetings: &[Meeting],
+    desk: &mut Desk,
+) -> Result<(), Memory>
+    requires meetings { AreRunsOfEach xs.now ys.now meetings.now }
+    requires bounded_first { AreBounded xs.now }
+    requires bounded_second { AreBounded ys.now }
+    ensures { OnOk result (IsPartOf (IsMetAt xs.now ys.now meetings.now) desk.new.made.items) }
+{
+    desk.clear();
+    let mut from = 0;
+    'costs: while from < meetings.len() {
+        let end = end_of_cost(meetings, from);
+        desk.fresh.clear();
+        meet_each(xs, ys, &meetings[from..end], &mut desk.fresh)?;
+        desk.settle()?;
+        from = end;
+    }
+    Ok(())
+}
+
+/// Proposes the pairs of two lists within the cap, but those that others beat. Answers `Memory` where there is no room.
+pub(crate) fn meet_lists(
+    alloc: Global,
+    xs: &[Candidate],
+    ys: &[Candidate],
+    cap: Option<u64>,
+    desk: &mut Desk,
+) -> Result<(), Memory>
+    requires bounded_first { AreBounded xs.now }
+    requires bounded_second { AreBounded ys.now }
+    ensures { OnOk result (IsPartOf (IsMet cap xs.now ys.now) desk.new.made.items) }
+{
+    let meetings = meetings_of(alloc, xs, ys, cap)?;
+    meet_by_cost(xs, ys, &meetings, desk)?;
+    Ok(())
+}
