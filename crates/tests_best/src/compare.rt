@@ -2,15 +2,13 @@
 
 ghost use Rattle.std.specs.Prelude.{◌≡◌, ◌<◌};
 
-use crate::draft::Draft;
-use crate::enumerate::{Good, all_good, judged};
-use crate::generate::Random;
 use cand_pool::Steps;
 use elmore::Problem;
 use std::alloc::Global;
 use std::marker::Brand;
 use std::sync::ledger::{Blank, Ledger};
 use std::test::Fail;
+use tests_nets::{Draft, Good, Random, all_good, judged};
 use vg_slack::{Answer, best};
 
 /// The best of all placements: their slack (zs), how many there are, and whether the one without a cell is one of them.

@@ -2,15 +2,13 @@
 
 ghost use Rattle.std.specs.Prelude.{◌≡◌, ◌<◌};
 
-use crate::draft::Draft;
-use crate::enumerate::{Good, all_good};
-use crate::generate::Random;
 use cand_pool::Steps;
 use elmore::Pair;
 use std::alloc::Global;
 use std::marker::Brand;
 use std::sync::ledger::{Blank, Ledger};
 use std::test::Fail;
+use tests_nets::{Draft, Good, Random, all_good};
 use vg_slack::{NodeLists, best};
 
 /// The pairs of slack and load of good placements, by rising load.

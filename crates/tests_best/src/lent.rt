@@ -6,8 +6,6 @@ ghost use Rattle.sol_arena.specs.Reach.{IsRestored};
 ghost use Rattle.sol_arena.specs.Meanings.{cells_of, AreBelow};
 ghost use Rattle.sol_arena.specs.Arenas.{slots_of, made_of};
 
-use crate::draft::Draft;
-use crate::generate::Random;
 use cand_pool::Steps;
 use elmore::Problem;
 use sol_arena::{Arena, Sol};
@@ -15,6 +13,7 @@ use std::alloc::Global;
 use std::marker::Brand;
 use std::sync::ledger::{Blank, Ledger};
 use std::test::Fail;
+use tests_nets::{Draft, Random};
 use vg_num::Memory;
 use vg_slack::{Answer, Lists, NodeLists, Room, best, best_in};
 

@@ -4,16 +4,8 @@
 #[cfg(test)]
 mod compare;
 #[cfg(test)]
-mod draft;
-#[cfg(test)]
-mod enumerate;
-#[cfg(test)]
-mod generate;
-#[cfg(test)]
 mod kept;
 #[cfg(test)]
 mod lent;
-#[cfg(test)]
-mod problems;
 #[cfg(test)]
 mod rows;

@@ -2,13 +2,13 @@
 
 ghost use Rattle.std.specs.Prelude.{◌≡◌, ◌<◌};
 
-use crate::problems::{Choice, allowed_of, problem_with};
 use cand_pool::Steps;
 use elmore::{Driver, Node, Problem, Rep, Sink};
 use std::alloc::Global;
 use std::marker::Brand;
 use std::sync::ledger::{Blank, Ledger};
 use std::test::Fail;
+use tests_nets::{Choice, allowed_of, problem_with};
 use vg_slack::{Best, best};
 
 /// The root, `u1:Z`.

@@ -1,7 +1,7 @@
 use Rattle.std.proofs.Common.{ℕ, ◌+◌, ◌-◌, ◌<◌, List, arith, inl, inr, length, slice_index_or}
 use Rattle.std.proofs.lemmas.Bool.{cases_eq}
 use Rattle.std.proofs.lemmas.List.{get_or_default}
-use Rattle.tests_best.proofs.problems.do_rise.Goals as goal
+use Rattle.tests_nets.proofs.problems.do_rise.Goals as goal
 
 rising_more : (xs : List ℕ) (i e : ℕ) → 0 < i → i < length xs → slice_index_or xs (i - 1) e < slice_index_or xs i e
     → ((k j d : ℕ) → k < j → j < i → slice_index_or xs k d < slice_index_or xs j d)

@@ -2,7 +2,7 @@ use Rattle.std.proofs.Common.{None, ℕ, ◌+◌, ◌-◌, ◌<◌, ◌≤◌, L
 use Rattle.std.proofs.lemmas.Bool.{cases_eq}
 use Rattle.std.proofs.lemmas.List.{get_or_default}
 use Rattle.elmore.specs.declared.rep.Rep.{Rep}
-use Rattle.tests_best.proofs.problems.is_rising.Goals as goal
+use Rattle.tests_nets.proofs.problems.is_rising.Goals as goal
 
 resistance_read : (reps : List Rep) (i : ℕ) (d e : Rep) → i < length reps → (slice_index_or reps i d).r ≡ (slice_index_or reps i e).r
 resistance_read reps i d e h = ap (λ (rep : Rep). rep.r) (get_or_default reps i d e h)

@@ -1,6 +1,6 @@
 use Rattle.elmore.specs.Placements.{load_of}
 use Rattle.elmore.proofs.LegalLemmas.{legal_placed}
-use Rattle.tests_best.proofs.enumerate.figures.Goals as goal
+use Rattle.tests_nets.proofs.enumerate.figures.Goals as goal
 
 pub slack-requires-clause-placed : goal.slack-requires-clause-placed
 slack-requires-clause-placed c =

@@ -5,7 +5,7 @@ ghost use Rattle.std.specs.List.{list_any, All, AllPairs};
 ghost use Rattle.elmore.specs.Allowances.{AreAllowances};
 ghost use Rattle.elmore.specs.Placed.{IsPlacementOf};
 ghost use Rattle.elmore.specs.Problems.{is_sink, AreRising};
-ghost use Rattle.tests_best.specs.Allowances.{IsAllowance};
+ghost use Rattle.tests_nets.specs.Allowances.{IsAllowance};
 
 use elmore::{Allowed, Driver, Node, Placement, Problem, Rep, Sink, Tree};
 use std::alloc::{AllocError, Global};

@@ -5,15 +5,17 @@ ghost use Rattle.elmore.specs.Placements.{IsPlacement};
 ghost use Rattle.elmore.specs.Room.{room_of};
 
 use crate::problems::placement_of;
-use elmore::{Placement, Problem, Scratch, first_illegal, first_wrong, load_of, slack};
+use elmore::{Placement, Problem, Scratch, cost, first_illegal, first_wrong, load_of, slack};
 use std::alloc::Global;
 use std::test::Fail;
 
-/// What a good placement comes to: its slack (zs), the load of its root (aF), and whether it has no cell.
+/// What a good placement comes to: its slack (zs), the load of its root (aF), the cost of its cells (thousandths), and whether it
+/// has none.
 #[derive(Clone, Copy)]
 pub struct Good {
     pub slack: i128,
     pub load: u128,
+    pub cost: u64,
     pub bare: bool,
 }
 
@@ -44,7 +46,13 @@ pub fn judged(alloc: Global, p: &Problem, cells: &[Option<u32>]) -> Result<Optio
         return Ok(None);
     };
     let bare = cells.iter().all(|cell| cell.is_none());
-    Ok(Some(Good { slack, load, bare }))
+    let cost = cost(p, &at);
+    Ok(Some(Good {
+        slack,
+        load,
+        cost,
+        bare,
+    }))
 }
 
 /// The next placement with cells at free nodes, of which the first changes fastest. Answers whether there is one.

@@ -5,8 +5,8 @@ use Rattle.std.specs.List.{All as Each}
 use Rattle.elmore.specs.Allowances.{AreAllowances, allowed_at}
 use Rattle.elmore.specs.declared.allowed.Allowed.{Allowed}
 use Rattle.elmore.specs.declared.allowed.Allowed.TheVariants.{All, Only}
-use Rattle.tests_best.specs.Allowances.{IsAllowance}
-use Rattle.tests_best.proofs.problems.are_allowances.Goals as goal
+use Rattle.tests_nets.specs.Allowances.{IsAllowance}
+use Rattle.tests_nets.proofs.problems.are_allowances.Goals as goal
 
 only_here : (reps : ℕ) (allowed : List Allowed) → Each (IsAllowance reps) allowed → (v : ℕ) (numbers : List ℕ) → allowed_at allowed v ≡ Only numbers
     → IsAllowance reps (Only numbers)
