@@ -10,7 +10,7 @@ use elmore::Pair;
 use std::alloc::Global;
 use std::test::Fail;
 
-fn is_rising(pairs: &[Pair]) -> bool
+pub(crate) fn is_rising(pairs: &[Pair]) -> bool
     ensures { result ≡ true → AllPairs IsBelow pairs.now }
 {
     'pairs: for i in 1..pairs.len() {

@@ -1,10 +1,15 @@
-//! Tests of the public calls of the model: delays, problems and placements of trees, and the trees of nets.
+//! Tests of the public calls of the model: delays, problems and placements of trees, the trees of nets,
+//! and certificates.
 #![tactic(auto)]
 
 #[cfg(test)]
 mod build;
 #[cfg(test)]
 mod candidates;
+#[cfg(test)]
+mod certificates;
+#[cfg(test)]
+mod fits;
 #[cfg(test)]
 mod legal;
 #[cfg(test)]

@@ -1,0 +1,16 @@
+pub mod WordLemmas
+pub mod PlaceLemmas
+pub mod NameLemmas
+pub mod FoundLemmas
+pub mod NumberLemmas
+pub mod JudgeLemmas
+pub mod ReadLemmas
+pub mod RoleLemmas
+pub mod SectionLemmas
+pub mod ListLemmas
+pub mod CellLemmas
+pub mod EndLemmas
+pub mod NodeLemmas
+pub mod HeadLemmas
+pub mod FitLemmas
+pub mod WriteLemmas

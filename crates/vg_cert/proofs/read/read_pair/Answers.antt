@@ -1,0 +1,32 @@
+use Rattle.std.proofs.Common.{◌≡◌, ◌∙◌, sym, ap, arith, rules, refl, subst, None, ℕ, inl, inr}
+use Rattle.vg_cert.specs.Lines.{words}
+use Rattle.vg_cert.specs.Faults.{is_over_role}
+use Rattle.vg_cert.specs.Readings.{reading, line_of, IsPair}
+use Rattle.vg_cert.proofs.JudgeLemmas.{same_fault}
+use Rattle.vg_cert.proofs.RoleLemmas.{pair_role, not_over}
+use Rattle.vg_cert.proofs.ReadLemmas.{missing_line, taken_line, faulty_line, line_taken}
+use Rattle.vg_cert.proofs.read.read_pair.Goals as goal
+
+pub returns-in_err-line : goal.returns-in_err-line
+returns-in_err-line c =
+    let (role, due) = c.requires.due in
+    missing_line c.from_residual.result (reading c.args.source.now) c.args.place.now _ 1 _ c.in_err-line.field-0.0 c.from_residual.ensures.1 c.requires.up_to
+    (ap is_over_role due.due ∙ not_over role due.listed) c.in_err-line.ensures.missing
+
+pub returns-in-Ok : goal.returns-in-Ok
+returns-in-Ok c =
+    let r = reading c.args.source.now in
+    let t = c.in_ok-line.ensures.taken in
+    let (role, due) = c.requires.due in
+    let j = c.in-Ok.ensures in (
+      taken_line r c.args.place.now c.next_line.new.place c.in_ok-line.line.now role _ c.requires.up_to t due.due refl (pair_role r.names (line_of r 2) role _ (words c.in_ok-line.line.now) c.args.last due.listed due.after ∙ j.0),
+      omega (arith, t.next),
+      subst (λ l. IsPair c.args.last l c.in-Ok.pair) (sym (line_taken r c.args.place.now c.next_line.new.place c.in_ok-line.line.now c.requires.up_to t)) (record { wrote = j.1.0; entry = j.1.1; above = j.1.2 }),
+    )
+
+pub returns-in-Err : goal.returns-in-Err
+returns-in-Err c =
+    let r = reading c.args.source.now in
+    let (role, due) = c.requires.due in
+    faulty_line r c.args.place.now c.next_line.new.place c.in_ok-line.line.now role _ c.in-Err.kind c.fault.result c.requires.up_to c.in_ok-line.ensures.taken due.due refl
+    (same_fault _ _ c.in-Err.kind (pair_role r.names (line_of r 2) role _ (words c.in_ok-line.line.now) c.args.last due.listed due.after) c.in-Err.ensures) c.fault.ensures.kind c.fault.ensures.line

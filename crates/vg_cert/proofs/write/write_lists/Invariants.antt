@@ -1,0 +1,9 @@
+use Rattle.std.proofs.Common.{◌≡◌, ◌++◌, take, length, None, get_or, slice_index_or, false, map, []}
+use Rattle.std.specs.Prelude.{flat_map}
+use Rattle.std.specs.List.{range_with_len}
+use Rattle.vg_cert.specs.Denoted.{both}
+use Rattle.vg_cert.specs.Written.{line_text, node_lines}
+use Rattle.vg_cert.proofs.write.write_lists.Given as goal
+
+abbrev pub invariant-node : goal.invariant-node
+invariant-node l = l.to.items ≡ l.initial.to.items ++ flat_map (λ v. flat_map line_text (node_lines l.names v (get_or l.live v false) (get_or (map both l.lists) v ([], [])))) (take l.v (range_with_len 0 (length l.live)))

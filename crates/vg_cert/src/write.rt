@@ -1,0 +1,238 @@
+//! A certificate's text.
+
+ghost use Rattle.std.specs.Prelude.{◌≡◌, ℕ, ◌++◌, ◌∷◌, [], ◌<◌, ◌≤◌, ◌^◌, map, flat_map, codes, is_some, length, get_or, OnOk, Some, None, false, slice_index_or};
+ghost use Rattle.std.specs.Fmt.{decimal};
+ghost use Rattle.std.specs.List.{count_by, range_with_len};
+ghost use Rattle.vg_cert.specs.Names.{AreNamesOf, text_of_node};
+ghost use Rattle.vg_cert.specs.Fits.{Fits};
+ghost use Rattle.vg_cert.specs.Denoted.{both};
+ghost use Rattle.vg_cert.specs.Written.{line_text, slack_word, net_line, slack_line, node_line, count_line, head_lines, cell_lines, pair_line, section_lines, node_lines, cells_part, lists_part, text_of};
+
+use crate::certificate::{Certificate, NodeLists};
+use crate::names::print_node;
+use elmore::{Pair, Problem};
+use vg_num::{Memory, print_signed};
+use vg_scan::NetNames;
+
+fn write_bytes(bytes: &[u8], to: &mut Vec<u8>) -> Result<(), Memory>
+    ensures { OnOk result (to.new.items ≡ to.old.items ++ bytes.now) }
+{
+    to.extend_from_slice(bytes)?;
+    Ok(())
+}
+
+/// Appends a number of lines, or a load.
+fn write_count(count: u64, to: &mut Vec<u8>) -> Result<(), Memory>
+    ensures { OnOk result (to.new.items ≡ to.old.items ++ decimal count) }
+{
+    print_signed(count as i128, to)
+}
+
+/// `Q C`
+fn write_pair(pair: Pair, to: &mut Vec<u8>) -> Result<(), Memory>
+    ensures { OnOk result (to.new.items ≡ to.old.items ++ line_text (pair_line pair)) }
+{
+    print_signed(pair.q, to)?;
+    write_bytes(b" ", to)?;
+    write_count(pair.c, to)?;
+    write_bytes(b"\n", to)
+}
+
+/// `Q C` for each pair
+fn write_list(pairs: &[Pair], to: &mut Vec<u8>) -> Result<(), Memory>
+    ensures { OnOk result (to.new.items ≡ to.old.items ++ flat_map (λ x. line_text (pair_line x)) pairs.now) }
+{
+    'pair: for pair in pairs {
+        write_pair(*pair, to)?;
+    }
+    Ok(())
+}
+
+/// `net NAME`
+fn write_net(names: &NetNames, to: &mut Vec<u8>) -> Result<(), Memory>
+    ensures { OnOk result (to.new.items ≡ to.old.items ++ line_text (net_line names.now)) }
+{
+    write_bytes(b"net ", to)?;
+    write_bytes(names.net.as_bytes(), to)?;
+    write_bytes(b"\n", to)
+}
+
+/// `slack S`
+fn write_slack_line(slack: Option<i128>, to: &mut Vec<u8>) -> Result<(), Memory>
+    ensures { OnOk result (to.new.items ≡ to.old.items ++ line_text (slack_line slack)) }
+{
+    write_bytes(b"slack ", to)?;
+    write_slack(slack, to)?;
+    write_bytes(b"\n", to)
+}
+
+/// `vgcert 1`, `net NAME` and `slack S`
+fn write_head(names: &NetNames, slack: Option<i128>, to: &mut Vec<u8>) -> Result<(), Memory>
+    ensures { OnOk result (to.new.items ≡ to.old.items ++ flat_map line_text (head_lines names.now slack)) }
+{
+    write_bytes(b"vgcert 1\n", to)?;
+    write_net(names, to)?;
+    write_slack_line(slack, to)?;
+    Ok(())
+}
+
+/// A slack, or `none`
+fn write_slack(slack: Option<i128>, to: &mut Vec<u8>) -> Result<(), Memory>
+    ensures { OnOk result (to.new.items ≡ to.old.items ++ slack_word slack) }
+{
+    match slack {
+        None => write_bytes(b"none", to),
+        Some(slack) => print_signed(slack, to),
+    }
+}
+
+/// How a node is written
+fn write_name(names: &NetNames, v: usize, to: &mut Vec<u8>) -> Result<(), Memory>
+    requires { v < length names.now.nodes }
+    ensures { OnOk result (to.new.items ≡ to.old.items ++ text_of_node names.now.nodes v) }
+{
+    print_node(&names.nodes.as_slice()[v], to)
+}
+
+/// `at NODE CELL`, if the node has a cell
+fn write_cell(names: &NetNames, v: usize, cell: Option<u32>, to: &mut Vec<u8>) -> Result<(), Memory>
+    requires node { v < length names.now.nodes }
+    requires cell { (b : ℕ) → cell ≡ Some b → b < length names.now.cells }
+    ensures { OnOk result (to.new.items ≡ to.old.items ++ flat_map line_text (cell_lines names.now v cell)) }
+{
+    let Some(cell) = cell else {
+        return Ok(());
+    };
+    write_bytes(b"at ", to)?;
+    write_name(names, v, to)?;
+    write_bytes(b" ", to)?;
+    write_bytes(names.cells.as_slice()[cell as usize].as_bytes(), to)?;
+    write_bytes(b"\n", to)
+}
+
+/// How many nodes have a cell.
+fn count_cells(cells: &[Option<u32>]) -> u64
+    ensures { result ≡ count_by is_some cells.now }
+{
+    let mut count = 0u64;
+    'cell: for cell in cells {
+        if cell.is_some() {
+            count += 1;
+        }
+    }
+    count
+}
+
+/// `A B` and the end of the line
+fn write_counts(even: u64, odd: u64, to: &mut Vec<u8>) -> Result<(), Memory>
+    ensures { OnOk result (to.new.items ≡ to.old.items ++ ((decimal even ++ 32 ∷ decimal odd) ++ 10 ∷ [])) }
+{
+    write_count(even, to)?;
+    write_bytes(b" ", to)?;
+    write_count(odd, to)?;
+    write_bytes(b"\n", to)
+}
+
+/// `node NODE A B`
+fn write_node(names: &NetNames, v: usize, lists: &NodeLists, to: &mut Vec<u8>) -> Result<(), Memory>
+    requires { v < length names.now.nodes }
+    ensures { OnOk result (to.new.items ≡ to.old.items ++ line_text (node_line names.now v (both lists.now))) }
+{
+    write_bytes(b"node ", to)?;
+    write_name(names, v, to)?;
+    write_bytes(b" ", to)?;
+    write_counts(lists.even.len() as u64, lists.odd.len() as u64, to)
+}
+
+/// `node NODE A B`, and the lists
+fn write_section(
+    names: &NetNames,
+    v: usize,
+    lists: &NodeLists,
+    to: &mut Vec<u8>,
+) -> Result<(), Memory>
+    requires { v < length names.now.nodes }
+    ensures { OnOk result (to.new.items ≡ to.old.items ++ flat_map line_text (section_lines names.now v (both lists.now))) }
+{
+    write_node(names, v, lists, to)?;
+    write_list(&lists.even, to)?;
+    write_list(&lists.odd, to)?;
+    Ok(())
+}
+
+/// The section of a node that is live
+fn write_live(
+    names: &NetNames,
+    v: usize,
+    live: bool,
+    lists: &NodeLists,
+    to: &mut Vec<u8>,
+) -> Result<(), Memory>
+    requires { v < length names.now.nodes }
+    ensures { OnOk result (to.new.items ≡ to.old.items ++ flat_map line_text (node_lines names.now v live (both lists.now))) }
+{
+    if live {
+        write_section(names, v, lists, to)?;
+    }
+    Ok(())
+}
+
+/// `cells N`
+fn write_cell_count(cells: &[Option<u32>], to: &mut Vec<u8>) -> Result<(), Memory>
+    ensures { OnOk result (to.new.items ≡ to.old.items ++ line_text (count_line cells.now)) }
+{
+    write_bytes(b"cells ", to)?;
+    write_count(count_cells(cells), to)?;
+    write_bytes(b"\n", to)
+}
+
+/// A line for each cell
+fn write_cells(names: &NetNames, cells: &[Option<u32>], to: &mut Vec<u8>) -> Result<(), Memory>
+    requires nodes { length cells.now ≡ length names.now.nodes }
+    requires named { (v b : ℕ) → slice_index_or cells.now v None ≡ Some b → b < length names.now.cells }
+    ensures { OnOk result (to.new.items ≡ to.old.items ++ flat_map (λ v. flat_map line_text (cell_lines names.now v (slice_index_or cells.now v None))) (range_with_len 0 (length cells.now))) }
+{
+    'node: for v in 0..cells.len() {
+        write_cell(names, v, cells[v], to)?;
+    }
+    Ok(())
+}
+
+/// A section for each live node
+fn write_lists(
+    names: &NetNames,
+    live: &[bool],
+    lists: &[NodeLists],
+    to: &mut Vec<u8>,
+) -> Result<(), Memory>
+    requires nodes { length live.now ≡ length names.now.nodes }
+    requires each { length lists.now ≡ length live.now }
+    ensures { OnOk result (to.new.items ≡ to.old.items ++ flat_map (λ v. flat_map line_text (node_lines names.now v (get_or live.now v false) (get_or (map both lists.now) v ([], [])))) (range_with_len 0 (length live.now))) }
+{
+    'node: for v in 0..live.len() {
+        write_live(names, v, live[v], &lists[v], to)?;
+    }
+    Ok(())
+}
+
+/// Appends the text of a certificate.
+///
+/// Answers `Memory` where there is no room; then a part of the text may stand at the end of the list.
+pub fn write_certificate(
+    cert: &Certificate,
+    problem: &Problem,
+    names: &NetNames,
+    to: &mut Vec<u8>,
+) -> Result<(), Memory>
+    requires fits { Fits problem.now cert.now }
+    requires names { AreNamesOf problem.now names.now }
+    ensures { OnOk result (to.new.items ≡ to.old.items ++ text_of problem.now names.now cert.now) }
+{
+    write_head(names, cert.slack, to)?;
+    let cells = cert.placement.cells.as_slice();
+    write_cell_count(cells, to)?;
+    write_cells(names, cells, to)?;
+    write_lists(names, problem.live.as_slice(), cert.lists.as_slice(), to)?;
+    write_bytes(b"end\n", to)?;
+    Ok(())
+}
