@@ -10,9 +10,10 @@
 | `netlist` | `--mode time` | a small net, with netlists of wires, of escaped names, of bits and of undeclared nets |
 | `library` | `--mode time` | a small net, with libraries of mixed cells, of deep and of wide groups, and of tables |
 | `best` | `--mode best` | chains, random trees and fans of 1,024 to 65,536 nodes, with 2, 16, 64 and 256 repeaters |
+| `frontier` | `--mode frontier` | chains and random trees with 60 to 480 nodes between driver and sinks, with 2, 8 and 32 repeaters, with a cap and without one |
 | `all` | `--mode time --all` and `--mode best --all` | all nets of designs of four files |
 
-The sizes are those of the SPEF files in modes `design` and `time` (1, 16, 64 and 256 MB if none is given) and `all` (1, 16, 64 and 192 MB),
+The sizes are the nodes in mode `best`, the nodes but two in mode `frontier`, and those of the SPEF files in modes `design` and `time` (1, 16, 64 and 256 MB if none is given) and `all` (1, 16, 64 and 192 MB),
 of the netlists (256 MB) and of the libraries (64 MB). With `--beside OTHER` each row but those of `rows` and `library` also tells the seconds
 and the memory of another program with the same arguments, run right after. In mode `best` the changed files are written, too.
 Seconds are the least of five runs of the whole process, peak memory is what GNU time tells, 1 MB is 2^20 bytes.
@@ -26,6 +27,7 @@ import time
 
 HERE = os.path.dirname(os.path.abspath(__file__))
 LIBRARY = os.path.join(HERE, "..", "examples", "cells.lib")
+BEST_FILES = ["--spef", "net.spef", "--lib", "made.lib", "--verilog", "net.v", "--cons", "net.cons"]
 SHAPES = {"chain": "a chain", "star": "a star", "tree": "a binary tree"}
 
 
@@ -175,12 +177,10 @@ def run_library(programs, *sizes):
 
 def run_best(programs, *sizes):
     head("net", "nodes", "repeaters", "printed cells", *titles(programs))
-    files = ["--spef", "net.spef", "--lib", "made.lib", "--verilog", "net.v", "--cons", "net.cons"]
-    words = ["--mode", "best", *files, "--net", "n", "--out-spef", "out.spef", "--out-verilog", "out.v"]
+    words = ["--mode", "best", *BEST_FILES, "--net", "n", "--out-spef", "out.spef", "--out-verilog", "out.v"]
     for nodes in sizes or ["1024", "8192", "65536"]:
         for shape in ["chain", "tree", "fan"]:
-            for part, path in [("spef", "net.spef"), ("netlist", "net.v"), ("constraints", "net.cons")]:
-                make("best_net.py", [nodes, shape, part], path)
+            make_best_net(nodes, shape)
             for repeaters in ["2", "16", "64", "256"]:
                 make("repeaters.py", [repeaters], "made.lib")
                 runs = [measure_good([program, *words]) for program in programs]
@@ -188,6 +188,35 @@ def run_best(programs, *sizes):
                     print("run.py: the programs print different reports", file=sys.stderr)
                 cells = [cell for _, seconds, peak in runs for cell in (f"{seconds:.3f}", mb(peak))]
                 row(shape, f"{int(nodes):,}", repeaters, f"{runs[0][0].count(b'at '):,}", *cells)
+
+
+def make_best_net(nodes, shape):
+    """Writes a net on which repeaters are to be placed, with its netlist and its constraints."""
+    for part, path in [("spef", "net.spef"), ("netlist", "net.v"), ("constraints", "net.cons")]:
+        make("best_net.py", [nodes, shape, part], path)
+
+
+def points_in(report):
+    """The cost and the slack of each point of a report: of two placements that have both, either may be told."""
+    return [line.split()[1:3] for line in report.splitlines() if line.startswith(b"point ")]
+
+
+def run_frontier(programs, *sizes):
+    head("net", "places", "repeaters", "cap", "points", *titles(programs))
+    words = ["--mode", "frontier", *BEST_FILES, "--net", "n"]
+    for shape in ["chain", "tree"]:
+        for places in sizes or ["60", "120", "240", "480"]:
+            make_best_net(str(int(places) + 2), shape)
+            for repeaters in ["2", "8", "32"]:
+                make("repeaters.py", [repeaters], "made.lib")
+                greatest = points_in(measure([programs[0], *words])[1])[-1][0].decode()
+                for cap in [None, str(int(greatest) // 2)]:
+                    limit = ["--cap", cap] if cap else []
+                    runs = [measure_good([program, *words, *limit]) for program in programs]
+                    if any(points_in(run[0]) != points_in(runs[0][0]) for run in runs):
+                        print("run.py: the programs print different points", file=sys.stderr)
+                    cells = [cell for _, seconds, peak in runs for cell in (f"{seconds:.3f}", mb(peak))]
+                    row(shape, places, repeaters, cap or "none", f"{len(points_in(runs[0][0])):,}", *cells)
 
 
 def run_all(programs, *sizes):
@@ -217,6 +246,7 @@ MODES = {
     "netlist": run_netlist,
     "library": run_library,
     "best": run_best,
+    "frontier": run_frontier,
     "all": run_all,
 }
 

@@ -464,6 +464,72 @@ fn places_and_times_all_nets(rt: HostRuntime) -> Result<(), Fail> {
     Ok(())
 }
 
+const FRONTIER: &str = "--mode frontier --spef a.spef --lib l.lib --verilog v.v --cons c.txt --all";
+
+const FRONTIER_CAPPED: &str =
+    "--all --cap 1999 --mode frontier --spef a.spef --lib l.lib --verilog v.v --cons c.txt";
+
+/// Words of mode `frontier`, the sections of the file, the status, and what is printed.
+static FRONTS: [(&str, &[Section], u8, &str); 4] = [
+    // one is refused, one has two points, one has none, and one, on which no cell may stand, has one
+    (
+        FRONTIER,
+        &[Looped(N1), Plain(N2), Plain(N3), Plain(N4)],
+        2,
+        "net n1 refused 13 Loop
+net n2 points 2
+point 0 -16000000000 cells 0
+point 2000 263000000000 cells 1
+at n2:1 BUF
+net n3 none
+net n4 points 1
+point 0 -116000000000 cells 0
+",
+    ),
+    (
+        FRONTIER_CAPPED,
+        &[Plain(N3), Plain(N2)],
+        1,
+        "net n3 none
+net n2 points 1
+point 0 -16000000000 cells 0
+",
+    ),
+    (
+        FRONTIER,
+        &[Plain(N5), Plain(N4)],
+        0,
+        "net n5 points 2
+point 0 -116000000000 cells 0
+point 2000 163000000000 cells 1
+at n5:1 BUF
+net n4 points 1
+point 0 -116000000000 cells 0
+",
+    ),
+    (FRONTIER, &[], 0, ""),
+];
+
+/// Whether a run over a file of these sections ends so.
+fn ends_with(
+    alloc: Global,
+    line: &str,
+    sections: &[Section],
+    wanted: Ending<'_>,
+) -> Result<bool, Fail> {
+    let mut files = files_of(alloc, sections)?;
+    ends(alloc, line, &mut files, wanted)
+}
+
+#[test]
+fn prints_all_frontiers(rt: HostRuntime) -> Result<(), Fail> {
+    for (line, sections, status, text) in &FRONTS {
+        let wanted = ending(*status, text);
+        assert!(rt; ends_with(rt.alloc(), line, sections, wanted)?, "{text}");
+    }
+    Ok(())
+}
+
 const N4_BEFORE_N2: &str = "net n4 slack -116000000000 cost 0 cells 0
 net n2 slack 263000000000 cost 2000 cells 1
 at n2:1 BUF

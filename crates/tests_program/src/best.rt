@@ -12,7 +12,7 @@ pub(crate) static BASE: Base = Base {
 };
 
 /// An inverter behind the other cells: 1 fF, 10 ps, 0.5 kΩ, area 1.
-const INVERTER: Change = (
+pub(crate) const INVERTER: Change = (
     Lib,
     "  cell (BUF)",
     "  cell (INV) { area : 1;
@@ -23,20 +23,20 @@ const INVERTER: Change = (
   cell (BUF)",
 );
 
-const WANTED_INVERTED: Change = (Cons, "400\n", "400\nwant u2:A inverted\n");
+pub(crate) const WANTED_INVERTED: Change = (Cons, "400\n", "400\nwant u2:A inverted\n");
 
 /// A second sink `u3:A` below the inner node: 1 kΩ to it, 50 fF there.
-const SECOND_CONNECTION: Change = (Spef, "*I u2:A I\n", "*I u2:A I\n*I u3:A I\n");
+pub(crate) const SECOND_CONNECTION: Change = (Spef, "*I u2:A I\n", "*I u2:A I\n*I u3:A I\n");
 
-const SECOND_CAPACITOR: Change = (Spef, "2 u2:A 100\n", "2 u2:A 100\n3 u3:A 50\n");
+pub(crate) const SECOND_CAPACITOR: Change = (Spef, "2 u2:A 100\n", "2 u2:A 100\n3 u3:A 50\n");
 
-const SECOND_RESISTOR: Change = (
+pub(crate) const SECOND_RESISTOR: Change = (
     Spef,
     "2 n1:1 u2:A 1000\n",
     "2 n1:1 u2:A 1000\n3 n1:1 u3:A 1000\n",
 );
 
-const SECOND_INSTANCE: Change = (
+pub(crate) const SECOND_INSTANCE: Change = (
     Verilog,
     "endmodule",
     "BUF u3 (.A(n1), .Z(out2));\nendmodule",

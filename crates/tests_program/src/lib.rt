@@ -12,6 +12,8 @@ mod design;
 #[cfg(test)]
 mod faults;
 #[cfg(test)]
+mod front;
+#[cfg(test)]
 mod program;
 #[cfg(test)]
 mod runs;

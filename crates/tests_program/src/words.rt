@@ -581,6 +581,136 @@ fn refuses_sizes(rt: HostRuntime) -> Result<(), Fail> {
     Ok(())
 }
 
+/// Words of mode `frontier`, and the cap that they ask for.
+static CAPS: [(&str, Option<u64>); 5] = [
+    (
+        "--mode frontier --spef a --lib l --verilog v --cons c --net n",
+        None,
+    ),
+    (
+        "--mode frontier --cap 0 --spef a --lib l --verilog v --cons c --net n",
+        Some(0),
+    ),
+    (
+        "--cap=7 --mode frontier --spef a --lib l --verilog v --cons c --all",
+        Some(7),
+    ),
+    (
+        "--mode=frontier --spef a --lib l --verilog v --cons c --net n --cap 999999999999999999",
+        Some(999_999_999_999_999_999),
+    ),
+    (
+        "--mode frontier --all --cap 000000000000002000 --spef a --lib l --verilog v --cons c",
+        Some(2000),
+    ),
+];
+
+/// Whether the words ask for this cap.
+fn asks_cap(alloc: Global, line: &str, cap: Option<u64>) -> Result<bool, Fail> {
+    let words = words_of(alloc, line)?;
+    let Ok(ask) = read_words(alloc, &words) else {
+        return Ok(false);
+    };
+    Ok(ask.cap() == cap && ask.mode == Mode::Frontier)
+}
+
+#[test]
+fn reads_caps(rt: HostRuntime) -> Result<(), Fail> {
+    for (line, cap) in &CAPS {
+        assert!(rt; asks_cap(rt.alloc(), line, *cap)?, "{line}");
+    }
+    Ok(())
+}
+
+/// Faults of words that ask for a frontier, or for a cap in another mode.
+static FAULTY_CAPS: [(&str, WordFault); 20] = [
+    (
+        "--mode frontier --spef a --lib l --verilog v --cons c --net n --cap 1000000000000000000",
+        WordFault::BadValue(Opt::Cap),
+    ),
+    (
+        "--mode frontier --spef a --lib l --verilog v --cons c --net n --cap 0000000000000000000",
+        WordFault::BadValue(Opt::Cap),
+    ),
+    (
+        "--mode frontier --spef a --lib l --verilog v --cons c --net n --cap=-1",
+        WordFault::BadValue(Opt::Cap),
+    ),
+    (
+        "--mode frontier --spef a --lib l --verilog v --cons c --net n --cap=-0",
+        WordFault::BadValue(Opt::Cap),
+    ),
+    (
+        "--mode frontier --spef a --lib l --verilog v --cons c --net n --cap -1",
+        WordFault::Unread,
+    ),
+    (
+        "--mode frontier --spef a --lib l --verilog v --cons c --net n --cap +1",
+        WordFault::BadValue(Opt::Cap),
+    ),
+    (
+        "--mode frontier --spef a --lib l --verilog v --cons c --net n --cap 2k",
+        WordFault::BadValue(Opt::Cap),
+    ),
+    (
+        "--mode frontier --spef a --lib l --verilog v --cons c --net n --cap 1.5",
+        WordFault::BadValue(Opt::Cap),
+    ),
+    (
+        "--mode frontier --spef a --lib l --verilog v --cons c --net n --cap=",
+        WordFault::BadValue(Opt::Cap),
+    ),
+    (
+        "--mode frontier --spef a --lib l --verilog v --cons c --cap x --net ~",
+        WordFault::BadValue(Opt::Net),
+    ),
+    (
+        "--mode frontier --spef a --lib l --verilog v --cons c --net n --cap 1 --cap 1",
+        WordFault::Unread,
+    ),
+    (
+        "--mode time --spef a --lib l --verilog v --cons c --net n --cap 1",
+        WordFault::Excluded(Opt::Cap),
+    ),
+    (
+        "--mode best --spef a --lib l --verilog v --cons c --net n --out-spef o --out-verilog w --prefix 9w --cap x",
+        WordFault::Excluded(Opt::Cap),
+    ),
+    (
+        "--mode wire --spef a --net n --prefix w_ --cap 1",
+        WordFault::Excluded(Opt::Cap),
+    ),
+    ("--mode gen --size 1 --cap 1", WordFault::Excluded(Opt::Cap)),
+    (
+        "--mode frontier --spef a --lib l --verilog v --cons c --net n --prefix w_",
+        WordFault::Excluded(Opt::Prefix),
+    ),
+    (
+        "--mode frontier --spef a --lib l --verilog v --cons c --net n --out-spef o --cap x",
+        WordFault::Excluded(Opt::OutSpef),
+    ),
+    (
+        "--mode frontier --spef a --lib l --verilog v --cons c --net n --all",
+        WordFault::Excluded(Opt::All),
+    ),
+    (
+        "--mode frontier --spef a --lib l --verilog v --cons c",
+        WordFault::Missing(Opt::Net),
+    ),
+    (
+        "--mode frontier --spef a --lib l --net n --cap x",
+        WordFault::Missing(Opt::Verilog),
+    ),
+];
+
+#[test]
+fn refuses_caps(rt: HostRuntime) -> Result<(), Fail> {
+    for (line, fault) in &FAULTY_CAPS {
+        assert!(rt; fault_of(rt.alloc(), line)? == Some(*fault), "{line}");
+    }
+    Ok(())
+}
+
 #[test]
 fn lists_options_in_order(rt: HostRuntime) -> Result<(), Fail> {
     let names = [
@@ -593,6 +723,7 @@ fn lists_options_in_order(rt: HostRuntime) -> Result<(), Fail> {
         "--all",
         "--out-spef",
         "--out-verilog",
+        "--cap",
         "--prefix",
         "--size",
     ];

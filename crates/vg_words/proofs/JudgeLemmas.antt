@@ -5,6 +5,7 @@ use Rattle.std.specs.List.{find, list_any}
 use Rattle.std.specs.Result.{IsErrAnd}
 use Rattle.std.specs.Str.{bytes_eq}
 use Rattle.std.proofs.lemmas.Slice.Eq.{bytes_eq-Decides}
+use Rattle.vg_num.specs.Number.{value_of as number_of}
 use Rattle.vg_words.proofs.OptionLemmas.{each, same_option}
 use Rattle.vg_words.proofs.SizeLemmas.{size_small}
 use Rattle.vg_words.proofs.SpellingLemmas.{one_setting}
@@ -13,11 +14,11 @@ use Rattle.vg_words.specs.Views.{AreValues}
 use Rattle.vg_words.specs.declared.ask.Ask.{Ask}
 use mathlib.Core.Path.{fun_ext}
 use Rattle.vg_words.specs.Options.{options, file_options, is_same, required, mode_of, mode_name}
-use Rattle.vg_words.specs.Request.{Setting, Sets, Values, values_in, value_of, IsRequest, is_missing, is_excluded, flag_value, has_bad_value, is_bad, is_size, or_else, of_first, of_pair, first_equal, fault_in, fault_of_mode, fault_of_name, fault_of, HasMode, IsRefused, ReadsWords, value, size_in, size_of}
+use Rattle.vg_words.specs.Request.{Setting, Sets, Values, values_in, value_of, IsRequest, is_missing, is_excluded, flag_value, has_bad_value, is_bad, is_cap, is_size, or_else, of_first, of_pair, first_equal, fault_in, fault_of_mode, fault_of_name, fault_of, HasMode, IsRefused, ReadsWords, value, cap_in, cap_of, size_in, size_of}
 use Rattle.vg_words.specs.declared.option.Opt.{Opt}
-use Rattle.vg_words.specs.declared.option.Opt.TheVariants.{Mode, Spef, Lib, Verilog, Cons, Net, All, OutSpef, OutVerilog, Prefix, Size}
+use Rattle.vg_words.specs.declared.option.Opt.TheVariants.{Mode, Spef, Lib, Verilog, Cons, Net, All, OutSpef, OutVerilog, Cap, Prefix, Size}
 use Rattle.vg_words.specs.declared.ask.Mode.{Mode as ModeSpec}
-use Rattle.vg_words.specs.declared.ask.Mode.TheVariants.{Wire, Time, Best, Gen}
+use Rattle.vg_words.specs.declared.ask.Mode.TheVariants.{Wire, Time, Best, Frontier, Gen}
 use Rattle.vg_words.specs.declared.ask.WordFault.{WordFault}
 use Rattle.vg_words.specs.declared.ask.WordFault.TheVariants.{Unread, Missing, Excluded, BadValue, Equal, Memory}
 
@@ -98,19 +99,20 @@ some_mode a b e = cc
 
 requested_values : (values : Values) (ask : Ask) → values Mode ≡ Some (mode_name ask.mode) → values Spef ≡ ask.spef → values Lib ≡ ask.lib
     → values Verilog ≡ ask.verilog → values Cons ≡ ask.cons → values Net ≡ ask.net → values All ≡ flag_value ask.all
-    → values OutSpef ≡ ask.out_spef → values OutVerilog ≡ ask.out_verilog → values Prefix ≡ ask.prefix → values Size ≡ ask.size
+    → values OutSpef ≡ ask.out_spef → values OutVerilog ≡ ask.out_verilog → values Cap ≡ ask.cap → values Prefix ≡ ask.prefix → values Size ≡ ask.size
     → (option : Opt) → values option ≡ value ask option
-requested_values values ask m s l v c n a os ov p z Mode = m
-requested_values values ask m s l v c n a os ov p z Spef = s
-requested_values values ask m s l v c n a os ov p z Lib = l
-requested_values values ask m s l v c n a os ov p z Verilog = v
-requested_values values ask m s l v c n a os ov p z Cons = c
-requested_values values ask m s l v c n a os ov p z Net = n
-requested_values values ask m s l v c n a os ov p z All = a
-requested_values values ask m s l v c n a os ov p z OutSpef = os
-requested_values values ask m s l v c n a os ov p z OutVerilog = ov
-requested_values values ask m s l v c n a os ov p z Prefix = p
-requested_values values ask m s l v c n a os ov p z Size = z
+requested_values values ask m s l v c n a os ov k p z Mode = m
+requested_values values ask m s l v c n a os ov k p z Spef = s
+requested_values values ask m s l v c n a os ov k p z Lib = l
+requested_values values ask m s l v c n a os ov k p z Verilog = v
+requested_values values ask m s l v c n a os ov k p z Cons = c
+requested_values values ask m s l v c n a os ov k p z Net = n
+requested_values values ask m s l v c n a os ov k p z All = a
+requested_values values ask m s l v c n a os ov k p z OutSpef = os
+requested_values values ask m s l v c n a os ov k p z OutVerilog = ov
+requested_values values ask m s l v c n a os ov k p z Cap = k
+requested_values values ask m s l v c n a os ov k p z Prefix = p
+requested_values values ask m s l v c n a os ov k p z Size = z
 
 -- a text that is the name of one mode, or else names another
 named_or : (text : List ℕ) (own mode : ModeSpec) (rest : Option ModeSpec) → (if bytes_eq text (mode_name own) then Some own else rest) ≡ Some mode
@@ -124,13 +126,15 @@ named_or text own mode rest e later =
 -- a text that names a mode is its name
 mode_named : (text : List ℕ) (mode : ModeSpec) → mode_of text ≡ Some mode → text ≡ mode_name mode
 mode_named text mode e =
-    let after_best : Option ModeSpec = if bytes_eq text (codes "gen") then Some Gen else None in
+    let after_frontier : Option ModeSpec = if bytes_eq text (codes "gen") then Some Gen else None in
+    let after_best : Option ModeSpec = if bytes_eq text (codes "frontier") then Some Frontier else after_frontier in
     let after_time : Option ModeSpec = if bytes_eq text (codes "best") then Some Best else after_best in
     let after_wire : Option ModeSpec = if bytes_eq text (codes "time") then Some Time else after_time in
     named_or text Wire mode after_wire e
     (λ e. named_or text Time mode after_time e
     (λ e. named_or text Best mode after_best e
-    (λ e. named_or text Gen mode None e (λ none. absurd (cc)))))
+    (λ e. named_or text Frontier mode after_frontier e
+    (λ e. named_or text Gen mode None e (λ none. absurd (cc))))))
 
 mode_given : (name : Option (List ℕ)) (mode : ModeSpec) → HasMode name mode → name ≡ Some (mode_name mode)
 mode_given None mode h = absurd h
@@ -140,11 +144,11 @@ mode_given (Some name) mode h = ap (λ text. Some text) (mode_named name mode h)
 pub requested : (words : List (List ℕ)) (values : Values) (mode : ModeSpec) (ask : Ask) → AreValues words values
     → (fault_of values ≡ None) × HasMode (values Mode) mode
     → ask.mode ≡ mode → ask.spef ≡ values Spef → ask.lib ≡ values Lib → ask.verilog ≡ values Verilog → ask.cons ≡ values Cons → ask.net ≡ values Net
-    → flag_value ask.all ≡ values All → ask.out_spef ≡ values OutSpef → ask.out_verilog ≡ values OutVerilog → ask.prefix ≡ values Prefix
-    → ask.size ≡ values Size → IsRequest words ask
-requested words values mode ask given (e, h) m s l v c n a os ov p z =
+    → flag_value ask.all ≡ values All → ask.out_spef ≡ values OutSpef → ask.out_verilog ≡ values OutVerilog → ask.cap ≡ values Cap
+    → ask.prefix ≡ values Prefix → ask.size ≡ values Size → IsRequest words ask
+requested words values mode ask given (e, h) m s l v c n a os ov k p z =
     let named = mode_given (values Mode) mode h ∙ ap (λ x. Some (mode_name x)) (sym m) in
-    let kept = requested_values values ask named (sym s) (sym l) (sym v) (sym c) (sym n) (sym a) (sym os) (sym ov) (sym p) (sym z) in
+    let kept = requested_values values ask named (sym s) (sym l) (sym v) (sym c) (sym n) (sym a) (sym os) (sym ov) (sym k) (sym p) (sym z) in
     record {
       settings = given.settings;
       set = given.set;
@@ -157,6 +161,7 @@ named_mode : (mode : ModeSpec) → mode_of (mode_name mode) ≡ Some mode
 named_mode Wire = refl
 named_mode Time = refl
 named_mode Best = refl
+named_mode Frontier = refl
 named_mode Gen = refl
 
 one_mode : (a b : ModeSpec) → mode_name a ≡ mode_name b → a ≡ b
@@ -188,6 +193,7 @@ one words a b x y =
       all = all i;
       out_spef = values OutSpef i;
       out_verilog = values OutVerilog i;
+      cap = values Cap i;
       prefix = values Prefix i;
       size = values Size i;
     }
@@ -231,7 +237,7 @@ no_faults None b e = (refl, e)
 no_faults (Some fault) b e = absurd (cc)
 
 all_options : (o : Opt) → list_any (is_same o) options ≡ true
-all_options = each (λ o. list_any (is_same o) options ≡ true) refl refl refl refl refl refl refl refl refl refl refl
+all_options = each (λ o. list_any (is_same o) options ≡ true) refl refl refl refl refl refl refl refl refl refl refl refl
 
 -- what a judgment without a fault says of each option
 record IsWhole (mode : ModeSpec) (values : Values) : Type 0 where
@@ -282,6 +288,7 @@ asks_as_in : (mode : ModeSpec) (ask : Ask) → IsWhole mode (value ask) → Asks
 asks_as_in Wire ask w = one_net ask.net ask.all (w.found Net refl) (w.allowed All)
 asks_as_in Time ask w = net_or_all ask.net ask.all (w.found Net refl) (w.allowed All)
 asks_as_in Best ask w = net_or_all ask.net ask.all (w.found Net refl) (w.allowed All)
+asks_as_in Frontier ask w = net_or_all ask.net ask.all (w.found Net refl) (w.allowed All)
 asks_as_in Gen ask w = no_net ask.net ask.all (w.allowed Net) (w.allowed All)
 
 pub one_or_all : (words : List (List ℕ)) (ask : Ask) → IsRequest words ask → AsksAsIn ask.mode ask
@@ -301,3 +308,13 @@ pub small : (words : List (List ℕ)) (ask : Ask) → IsRequest words ask → as
 small words ask is e =
     let w : IsWhole Gen (value ask) = subst (λ mode. IsWhole mode (value ask)) e (whole_request words ask is) in
     small_size ask.size (w.found Size refl) (w.good Size)
+
+-- the cap that is given is the number that its text writes
+one_cap : (cap : Option (List ℕ)) (text : List ℕ) → has_bad_value Cap cap ≡ false → cap ≡ Some text
+    → cap_in (unwrap_or cap []) ≡ Some (number_of text)
+one_cap cap text good e =
+    let is : is_cap text ≡ true = not_not (is_cap text) (ap (has_bad_value Cap) (sym e) ∙ good) in
+    ap (λ (o : Option (List ℕ)). cap_in (unwrap_or o [])) e ∙ rw is refl
+
+pub caps : (words : List (List ℕ)) (ask : Ask) → IsRequest words ask → (text : List ℕ) → ask.cap ≡ Some text → cap_of ask ≡ Some (number_of text)
+caps words ask is text e = one_cap ask.cap text ((whole_request words ask is).good Cap) e

@@ -1,6 +1,7 @@
 pub mod OptionLemmas
 pub mod SpellingLemmas
 pub mod SizeLemmas
+pub mod CapLemmas
 pub mod JudgeLemmas
 pub mod EqualLemmas
 pub mod CommandLemmas

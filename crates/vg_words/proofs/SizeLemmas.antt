@@ -40,7 +40,7 @@ no_size text other = go (is_size text) refl
     go true is = absurd (other is)
     go false is = rw is refl
 
-no_digits : (text : List ℕ) → starts_with_minus text ≡ true → are_digits text ≡ true → ⊥
+pub no_digits : (text : List ℕ) → starts_with_minus text ≡ true → are_digits text ≡ true → ⊥
 no_digits [] is e = false≢true is
 no_digits (b ∷ bs) is e =
     let minus : b ≡ 45 = eqb-true b 45 is in
@@ -56,7 +56,7 @@ no_minus text e = go (starts_with_minus text) refl
     go false is = refl
 
 -- what reading makes of digits
-digits_read : (text : List ℕ) → are_digits text ≡ true
+pub digits_read : (text : List ℕ) → are_digits text ≡ true
     → whole_of text ≡ (if nat_lt (10 ^ 26) (number_of text) then Err TooLarge else Ok (pos (number_of text)))
 unfolding whole_of
 digits_read text e = rw (no_minus text e, e) refl
@@ -71,7 +71,7 @@ minus_number true false n z e = let is : z ≡ with_sign true n = cc in rw is (n
 minus_number true true n z e = absurd (cc)
 minus_number false large n z e = absurd (cc)
 
-minus_read : (text : List ℕ) (z : ℤ) → are_digits text ≡ false → Ok z ≡ whole_of text → z <ℤ pos 1
+pub minus_read : (text : List ℕ) (z : ℤ) → are_digits text ≡ false → Ok z ≡ whole_of text → z <ℤ pos 1
 unfolding whole_of
 minus_read text z other e = go (starts_with_minus text) refl
   where
@@ -79,7 +79,7 @@ minus_read text z other e = go (starts_with_minus text) refl
     go true is = let rest = drop 1 text in minus_number (are_digits rest) (nat_lt (10 ^ 26) (number_of rest)) (number_of rest) z (e ∙ rw is refl)
     go false is = let fault : Ok z ≡ Err Form = e ∙ rw (is, other) refl in absurd (cc)
 
-number_read : (text : List ℕ) (z : ℤ) → are_digits text ≡ true → Ok z ≡ whole_of text → z ≡ pos (number_of text)
+pub number_read : (text : List ℕ) (z : ℤ) → are_digits text ≡ true → Ok z ≡ whole_of text → z ≡ pos (number_of text)
 number_read text z digits e = go (nat_lt (10 ^ 26) (number_of text)) refl
   where
     go : (b : Bool) → nat_lt (10 ^ 26) (number_of text) ≡ b → z ≡ pos (number_of text)

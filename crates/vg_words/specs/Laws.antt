@@ -1,9 +1,10 @@
 -- Words ask for one thing at most, and for as many nets as their mode has a use for, or for a size.
-use Rattle.std.specs.Prelude.{◌≡◌, ◌≤◌, ◌⊎◌, ℕ, true, false, List, None, is_some}
-use Rattle.vg_words.specs.Request.{IsRequest, size_of}
+use Rattle.std.specs.Prelude.{◌≡◌, ◌≤◌, ◌⊎◌, ℕ, true, false, List, Some, None, is_some}
+use Rattle.vg_num.specs.Number.{value_of as number_of}
+use Rattle.vg_words.specs.Request.{IsRequest, cap_of, size_of}
 use Rattle.vg_words.specs.declared.ask.Ask.{Ask}
 use Rattle.vg_words.specs.declared.ask.Mode.{Mode}
-use Rattle.vg_words.specs.declared.ask.Mode.TheVariants.{Wire, Time, Best, Gen}
+use Rattle.vg_words.specs.declared.ask.Mode.TheVariants.{Wire, Time, Best, Frontier, Gen}
 
 abbrev pub OneRequest : Type 0
 OneRequest = (words : List (List ℕ)) (a b : Ask) → IsRequest words a → IsRequest words b → a ≡ b
@@ -25,11 +26,16 @@ abbrev pub AsksAsIn : Mode → Ask → Type 0
 AsksAsIn Wire ask = AsksForNet ask
 AsksAsIn Time ask = AsksForNet ask ⊎ AsksForAll ask
 AsksAsIn Best ask = AsksForNet ask ⊎ AsksForAll ask
+AsksAsIn Frontier ask = AsksForNet ask ⊎ AsksForAll ask
 AsksAsIn Gen ask = AsksForNone ask
 
--- in mode `wire` a request asks for one net, in modes `time` and `best` for one or for all, and in mode `gen` for none
+-- in mode `wire` a request asks for one net, in modes `time`, `best` and `frontier` for one or for all, and in mode `gen` for none
 abbrev pub OneOrAll : Type 0
 OneOrAll = (words : List (List ℕ)) (ask : Ask) → IsRequest words ask → AsksAsIn ask.mode ask
+
+-- a request with a cap asks for the number that it writes
+abbrev pub CapsAreRead : Type 0
+CapsAreRead = (words : List (List ℕ)) (ask : Ask) → IsRequest words ask → (text : List ℕ) → ask.cap ≡ Some text → cap_of ask ≡ Some (number_of text)
 
 -- in mode `gen` a request asks for a size of 1 to 4000
 abbrev pub SizesAreSmall : Type 0

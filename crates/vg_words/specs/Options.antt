@@ -2,9 +2,9 @@
 use Rattle.std.specs.Prelude.{ℕ, ◌==◌, Bool, true, false, List, [], ◌∷◌, ◌++◌, codes, Option, Some, None, if◌then◌else◌}
 use Rattle.std.specs.Str.{bytes_eq}
 use Rattle.vg_words.specs.declared.option.Opt.{Opt}
-use Rattle.vg_words.specs.declared.option.Opt.TheVariants.{Mode, Spef, Lib, Verilog, Cons, Net, All, OutSpef, OutVerilog, Prefix, Size}
+use Rattle.vg_words.specs.declared.option.Opt.TheVariants.{Mode, Spef, Lib, Verilog, Cons, Net, All, OutSpef, OutVerilog, Cap, Prefix, Size}
 use Rattle.vg_words.specs.declared.ask.Mode.{Mode as ModeSpec}
-use Rattle.vg_words.specs.declared.ask.Mode.TheVariants.{Wire, Time, Best, Gen}
+use Rattle.vg_words.specs.declared.ask.Mode.TheVariants.{Wire, Time, Best, Frontier, Gen}
 
 abbrev pub name_of : Opt → List ℕ
 name_of Mode = codes "--mode"
@@ -16,6 +16,7 @@ name_of Net = codes "--net"
 name_of All = codes "--all"
 name_of OutSpef = codes "--out-spef"
 name_of OutVerilog = codes "--out-verilog"
+name_of Cap = codes "--cap"
 name_of Prefix = codes "--prefix"
 name_of Size = codes "--size"
 
@@ -30,14 +31,15 @@ place_of Net = 5
 place_of All = 6
 place_of OutSpef = 7
 place_of OutVerilog = 8
-place_of Prefix = 9
-place_of Size = 10
+place_of Cap = 9
+place_of Prefix = 10
+place_of Size = 11
 
 abbrev pub is_same : Opt → Opt → Bool
 is_same a b = place_of a == place_of b
 
 abbrev pub options : List Opt
-options = Mode ∷ Spef ∷ Lib ∷ Verilog ∷ Cons ∷ Net ∷ All ∷ OutSpef ∷ OutVerilog ∷ Prefix ∷ Size ∷ []
+options = Mode ∷ Spef ∷ Lib ∷ Verilog ∷ Cons ∷ Net ∷ All ∷ OutSpef ∷ OutVerilog ∷ Cap ∷ Prefix ∷ Size ∷ []
 
 -- the option has no value: it is given, or it is not
 abbrev pub is_flag : Opt → Bool
@@ -54,12 +56,14 @@ mode_of text =
     if bytes_eq text (codes "wire") then Some Wire
     else (if bytes_eq text (codes "time") then Some Time
     else (if bytes_eq text (codes "best") then Some Best
-    else (if bytes_eq text (codes "gen") then Some Gen else None)))
+    else (if bytes_eq text (codes "frontier") then Some Frontier
+    else (if bytes_eq text (codes "gen") then Some Gen else None))))
 
 abbrev pub mode_name : ModeSpec → List ℕ
 mode_name Wire = codes "wire"
 mode_name Time = codes "time"
 mode_name Best = codes "best"
+mode_name Frontier = codes "frontier"
 mode_name Gen = codes "gen"
 
 -- the options that a mode asks for; `--all` may stand for `--net` where the mode may be given it
@@ -67,6 +71,7 @@ abbrev pub required : ModeSpec → List Opt
 required Wire = Spef ∷ Net ∷ []
 required Time = Spef ∷ Lib ∷ Verilog ∷ Cons ∷ Net ∷ []
 required Best = Spef ∷ Lib ∷ Verilog ∷ Cons ∷ Net ∷ OutSpef ∷ OutVerilog ∷ []
+required Frontier = Spef ∷ Lib ∷ Verilog ∷ Cons ∷ Net ∷ []
 required Gen = Size ∷ []
 
 -- those that it may be given besides
@@ -74,6 +79,7 @@ abbrev pub optional : ModeSpec → List Opt
 optional Wire = []
 optional Time = All ∷ Prefix ∷ []
 optional Best = All ∷ Prefix ∷ []
+optional Frontier = All ∷ Cap ∷ []
 optional Gen = []
 
 -- those that it may be given; it has no use for others

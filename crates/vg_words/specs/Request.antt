@@ -7,7 +7,7 @@ use Rattle.std.specs.declared.alloc.Global.{Global}
 use Rattle.vg_num.specs.Number.{are_digits, value_of as number_of}
 use Rattle.vg_words.specs.Options.{name_of, mode_of, mode_name, is_flag, is_same, options, file_options, required, allowed}
 use Rattle.vg_words.specs.declared.option.Opt.{Opt}
-use Rattle.vg_words.specs.declared.option.Opt.TheVariants.{Mode, Spef, Lib, Verilog, Cons, Net, All, OutSpef, OutVerilog, Prefix, Size}
+use Rattle.vg_words.specs.declared.option.Opt.TheVariants.{Mode, Spef, Lib, Verilog, Cons, Net, All, OutSpef, OutVerilog, Cap, Prefix, Size}
 use Rattle.vg_words.specs.declared.ask.Mode.{Mode as ModeSpec}
 use Rattle.vg_words.specs.declared.ask.Ask.{Ask}
 use Rattle.vg_words.specs.declared.ask.WordFault.{WordFault}
@@ -104,9 +104,14 @@ is_prefix (b ∷ bytes) = nat_le (length bytes) 31 && (is_letter b && list_all i
 abbrev pub is_size : List ℕ → Bool
 is_size text = are_digits text && (nat_le (length text) 4 && (nat_le 1 (number_of text) && nat_le (number_of text) 4000))
 
--- an empty value, or a prefix or a size of another form; a flag has no bad value
+-- one to 18 digits
+abbrev pub is_cap : List ℕ → Bool
+is_cap text = are_digits text && nat_le (length text) 18
+
+-- an empty value, or a cap, a prefix or a size of another form; a flag has no bad value
 abbrev pub is_bad_value : Opt → List ℕ → Bool
 is_bad_value All value = false
+is_bad_value Cap value = not (is_cap value)
 is_bad_value Prefix value = not (is_prefix value)
 is_bad_value Size value = not (is_size value)
 is_bad_value option value = not (nat_lt 0 (length value))
@@ -186,6 +191,7 @@ value ask Net = ask.net
 value ask All = flag_value ask.all
 value ask OutSpef = ask.out_spef
 value ask OutVerilog = ask.out_verilog
+value ask Cap = ask.cap
 value ask Prefix = ask.prefix
 value ask Size = ask.size
 
@@ -196,6 +202,14 @@ text_for ask option = unwrap_or (value ask option) []
 -- what the names of cells that are put in begin with
 abbrev pub prefix_of : Ask → List ℕ
 prefix_of ask = unwrap_or ask.prefix (codes "vgi_")
+
+-- the number that a text writes, if it is a cap
+abbrev pub cap_in : List ℕ → Option ℕ
+cap_in text = if is_cap text then Some (number_of text) else None
+
+-- the cap on the cost of placements (thousandths), if there is one
+abbrev pub cap_of : Ask → Option ℕ
+cap_of ask = cap_in (text_for ask Cap)
 
 -- the number that a text writes, if it is a size
 abbrev pub size_in : List ℕ → Option ℕ

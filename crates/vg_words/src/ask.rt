@@ -2,9 +2,10 @@ ghost use Rattle.std.specs.Prelude.{◌≡◌};
 ghost use Rattle.clap.specs.Words.{kind_of};
 ghost use Rattle.vg_words.specs.Command.{fault_for};
 ghost use Rattle.vg_words.specs.Options.{mode_name, optional, required};
-ghost use Rattle.vg_words.specs.Request.{may_be_given, prefix_of, size_of, text_for};
+ghost use Rattle.vg_words.specs.Request.{cap_of, may_be_given, prefix_of, size_of, text_for};
 ghost use Rattle.vg_words.specs.declared.ask.WordFault.TheVariants.{Memory as out_of_memory};
 
+use crate::cap::cap_in;
 use crate::option::Opt;
 use crate::size::size_in;
 use clap::error::ErrorKind;
@@ -19,6 +20,8 @@ pub enum Mode {
     Time,
     /// Prints a best placement of repeaters on one net or on each, and the slack, and writes the netlist and the parasitics with the cells.
     Best,
+    /// Prints the costs and slacks of which no placement of repeaters on one net, or on each, has both better, each with such a placement.
+    Frontier,
     /// Makes up a design of a given size.
     Gen,
 }
@@ -42,6 +45,9 @@ const SIZE_OPTIONS: [Opt; 1] = [Opt::Size];
 /// What modes `time` and `best` may be given besides.
 const DESIGN_EXTRAS: [Opt; 2] = [Opt::All, Opt::Prefix];
 
+/// What mode `frontier` may be given besides.
+const FRONTIER_EXTRAS: [Opt; 2] = [Opt::All, Opt::Cap];
+
 impl Mode {
     /// The options that the mode asks for, where `--all` may stand for `--net`.
     pub(crate) fn required_options(self) -> &'static [Opt]
@@ -49,7 +55,7 @@ impl Mode {
     {
         match self {
             Mode::Wire => &WIRE_OPTIONS,
-            Mode::Time => &DESIGN_OPTIONS,
+            Mode::Time | Mode::Frontier => &DESIGN_OPTIONS,
             Mode::Best => &CHANGE_OPTIONS,
             Mode::Gen => &SIZE_OPTIONS,
         }
@@ -62,6 +68,7 @@ impl Mode {
         match self {
             Mode::Wire | Mode::Gen => &[],
             Mode::Time | Mode::Best => &DESIGN_EXTRAS,
+            Mode::Frontier => &FRONTIER_EXTRAS,
         }
     }
 
@@ -82,6 +89,7 @@ impl Mode {
             Mode::Wire => "wire",
             Mode::Time => "time",
             Mode::Best => "best",
+            Mode::Frontier => "frontier",
             Mode::Gen => "gen",
         }
     }
@@ -107,6 +115,8 @@ pub struct Ask {
     pub out_spef: Option<Text>,
     /// The name of the netlist that is written.
     pub out_verilog: Option<Text>,
+    /// The greatest cost of a placement, as it is written.
+    pub cap: Option<Text>,
     /// What the names of cells that are put in begin with.
     pub prefix: Option<Text>,
     /// The size of the design that is made up, as it is written.
@@ -131,6 +141,7 @@ impl Ask {
             Opt::All => return "",
             Opt::OutSpef => &self.out_spef,
             Opt::OutVerilog => &self.out_verilog,
+            Opt::Cap => &self.cap,
             Opt::Prefix => &self.prefix,
             Opt::Size => &self.size,
         };
@@ -152,6 +163,13 @@ impl Ask {
         }
     }
 
+    /// The greatest cost of a placement (thousandths), if there is one.
+    pub fn cap(&self) -> Option<u64>
+        ensures { result ≡ cap_of self.now }
+    {
+        cap_in(self.text(Opt::Cap).as_bytes())
+    }
+
     /// The size of the design that is to be made up, which is 1 to 4000 in mode `gen`. It is 0 where there is none.
     pub fn size(&self) -> u32
         ensures { result ≡ size_of self.now }
@@ -169,8 +187,8 @@ pub enum WordFault {
     Missing(Opt),
     /// The option is given, and the mode has no use for it, or it is `--all` and `--net` is given too.
     Excluded(Opt),
-    /// The option's value is empty, or is no mode; or a prefix is not a letter or `_`, followed by at most 31 letters, digits or `_`; or a size is not one
-    /// to four digits, which write 1 to 4000.
+    /// The option's value is empty, or is no mode; or a cap is not 1 to 18 digits; or a prefix is not a letter or `_`, followed by at most
+    /// 31 letters, digits or `_`; or a size is not one to four digits, which write 1 to 4000.
     BadValue(Opt),
     /// Both options name one file.
     Equal(Opt, Opt),

@@ -7,6 +7,7 @@ ghost use Rattle.vg_words.specs.declared.option.Opt.{Opt};
 ghost use Rattle.vg_words.specs.Views.{given_by};
 
 use crate::ask::{Ask, Mode, WordFault};
+use crate::cap::cap_in;
 use crate::given::Given;
 use crate::option::{FILE_OPTIONS, OPTIONS, Opt};
 use crate::size::size_in;
@@ -23,6 +24,8 @@ fn mode_of(name: &str) -> Option<Mode>
         Some(Mode::Time)
     } else if name == "best" {
         Some(Mode::Best)
+    } else if name == "frontier" {
+        Some(Mode::Frontier)
     } else if name == "gen" {
         Some(Mode::Gen)
     } else {
@@ -103,6 +106,7 @@ fn is_bad_value(option: Opt, value: &str) -> bool
 {
     match option {
         Opt::All => false,
+        Opt::Cap => cap_in(value.as_bytes()).is_none(),
         Opt::Prefix => !is_prefix(value.as_bytes()),
         Opt::Size => size_in(value.as_bytes()).is_none(),
         _ => value.is_empty(),
@@ -239,6 +243,7 @@ fn ask_of(alloc: Global, mode: Mode, given: &Given<'_>) -> Result<Ask, Memory>
     ensures all { IfOk result (λ ask. flag_value ask.all ≡ given_by given.now Opt.All) }
     ensures out_spef { IfOk result (λ ask. ask.out_spef ≡ given_by given.now Opt.OutSpef) }
     ensures out_verilog { IfOk result (λ ask. ask.out_verilog ≡ given_by given.now Opt.OutVerilog) }
+    ensures cap { IfOk result (λ ask. ask.cap ≡ given_by given.now Opt.Cap) }
     ensures prefix { IfOk result (λ ask. ask.prefix ≡ given_by given.now Opt.Prefix) }
     ensures size { IfOk result (λ ask. ask.size ≡ given_by given.now Opt.Size) }
 {
@@ -249,6 +254,7 @@ fn ask_of(alloc: Global, mode: Mode, given: &Given<'_>) -> Result<Ask, Memory>
     let net = text_of(alloc, given.get(Opt::Net))?;
     let out_spef = text_of(alloc, given.get(Opt::OutSpef))?;
     let out_verilog = text_of(alloc, given.get(Opt::OutVerilog))?;
+    let cap = text_of(alloc, given.get(Opt::Cap))?;
     let prefix = text_of(alloc, given.get(Opt::Prefix))?;
     let size = text_of(alloc, given.get(Opt::Size))?;
     Ok(Ask {
@@ -261,6 +267,7 @@ fn ask_of(alloc: Global, mode: Mode, given: &Given<'_>) -> Result<Ask, Memory>
         all: is_given(given, Opt::All),
         out_spef,
         out_verilog,
+        cap,
         prefix,
         size,
     })
@@ -269,10 +276,10 @@ fn ask_of(alloc: Global, mode: Mode, given: &Given<'_>) -> Result<Ask, Memory>
 /// Reads the words of the command line, without the program's own name.
 ///
 /// Each option is `--name value` or `--name=value`, in any order, at most once; a value that stands in a word of its own does not begin
-/// with `-`. The option `--all` is that word alone. Mode `wire` asks for `--spef` and `--net`, mode `time` for `--lib`, `--verilog` and
-/// `--cons` too, and mode `best` besides for `--out-spef` and `--out-verilog`. Modes `time` and `best` may be given `--prefix`, and `--all`
-/// in the place of `--net`. Mode `gen` asks for `--size` alone. The faults come in the order of `WordFault`, and of one kind the first option
-/// in the order of `Opt`. Answers `Memory` where there is no room.
+/// with `-`. The option `--all` is that word alone. Mode `wire` asks for `--spef` and `--net`, modes `time` and `frontier` for `--lib`,
+/// `--verilog` and `--cons` too, and mode `best` besides for `--out-spef` and `--out-verilog`. Modes `time` and `best` may be given
+/// `--prefix`, mode `frontier` may be given `--cap`, and all three `--all` in the place of `--net`. Mode `gen` asks for `--size` alone. The
+/// faults come in the order of `WordFault`, and of one kind the first option in the order of `Opt`. Answers `Memory` where there is no room.
 pub fn read_words(alloc: Global, words: &[String]) -> Result<Ask, WordFault>
     ensures { ReadsWords result (texts words.now) }
 {

@@ -1,14 +1,19 @@
-ghost use Rattle.vg_words.specs.Laws.{OneOrAll, OneRequest, SizesAreSmall};
+ghost use Rattle.vg_words.specs.Laws.{CapsAreRead, OneOrAll, OneRequest, SizesAreSmall};
 
 /// Words are one request at most. The function does nothing: its contract is the law, which a proof may cite.
 pub fn one_request()
     ensures { OneRequest }
 {}
 
-/// A request asks for one net in mode `wire`, for one net or for all nets in modes `time` and `best`, and for none in mode `gen`. The
-/// function does nothing: its contract is the law, which a proof may cite.
+/// A request asks for one net in mode `wire`, for one net or for all nets in modes `time`, `best` and `frontier`, and for none in mode
+/// `gen`. The function does nothing: its contract is the law, which a proof may cite.
 pub fn one_or_all()
     ensures { OneOrAll }
+{}
+
+/// A request with a cap asks for the number that it writes. The function does nothing: its contract is the law, which a proof may cite.
+pub fn caps_are_read()
+    ensures { CapsAreRead }
 {}
 
 /// In mode `gen` a request asks for a size of 1 to 4000. The function does nothing: its contract is the law, which a proof may cite.

@@ -2,6 +2,7 @@
 #![tactic(auto)]
 
 mod ask;
+mod cap;
 mod command;
 mod given;
 mod judge;
@@ -11,5 +12,5 @@ mod size;
 
 pub use ask::{Ask, Mode, WordFault};
 pub use judge::read_words;
-pub use laws::{one_or_all, one_request, sizes_are_small};
+pub use laws::{caps_are_read, one_or_all, one_request, sizes_are_small};
 pub use option::{Opt, options};

@@ -26,6 +26,8 @@ pub enum Opt {
     OutSpef,
     /// The name of the netlist that is written.
     OutVerilog,
+    /// The greatest cost of a placement (thousandths).
+    Cap,
     /// What the names of cells that were put in begin with.
     Prefix,
     /// The size of the design that is made up.
@@ -33,7 +35,7 @@ pub enum Opt {
 }
 
 /// All options, in order.
-pub const OPTIONS: [Opt; 11] = [
+pub const OPTIONS: [Opt; 12] = [
     Opt::Mode,
     Opt::Spef,
     Opt::Lib,
@@ -43,6 +45,7 @@ pub const OPTIONS: [Opt; 11] = [
     Opt::All,
     Opt::OutSpef,
     Opt::OutVerilog,
+    Opt::Cap,
     Opt::Prefix,
     Opt::Size,
 ];
@@ -79,6 +82,7 @@ impl Opt {
             Opt::All => "--all",
             Opt::OutSpef => "--out-spef",
             Opt::OutVerilog => "--out-verilog",
+            Opt::Cap => "--cap",
             Opt::Prefix => "--prefix",
             Opt::Size => "--size",
         }

@@ -11,8 +11,8 @@ use Rattle.vg_scan.specs.declared.comments.Comments.TheVariants.{Spef as SpefCom
 use Rattle.vg_wire.specs.Nets.{IsRefusalOf}
 use Rattle.vg_wire.specs.declared.refusal.Refusal.{Refusal}
 use Rattle.vg_words.specs.declared.ask.Mode.{Mode}
-use Rattle.vg_words.specs.declared.ask.Mode.TheVariants.{Wire, Time, Best, Gen}
-use Rattle.vginsert_top.specs.Answer.{AnswersFor, IsAnswerFor, IsAnswerWith, IsNoDesign, IsNoDesignOf, IsRefusedWith, IsWireAnswer, Tells, TimesNets, design_texts, files_in, one_net, said_by, texts_by, texts_of}
+use Rattle.vg_words.specs.declared.ask.Mode.TheVariants.{Wire, Time, Best, Frontier, Gen}
+use Rattle.vginsert_top.specs.Answer.{AnswersFor, FrontsNets, IsAnswerFor, IsAnswerWith, IsNoDesign, IsNoDesignOf, IsRefusedWith, IsWireAnswer, Tells, TimesNets, design_texts, files_in, one_net, said_by, texts_by, texts_of}
 use Rattle.vginsert_top.specs.Best.{IsJudged, Judges, said_with}
 use Rattle.vg_design.specs.Refusals.{IsFirstRefusal}
 use Rattle.vg_gen.specs.Designs.{IsDesign as IsMadeDesign}
@@ -42,9 +42,10 @@ answer_with kind mode texts asked text answer is with =
     (subst (λ (w : Option Written). IsAnswerFor kind mode texts asked (record { text = text; files = files_in w })) (sym with.no_files) is))
 
 pub refused_answer : (file name prefix : List ℕ) (refusal : Refusal) (answer : Answer) → IsRefusalOf file name refusal
-    → IsRefusedWith (refusal_line name refusal) answer → AnswersFor Wire (texts_of file [] [] []) (record { net = Some name; prefix = prefix; size = 0 }) (Ok answer)
+    → IsRefusedWith (refusal_line name refusal) answer
+    → AnswersFor Wire (texts_of file [] [] []) (record { net = Some name; cap = None; prefix = prefix; size = 0 }) (Ok answer)
 refused_answer file name prefix refusal answer of with =
-    answer_with Refused Wire (texts_of file [] [] []) (record { net = Some name; prefix = prefix; size = 0 }) (refusal_line name refusal) answer
+    answer_with Refused Wire (texts_of file [] [] []) (record { net = Some name; cap = None; prefix = prefix; size = 0 }) (refusal_line name refusal) answer
     (record { refusal = refusal; refused = of; text_is = refl }, refl) with
 
 -- a design of three texts, and of every SPEF text that is, without its comments, this one
@@ -59,6 +60,16 @@ design_of_texts clear spef l lib v verilog k cons d of is same_lib same_verilog 
 pub times_answered : (texts : Texts) (asked : Asked) (d : Design) (answer : Answer) → IsDesign texts d → TimesNets d asked answer
     → AnswersFor Time (texts_by texts) asked (Ok answer)
 times_answered texts asked d answer of is = record {
+  design = d;
+  design_of = of;
+  nets = is.nets;
+  no_files = ap files_in is.no_files;
+}
+
+-- and of frontiers
+pub fronts_answered : (texts : Texts) (asked : Asked) (d : Design) (answer : Answer) → IsDesign texts d → FrontsNets d asked answer
+    → AnswersFor Frontier (texts_by texts) asked (Ok answer)
+fronts_answered texts asked d answer of is = record {
   design = d;
   design_of = of;
   nets = is.nets;

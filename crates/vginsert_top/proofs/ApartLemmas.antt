@@ -1,12 +1,14 @@
 -- What is said of a net is one answer, and none where an input is faulty.
-use Rattle.std.proofs.Common.{◌≡◌, inl, inr, ℕ, ◌<◌, List, length, refl, sym, ap, ◌∙◌, subst, arith, Option, Some, None, Bool, false}
+use Rattle.std.proofs.Common.{◌≡◌, ◌≢◌, inl, inr, ℕ, ◌<◌, List, [], ◌∷◌, length, refl, sym, ap, ◌∙◌, subst, arith, Option, Some, None, Bool, false}
 use Rattle.std.specs.Prelude.{slice_index_or}
+use Rattle.std.specs.List.{sum_by}
+use Rattle.elmore.specs.Cells.{cell_cost, rep_of}
 use Rattle.vg_scan.specs.declared.fault.LineFault.{LineFault}
 use Rattle.elmore.specs.Allowances.{allowed_at}
 use Rattle.elmore.specs.Best.{IsGood}
 use Rattle.elmore.specs.Legal.{IsFit, IsLegal, IsWithin}
 use Rattle.elmore.specs.Placed.{IsPlacementOf, IsWanted, placed_inverted, placed_load}
-use Rattle.elmore.specs.Placements.{HasPolarity}
+use Rattle.elmore.specs.Placements.{HasPolarity, cost_of}
 use Rattle.elmore.specs.Problems.{sink_of}
 use Rattle.elmore.specs.declared.allowed.Allowed.{Allowed}
 use Rattle.elmore.specs.declared.parts.Driver.{Driver}
@@ -14,7 +16,7 @@ use Rattle.elmore.specs.declared.parts.Sink.{Sink}
 use Rattle.elmore.specs.declared.rep.Rep.{Rep}
 use Rattle.elmore.specs.declared.tree.Node.{Node}
 use Rattle.vg_words.specs.declared.ask.Mode.{Mode}
-use Rattle.vg_words.specs.declared.ask.Mode.TheVariants.{Wire, Time, Best, Gen}
+use Rattle.vg_words.specs.declared.ask.Mode.TheVariants.{Wire, Time, Best, Frontier, Gen}
 use Rattle.spef_file.specs.Files.{File, IsFileOf, IsFileFault}
 use Rattle.spef_file.proofs.LawLemmas.{file_or_fault}
 use Rattle.spef_file.specs.declared.fault.SpefKind.{SpefKind}
@@ -35,13 +37,15 @@ use Rattle.vg_design.proofs.LawLemmas.{one_problem}
 use Rattle.vg_retime.specs.Retimings.{Retimes, IsFirstRefusal as IsFirstOnWay}
 use Rattle.vg_retime.proofs.LawLemmas.{retimed_not_refused}
 use Rattle.vg_change.specs.Taken.{taken}
+use Rattle.vg_front.specs.Points.{IsFrontierOf}
+use Rattle.vg_front.specs.declared.root.Point.{Point}
 use Rattle.vg_slack.specs.Bests.{HasNoGood, IsFound}
 use Rattle.vg_slack.specs.declared.answer.Best.{Best as BestFound}
 use Rattle.vg_inputs.specs.Designs.{IsSpef, IsDesign, Texts}
 use Rattle.vg_inputs.proofs.LawLemmas.{apart_faults, library_apart, module_apart, one_is}
 use Rattle.vginsert_top.specs.Answer.{IsAnswerFor, IsGenAnswer, IsTakenFor, IsWireAnswer, design_texts, one_net}
 use Rattle.vginsert_top.specs.Inputs.{design_inputs, judged_inputs, made_up, IsFaultFor, IsFirstFault}
-use Rattle.vginsert_top.specs.Results.{Asked, Said, IsBestSaid, IsFreeDesign, IsMadeRefusal, IsSummary, IsTaken, IsTimeSaid, made_net, nets_for, nets_to_time, problem_in}
+use Rattle.vginsert_top.specs.Results.{Asked, Said, HasNoneWithin, IsBestSaid, IsFreeDesign, IsFrontSaid, IsMadeRefusal, IsSummary, IsTaken, IsTimeSaid, made_net, nets_for, nets_to_time, problem_in}
 use Rattle.vginsert_top.specs.Verdicts.{Verdict, AreSaid}
 use Rattle.vginsert_top.specs.declared.answer.AnswerKind.{AnswerKind}
 use Rattle.vginsert_top.specs.declared.answer.AnswerKind.TheVariants.{Report, NoneGood, Refusal as Refused}
@@ -87,6 +91,11 @@ module _ (a b : NetProblem) (same : AreSame a b) (cells : List (Option ℕ)) whe
     legal = legal_as good.legal;
     wanted = λ w. wanted_as w (good.wanted w);
   }
+
+  -- with the same costs
+  cost_as : cost_of a.problem cells ≡ cost_of b.problem cells
+  unfolding cost_of
+  cost_as = ap (λ (reps : List Rep). sum_by (λ (cell : Option ℕ). cell_cost (rep_of reps cell)) cells) same.reps
 
 -- ---- refusals and faults
 no_both : (file : File) (fault : LineFault SpefKind) (text : Bytes) → IsFileOf text file → IsFileFault text fault → ⊥
@@ -163,6 +172,38 @@ one_best_kind d name u v (IsBestSaid.told_refusal refusal refused is) (IsBestSai
 one_best_kind d name u v (IsBestSaid.told_refusal refusal refused is) (IsBestSaid.told_none net of none is_other) = absurd (not_refused d name net refusal of refused)
 one_best_kind d name u v (IsBestSaid.told_refusal refusal refused is) (IsBestSaid.told_refusal other refused_other is_other) = kind_is u _ is ∙ sym (kind_is v _ is_other)
 
+-- a point of a frontier is one of a good placement within the cap, whatever problem it is read as
+point_not_none : (d : Design) (cap : Option ℕ) (name : Bytes) (net other : PosedNet) (points : List Point) → IsPosedNet d name net → IsPosedNet d name other
+    → IsFrontierOf net.problem cap points → points ≢ [] → HasNoneWithin other.problem cap → ⊥
+point_not_none d cap name net other [] of of_other front some none = some refl
+point_not_none d cap name net other (x ∷ xs) of of_other front some none =
+    let problems : AreSame (problem_in net) (problem_in other)
+    = one_problem d name (problem_in net) (problem_in other) (problem_of_posed d name net of) (problem_of_posed d name other of_other) in
+    let cells = x.placement.cells in
+    let at = front.placed 0 x (omega arith) in
+    none cells (good_as (problem_in net) (problem_in other) problems cells at.good)
+    (subst (IsWithin cap) (cost_as (problem_in net) (problem_in other) problems cells) at.within)
+
+one_front_kind : (d : Design) (cap : Option ℕ) (name : Bytes) (u v : Verdict) → IsFrontSaid d cap name u → IsFrontSaid d cap name v → u.kind ≡ v.kind
+one_front_kind d cap name u v (IsFrontSaid.told_front net of points front some is) (IsFrontSaid.told_front other of_other more too any is_other) =
+    kind_is u _ is ∙ sym (kind_is v _ is_other)
+one_front_kind d cap name u v (IsFrontSaid.told_front net of points front some is) (IsFrontSaid.told_no_point other of_other none is_other) =
+    absurd (point_not_none d cap name net other points of of_other front some none)
+one_front_kind d cap name u v (IsFrontSaid.told_front net of points front some is) (IsFrontSaid.told_refusal refusal refused is_other) =
+    absurd (not_refused d name net refusal of refused)
+one_front_kind d cap name u v (IsFrontSaid.told_no_point net of none is) (IsFrontSaid.told_front other of_other points front some is_other) =
+    absurd (point_not_none d cap name other net points of_other of front some none)
+one_front_kind d cap name u v (IsFrontSaid.told_no_point net of none is) (IsFrontSaid.told_no_point other of_other none_other is_other) =
+    kind_is u _ is ∙ sym (kind_is v _ is_other)
+one_front_kind d cap name u v (IsFrontSaid.told_no_point net of none is) (IsFrontSaid.told_refusal refusal refused is_other) =
+    absurd (not_refused d name net refusal of refused)
+one_front_kind d cap name u v (IsFrontSaid.told_refusal refusal refused is) (IsFrontSaid.told_front net of points front some is_other) =
+    absurd (not_refused d name net refusal of refused)
+one_front_kind d cap name u v (IsFrontSaid.told_refusal refusal refused is) (IsFrontSaid.told_no_point net of none is_other) =
+    absurd (not_refused d name net refusal of refused)
+one_front_kind d cap name u v (IsFrontSaid.told_refusal refusal refused is) (IsFrontSaid.told_refusal other refused_other is_other) =
+    kind_is u _ is ∙ sym (kind_is v _ is_other)
+
 -- a net that re-times is not refused
 not_stopped : (d : Design) (prefix name : Bytes) (timed : Timed) (refusal : Refusal) → Retimes 17 d prefix name timed → IsFirstOnWay d prefix name refusal → ⊥
 not_stopped d prefix name timed refusal is refused = omega (arith, few_refusals refusal, retimed_not_refused 17 d prefix name timed refusal is refused)
@@ -221,6 +262,10 @@ module _ (asked : Asked) (texts : Input → Bytes) where
       let same : q.design ≡ p.design = one_is (design_texts texts) q.design p.design q.design_of.design_of p.design_of.design_of in
       let other = subst (λ (d : Design). AreSaid (IsBestSaid d) (nets_for d asked.net) b u.text) same q.best_of.nets in
       one_kind_of_all (IsBestSaid p.design) (one_best_kind p.design) (nets_for p.design asked.net) a b t.text u.text p.best_of.nets other
+  one_kind Frontier a b t u p q =
+      let same : q.design ≡ p.design = one_is (design_texts texts) q.design p.design q.design_of p.design_of in
+      let other = subst (λ (d : Design). AreSaid (IsFrontSaid d asked.cap) (nets_for d asked.net) b u.text) same q.nets in
+      one_kind_of_all (IsFrontSaid p.design asked.cap) (one_front_kind p.design asked.cap) (nets_for p.design asked.net) a b t.text u.text p.nets other
   one_kind Gen a b t u p q = one_gen_kind (design_texts (made_up asked.size)) a b t u p q
 
   -- texts with an answer have no fault
@@ -239,6 +284,7 @@ module _ (asked : Asked) (texts : Input → Bytes) where
   not_faulty Refused Wire t line input (r, _) f = (let file = has_file (texts Spef) (one_net asked) r.refusal r.refused in file_not_faulty file.0 line input file.1 f)
   not_faulty kind Time t line input d f = design_not_faulty texts d.design line input d.design_of f
   not_faulty kind Best t line input d f = design_not_faulty texts d.design line input d.design_of.design_of f
+  not_faulty kind Frontier t line input d f = design_not_faulty texts d.design line input d.design_of f
   not_faulty kind Gen t line input is f = gen_not_faulty kind t line input is f
 
   -- nor does a name of them begin with the prefix
@@ -253,10 +299,12 @@ module _ (asked : Asked) (texts : Input → Bytes) where
   not_taken kind Wire t name is taken_by = taken_by
   not_taken kind Time t name is taken_by = taken_by
   not_taken kind Best t name d taken_by = free_not_taken d.design name d.design_of taken_by
+  not_taken kind Frontier t name is taken_by = taken_by
   not_taken kind Gen t name is taken_by = taken_by
 
   pub taken_not_faulty : (mode : Mode) (name line : Bytes) (input : Input) → IsTakenFor mode texts asked name → IsFaultFor mode texts asked line input → ⊥
   taken_not_faulty Wire name line input taken_by f = taken_by
   taken_not_faulty Time name line input taken_by f = taken_by
   taken_not_faulty Best name line input taken_by f = design_not_faulty texts taken_by.design line input taken_by.design_of f
+  taken_not_faulty Frontier name line input taken_by f = taken_by
   taken_not_faulty Gen name line input taken_by f = taken_by

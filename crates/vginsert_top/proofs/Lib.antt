@@ -9,3 +9,4 @@ pub mod RunLemmas
 pub mod AnswerLemmas
 pub mod ClearLemmas
 pub mod ReportLemmas
+pub mod FrontLemmas

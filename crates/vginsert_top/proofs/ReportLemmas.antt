@@ -24,6 +24,16 @@ sinks_more sinks at owner leaf delay h e f g =
     ∙ sym (flat_map-append sink_line (take at sinks) (get_or sinks at row ∷ []))
     ∙ ap (flat_map sink_line) (sym (take_more sinks at row h))
 
+-- one report more
+pub report_more : {A : Type 0} (report : A → List ℕ) (before text : List ℕ) (xs : List A) (at : ℕ) (x : A) → at < length xs → x ≡ get_or xs at x
+    → text ≡ before ++ flat_map report (take at xs) → text ++ report x ≡ before ++ flat_map report (take (at + 1) xs)
+report_more report before text xs at x low here is =
+    ap (λ (t : List ℕ). t ++ report x) is ∙ append_assoc before (flat_map report (take at xs)) (report x)
+    ∙ ap (λ (t : List ℕ). before ++ t)
+    (ap (λ (line : List ℕ). flat_map report (take at xs) ++ line) (sym (append-nil (report x)))
+    ∙ sym (flat_map-append report (take at xs) (x ∷ []))
+    ∙ ap (flat_map report) (ap (λ y. take at xs ++ y ∷ []) here ∙ sym (take_more xs at x low)))
+
 -- ---- cells
 range_more : (n : ℕ) → range_with_len 0 (n + 1) ≡ range_with_len 0 n ++ n ∷ []
 range_more n =

@@ -135,7 +135,7 @@ good_prefix (Some prefix) e = by_test (is_prefix prefix) e
 pub prefix_is : (words : List (List ℕ)) (ask : Ask) → IsRequest words ask → is_prefix (prefix_of ask) ≡ true
 prefix_is words ask is =
     let values = values_in is.settings in
-    let not_bad : is_bad values Prefix ≡ false = none_at (is_bad values) options 9 Mode (faultless values is.faultless).bad (omega arith) in
+    let not_bad : is_bad values Prefix ≡ false = none_at (is_bad values) options 10 Mode (faultless values is.faultless).bad (omega arith) in
     good_prefix ask.prefix (ap (has_bad_value Prefix) (sym (is.values Prefix)) ∙ not_bad)
 
 -- which can stand in words

@@ -7,14 +7,14 @@ use Rattle.vg_store.specs.Writing.{OutState, Gains}
 use Rattle.vg_words.specs.Request.{IsRequest, IsRefused, ReadsWords}
 use Rattle.vg_words.specs.declared.ask.Ask.{Ask}
 use Rattle.vg_words.specs.declared.ask.Mode.{Mode}
-use Rattle.vg_words.specs.declared.ask.Mode.TheVariants.{Wire, Time, Best, Gen}
+use Rattle.vg_words.specs.declared.ask.Mode.TheVariants.{Wire, Time, Best, Frontier, Gen}
 use Rattle.vg_words.specs.declared.ask.WordFault.{WordFault}
 use Rattle.vg_words.specs.declared.ask.WordFault.TheVariants.{Unread, Missing, Excluded, BadValue, Equal, Memory as NoRoom}
 use Rattle.vg_words.proofs.JudgeLemmas.{refused_none, one}
 use Rattle.vginsert_top.specs.Answer.{IsAnswerFor, IsTakenFor, texts_of}
 use Rattle.vginsert_top.specs.Inputs.{asked_by, design_inputs, inputs, told, Change, IsShort, IsLong, IsRead, IsFaultFor}
 use Rattle.vginsert_top.specs.Results.{Asked, Said}
-use Rattle.vginsert_top.specs.Run.{AllStay, AreTold, AreShort, IsExact, IsStatusFor, Prints, Says, TellsFlaw, TellsRefusedInput, TellsWriteFault, prints_nothing, status_for}
+use Rattle.vginsert_top.specs.Run.{AllStay, AreTold, AreShort, IsExact, IsStatusFor, Prints, Says, TellsFlaw, TellsRefusedInput, TellsWriteFault, is_status, prints_nothing, status_for}
 use Rattle.vginsert_top.specs.Outcomes.{Ends, IsStatusOf, Tells, status_of, fault_status}
 use Rattle.vginsert_top.specs.declared.answer.AnswerKind.{AnswerKind}
 use Rattle.vginsert_top.specs.declared.answer.AnswerKind.TheVariants.{Report, NoneGood, Refusal}
@@ -87,6 +87,7 @@ abbrev Agree : Mode → (Input → Bytes) → (Input → Bytes) → Type 0
 Agree Wire a b = a Spef ≡ b Spef
 Agree Time a b = AgreeOnAll a b
 Agree Best a b = AgreeOnAll a b
+Agree Frontier a b = AgreeOnAll a b
 Agree Gen a b = Unit {0}
 
 told_is : (file : Option Bytes) (a b : Bytes) → IsRead file a → file ≡ Some b → a ≡ b
@@ -104,6 +105,7 @@ agree : (mode : Mode) (tell : Input → Option Bytes) (a b : Input → Bytes) �
 agree Wire tell a b read told = told_is (tell Spef) (a Spef) (b Spef) (read 0 Spef (omega arith)) (told 0 Spef (omega arith))
 agree Time tell a b read told = agree_on_all tell a b read told
 agree Best tell a b read told = agree_on_all tell a b read told
+agree Frontier tell a b read told = agree_on_all tell a b read told
 agree Gen tell a b read told = tt
 
 -- what is said of the ones is said of the others
@@ -117,18 +119,21 @@ answer_as : (kind : AnswerKind) (mode : Mode) (a b : Input → Bytes) (asked : A
 answer_as kind Wire a b asked t e is = subst (λ (s : Bytes). IsAnswerFor kind Wire (texts_of s (b Lib) (b Verilog) (b Cons)) asked t) e is
 answer_as kind Time a b asked t e is = along (λ texts. IsAnswerFor kind Time texts asked t) a b e is
 answer_as kind Best a b asked t e is = along (λ texts. IsAnswerFor kind Best texts asked t) a b e is
+answer_as kind Frontier a b asked t e is = along (λ texts. IsAnswerFor kind Frontier texts asked t) a b e is
 answer_as kind Gen a b asked t e is = is
 
 taken_as : (mode : Mode) (a b : Input → Bytes) (net : Asked) (name : Bytes) → Agree mode a b → IsTakenFor mode a net name → IsTakenFor mode b net name
 taken_as Wire a b net name e is = is
 taken_as Time a b net name e is = is
 taken_as Best a b net name e is = along (λ texts. IsTakenFor Best texts net name) a b e is
+taken_as Frontier a b net name e is = is
 taken_as Gen a b net name e is = is
 
 faulty_as : (mode : Mode) (a b : Input → Bytes) (asked : Asked) (line : Bytes) (input : Input) → Agree mode a b → IsFaultFor mode a asked line input → IsFaultFor mode b asked line input
 faulty_as Wire a b asked line input e is = subst (λ (s : Bytes). IsFaultFor Wire (texts_of s (b Lib) (b Verilog) (b Cons)) asked line input) e is
 faulty_as Time a b asked line input e is = along (λ texts. IsFaultFor Time texts asked line input) a b e is
 faulty_as Best a b asked line input e is = along (λ texts. IsFaultFor Best texts asked line input) a b e is
+faulty_as Frontier a b asked line input e is = along (λ texts. IsFaultFor Frontier texts asked line input) a b e is
 faulty_as Gen a b asked line input e is = is
 
 all_short : (tell : Input → Option Bytes) (a b : Input → Bytes) → All (λ i. IsRead (tell i) (a i)) design_inputs → AgreeOnAll a b → All (λ i. IsShort (b i)) design_inputs
@@ -141,6 +146,7 @@ shorts : (mode : Mode) (tell : Input → Option Bytes) (a b : Input → Bytes) �
 shorts Wire tell a b read e = all_one (λ i. IsShort (b i)) Spef (subst (λ (s : Bytes). IsShort s) e (read 0 Spef (omega arith)).short)
 shorts Time tell a b read e = all_short tell a b read e
 shorts Best tell a b read e = all_short tell a b read e
+shorts Frontier tell a b read e = all_short tell a b read e
 shorts Gen tell a b read e = λ i d low. absurd (omega (arith, low))
 
 -- what is told and short is not too long
@@ -168,6 +174,19 @@ kind_by_status NoneGood Report e = absurd (omega (arith, e))
 kind_by_status NoneGood Refusal e = absurd (omega (arith, e))
 kind_by_status Refusal Report e = absurd (omega (arith, e))
 kind_by_status Refusal NoneGood e = absurd (omega (arith, e))
+
+-- a request ends with one of the statuses
+known_status : (outcome : Outcome) → is_status (status_of outcome) ≡ true
+known_status (Printed Report) = refl
+known_status (Printed NoneGood) = refl
+known_status (Printed Refusal) = refl
+known_status (Flawed input Failed) = refl
+known_status (Flawed input TooLong) = refl
+known_status (Flawed input (Faulty line)) = refl
+known_status (Taken name) = refl
+known_status (Unwritten output) = refl
+known_status WriteFault = refl
+known_status Memory = refl
 
 module _ (ask : Ask) (files : Change FilesState) (out : Change OutState) where
   exact_is : (outcome : Outcome) → Ends ask files out outcome → (b : Input → Bytes) → AreTold files.0 ask b
@@ -209,6 +228,16 @@ module _ (ask : Ask) (files : Change FilesState) (out : Change OutState) where
   all_stay (Unwritten output) e ends = absurd cc
   all_stay WriteFault e ends = absurd cc
   all_stay Memory e (stay, _) = stay
+
+  unprinted : (outcome : Outcome) → prints_nothing (status_of outcome) ≡ true → Ends ask files out outcome → out.1.written ≡ out.0.written
+  unprinted (Printed Report) e ends = absurd cc
+  unprinted (Printed NoneGood) e ends = absurd cc
+  unprinted (Printed Refusal) e ends = absurd cc
+  unprinted (Flawed input flaw) e (_, _, same) = same
+  unprinted (Taken name) e (_, _, same) = same
+  unprinted (Unwritten output) e ends = absurd cc
+  unprinted WriteFault e ends = absurd cc
+  unprinted Memory e (_, same) = same
 
   not_three : (outcome : Outcome) → status_of outcome ≡ 3 → ⊥
   not_three (Printed kind) e = omega (arith, e, few_for kind)
@@ -279,6 +308,12 @@ module _ {ask : Ask} {files : Change FilesState} {out err : Change OutState} {st
 
   pub run_write_fault : status ≡ 6 → TellsWriteFault files out (Says err.0 err.1) ask
   run_write_fault e = write_fault_is ask files out err run.outcome (sym run.status_is ∙ e) run.ends run.tells
+
+  pub run_status : is_status status ≡ true
+  run_status = ap is_status run.status_is ∙ known_status run.outcome
+
+  pub run_unprinted : prints_nothing status ≡ true → out.1.written ≡ out.0.written
+  run_unprinted e = unprinted ask files out run.outcome (ap prints_nothing (sym run.status_is) ∙ e) run.ends
 
   pub run_stays : prints_nothing status ≡ true → AllStay files
   run_stays e = all_stay ask files out run.outcome (ap prints_nothing (sym run.status_is) ∙ e) run.ends

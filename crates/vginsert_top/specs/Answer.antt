@@ -9,10 +9,10 @@ use Rattle.vg_inputs.specs.declared.design_fault.DesignFault.TheVariants.{Spef a
 use Rattle.vg_scan.specs.Comments.{without_comments}
 use Rattle.vg_scan.specs.declared.comments.Comments.TheVariants.{Spef as SpefComments}
 use Rattle.vg_words.specs.declared.ask.Mode.{Mode}
-use Rattle.vg_words.specs.declared.ask.Mode.TheVariants.{Wire, Time, Best, Gen}
+use Rattle.vg_words.specs.declared.ask.Mode.TheVariants.{Wire, Time, Best, Frontier, Gen}
 use Rattle.vginsert_top.specs.Inputs.{inputs, made_up, IsFaultFor, IsFirstFault}
 use Rattle.vginsert_top.specs.Faults.{cons_fault, lib_fault, spef_fault, ver_fault}
-use Rattle.vginsert_top.specs.Results.{Asked, Files, Said, IsBestAnswer, IsDelays, IsMadeRefusal, IsRefusal, IsSummary, IsTaken, IsTimeAnswer, IsTimeSaid, IsSpefFault, nets_to_time}
+use Rattle.vginsert_top.specs.Results.{Asked, Files, Said, IsBestAnswer, IsDelays, IsFrontAnswer, IsFrontSaid, IsMadeRefusal, IsRefusal, IsSummary, IsTaken, IsTimeAnswer, IsTimeSaid, IsSpefFault, nets_for, nets_to_time}
 use Rattle.vginsert_top.specs.Verdicts.{AreSaid}
 use Rattle.vginsert_top.specs.declared.input.Input.{Input}
 use Rattle.vginsert_top.specs.declared.input.Input.TheVariants.{Spef, Lib, Verilog, Cons}
@@ -53,6 +53,7 @@ abbrev pub IsAnswerFor : AnswerKind → Mode → (Input → List ℕ) → Asked 
 IsAnswerFor kind Wire texts asked said = IsWireAnswer kind (texts Spef) (one_net asked) said
 IsAnswerFor kind Time texts asked said = IsTimeAnswer (design_texts texts) asked kind said
 IsAnswerFor kind Best texts asked said = IsBestAnswer (design_texts texts) asked kind said
+IsAnswerFor kind Frontier texts asked said = IsFrontAnswer (design_texts texts) asked kind said
 IsAnswerFor kind Gen texts asked said = IsGenAnswer kind (design_texts (made_up asked.size)) said
 
 -- a name of the design begins with the prefix, for which mode `best` alone asks
@@ -60,6 +61,7 @@ abbrev pub IsTakenFor : Mode → (Input → List ℕ) → Asked → List ℕ →
 IsTakenFor Wire texts asked name = ⊥
 IsTakenFor Time texts asked name = ⊥
 IsTakenFor Best texts asked name = IsTaken (design_texts texts) asked.prefix name
+IsTakenFor Frontier texts asked name = ⊥
 IsTakenFor Gen texts asked name = ⊥
 
 abbrev pub files_by : Written → Files
@@ -76,6 +78,11 @@ said_by answer = record { text = answer.text.items; files = files_in answer.writ
 -- the answer says this of the nets of a design that are to be timed
 pub record TimesNets (d : Design) (asked : Asked) (answer : Answer) : Type 0 where
   pub nets : AreSaid (IsTimeSaid d asked.prefix) (nets_to_time d asked.prefix asked.net) answer.kind answer.text.items
+  pub no_files : answer.written ≡ None
+
+-- the answer says this of the nets of a design whose frontiers are asked for
+pub record FrontsNets (d : Design) (asked : Asked) (answer : Answer) : Type 0 where
+  pub nets : AreSaid (IsFrontSaid d asked.cap) (nets_for d asked.net) answer.kind answer.text.items
   pub no_files : answer.written ≡ None
 
 -- what judging the texts of a mode may answer: an answer, the first fault, a name that begins with the prefix, or out of memory

@@ -6,10 +6,10 @@ use Rattle.vg_cons.specs.Lines.{lines_of as cons_lines}
 use Rattle.vg_cons.specs.Faults.{IsFaultless}
 use Rattle.vg_gen.specs.Nets.{branch_count}
 use Rattle.vg_gen.specs.Texts.{constraints_text, library_text, netlist_text, spef_text}
-use Rattle.vg_words.specs.Request.{prefix_of, size_of, text_for}
+use Rattle.vg_words.specs.Request.{cap_of, prefix_of, size_of, text_for}
 use Rattle.vg_words.specs.declared.ask.Ask.{Ask}
 use Rattle.vg_words.specs.declared.ask.Mode.{Mode}
-use Rattle.vg_words.specs.declared.ask.Mode.TheVariants.{Wire, Time, Best, Gen}
+use Rattle.vg_words.specs.declared.ask.Mode.TheVariants.{Wire, Time, Best, Frontier, Gen}
 use Rattle.vg_words.specs.declared.option.Opt.{Opt}
 use Rattle.vg_words.specs.declared.option.Opt.TheVariants.{Spef as SpefOption, Lib as LibOption, Verilog as VerilogOption, Cons as ConsOption}
 use Rattle.vg_inputs.specs.Designs.{IsSpef, IsLib, IsModule}
@@ -28,6 +28,7 @@ abbrev pub inputs : Mode → List Input
 inputs Wire = Spef ∷ []
 inputs Time = design_inputs
 inputs Best = design_inputs
+inputs Frontier = design_inputs
 inputs Gen = []
 
 -- those whose texts it judges, in their order: mode `gen` judges those of the design that it makes up
@@ -35,6 +36,7 @@ abbrev pub judged_inputs : Mode → List Input
 judged_inputs Wire = Spef ∷ []
 judged_inputs Time = design_inputs
 judged_inputs Best = design_inputs
+judged_inputs Frontier = design_inputs
 judged_inputs Gen = design_inputs
 
 -- the texts of the made-up design of a size
@@ -46,7 +48,7 @@ made_up size Cons = constraints_text (branch_count size)
 
 -- what a request asks
 abbrev pub asked_by : Ask → Asked
-asked_by ask = record { net = ask.net; prefix = prefix_of ask; size = size_of ask }
+asked_by ask = record { net = ask.net; cap = cap_of ask; prefix = prefix_of ask; size = size_of ask }
 
 -- the option that names an input
 abbrev pub option_of : Input → Opt
@@ -74,6 +76,7 @@ abbrev pub name_in : Mode → Ask → Input → List ℕ
 name_in Wire ask input = text_for ask (option_of input)
 name_in Time ask input = text_for ask (option_of input)
 name_in Best ask input = text_for ask (option_of input)
+name_in Frontier ask input = text_for ask (option_of input)
 name_in Gen ask input = codes "gen"
 
 abbrev pub name_of : Ask → Input → List ℕ
@@ -114,6 +117,7 @@ abbrev pub IsFaultFor : Mode → (Input → List ℕ) → Asked → List ℕ →
 IsFaultFor Wire texts asked line input = IsFirstFault texts (judged_inputs Wire) line input
 IsFaultFor Time texts asked line input = IsFirstFault texts (judged_inputs Time) line input
 IsFaultFor Best texts asked line input = IsFirstFault texts (judged_inputs Best) line input
+IsFaultFor Frontier texts asked line input = IsFirstFault texts (judged_inputs Frontier) line input
 IsFaultFor Gen texts asked line input = IsFirstFault (made_up asked.size) (judged_inputs Gen) line input
 
 -- the first flaw: an input could not be read or is too long, and those before it were read; or all were read, one has a

@@ -10,6 +10,7 @@ use Rattle.vg_design.specs.Nets.{name_at}
 use Rattle.vg_design.specs.declared.net_problem.NetProblem.{NetProblem}
 use Rattle.vg_design.specs.declared.time.Timed.{Timed}
 use Rattle.vg_slack.specs.declared.answer.Best.{Best}
+use Rattle.vg_front.specs.declared.root.Point.{Point}
 use Rattle.vg_wire.specs.declared.wire.WireNet.{WireNet}
 use Rattle.vg_wire.specs.Refusals.{number_of}
 use Rattle.vginsert_top.specs.Faults.{net_fault}
@@ -73,6 +74,24 @@ cell_count placed = length (filter is_some placed)
 abbrev pub best_report : List ℕ → List (List ℕ) → NetProblem → Best → List ℕ
 best_report name cells net best =
     best_line name best.slack (cost_of net.problem best.placement.cells) (cell_count best.placement.cells) ++ cell_lines cells net.names best.placement.cells
+
+-- `net NAME points P`
+abbrev pub points_line : List ℕ → ℕ → List ℕ
+points_line name count = codes "net " ++ (name ++ (codes " points " ++ (decimal count ++ codes "\n")))
+
+-- `point K S cells M`, with K in thousandths and S in zs
+abbrev pub point_line : ℕ → ℤ → ℕ → List ℕ
+point_line cost slack count =
+    codes "point " ++ (decimal cost ++ (codes " " ++ (signed_decimal slack ++ (codes " cells " ++ (decimal count ++ codes "\n")))))
+
+-- the cost (thousandths), the slack (zs) and the cells of a point of a frontier
+abbrev pub point_report : List (List ℕ) → List NodeName → Point → List ℕ
+point_report cells names point =
+    point_line point.cost point.slack (cell_count point.placement.cells) ++ cell_lines cells names point.placement.cells
+
+-- how many points a frontier has, and then each
+abbrev pub front_report : List ℕ → List (List ℕ) → NetProblem → List Point → List ℕ
+front_report name cells net points = points_line name (length points) ++ flat_map (point_report cells net.names) points
 
 -- `net NAME none`
 abbrev pub none_line : List ℕ → List ℕ

@@ -1,6 +1,10 @@
 -- What the inputs say of the nets that are asked for.
-use Rattle.std.specs.Prelude.{◌≡◌, ℕ, ◌==◌, not, List, [], ◌∷◌, Option, Some, None, codes, filter, if◌then◌else◌}
+use Rattle.std.specs.Prelude.{◌≡◌, ◌≢◌, ℕ, ◌==◌, not, List, [], ◌∷◌, Option, Some, None, codes, filter, if◌then◌else◌}
 use Rattle.std.specs.List.{flat_map, starts_with}
+use Rattle.elmore.specs.Best.{IsGood}
+use Rattle.elmore.specs.Legal.{IsWithin}
+use Rattle.elmore.specs.Placements.{cost_of}
+use Rattle.elmore.specs.declared.problem.Problem.{Problem}
 use Rattle.lib_cells.specs.declared.fault.LibKind.{LibKind}
 use Rattle.lib_linear.specs.Faults.{IsFirstFault as IsFirstLibFault}
 use Rattle.spef_file.specs.Files.{IsFileFault}
@@ -31,7 +35,9 @@ use Rattle.vg_design.specs.declared.net_problem.NetProblem.{NetProblem}
 use Rattle.vg_design.specs.declared.net_problem.PosedNet.{PosedNet}
 use Rattle.vg_slack.specs.Bests.{HasNoGood, IsAnswer, IsFound}
 use Rattle.vg_slack.specs.declared.answer.Best.{Best}
-use Rattle.vginsert_top.specs.Reports.{best_report, cell_count, gen_line, none_line, place_count, wire_report, slack_line, refusal_line}
+use Rattle.vg_front.specs.Points.{IsFrontierOf}
+use Rattle.vg_front.specs.declared.root.Point.{Point}
+use Rattle.vginsert_top.specs.Reports.{best_report, cell_count, front_report, gen_line, none_line, place_count, wire_report, slack_line, refusal_line}
 use Rattle.vginsert_top.specs.Verdicts.{Verdict, AreSaid, bare_verdict, put_in}
 use Rattle.vginsert_top.specs.declared.answer.AnswerKind.{AnswerKind}
 use Rattle.vginsert_top.specs.declared.answer.AnswerKind.TheVariants.{Report, NoneGood, Refusal as Refused}
@@ -72,10 +78,11 @@ pub record IsConsFault (cons text : List ℕ) : Type 0 where
   pub found : IsFaultIn (cons_lines cons) fault
   pub text_is : text ≡ cons_fault fault
 
--- What is asked: one net by its name, or all nets of the parasitics; what the names of cells that were put in begin with; and the size of
--- a design that is to be made up.
+-- What is asked: one net by its name, or all nets of the parasitics; the cap on the cost of placements (thousandths), if there is one; what
+-- the names of cells that were put in begin with; and the size of a design that is to be made up.
 pub record Asked : Type 0 where
   pub net : Option (List ℕ)
+  pub cap : Option ℕ
   pub prefix : List ℕ
   pub size : ℕ
 
@@ -176,6 +183,33 @@ pub record IsTaken (texts : Texts) (prefix name : List ℕ) : Type 0 where
   pub design : Design
   pub design_of : IsDesign texts design
   pub first : taken design prefix ≡ Some name
+
+-- ---- frontiers
+
+-- the net of this name is posed with this problem
+abbrev pub IsPosedIn : Design → List ℕ → NetProblem → Type 0
+IsPosedIn d name net = (posed : PosedNet) × IsPosedNet d name posed × (net ≡ problem_in posed)
+
+-- no good placement is within the cap
+abbrev pub HasNoneWithin : Problem → Option ℕ → Type 0
+HasNoneWithin p cap = (cells : List (Option ℕ)) → IsGood p cells → IsWithin cap (cost_of p cells) → ⊥
+
+-- the points of the net's frontier within the cap are reported, each with a placement; or no good placement is within the cap; or the net is
+-- refused
+pub data IsFrontSaid (d : Design) (cap : Option ℕ) (name : List ℕ) (said : Verdict) : Type 0 where
+  told_front : (net : PosedNet) → IsPosedNet d name net → (points : List Point) → IsFrontierOf net.problem cap points → points ≢ []
+      → said ≡ bare_verdict Report (front_report name (cells_of d.library.repeaters) (problem_in net) points) → IsFrontSaid d cap name said
+  told_no_point : (net : PosedNet) → IsPosedNet d name net → HasNoneWithin net.problem cap → said ≡ bare_verdict NoneGood (none_line name)
+      → IsFrontSaid d cap name said
+  told_refusal : (refusal : Refusal) → IsFirstRefusal d name refusal → said ≡ bare_verdict Refused (refusal_line name refusal)
+      → IsFrontSaid d cap name said
+
+-- the four texts are a design, and this is said of the nets that are asked for
+pub record IsFrontAnswer (texts : Texts) (asked : Asked) (kind : AnswerKind) (said : Said) : Type 0 where
+  pub design : Design
+  pub design_of : IsDesign texts design
+  pub nets : AreSaid (IsFrontSaid design asked.cap) (nets_for design asked.net) kind said.text
+  pub no_files : said.files ≡ None
 
 -- ---- made-up designs
 

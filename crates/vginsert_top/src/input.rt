@@ -64,7 +64,7 @@ impl Input {
         ensures { result.now ≡ name_of ask.now self }
     {
         match ask.mode {
-            Mode::Wire | Mode::Time | Mode::Best => ask.text(self.option()),
+            Mode::Wire | Mode::Time | Mode::Best | Mode::Frontier => ask.text(self.option()),
             Mode::Gen => "gen",
         }
     }
@@ -76,7 +76,7 @@ fn inputs(mode: Mode) -> &'static [Input]
 {
     match mode {
         Mode::Wire => &WIRE_INPUTS,
-        Mode::Time | Mode::Best => &DESIGN_INPUTS,
+        Mode::Time | Mode::Best | Mode::Frontier => &DESIGN_INPUTS,
         Mode::Gen => &[],
     }
 }

@@ -4,6 +4,7 @@
 mod answer;
 mod best;
 mod faults;
+mod front;
 mod input;
 mod judging;
 mod outcome;

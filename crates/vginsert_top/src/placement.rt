@@ -1,13 +1,14 @@
-//! A best placement of repeaters on a net, and its report.
+//! Placements of repeaters on a net, and their reports.
 
 ghost use Rattle.std.specs.Prelude.{◌≡◌, ◌<◌, ◌++◌, length, OnOk, IfOk};
+ghost use Rattle.std.specs.List.{All, flat_map};
 ghost use Rattle.elmore.specs.Placed.{IsPlacementOf};
 ghost use Rattle.elmore.specs.Placements.{IsPlacement};
 ghost use Rattle.vg_design.specs.Parts.{cells_of};
 ghost use Rattle.vg_slack.specs.Bests.{IsAnswer};
-ghost use Rattle.vginsert_top.specs.Reports.{best_report, cell_count, cell_lines};
+ghost use Rattle.vginsert_top.specs.Reports.{best_report, cell_count, cell_lines, front_report, point_report};
 
-use crate::report::{print_at, print_best};
+use crate::report::{print_at, print_best, print_count, print_point};
 use cand_pool::Steps;
 use elmore::{Placement, Problem, cost};
 use lib_linear::Repeater;
@@ -15,6 +16,7 @@ use std::alloc::Global;
 use std::marker::Brand;
 use std::sync::ledger::{Blank, Ledger};
 use vg_design::{NetProblem, TreeNames};
+use vg_front::Point;
 use vg_num::Memory;
 use vg_slack::{Best, Room};
 
@@ -90,5 +92,53 @@ pub fn report_best(
     let count = count_cells(&best.placement);
     print_best(name, best.slack, cost, count, to)?;
     print_cells(repeaters, &net.names, &best.placement, to)?;
+    Ok(())
+}
+
+/// Appends the report of a point of a frontier.
+fn report_point(
+    repeaters: &[Repeater],
+    names: &TreeNames,
+    point: &Point,
+    to: &mut Vec<u8>,
+) -> Result<(), Memory>
+    requires { IsPlacementOf (length names.now) (length repeaters.now) point.now.placement.cells }
+    ensures { OnOk result (to.new.items ≡ to.old.items ++ point_report (cells_of repeaters.now) names.now point.now) }
+{
+    let count = count_cells(&point.placement);
+    print_point(point.cost, point.slack, count, to)?;
+    print_cells(repeaters, names, &point.placement, to)?;
+    Ok(())
+}
+
+/// Appends those of some points, one after another.
+fn print_points(
+    repeaters: &[Repeater],
+    names: &TreeNames,
+    points: &[Point],
+    to: &mut Vec<u8>,
+) -> Result<(), Memory>
+    requires { All (λ point. IsPlacementOf (length names.now) (length repeaters.now) point.placement.cells) points.now }
+    ensures { OnOk result (to.new.items ≡ to.old.items ++ flat_map (point_report (cells_of repeaters.now) names.now) points.now) }
+{
+    'point: for at in 0..points.len() {
+        report_point(repeaters, names, &points[at], to)?;
+    }
+    Ok(())
+}
+
+/// Appends the report of a frontier of a net.
+pub fn report_front(
+    name: &[u8],
+    repeaters: &[Repeater],
+    net: &NetProblem,
+    points: &[Point],
+    to: &mut Vec<u8>,
+) -> Result<(), Memory>
+    requires { All (λ point. IsPlacementOf (length net.now.names) (length repeaters.now) point.placement.cells) points.now }
+    ensures { OnOk result (to.new.items ≡ to.old.items ++ front_report name.now (cells_of repeaters.now) net.now points.now) }
+{
+    print_count(name, points.len(), to)?;
+    print_points(repeaters, &net.names, points, to)?;
     Ok(())
 }

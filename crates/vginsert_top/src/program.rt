@@ -1,5 +1,5 @@
 //! The top call: from the words to the bytes that are written.
-ghost use Rattle.std.specs.Prelude.{[], ◌≡◌, ◌≢◌, ◌⊎◌, ◌≤◌, ◌^◌, length, ℕ, List, Some, IfErr, OnErr, OnOk, IsTrue};
+ghost use Rattle.std.specs.Prelude.{[], ◌≡◌, ◌≢◌, ◌⊎◌, ◌≤◌, ◌^◌, length, ℕ, List, Some, None, IfErr, OnErr, OnOk, IsTrue};
 ghost use Rattle.std.specs.List.{All, AllPass};
 ghost use Rattle.vg_scan.specs.Printed.{is_solid};
 ghost use Rattle.vg_store.specs.Causes.{Rose};
@@ -18,6 +18,7 @@ ghost use Rattle.vginsert_top.specs.declared.input.Input.{Input};
 
 use crate::answer::{Answer, NoAnswer, Written};
 use crate::best::best_for;
+use crate::front::front_for;
 use crate::input::{Flaw, Texts, read_inputs};
 use crate::outcome::Outcome;
 use crate::output::Output;
@@ -36,7 +37,7 @@ use vg_words::{Ask, Mode, Opt, WordFault, read_words};
 fn wire_in(alloc: Global, spef: Vec<u8>, net: &[u8]) -> Result<Answer, NoAnswer>
     requires { length spef.items ≤ 2 ^ 28 }
     ensures { (lib verilog cons : List ℕ)
-        → AnswersFor ModeSpec.Wire (texts_of spef.items lib verilog cons) (record { net = Some net.now; prefix = []; size = 0 }) result }
+        → AnswersFor ModeSpec.Wire (texts_of spef.items lib verilog cons) (record { net = Some net.now; cap = None; prefix = []; size = 0 }) result }
 {
     let text = SpefText::new(spef);
     wire_for(alloc, &text, net)
@@ -53,6 +54,7 @@ fn answer(alloc: Global, texts: Texts, ask: &Ask) -> Result<Answer, NoAnswer>
         Mode::Wire => wire_in(alloc, texts.spef, ask.text(Opt::Net).as_bytes()),
         Mode::Time => time_for(alloc, texts, ask),
         Mode::Best => best_for(alloc, texts, ask),
+        Mode::Frontier => front_for(alloc, texts, ask),
         Mode::Gen => gen_for(alloc, ask.size()),
     }
 }
@@ -177,7 +179,7 @@ fn run_request<F: Files, O: Out, E: Out>(
 /// | status | comes |
 /// |---|---|
 /// | 0 | the report was printed, of all nets that are asked for |
-/// | 1 | mode `best`: it was printed, and tells of some net that no placement of repeaters on it is good; no net is refused |
+/// | 1 | modes `best` and `frontier`: it was printed, and tells of some net that no placement on it is good, or none within the cap; no net is refused |
 /// | 2 | it was printed, and some net is refused |
 /// | 3 | the words are no request |
 /// | 4 | an input is not in its form, or has more than 2^28 bytes; or, in mode `best`, a name of the design begins with the prefix |

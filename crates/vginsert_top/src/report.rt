@@ -1,7 +1,7 @@
 //! The lines of reports.
 ghost use Rattle.std.specs.Prelude.{◌≡◌, ◌++◌, OnOk, codes, decimal};
 ghost use Rattle.std.specs.Fmt.{signed_decimal};
-ghost use Rattle.vginsert_top.specs.Reports.{at_line, best_line, none_line, printed_node, refused_line, sink_line, slack_before};
+ghost use Rattle.vginsert_top.specs.Reports.{at_line, best_line, none_line, point_line, points_line, printed_node, refused_line, sink_line, slack_before};
 
 use vg_num::{Memory, print_signed};
 use vg_scan::NodeName;
@@ -107,6 +107,32 @@ pub fn print_best(
 {
     print_value(name, slack, to)?;
     print_cost(cost, count, to)?;
+    Ok(())
+}
+
+/// Appends `net NAME points P`.
+pub fn print_count(name: &[u8], count: usize, to: &mut Vec<u8>) -> Result<(), Memory>
+    ensures { OnOk result (to.new.items ≡ to.old.items ++ points_line name.now count) }
+{
+    push(b"net ", to)?;
+    push(name, to)?;
+    push(b" points ", to)?;
+    print_signed(count as i128, to)?;
+    push(b"\n", to)?;
+    Ok(())
+}
+
+/// Appends `point K S cells M`, with K in thousandths and S in zeptoseconds.
+pub fn print_point(cost: u64, slack: i128, count: usize, to: &mut Vec<u8>) -> Result<(), Memory>
+    ensures { OnOk result (to.new.items ≡ to.old.items ++ point_line cost slack count) }
+{
+    push(b"point ", to)?;
+    print_signed(i128::from(cost), to)?;
+    push(b" ", to)?;
+    print_signed(slack, to)?;
+    push(b" cells ", to)?;
+    print_signed(count as i128, to)?;
+    push(b"\n", to)?;
     Ok(())
 }
 

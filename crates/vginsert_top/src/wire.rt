@@ -1,6 +1,6 @@
 //! The wire delays of a net, as text.
 
-ghost use Rattle.std.specs.Prelude.{◌≡◌, ◌<◌, ◌≤◌, ◌^◌, ◌++◌, [], Some, length, OnOk, IfOk};
+ghost use Rattle.std.specs.Prelude.{◌≡◌, ◌<◌, ◌≤◌, ◌^◌, ◌++◌, [], Some, None, length, OnOk, IfOk};
 ghost use Rattle.std.specs.List.{flat_map};
 ghost use Rattle.vg_words.specs.declared.ask.Mode.{Mode};
 ghost use Rattle.vginsert_top.specs.Answer.{AnswersFor, IsRefusedWith, texts_of};
@@ -103,7 +103,7 @@ pub fn refuse(alloc: Global, name: &[u8], refusal: &Refusal) -> Result<Answer, M
 
 /// What is said of the wire delays of the net of this name.
 pub fn wire_for(alloc: Global, file: &SpefText, name: &[u8]) -> Result<Answer, NoAnswer>
-    ensures { AnswersFor Mode.Wire (texts_of file.now [] [] []) (record { net = Some name.now; prefix = []; size = 0 }) result }
+    ensures { AnswersFor Mode.Wire (texts_of file.now [] [] []) (record { net = Some name.now; cap = None; prefix = []; size = 0 }) result }
 {
     let index = index_of(alloc, file)?;
     let net = Name::from_bytes(alloc, name)?;

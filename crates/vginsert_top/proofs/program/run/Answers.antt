@@ -1,7 +1,7 @@
 use Rattle.std.proofs.Common.{arith, inl, inr, ◌∙◌}
 use Rattle.vg_words.specs.Request.{texts}
 use Rattle.vginsert_top.proofs.RequestLemmas.{outputs_apart, prefix_is_solid, size_is}
-use Rattle.vginsert_top.proofs.RunLemmas.{run_printed, run_not_three, run_unreadable, run_read_fault, run_write_fault, run_stays, run_exact, fault_two, fault_exact}
+use Rattle.vginsert_top.proofs.RunLemmas.{run_printed, run_not_three, run_unreadable, run_read_fault, run_write_fault, run_stays, run_status, run_unprinted, run_exact, fault_two, fault_exact}
 use Rattle.vginsert_top.specs.declared.answer.AnswerKind.TheVariants.{Report, NoneGood, Refusal}
 use Rattle.vginsert_top.proofs.program.run.Goals as goal
 
@@ -31,6 +31,12 @@ returns-in-Ok-clause-read_cause g c = λ e. (run_read_fault c.run_request.ensure
 
 pub returns-in-Ok-clause-write_fault : goal.returns-in-Ok-clause-write_fault
 returns-in-Ok-clause-write_fault g c = λ e. (c.in-Ok.ask, c.in-Ok.ensures, run_write_fault c.run_request.ensures.ends e)
+
+pub returns-in-Ok-clause-statuses : goal.returns-in-Ok-clause-statuses
+returns-in-Ok-clause-statuses g c = run_status c.run_request.ensures.ends
+
+pub returns-in-Ok-clause-nothing_printed : goal.returns-in-Ok-clause-nothing_printed
+returns-in-Ok-clause-nothing_printed g c = λ e. run_unprinted c.run_request.ensures.ends e
 
 pub returns-in-Ok-clause-nothing_written : goal.returns-in-Ok-clause-nothing_written
 returns-in-Ok-clause-nothing_written g c = λ e. run_stays c.run_request.ensures.ends e
