@@ -1,20 +1,17 @@
 -- One cell after another.
-use Rattle.std.proofs.Common.{◌≡◌, ◌≢◌, ℕ, zero, suc, ◌+◌, ◌<◌, ◌≤◌, ◌==◌, eqb, Bool, true, false, cond, List, [], ◌∷◌, ◌++◌, map, length, drop, take, get_or, set, refl, sym, ap, ◌∙◌, subst, arith, Option, Some, None}
+use Rattle.std.proofs.Common.{◌≡◌, ◌≢◌, ℕ, ◌+◌, ◌<◌, ◌≤◌, ◌==◌, Bool, true, false, cond, List, [], ◌∷◌, ◌++◌, map, length, drop, take, get_or, set, refl, sym, ap, ◌∙◌, subst, arith, Option, Some, None}
 use Rattle.std.specs.Map.{lookup}
 use Rattle.std.specs.List.{All}
-use Rattle.std.proofs.lemmas.Bool.{eq-eqb, ne_eqb}
 use Rattle.std.proofs.lemmas.Bool.Decides.{nat_tests}
 use Rattle.std.proofs.lemmas.List.{take_more, map-append, get_or-drop, length-drop, get_or-set_same, get_or-set_other, length-set}
 use Rattle.std.proofs.lemmas.List.Elements.{All-push, All-head, All-tail}
-use Rattle.vg_scan.specs.declared.name.NetNames.{NetNames}
 use Rattle.vg_cert.specs.declared.place.Place.{Place}
-use Rattle.vg_cert.specs.Lines.{Line, line_at}
-use Rattle.vg_cert.specs.Roles.{Role, at, line_before}
+use Rattle.vg_cert.specs.Roles.{at, line_before}
 use Rattle.vg_cert.specs.Faults.{node_in}
-use Rattle.vg_cert.specs.Denoted.{placed_in, cell_of}
+use Rattle.vg_cert.specs.Denoted.{placed_in}
 use Rattle.vg_cert.specs.Readings.{Reading, IsUpTo, AreCellsDue, IsCell, ArePlacedBy, node_after, line_of, lines_of, role_of}
 use Rattle.vg_cert.proofs.ListLemmas.{place_within}
-use Rattle.vg_cert.proofs.SectionLemmas.{before_goes, no_more}
+use Rattle.vg_cert.proofs.SectionLemmas.{before_goes}
 
 abbrev placed_from : Reading → ℕ → ℕ → List (ℕ × ℕ)
 placed_from r start k = map (placed_in r.names) (take k (drop start (lines_of r)))

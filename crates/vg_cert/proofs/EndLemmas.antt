@@ -1,7 +1,6 @@
 -- The end of a text.
-use Rattle.std.proofs.Common.{◌≡◌, ℕ, zero, suc, ◌+◌, ◌<◌, ◌≤◌, Bool, true, false, cond, not, nat_lt, List, [], ◌∷◌, length, drop, take, get_or, refl, sym, ap, ◌∙◌, subst, arith, Option, Some, None, ◌⊎◌, inl, inr}
+use Rattle.std.proofs.Common.{◌≡◌, ℕ, suc, ◌+◌, ◌<◌, ◌≤◌, false, cond, List, [], ◌∷◌, length, drop, take, get_or, refl, sym, ap, ◌∙◌, arith, Option, Some, None, inr}
 use Rattle.std.specs.List.{position}
-use Rattle.std.proofs.lemmas.Bool.Decides.{nat_tests}
 use Rattle.std.proofs.lemmas.List.{length-drop}
 use Rattle.vg_scan.specs.Lines.{is_newline}
 use Rattle.vg_scan.specs.declared.fault.LineFault.{LineFault}
@@ -10,11 +9,11 @@ use Rattle.vg_scan.proofs.ItemLemmas.{next_is}
 use Rattle.vg_cert.specs.declared.fault.CertKind.TheVariants.{Form}
 use Rattle.vg_cert.specs.declared.fault.CertKind.{CertKind}
 use Rattle.vg_cert.specs.declared.place.Place.{Place}
-use Rattle.vg_cert.specs.Lines.{Line, parts, lines, line_at, is_empty}
-use Rattle.vg_cert.specs.Roles.{Role, over, role_at, line_before}
+use Rattle.vg_cert.specs.Lines.{Line, parts, lines, is_empty}
+use Rattle.vg_cert.specs.Roles.{over, line_before}
 use Rattle.vg_cert.specs.Faults.{fault_of, fault_at, line_fault, rest_fault, IsFaultless}
 use Rattle.vg_cert.specs.Readings.{Reading, IsUpTo, IsFaultOrMemory, line_of, lines_of, role_of}
-use Rattle.vg_cert.proofs.JudgeLemmas.{below_test, above_test}
+use Rattle.vg_cert.proofs.JudgeLemmas.{above_test}
 use Rattle.vg_cert.proofs.PlaceLemmas.{parts_once, parts_never}
 use Rattle.vg_cert.proofs.ReadLemmas.{some_part, fault_line}
 use Rattle.vg_cert.proofs.WordLemmas.{not_empty}

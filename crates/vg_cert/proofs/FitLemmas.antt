@@ -1,7 +1,7 @@
 -- What was read is a certificate of the problem.
-use Rattle.std.proofs.Common.{◌≡◌, ℕ, zero, suc, ◌+◌, ◌<◌, ◌≤◌, Bool, true, false, cond, List, [], ◌∷◌, map, length, drop, take, get_or, refl, sym, ap, ◌∙◌, subst, arith, Option, Some, None, ℤ}
+use Rattle.std.proofs.Common.{◌≡◌, ℕ, zero, suc, ◌+◌, ◌<◌, ◌≤◌, Bool, true, false, cond, List, [], ◌∷◌, map, length, drop, take, get_or, refl, sym, ap, ◌∙◌, subst, arith, None}
 use Rattle.std.specs.List.{All}
-use Rattle.std.proofs.lemmas.List.{get_or-map, length-map, get_or_past}
+use Rattle.std.proofs.lemmas.List.{length-map, get_or_past}
 use Rattle.std.proofs.lemmas.List.Elements.{All-head, All-tail}
 use Rattle.std.proofs.lemmas.List.FromFn.{length-range_with_len, get_or-map-range_with_len}
 use Rattle.std.specs.List.{range_with_len}
@@ -13,12 +13,12 @@ use Rattle.elmore.specs.Problems.{is_live}
 use Rattle.vg_cert.specs.declared.certificate.NodeLists.{NodeLists}
 use Rattle.vg_cert.specs.declared.certificate.Certificate.{Certificate}
 use Rattle.vg_cert.specs.declared.head.Head.{Head}
-use Rattle.vg_cert.specs.Fits.{Fits, IsTime, IsList, list_of, lists_of}
-use Rattle.vg_cert.specs.Lines.{Line, lines}
+use Rattle.vg_cert.specs.Fits.{Fits, IsTime, IsList, list_of}
+use Rattle.vg_cert.specs.Lines.{Line}
 use Rattle.vg_cert.specs.Names.{AreNamesOf}
-use Rattle.vg_cert.specs.Roles.{cell_count, body}
-use Rattle.vg_cert.specs.Denoted.{Denotes, Lists, lists_in, both, cell_of, placed_lines}
-use Rattle.vg_cert.specs.Readings.{Reading, IsHead, ArePlacedBy, AreLists, AreBothLists, lines_of, line_of}
+use Rattle.vg_cert.specs.Roles.{cell_count}
+use Rattle.vg_cert.specs.Denoted.{Denotes, Lists, lists_in, both, cell_of}
+use Rattle.vg_cert.specs.Readings.{Reading, IsHead, ArePlacedBy, AreLists, AreBothLists, lines_of}
 
 pub live_each : (p : Problem) → length p.live ≡ length p.tree.nodes
 live_each p = ap length p.live_are ∙ length-map (range_with_len 0 (length p.tree.nodes)) (is_live p.tree.nodes p.sinks) ∙ length-range_with_len 0 (length p.tree.nodes)
@@ -29,7 +29,7 @@ length_lists [] ls = refl
 length_lists (false ∷ live) ls = ap suc (length_lists live ls)
 length_lists (true ∷ live) ls = ap suc (length_lists live _)
 
-abbrev no_pairs : Lists
+abbrev pub no_pairs : Lists
 no_pairs = ([], [])
 
 dead_lists : (live : List Bool) (ls : List Line) (v : ℕ) → get_or live v false ≡ false → get_or (lists_in live ls) v no_pairs ≡ no_pairs
@@ -40,10 +40,10 @@ dead_lists (false ∷ live) ls (suc v) e = dead_lists live ls v e
 dead_lists (true ∷ live) ls zero e = absurd (cc)
 dead_lists (true ∷ live) ls (suc v) e = dead_lists live _ v e
 
-abbrev of_both : Lists → Bool → List Pair
+abbrev pub of_both : Lists → Bool → List Pair
 of_both x odd = cond odd x.1 x.0
 
-get_both : (lists : List NodeLists) (v : ℕ) (odd : Bool) → get_or (map list_of lists) v (λ odd. []) odd ≡ of_both (get_or (map both lists) v no_pairs) odd
+pub get_both : (lists : List NodeLists) (v : ℕ) (odd : Bool) → get_or (map list_of lists) v (λ odd. []) odd ≡ of_both (get_or (map both lists) v no_pairs) odd
 get_both [] v true = refl
 get_both [] v false = refl
 get_both (x ∷ xs) zero true = refl

@@ -13,7 +13,7 @@ use Rattle.vg_cert.specs.Names.{node_text, text_of_node, node_named, cell_named}
 use Rattle.vg_cert.specs.Readings.{is_named, IsFound}
 use Rattle.vg_cert.proofs.NameLemmas.{one_text}
 
-no_node : NodeName
+pub no_node : NodeName
 no_node = record { owner = []; leaf = [] }
 
 -- whether a node's word is this one
@@ -21,18 +21,18 @@ pub named_at : (nodes : List NodeName) (v : ℕ) (node : NodeName) (d : NodeName
 named_at nodes v node d word b l is e = ap (λ t. bytes_eq t word) (get_or-map node_text nodes v d [] l ∙ ap node_text is) ∙ sym e
 
 -- two nodes that are written alike are one
-alike : (nodes : List NodeName) → AllPairs (λ (a b : NodeName). a ≡ b → ⊥) nodes → (word : List ℕ) (u v : ℕ) → u < v → v < length nodes → is_named word nodes u ≡ true → is_named word nodes v ≡ true → ⊥
+pub alike : (nodes : List NodeName) → AllPairs (λ (a b : NodeName). a ≡ b → ⊥) nodes → (word : List ℕ) (u v : ℕ) → u < v → v < length nodes → is_named word nodes u ≡ true → is_named word nodes v ≡ true → ⊥
 alike nodes differ word u v l m e f =
     let x = (bytes_eq-Decides (text_of_node nodes u) word).0 e in
     let y = (bytes_eq-Decides (text_of_node nodes v) word).0 f in
     differ u v no_node l m (one_text (get_or nodes u no_node) (get_or nodes v no_node)
     (sym (get_or-map node_text nodes u no_node [] (omega arith)) ∙ x ∙ sym y ∙ get_or-map node_text nodes v no_node [] m))
 
-both_ways : (b : Bool) → b ≡ true → b ≡ false → ⊥
+pub both_ways : (b : Bool) → b ≡ true → b ≡ false → ⊥
 both_ways true e f = absurd (cc)
 both_ways false e f = absurd (cc)
 
-not_true : (b : Bool) → (b ≡ true → ⊥) → b ≡ false
+pub not_true : (b : Bool) → (b ≡ true → ⊥) → b ≡ false
 not_true true h = absurd (h refl)
 not_true false h = refl
 
@@ -49,7 +49,7 @@ none_by : (n m : ℕ) (b : Bool) → nat_lt n m ≡ b → cond b (Some n) None �
 none_by n m true e f = absurd (cc)
 none_by n m false e f = grind (arith, nat_tests)
 
-none_first : (p : List ℕ → Bool) (xs : List (List ℕ)) → position p xs ≡ None → length xs ≤ position_or_len p xs
+pub none_first : (p : List ℕ → Bool) (xs : List (List ℕ)) → position p xs ≡ None → length xs ≤ position_or_len p xs
 none_first p xs e = none_by (position_or_len p xs) (length xs) (nat_lt (position_or_len p xs) (length xs)) refl e
 
 by_position : (nodes : List NodeName) (word : List ℕ) (found first : Option ℕ) → node_named nodes word ≡ first → IsFound nodes 0 word found → found ≡ first

@@ -1,5 +1,5 @@
 -- The head of a certificate, and the cells after it.
-use Rattle.std.proofs.Common.{◌≡◌, ℕ, zero, suc, ◌+◌, ◌<◌, ◌≤◌, ◌||◌, Bool, true, false, cond, not, nat_lt, List, [], ◌∷◌, length, refl, sym, ap, ◌∙◌, subst, arith, Option, Some, None, ◌⊎◌, inl, inr, ℤ}
+use Rattle.std.proofs.Common.{◌≡◌, ℕ, suc, ◌<◌, ◌||◌, Bool, true, false, cond, not, nat_lt, length, refl, sym, ap, ◌∙◌, arith, Option, Some, None, inr, ℤ}
 use Rattle.std.specs.Option.{option_or}
 use Rattle.std.proofs.lemmas.Bool.Decides.{nat_tests}
 use Rattle.vg_scan.specs.declared.fault.LineFault.{LineFault}
@@ -10,9 +10,8 @@ use Rattle.vg_cert.specs.declared.fault.CertKind.TheVariants.{Form}
 use Rattle.vg_cert.specs.declared.head.Head.{Head}
 use Rattle.vg_cert.specs.declared.place.Place.{Place}
 use Rattle.vg_cert.specs.Lines.{Line, parts, number_in, word}
-use Rattle.vg_cert.specs.Roles.{Role, at, cells, cell_count, line_before}
+use Rattle.vg_cert.specs.Roles.{at, cells, line_before}
 use Rattle.vg_cert.specs.Faults.{fault_of, fault_at, has_shape, is_none, is_over_role, when}
-use Rattle.vg_cert.specs.Denoted.{slack_in}
 use Rattle.vg_cert.specs.Readings.{Reading, IsUpTo, IsHead, AreCellsDue, IsFaultOrMemory, line_of, lines_of, role_of}
 use Rattle.vg_cert.proofs.ReadLemmas.{fault_line, last_fault}
 use Rattle.vg_cert.proofs.EndLemmas.{within_parts}

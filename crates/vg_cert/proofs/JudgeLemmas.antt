@@ -6,12 +6,11 @@ use Rattle.vg_num.specs.Number.{whole_of}
 use Rattle.vg_num.specs.declared.fault.NumFault.{NumFault}
 use Rattle.elmore.specs.declared.pair.Pair.{Pair}
 use Rattle.vg_scan.specs.declared.name.NetNames.{NetNames}
-use Rattle.vg_cert.specs.Lines.{Line, number_fault, number_in, word, begins_with}
+use Rattle.vg_cert.specs.Lines.{Line, number_fault, number_in, word}
 use Rattle.vg_cert.specs.Names.{node_named, cell_named}
-use Rattle.vg_cert.specs.Roles.{at}
-use Rattle.vg_cert.specs.Faults.{load_fault, pair_in, when, has_shape, node_in}
+use Rattle.vg_cert.specs.Faults.{load_fault, pair_in, when}
 use Rattle.std.proofs.lemmas.Bool.Decides.{nat_tests}
-use Rattle.std.specs.Result.{IsErr, IsErrAnd}
+use Rattle.std.specs.Result.{IsErrAnd}
 use Rattle.vg_cert.specs.declared.fault.CertKind.{CertKind}
 use Rattle.vg_cert.specs.declared.fault.CertKind.TheVariants.{Form, Number, Node, Cell, Order, Memory}
 use Rattle.vg_cert.specs.Denoted.{placed_in}

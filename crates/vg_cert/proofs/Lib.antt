@@ -14,3 +14,10 @@ pub mod NodeLemmas
 pub mod HeadLemmas
 pub mod FitLemmas
 pub mod WriteLemmas
+pub mod TextLemmas
+pub mod TextWordLemmas
+pub mod ClearLemmas
+pub mod LineClearLemmas
+pub mod OntoLemmas
+pub mod SectionClearLemmas
+pub mod AgainLemmas

@@ -1,17 +1,17 @@
 -- One pair of a list after another.
-use Rattle.std.proofs.Common.{◌≡◌, ℕ, zero, suc, ◌+◌, ◌<◌, ◌≤◌, ◌^◌, ◌&&◌, Bool, true, false, not, nat_lt, List, [], ◌∷◌, ◌++◌, map, length, drop, take, get_or, refl, sym, ap, ◌∙◌, subst, arith, Option, Some, None, ◌⊎◌, inl, inr, ℤ, ◌≤ℤ◌, ◌<ℤ◌, int_lt, option_map}
-use Rattle.std.specs.List.{All, AllPairs, slice_split}
+use Rattle.std.proofs.Common.{◌≡◌, ℕ, zero, suc, ◌+◌, ◌<◌, ◌≤◌, ◌^◌, ◌&&◌, Bool, true, false, not, nat_lt, List, [], ◌∷◌, ◌++◌, map, length, drop, take, get_or, refl, sym, ap, ◌∙◌, arith, Option, Some, None, ◌⊎◌, inl, inr, ◌≤ℤ◌, int_lt, option_map}
+use Rattle.std.specs.List.{All, AllPairs}
 use Rattle.std.proofs.lemmas.Int.{ints, clamps}
 use Rattle.std.proofs.lemmas.Bool.Decides.{nat_tests}
-use Rattle.std.proofs.lemmas.List.{take_more, map-append, get_or-drop, get_or_default, length-drop, length-map, length-take}
+use Rattle.std.proofs.lemmas.List.{take_more, map-append, get_or-drop, length-drop, length-map, length-take}
 use Rattle.std.proofs.lemmas.List.Elements.{All-push}
 use Rattle.std.proofs.lemmas.List.Quantifiers.{all_pairs_push}
 use Rattle.elmore.specs.declared.pair.Pair.{Pair}
 use Rattle.elmore.specs.Pairs.{IsBelow}
 use Rattle.vg_cert.specs.declared.place.Place.{Place}
 use Rattle.vg_cert.specs.Fits.{IsEntry, IsList}
-use Rattle.vg_cert.specs.Lines.{Line, parts, lines, line_at, words}
-use Rattle.vg_cert.specs.Roles.{Role, even, odd, goes_on, role_at, line_before}
+use Rattle.vg_cert.specs.Lines.{parts, lines, words}
+use Rattle.vg_cert.specs.Roles.{Role, even, odd, goes_on, line_before}
 use Rattle.vg_cert.specs.Faults.{pair_in, is_below}
 use Rattle.vg_cert.specs.Readings.{Reading, IsUpTo, IsPair, IsPairDue, IsListDue, is_unordered, last_pair, pairs_from, line_of, lines_of, role_of}
 use Rattle.vg_cert.proofs.ReadLemmas.{some_part}
@@ -97,7 +97,7 @@ list_none r place up = record {
   top = refl;
 }
 
-listed_goes : (role : Role) → (role ≡ even) ⊎ (role ≡ odd) → goes_on role role ≡ true
+pub listed_goes : (role : Role) → (role ≡ even) ⊎ (role ≡ odd) → goes_on role role ≡ true
 listed_goes role (inl e) = ap (λ x. goes_on x x) e
 listed_goes role (inr e) = ap (λ x. goes_on x x) e
 

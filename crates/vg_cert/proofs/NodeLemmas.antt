@@ -1,5 +1,5 @@
 -- One node's lists after another's.
-use Rattle.std.proofs.Common.{◌≡◌, ℕ, zero, suc, ◌+◌, ◌<◌, ◌≤◌, Bool, true, false, cond, List, [], ◌∷◌, ◌++◌, map, length, drop, take, get_or, refl, sym, ap, ◌∙◌, subst, arith, append_assoc, drop-cons, Option, Some, None, inl, inr}
+use Rattle.std.proofs.Common.{◌≡◌, ℕ, suc, ◌+◌, ◌<◌, Bool, true, false, cond, List, [], ◌∷◌, ◌++◌, map, length, drop, take, get_or, refl, sym, ap, ◌∙◌, subst, arith, append_assoc, drop-cons, inl, inr}
 use Rattle.std.specs.List.{All}
 use Rattle.std.proofs.lemmas.List.{drop-drop, map-append, append-nil}
 use Rattle.std.proofs.lemmas.List.Elements.{All-push}
@@ -7,11 +7,11 @@ use Rattle.elmore.specs.declared.pair.Pair.{Pair}
 use Rattle.vg_cert.specs.declared.certificate.NodeLists.{NodeLists}
 use Rattle.vg_cert.specs.declared.place.Place.{Place}
 use Rattle.vg_cert.specs.Fits.{IsList}
-use Rattle.vg_cert.specs.Lines.{Line, line_at, word, count_in, lines}
-use Rattle.vg_cert.specs.Roles.{Role, even, odd, end, even_count, odd_count, section_length, line_before}
+use Rattle.vg_cert.specs.Lines.{Line, word, count_in}
+use Rattle.vg_cert.specs.Roles.{Role, even, odd, even_count, odd_count, section_length}
 use Rattle.vg_cert.specs.Faults.{pair_in}
-use Rattle.vg_cert.specs.Denoted.{section_lists, lists_in, both, Lists}
-use Rattle.vg_cert.specs.Readings.{Reading, IsUpTo, AreCounts, AreSectionsDue, AreListsOf, AreLists, AreBothLists, IsListDue, section_size, pairs_from, line_of, lines_of, lines_left, roles_left, role_of}
+use Rattle.vg_cert.specs.Denoted.{section_lists, lists_in, both}
+use Rattle.vg_cert.specs.Readings.{Reading, IsUpTo, AreSectionsDue, AreListsOf, AreLists, AreBothLists, IsListDue, section_size, pairs_from, line_of, lines_of, lines_left}
 use Rattle.vg_cert.proofs.SectionLemmas.{head_of, head_is, section_even, section_odd, even_first, odd_first, section_rest, dead_due, end_due}
 
 pub evens_are : (r : Reading) (n evens : ℕ) → evens ≡ count_in (word (line_of r n) 2) → evens ≡ even_count (head_of r n)

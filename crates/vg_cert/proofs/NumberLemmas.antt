@@ -1,10 +1,9 @@
 -- Numbers that were read.
-use Rattle.std.proofs.Common.{◌≡◌, ℕ, ◌^◌, ◌≤◌, ◌<◌, Bool, true, false, cond, ℤ, pos, negsuc, ◌≤ℤ◌, neg_ℤ, unsigned_abs, List, length, refl, sym, ap, ◌∙◌, subst, arith, Result, Ok, Err, not, nat_lt, if◌then◌else◌}
+use Rattle.std.proofs.Common.{◌≡◌, ℕ, ◌^◌, ◌≤◌, Bool, true, false, ℤ, List, refl, subst, arith, Ok, Err, not, nat_lt, if◌then◌else◌}
 use Rattle.std.proofs.lemmas.Int.{ints}
 use Rattle.std.proofs.lemmas.Bool.Decides.{nat_tests}
 use Rattle.std.specs.Str.Parse.{starts_with_minus}
 use Rattle.vg_num.specs.Number.{whole_of, are_digits, value_of, with_sign, without_minus}
-use Rattle.vg_num.specs.declared.fault.NumFault.{NumFault}
 use Rattle.vg_num.specs.declared.fault.NumFault.TheVariants.{Form, TooLarge}
 use Rattle.vg_cert.specs.Fits.{IsTime}
 

@@ -1,11 +1,10 @@
 -- One line of a text after another.
-use Rattle.std.proofs.Common.{◌≡◌, ℕ, suc, ◌+◌, ◌-◌, ◌<◌, ◌≤◌, List, [], ◌∷◌, length, take, drop, refl, sym, ap, ◌∙◌, subst, arith, Option, Some, None}
-use Rattle.std.specs.List.{slice_split, position}
+use Rattle.std.proofs.Common.{◌≡◌, ℕ, ◌+◌, ◌-◌, List, [], ◌∷◌, length, take, drop, sym, ap, ◌∙◌, subst, arith, Some, None}
+use Rattle.std.specs.List.{position}
 use Rattle.std.proofs.lemmas.List.{drop-drop, take_all, length-drop}
 use Rattle.vg_scan.specs.Lines.{is_newline}
 use Rattle.vg_scan.proofs.LineLemmas.{first_at}
 use Rattle.vg_scan.proofs.ItemLemmas.{next_is}
-use Rattle.vg_cert.specs.declared.place.Place.{Place}
 use Rattle.vg_cert.specs.Lines.{parts}
 use Rattle.vg_cert.specs.Readings.{IsPlace, IsTaken}
 use Rattle.vg_cert.proofs.WordLemmas.{split_once, split_never}

@@ -1,15 +1,15 @@
 -- The faults of pairs and of cells, by what stood before them.
-use Rattle.std.proofs.Common.{◌≡◌, ℕ, zero, suc, ◌<◌, ◌≤◌, ◌==◌, ◌||◌, Bool, true, false, cond, not, nat_lt, List, [], length, refl, sym, ap, ◌∙◌, arith, Option, Some, None, ◌⊎◌, inl, inr, option_map}
+use Rattle.std.proofs.Common.{◌≡◌, ℕ, suc, ◌||◌, Bool, true, false, not, nat_lt, refl, sym, ap, ◌∙◌, arith, Option, Some, None, ◌⊎◌, inl, inr, option_map}
 use Rattle.std.specs.Option.{option_or}
 use Rattle.std.proofs.lemmas.Bool.Decides.{nat_tests}
 use Rattle.elmore.specs.declared.pair.Pair.{Pair}
 use Rattle.vg_scan.specs.declared.name.NetNames.{NetNames}
 use Rattle.vg_cert.specs.declared.fault.CertKind.{CertKind}
-use Rattle.vg_cert.specs.declared.fault.CertKind.TheVariants.{Form, Number, Node, Cell, Order}
+use Rattle.vg_cert.specs.declared.fault.CertKind.TheVariants.{Form, Node, Cell, Order}
 use Rattle.vg_cert.specs.Lines.{Line}
 use Rattle.vg_cert.specs.Roles.{Role, even, odd, at}
-use Rattle.vg_cert.specs.Faults.{fault_of, has_shape, pair_fault, pair_in, node_in, is_node_fault, is_cell_fault, is_order_fault, is_none, is_over_role, when}
-use Rattle.vg_cert.specs.Readings.{fault_after_pair, fault_from_node, is_unordered, node_after}
+use Rattle.vg_cert.specs.Faults.{fault_of, has_shape, pair_in, node_in, is_node_fault, is_cell_fault, is_order_fault, is_none, is_over_role, when}
+use Rattle.vg_cert.specs.Readings.{fault_after_pair, fault_from_node, node_after}
 
 or_false : (b : Bool) → (b || false) ≡ b
 or_false true = refl

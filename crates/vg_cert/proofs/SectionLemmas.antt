@@ -1,11 +1,11 @@
 -- Which line is due where.
-use Rattle.std.proofs.Common.{◌≡◌, ℕ, zero, suc, ◌+◌, ◌-◌, ◌<◌, ◌≤◌, Bool, true, false, cond, List, [], ◌∷◌, ◌++◌, replicate, length, drop, take, get_or, refl, sym, ap, ◌∙◌, subst, arith, Option, Some, None}
-use Rattle.std.proofs.lemmas.List.{drop-drop, get_or-drop, get_or-append-add, get_or-replicate, get_or_past, length-drop, length-replicate}
+use Rattle.std.proofs.Common.{◌≡◌, ℕ, zero, suc, ◌+◌, ◌<◌, Bool, true, false, cond, List, [], ◌∷◌, ◌++◌, replicate, length, drop, get_or, refl, sym, ap, ◌∙◌, arith, Some, None}
+use Rattle.std.proofs.lemmas.List.{drop-drop, get_or-drop, get_or-replicate, get_or_past, length-drop, length-replicate}
 use Rattle.std.proofs.Math.ListN.{get_or-append}
-use Rattle.std.proofs.Math.Seq.{drop-append-add, drop-append_seam}
+use Rattle.std.proofs.Math.Seq.{drop-append_seam}
 use Rattle.vg_scan.proofs.ItemLemmas.{next_is}
-use Rattle.vg_cert.specs.Lines.{Line, line_at, lines}
-use Rattle.vg_cert.specs.Roles.{Role, heading, net, slack, cells, at, node, even, odd, end, over, roles, sections, body, cell_count, even_count, odd_count, section_length, goes_on, is_odd, line_before}
+use Rattle.vg_cert.specs.Lines.{Line, line_at}
+use Rattle.vg_cert.specs.Roles.{Role, heading, net, slack, cells, at, node, even, odd, end, over, roles, sections, body, cell_count, even_count, odd_count, section_length, goes_on, line_before}
 use Rattle.vg_cert.specs.Readings.{Reading, line_of, lines_of, role_of, roles_left, lines_left, AreSectionsDue}
 
 zeroth : (r : Reading) → role_of r 0 ≡ heading

@@ -7,7 +7,7 @@ use Rattle.elmore.specs.declared.problem.Problem.{Problem}
 use Rattle.vg_scan.specs.declared.name.NetNames.{NetNames}
 use Rattle.vg_cert.specs.declared.certificate.NodeLists.{NodeLists}
 use Rattle.vg_cert.specs.declared.certificate.Certificate.{Certificate}
-use Rattle.vg_cert.specs.Lines.{Line, lines, line_at, word, number_in}
+use Rattle.vg_cert.specs.Lines.{Line, line_at, word, number_in}
 use Rattle.vg_cert.specs.Names.{cell_named}
 use Rattle.vg_cert.specs.Roles.{cell_count, even_count, odd_count, section_length, body}
 use Rattle.vg_cert.specs.Faults.{is_none, node_in, pair_in}

@@ -1,5 +1,5 @@
 -- The fault of a line, given its role and the line before it, and the faults of a text.
-use Rattle.std.specs.Prelude.{unsigned_abs, ◌≡◌, ◌==◌, ℕ, suc, ◌^◌, ◌&&◌, ◌||◌, not, cond, Bool, true, false, is_some, nat_lt, List, [], length, codes, get_or, slice_index_or, ℤ, pos, int_le, int_lt, Option, Some, None, Result, Ok, Err, option_map}
+use Rattle.std.specs.Prelude.{unsigned_abs, ◌==◌, ℕ, suc, ◌^◌, ◌&&◌, ◌||◌, not, cond, Bool, true, false, is_some, nat_lt, List, [], length, codes, get_or, ℤ, pos, int_lt, Option, Some, None, Result, Ok, Err, option_map}
 use Rattle.std.specs.Option.{option_or, unwrap_or}
 use Rattle.std.specs.Str.{bytes_eq}
 use Rattle.vg_num.specs.Number.{whole_of}

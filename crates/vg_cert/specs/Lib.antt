@@ -6,3 +6,4 @@ pub mod Faults
 pub mod Denoted
 pub mod Readings
 pub mod Written
+pub mod Laws

@@ -1,10 +1,9 @@
 -- What the functions between say of the lines that they take; what the crate promises does not rest on it.
-use Rattle.std.specs.Prelude.{◌≡◌, ℕ, ℤ, Bool, false, suc, zero, ◌+◌, ◌<◌, ◌≤◌, ◌^◌, ◌||◌, ◌⊎◌, cond, not, nat_lt, List, [], ◌∷◌, length, drop, take, map, slice_index_or, get_or, true, Option, Some, None, option_map, IfSome, MatchOption, Result, Ok, Err}
+use Rattle.std.specs.Prelude.{◌≡◌, ℕ, ℤ, Bool, false, suc, zero, ◌+◌, ◌<◌, ◌≤◌, ◌^◌, ◌||◌, ◌⊎◌, cond, not, nat_lt, List, [], ◌∷◌, length, drop, take, map, slice_index_or, true, Option, Some, None, option_map, IfSome, Result, Ok, Err}
 use Rattle.std.specs.Option.{option_or}
 use Rattle.std.specs.List.{All, AllPairs}
 use Rattle.elmore.specs.declared.pair.Pair.{Pair}
 use Rattle.elmore.specs.declared.problem.Problem.{Problem}
-use Rattle.elmore.specs.Pairs.{IsBelow}
 use Rattle.vg_num.specs.declared.fault.NumFault.{NumFault}
 use Rattle.vg_scan.specs.Faults.{IsClear}
 use Rattle.vg_scan.specs.declared.fault.LineFault.{LineFault}

@@ -1,5 +1,5 @@
 -- The text of a certificate.
-use Rattle.std.specs.Prelude.{◌≡◌, ℕ, ◌++◌, ◌∷◌, Bool, false, cond, is_some, List, [], map, flat_map, length, get_or, slice_index_or, codes, ℤ, Option, Some, None}
+use Rattle.std.specs.Prelude.{ℕ, ◌++◌, ◌∷◌, Bool, false, cond, is_some, List, [], map, flat_map, length, get_or, slice_index_or, codes, ℤ, Option, Some, None}
 use Rattle.std.specs.Fmt.{decimal, signed_decimal}
 use Rattle.std.specs.List.{join_with_byte, count_by, range_with_len}
 use Rattle.elmore.specs.declared.pair.Pair.{Pair}

@@ -19,6 +19,7 @@
 mod certificate;
 mod fault;
 mod head;
+mod laws;
 mod line;
 mod lines;
 mod names;
@@ -30,5 +31,6 @@ mod write;
 
 pub use certificate::{Certificate, NodeLists};
 pub use fault::{CertFault, CertKind};
+pub use laws::reads_certificates_again;
 pub use read::read_certificate;
 pub use write::write_certificate;

@@ -1,4 +1,4 @@
-use Rattle.std.proofs.Common.{◌∙◌, sym, ap, arith, rules, refl, inl, inr, None, Some, ◌≡◌}
+use Rattle.std.proofs.Common.{◌∙◌, sym, ap, arith, rules, refl, inr, None, Some, ◌≡◌}
 use Rattle.vg_cert.specs.declared.fault.CertKind.TheVariants.{Order}
 use Rattle.vg_cert.specs.Faults.{when}
 use Rattle.vg_cert.specs.Names.{node_named, cell_named}

@@ -1,9 +1,8 @@
-use Rattle.std.proofs.Common.{◌≡◌, ◌∙◌, sym, ap, arith, rules, refl, ℤ}
+use Rattle.std.proofs.Common.{◌∙◌, sym, ap, rules}
 use Rattle.std.specs.Prelude.{option_map}
 use Rattle.std.proofs.lemmas.Int.{to_z-of_z}
 use mir.Syntax.{w128}
 use mir.Val.{SFits}
-use Rattle.vg_num.specs.Number.{whole_of}
 use Rattle.vg_cert.specs.declared.fault.CertKind.TheVariants.{Number}
 use Rattle.vg_cert.specs.Lines.{or_zero, fault_in}
 use Rattle.vg_cert.proofs.NumberLemmas.{time_read}

@@ -1,10 +1,8 @@
-use Rattle.std.proofs.Common.{◌≡◌, ◌∙◌, ◌∷◌, [], List, ℕ, sym, ap, arith, rules, refl, inl, inr, not, false, true}
+use Rattle.std.proofs.Common.{rules, inr, false, true}
 use Rattle.std.proofs.lemmas.Int.{to_z-of_z}
 use mir.Syntax.{w128}
 use mir.Val.{SFits}
-use Rattle.elmore.specs.declared.pair.Pair.{Pair}
-use Rattle.vg_cert.specs.Faults.{pair_in}
-use Rattle.vg_cert.specs.Lines.{words, number_in}
+use Rattle.vg_cert.specs.Lines.{words}
 use Rattle.vg_cert.proofs.JudgeLemmas.{passed, pair_form, pair_q, pair_c, pair_done, pair_is, not_false, not_is_true}
 use Rattle.vg_cert.proofs.line.pair_line.Goals as goal
 

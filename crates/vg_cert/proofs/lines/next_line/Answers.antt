@@ -1,4 +1,4 @@
-use Rattle.std.proofs.Common.{◌∙◌, ◌-◌, sym, ap, arith, take, drop, length}
+use Rattle.std.proofs.Common.{◌∙◌, sym, ap, drop}
 use Rattle.std.specs.List.{position}
 use Rattle.vg_scan.specs.Lines.{is_newline}
 use Rattle.vg_cert.proofs.PlaceLemmas.{rest_is, parts_never, taken}

@@ -1,4 +1,4 @@
-use Rattle.std.proofs.Common.{◌∙◌, sym, ap, arith, rules, refl}
+use Rattle.std.proofs.Common.{sym, rules}
 use Rattle.vg_cert.proofs.FoundLemmas.{named_at, none_more}
 use Rattle.vg_cert.proofs.names.find_node.Goals as goal
 

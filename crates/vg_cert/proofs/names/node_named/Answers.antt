@@ -1,7 +1,6 @@
-use Rattle.std.proofs.Common.{◌∙◌, sym, ap, arith, rules, refl, Ok, Err, subst}
-use Rattle.std.specs.Prelude.{IfOk}
+use Rattle.std.proofs.Common.{subst}
 use Rattle.vg_cert.specs.Readings.{IsFound}
-use Rattle.vg_cert.proofs.FoundLemmas.{first_named, later_named, found_ok}
+use Rattle.vg_cert.proofs.FoundLemmas.{later_named, found_ok}
 use Rattle.vg_cert.proofs.names.node_named.Goals as goal
 
 pub returns-in-Some : goal.returns-in-Some

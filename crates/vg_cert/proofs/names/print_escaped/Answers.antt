@@ -1,4 +1,4 @@
-use Rattle.std.proofs.Common.{◌∙◌, ◌++◌, sym, ap, arith, rules, refl}
+use Rattle.std.proofs.Common.{◌∙◌, ◌++◌, sym, ap, rules, refl}
 use Rattle.std.proofs.lemmas.List.{append-nil}
 use Rattle.vg_cert.proofs.NameLemmas.{escaped_none, escaped-more}
 use Rattle.vg_cert.proofs.names.print_escaped.Goals as goal

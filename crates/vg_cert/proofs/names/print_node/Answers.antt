@@ -1,4 +1,4 @@
-use Rattle.std.proofs.Common.{◌∙◌, ◌++◌, sym, ap, arith, rules, refl}
+use Rattle.std.proofs.Common.{rules, refl}
 use Rattle.vg_cert.proofs.NameLemmas.{node_port, node_inner}
 use Rattle.vg_cert.proofs.names.print_node.Goals as goal
 

@@ -1,4 +1,4 @@
-use Rattle.std.proofs.Common.{◌≡◌, ◌∙◌, sym, ap, arith, rules, refl, subst, None, ℕ, inl, inr}
+use Rattle.std.proofs.Common.{◌∙◌, sym, ap, arith, refl, subst}
 use Rattle.vg_cert.specs.Lines.{words}
 use Rattle.vg_cert.specs.Roles.{at}
 use Rattle.vg_cert.specs.Faults.{is_over_role}

@@ -1,6 +1,5 @@
-use Rattle.std.proofs.Common.{◌∙◌, ap, arith}
-use Rattle.vg_cert.specs.Readings.{reading, line_of}
-use Rattle.vg_cert.specs.Denoted.{slack_in}
+use Rattle.std.proofs.Common.{arith}
+use Rattle.vg_cert.specs.Readings.{reading}
 use Rattle.vg_cert.proofs.SectionLemmas.{role_0, role_1, role_2, role_3}
 use Rattle.vg_cert.proofs.read.read_head.Goals as goal
 

@@ -1,10 +1,8 @@
-use Rattle.std.proofs.Common.{◌≡◌, ◌∙◌, sym, ap, arith, rules, refl, None, ℕ}
-use Rattle.vg_cert.specs.Lines.{words, word, count_in}
+use Rattle.std.proofs.Common.{ap, arith, refl, None}
 use Rattle.vg_cert.specs.Roles.{heading}
 use Rattle.vg_cert.specs.Faults.{is_over_role}
-use Rattle.vg_cert.specs.Denoted.{slack_in}
 use Rattle.vg_cert.specs.Readings.{reading, line_of}
-use Rattle.vg_cert.proofs.ReadLemmas.{missing_line, taken_line, faulty_line, line_taken, none_before}
+use Rattle.vg_cert.proofs.ReadLemmas.{missing_line, taken_line, faulty_line, none_before}
 use Rattle.vg_cert.proofs.read.read_heading.Goals as goal
 
 pub returns-in_err-line : goal.returns-in_err-line

@@ -1,4 +1,4 @@
-use Rattle.std.proofs.Common.{◌∙◌, ap, arith, sym, refl}
+use Rattle.std.proofs.Common.{◌∙◌, arith, sym, refl}
 use Rattle.vg_cert.specs.Readings.{reading}
 use Rattle.vg_cert.proofs.SectionLemmas.{sections_due}
 use Rattle.vg_cert.proofs.FitLemmas.{live_each, denoted, fits}

@@ -1,4 +1,4 @@
-use Rattle.std.proofs.Common.{◌∙◌, sym, ap, arith, rules, subst, List}
+use Rattle.std.proofs.Common.{sym, arith, rules, subst, List}
 use Rattle.elmore.specs.declared.pair.Pair.{Pair}
 use Rattle.std.proofs.Common.{None, Some, ◌+◌}
 use Rattle.vg_cert.specs.Readings.{reading}

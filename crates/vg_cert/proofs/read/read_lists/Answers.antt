@@ -1,7 +1,7 @@
-use Rattle.std.proofs.Common.{◌≡◌, ◌∙◌, ◌+◌, suc, ap, arith, sym, subst, get_or, false, rules}
+use Rattle.std.proofs.Common.{◌≡◌, ◌+◌, suc, arith, subst, rules}
 use Rattle.std.proofs.lemmas.List.{drop_all}
 use Rattle.vg_cert.specs.Readings.{reading}
-use Rattle.vg_cert.proofs.NodeLemmas.{AreListsUpTo, lists_none, due_next, lists_more, lists_done}
+use Rattle.vg_cert.proofs.NodeLemmas.{AreListsUpTo, due_next, lists_more, lists_done}
 use Rattle.vg_cert.proofs.read.read_lists.Goals as goal
 
 pub read_lists_of-requires-clause-due : goal.read_lists_of-requires-clause-due

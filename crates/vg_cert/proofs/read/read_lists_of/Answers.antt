@@ -1,5 +1,5 @@
-use Rattle.std.proofs.Common.{◌≡◌, ◌∙◌, ap, arith, sym, true, false, ◌∷◌, List, Bool, subst, rules}
-use Rattle.vg_cert.specs.Readings.{reading, AreSectionsDue, IsUpTo, Reads, AreListsOf, section_size}
+use Rattle.std.proofs.Common.{sym, ◌∷◌, subst, rules}
+use Rattle.vg_cert.specs.Readings.{reading, AreSectionsDue, Reads, AreListsOf, section_size}
 use Rattle.vg_cert.proofs.NodeLemmas.{dead_read}
 use Rattle.vg_cert.proofs.read.read_lists_of.Goals as goal
 

@@ -1,8 +1,7 @@
-use Rattle.std.proofs.Common.{◌≡◌, ◌∙◌, sym, ap, arith, rules, refl, subst, None, ℕ}
-use Rattle.vg_cert.specs.Lines.{words, word, count_in}
+use Rattle.std.proofs.Common.{sym, ap, arith, refl, subst, None}
+use Rattle.vg_cert.specs.Lines.{word}
 use Rattle.vg_cert.specs.Roles.{node}
 use Rattle.vg_cert.specs.Faults.{is_over_role}
-use Rattle.vg_cert.specs.Denoted.{slack_in}
 use Rattle.vg_cert.specs.Readings.{reading, line_of, AreCounts}
 use Rattle.vg_cert.proofs.ReadLemmas.{missing_line, taken_line, faulty_line, line_taken, none_before}
 use Rattle.vg_cert.proofs.read.read_node.Goals as goal

@@ -1,7 +1,6 @@
-use Rattle.std.proofs.Common.{◌≡◌, ◌+◌, ◌∙◌, ap, arith, sym}
-use Rattle.vg_cert.specs.Roles.{even_count, odd_count}
+use Rattle.std.proofs.Common.{arith}
 use Rattle.vg_cert.specs.Readings.{reading}
-use Rattle.vg_cert.proofs.SectionLemmas.{section_node, head_of}
+use Rattle.vg_cert.proofs.SectionLemmas.{section_node}
 use Rattle.vg_cert.proofs.NodeLemmas.{evens_are, odds_are, even_due, odd_due, section_read}
 use Rattle.vg_cert.proofs.read.read_section.Goals as goal
 

@@ -1,5 +1,4 @@
-use Rattle.std.proofs.Common.{◌≡◌, ◌∙◌, sym, ap, arith, rules, refl, None, ℕ}
-use Rattle.vg_cert.specs.Lines.{words, word, count_in}
+use Rattle.std.proofs.Common.{◌∙◌, sym, ap, arith, refl, None}
 use Rattle.vg_cert.specs.Roles.{slack}
 use Rattle.vg_cert.specs.Faults.{is_over_role}
 use Rattle.vg_cert.specs.Denoted.{slack_in}

@@ -1,4 +1,4 @@
-use Rattle.std.proofs.Common.{◌∙◌, ◌-◌, sym, ap, arith, rules, take, drop, length}
+use Rattle.std.proofs.Common.{◌∙◌, sym, ap, arith, take}
 use Rattle.vg_cert.specs.Readings.{put_before}
 use Rattle.vg_cert.specs.Lines.{words}
 use Rattle.vg_cert.proofs.PlaceLemmas.{rest_is}

@@ -1,4 +1,4 @@
-use Rattle.std.proofs.Common.{◌∙◌, ◌∷◌, [], cond, sym, ap, arith, rules}
+use Rattle.std.proofs.Common.{◌∙◌, ◌∷◌, [], cond, sym, ap}
 use Rattle.vg_cert.proofs.WordLemmas.{words_one, no_one, some_not_one}
 use Rattle.vg_cert.proofs.words.one_word.Goals as goal
 

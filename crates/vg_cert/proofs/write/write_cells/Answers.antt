@@ -1,6 +1,5 @@
-use Rattle.std.proofs.Common.{◌≡◌, ◌++◌, take, length, None, get_or, slice_index_or, false, map, [], rules, arith}
+use Rattle.std.proofs.Common.{length, None, slice_index_or, rules}
 use Rattle.std.specs.Prelude.{flat_map}
-use Rattle.vg_cert.specs.Denoted.{both}
 use Rattle.vg_cert.specs.Written.{line_text, cell_lines}
 use Rattle.vg_cert.proofs.WriteLemmas.{turn_more, turns_done}
 use Rattle.vg_cert.proofs.write.write_cells.Goals as goal

@@ -1,7 +1,6 @@
-use Rattle.std.proofs.Common.{◌≡◌, ◌++◌, take, length, None, get_or, slice_index_or, false, map, []}
+use Rattle.std.proofs.Common.{◌≡◌, ◌++◌, take, length, None, slice_index_or}
 use Rattle.std.specs.Prelude.{flat_map}
 use Rattle.std.specs.List.{range_with_len}
-use Rattle.vg_cert.specs.Denoted.{both}
 use Rattle.vg_cert.specs.Written.{line_text, cell_lines}
 use Rattle.vg_cert.proofs.write.write_cells.Given as goal
 

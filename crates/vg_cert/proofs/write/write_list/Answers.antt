@@ -1,5 +1,4 @@
-use Rattle.std.proofs.Common.{◌∙◌, rules, refl, pos}
-use Rattle.elmore.specs.declared.pair.Pair.{Pair}
+use Rattle.std.proofs.Common.{rules, refl, pos}
 use Rattle.vg_cert.specs.Written.{line_text, pair_line}
 use Rattle.vg_cert.proofs.WriteLemmas.{item_more}
 use Rattle.vg_cert.proofs.write.write_list.Goals as goal

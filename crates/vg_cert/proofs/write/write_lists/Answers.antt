@@ -1,4 +1,4 @@
-use Rattle.std.proofs.Common.{◌≡◌, ◌++◌, take, length, None, get_or, slice_index_or, false, map, [], rules, arith, ap, ◌∙◌, ◌<◌}
+use Rattle.std.proofs.Common.{◌++◌, length, get_or, false, map, [], rules, arith, ap, ◌∙◌, ◌<◌}
 use Rattle.std.specs.Prelude.{flat_map}
 use Rattle.vg_cert.specs.Denoted.{both}
 use Rattle.vg_cert.specs.Written.{line_text, node_lines}

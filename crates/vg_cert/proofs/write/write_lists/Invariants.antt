@@ -1,4 +1,4 @@
-use Rattle.std.proofs.Common.{◌≡◌, ◌++◌, take, length, None, get_or, slice_index_or, false, map, []}
+use Rattle.std.proofs.Common.{◌≡◌, ◌++◌, take, length, get_or, false, map, []}
 use Rattle.std.specs.Prelude.{flat_map}
 use Rattle.std.specs.List.{range_with_len}
 use Rattle.vg_cert.specs.Denoted.{both}
