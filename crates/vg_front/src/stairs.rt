@@ -1,11 +1,9 @@
 //! Which candidates are beaten by those that were seen before.
 
-ghost use Rattle.std.specs.Prelude.{◌≡◌, ◌⊎◌, ◌-◌, ◌<◌, ◌≤◌, List, [], ◌∷◌, ◌++◌, length, slice_index_or, MatchBool};
-ghost use Rattle.std.specs.List.{Contains};
+ghost use Rattle.std.specs.Prelude.{◌≡◌, ◌+◌, ◌<◌, ◌≤◌, List, [], ◌∷◌, ◌++◌, length, IsTrue, MatchBool};
 ghost use Rattle.cand_laws.specs.Priced.{Priced};
 ghost use Rattle.vg_front.specs.Offers.{priced, IsBeaten};
-ghost use Rattle.vg_front.specs.Seen.{AreReached, AreOf};
-ghost use Rattle.vg_front.specs.declared.stairs.Stair.{Stair as StairSpec};
+ghost use Rattle.vg_front.specs.Seen.{stairs_of, stair_of, AreReached, AreOf, AreSomeOf, IsMoved, IsRefused};
 
 use crate::offer::Offer;
 use std::alloc::Global;
@@ -17,96 +15,55 @@ struct Stair {
     c: u64,
 }
 
-/// The times that candidates reach with each load, at no more than some cost (thousandths): they rise with the load.
+/// The times that candidates reach with each load, at no more than some cost (thousandths): they rise with the load. They are
+/// parted at the load of the last candidate, so that what is put in or dropped there stands at an end.
 #[derive(Drop)]
 pub(crate) struct Stairs {
-    stairs: Vec<Stair>,
+    /// Those of at most this load, by rising load.
+    passed: Vec<Stair>,
+    /// Those of more load, by falling load.
+    ahead: Vec<Stair>,
     cost: u64,
-    /// Where the last candidate was found to stand.
-    at: usize,
+}
+
+/// Puts a stair at the end of others. Where there is no room for it, it is left out.
+fn keep(stairs: &mut Vec<Stair>, stair: Stair)
+    ensures { AreOf stairs.old.items stair stairs.new.items }
+{
+    let _ = stairs.push(stair);
+}
+
+/// Moves the last stair of a list to the end of another one.
+fn move_last(from: &mut Vec<Stair>, to: &mut Vec<Stair>)
+    requires { 0 < length from.old.items }
+    ensures fewer { length from.new.items + 1 ≡ length from.old.items }
+    ensures moved { IsMoved from.old.items to.old.items from.new.items to.new.items }
+{
+    let Some(stair) = from.pop() else {
+        unreachable!()
+    };
+    keep(to, stair);
 }
 
 impl Stairs {
     /// No stairs yet. It takes no memory.
     pub fn new(alloc: Global) -> Stairs
-        ensures { result.stairs.items ≡ [] }
+        ensures { stairs_of result ≡ [] }
     {
         Stairs {
-            stairs: Vec::new(alloc),
+            passed: Vec::new(alloc),
+            ahead: Vec::new(alloc),
             cost: 0,
-            at: 0,
         }
     }
 
     /// Begins anew.
     pub fn clear(&mut self)
-        ensures { self.new.stairs.items ≡ [] }
+        ensures { stairs_of self.new ≡ [] }
     {
-        self.stairs.clear();
+        self.passed.clear();
+        self.ahead.clear();
         self.cost = 0;
-        self.at = 0;
-    }
-
-    /// How many stairs have at most this load. Where candidates come by rising load, it goes on from the last one.
-    fn find(&self, c: u64) -> usize
-        ensures within { result ≤ length self.now.stairs.items }
-        ensures below { (d : StairSpec) → 0 < result → (slice_index_or self.now.stairs.items (result - 1) d).c ≤ c }
-    {
-        let mut at = self.at;
-        if at > self.stairs.len() || (at > 0 && self.stairs[at - 1].c > c) {
-            at = 0;
-        }
-        'stairs: while at < self.stairs.len() && self.stairs[at].c <= c {
-            at += 1;
-        }
-        at
-    }
-
-    /// The first stair from number `at` on with more time than this one.
-    fn end_of(&self, at: usize, q: i128) -> usize
-        requires { at ≤ length self.now.stairs.items }
-        ensures from { at ≤ result }
-        ensures within { result ≤ length self.now.stairs.items }
-    {
-        let mut end = at;
-        'stairs: while end < self.stairs.len() && self.stairs[end].q <= q {
-            end += 1;
-        }
-        end
-    }
-
-    /// Takes the stairs from number `from` to before number `to` away.
-    fn take_out(&mut self, from: usize, to: usize)
-        requires order { from ≤ to }
-        requires within { to ≤ length self.old.stairs.items }
-        ensures among { (x : StairSpec) → Contains self.new.stairs.items x → Contains self.old.stairs.items x }
-        ensures cost { self.new.cost ≡ self.old.cost }
-    {
-        if from == to {
-            return;
-        }
-        let len = self.stairs.len();
-        let gone = to - from;
-        'stairs: for i in to..len {
-            self.stairs[i - gone] = self.stairs[i];
-        }
-        self.stairs.truncate(len - gone);
-    }
-
-    /// Puts a stair at number `at`, in place of those from there on that have no more time. Where there is no room for it, it is
-    /// left out.
-    fn put(&mut self, at: usize, stair: Stair)
-        requires { at ≤ length self.old.stairs.items }
-        ensures among { AreOf self.old.stairs.items stair self.new.stairs.items }
-        ensures cost { self.new.cost ≡ self.old.cost }
-    {
-        let end = self.end_of(at, stair.q);
-        if end == at {
-            let _ = self.stairs.insert(at, stair);
-        } else {
-            self.stairs[at] = stair;
-            self.take_out(at + 1, end);
-        }
     }
 
     /// Goes on to a cost; where it is less than that of the stairs, they begin anew.
@@ -115,11 +72,104 @@ impl Stairs {
         ensures cost { self.new.cost ≡ cost }
     {
         if cost < self.cost {
-            self.stairs.clear();
-            self.cost = cost;
-            return;
+            self.clear();
         }
         self.cost = cost;
+    }
+
+    /// Whether the last stair that was passed has more load than this.
+    fn is_beyond(&self, c: u64) -> bool
+        ensures { IsTrue result → 0 < length self.now.passed.items }
+    {
+        let len = self.passed.len();
+        len > 0 && self.passed[len - 1].c > c
+    }
+
+    /// Whether the next stair ahead has at most this load.
+    fn is_past(&self, c: u64) -> bool
+        ensures { IsTrue result → 0 < length self.now.ahead.items }
+    {
+        let len = self.ahead.len();
+        len > 0 && self.ahead[len - 1].c <= c
+    }
+
+    /// Goes back to a load, past the stairs that have more.
+    fn go_back(&mut self, c: u64)
+        ensures { AreSomeOf self.old self.new }
+    {
+        'stairs: while self.is_beyond(c) {
+            move_last(&mut self.passed, &mut self.ahead);
+        }
+    }
+
+    /// Goes on to a load, past the stairs that have no more.
+    fn pass(&mut self, c: u64)
+        ensures { AreSomeOf self.old self.new }
+    {
+        'stairs: while self.is_past(c) {
+            move_last(&mut self.ahead, &mut self.passed);
+        }
+    }
+
+    /// Goes to a load.
+    fn go_to(&mut self, c: u64)
+        ensures { AreSomeOf self.old self.new }
+    {
+        self.go_back(c);
+        self.pass(c);
+    }
+
+    /// Whether the last stair that was passed has no more load than this offer, and no less time.
+    fn refuses(&self, offer: Offer) -> bool
+        ensures { IsTrue result → IsRefused (stairs_of self.now) offer }
+    {
+        let len = self.passed.len();
+        if len == 0 {
+            return false;
+        }
+        let last = self.passed[len - 1];
+        last.c <= offer.c && offer.q <= last.q
+    }
+
+    /// Drops the last stair that was passed, if it has this load.
+    fn drop_equal(&mut self, c: u64)
+        ensures { AreSomeOf self.old self.new }
+    {
+        let len = self.passed.len();
+        if len > 0 && self.passed[len - 1].c == c {
+            self.passed.truncate(len - 1);
+        }
+    }
+
+    /// Whether the next stair ahead has at most this time.
+    fn is_under(&self, q: i128) -> bool
+        ensures { IsTrue result → 0 < length self.now.ahead.items }
+    {
+        let len = self.ahead.len();
+        len > 0 && self.ahead[len - 1].q <= q
+    }
+
+    /// Drops the next stairs ahead that have at most this time.
+    fn skip(&mut self, q: i128)
+        ensures { AreSomeOf self.old self.new }
+    {
+        'stairs: while self.is_under(q) {
+            self.ahead.truncate(self.ahead.len() - 1);
+        }
+    }
+
+    /// Puts the stair of an offer where the stairs are parted, in place of those that have no less load and no more time.
+    fn put(&mut self, offer: Offer)
+        ensures among { AreOf (stairs_of self.old) (stair_of offer) (stairs_of self.new) }
+        ensures cost { self.new.cost ≡ self.old.cost }
+    {
+        self.drop_equal(offer.c);
+        self.skip(offer.q);
+        let stair = Stair {
+            q: offer.q,
+            c: offer.c,
+        };
+        keep(&mut self.passed, stair);
     }
 
     /// Whether a candidate is beaten by none that was seen before, as far as the stairs tell; then it is seen too. Where the
@@ -129,25 +179,11 @@ impl Stairs {
             (IsBeaten zs (priced offer) × AreReached self.new zs) }
     {
         self.reach(offer.cost);
-        let mut at = self.find(offer.c);
-        self.at = at;
-        if at > 0 {
-            let below = self.stairs[at - 1];
-            if below.q >= offer.q {
-                return false;
-            }
-            if below.c == offer.c {
-                at -= 1;
-            }
+        self.go_to(offer.c);
+        if self.refuses(offer) {
+            return false;
         }
-        self.put(
-            at,
-            Stair {
-                c: offer.c,
-                q: offer.q,
-            },
-        );
-        self.at = at + 1;
+        self.put(offer);
         true
     }
 }
