@@ -3,7 +3,7 @@ use Rattle.std.proofs.Common.{◌≡◌, ◌⊎◌, ℕ, zero, suc, ◌+◌, ◌
 use Rattle.std.proofs.Common.{sym, ap, ◌∙◌, subst, arith, inl, inr}
 use Rattle.std.proofs.lemmas.Bool.{cases_eq}
 use Rattle.std.proofs.lemmas.List.{length-set, get_or-set_same, get_or-set_other, map-append, take_all}
-use Rattle.std.proofs.lemmas.List.Elements.{Contains-append_left, Contains-push, Contains-push_cases}
+use Rattle.std.proofs.lemmas.List.Elements.{Contains-append_left, Contains-append_right, Contains-append_cases, Contains-push, Contains-push_cases}
 use Rattle.std.proofs.lemmas.List.Sorted.{Contains-permutation, IsPermutation-sym}
 use Rattle.std.specs.List.{Contains}
 use Rattle.std.specs.List.Sorted.{IsPermutation}
@@ -107,6 +107,42 @@ put_passed xs x beaten = record {
 pub reached_push : (xs : List Proposal) (x : Proposal) (cost : ℕ) (stairs : List Stair) → AreReachedAt cost stairs (proposed_by xs ++ priced x.offer ∷ [])
     → AreReachedAt cost stairs (proposed_by (xs ++ x ∷ []))
 reached_push xs x cost stairs reached = subst (AreReachedAt cost stairs) (sym (push_offers xs x)) reached
+
+-- FRESH PROPOSALS BESIDE THOSE THAT WERE KEPT
+both_offers : (made fresh : List Proposal) → proposed_by (made ++ fresh) ≡ proposed_by made ++ proposed_by fresh
+both_offers made fresh = map-append (λ (y : Proposal). priced y.offer) made fresh
+
+pub beaten_kept : (made fresh : List Proposal) (z : Priced) → IsBeaten (proposed_by made) z → IsBeaten (proposed_by (made ++ fresh)) z
+beaten_kept made fresh z (y, y_in, y_z) =
+    (y, subst (λ (zs : List Priced). Contains zs y) (sym (both_offers made fresh)) (Contains-append_left (proposed_by made) (proposed_by fresh) y y_in), y_z)
+
+pub beaten_fresh : (made fresh : List Proposal) (z : Priced) → IsBeaten (proposed_by fresh) z → IsBeaten (proposed_by (made ++ fresh)) z
+beaten_fresh made fresh z (y, y_in, y_z) =
+    (y, subst (λ (zs : List Priced). Contains zs y) (sym (both_offers made fresh)) (Contains-append_right (proposed_by made) (proposed_by fresh) y y_in), y_z)
+
+-- one that was kept beats it
+pub propose_beaten : (made fresh : List Proposal) (x : Proposal) → IsBeaten (proposed_by made) (priced x.offer) → IsPartOf (With (made ++ fresh) x)
+    (made ++ fresh)
+propose_beaten made fresh x beaten = put_passed (made ++ fresh) x (beaten_kept made fresh (priced x.offer) beaten)
+
+-- it is put to the fresh ones
+pub propose_fresh : (made fresh after : List Proposal) (x : Proposal) → IsPartOf (With fresh x) after → IsPartOf (With (made ++ fresh) x) (made ++ after)
+propose_fresh made fresh after x put = record {
+  part = λ y y_in. elim (Contains-append_cases made after y y_in) [
+    | inl early ↦ inl (Contains-append_left made fresh y early)
+    | inr late ↦ elim (put.part y late) [
+      | inl found ↦ inl (Contains-append_right made fresh y found)
+      | inr e ↦ inr e
+    ]
+  ];
+  covers = λ y among. elim among [
+    | inl found ↦ elim (Contains-append_cases made fresh y found) [
+      | inl early ↦ beaten_itself (made ++ after) y (Contains-append_left made after y early)
+      | inr late ↦ beaten_fresh made after (priced y.offer) (put.covers y (inl late))
+    ]
+    | inr e ↦ beaten_fresh made after (priced y.offer) (put.covers y (inr e))
+  ];
+}
 
 -- PARTS OF PARTS
 -- a set by another name
@@ -219,26 +255,20 @@ keeps_ordered xs zs old new order is =
     adds_as (Contains zs) (Contains xs) old new is (λ q found. Contains-permutation zs xs q (IsPermutation-sym xs zs order) found)
     (λ q found. Contains-permutation xs zs q order found)
 
--- what was proposed of a set, where nothing stood before, is kept after others
-pub adds_settled : (A : Proposal → Type 0) (none fresh made after : List Proposal) → none ≡ [] → Adds A none fresh → Adds (Contains fresh) made after
-    → Adds A made after
-adds_settled A none fresh made after none_is one two = record {
-  part = λ q found. elim (two.part q found) [
-    | inl early ↦ inl early
-    | inr q_in ↦ elim (one.part q q_in) [
-      | inl there ↦ let (k, k_n, e) = subst (λ (l : List Proposal). Contains l q) none_is there in absurd (omega arith)
-      | inr a ↦ inr a
-    ]
+-- what was proposed beside those that were kept is kept after them
+pub part_kept : (A : Proposal → Type 0) (made fresh after : List Proposal) → IsPartOf A (made ++ fresh) → Adds (Contains fresh) made after
+    → IsPartOf A after
+part_kept A made fresh after is kept = record {
+  part = λ q found. elim (kept.part q found) [
+    | inl early ↦ is.part q (Contains-append_left made fresh q early)
+    | inr late ↦ is.part q (Contains-append_right made fresh q late)
   ];
-  covers = λ q among. elim among [
-    | inl early ↦ two.covers q (inl early)
-    | inr a ↦
-        let (x, x_in, x_q) = beaten_parts fresh (priced q.offer) (one.covers q (inr a)) in
-        beaten_over (proposed_by after) (priced x.offer) (priced q.offer) (two.covers x (inr x_in)) x_q
-  ];
+  covers = λ q a.
+      let (x, x_in, x_q) = beaten_parts (made ++ fresh) (priced q.offer) (is.covers q a) in
+      beaten_over (proposed_by after) (priced x.offer) (priced q.offer) (kept.covers x (Contains-append_cases made fresh x x_in)) x_q;
 }
 
--- and alone
+-- what was proposed of a set is kept alone
 pub part_settled : (A : Proposal → Type 0) (none fresh made : List Proposal) → none ≡ [] → IsPartOf A fresh → Adds (Contains fresh) none made
     → IsPartOf A made
 part_settled A none fresh made none_is one two = record {

@@ -1,7 +1,7 @@
 -- Runs of lists, and the runs that meet.
 use Rattle.std.proofs.Common.{◌≡◌, ◌⊎◌, ℕ, ◌+◌, ◌^◌, ◌<◌, ◌≤◌, List, [], ◌∷◌, ◌++◌, length, take, get_or, refl, sym, ap, ◌∙◌, subst, arith, inl}
 use Rattle.std.proofs.Common.{inr, Option}
-use Rattle.std.proofs.lemmas.List.{take_all}
+use Rattle.std.proofs.lemmas.List.{take_all, append-nil}
 use Rattle.std.proofs.lemmas.List.Edits.{length-between, get_or-between}
 use Rattle.std.proofs.lemmas.List.Elements.{Contains-get_or, Contains-append_left, Contains-push, Contains-push_cases}
 use Rattle.std.proofs.lemmas.List.Sorted.{Contains-permutation, IsPermutation-sym}
@@ -17,7 +17,7 @@ use Rattle.vg_front.specs.Held.{AreBounded}
 use Rattle.vg_front.specs.Meeting.{IsMet, IsRun, IsRunAt}
 use Rattle.vg_front.specs.Runs.{run_in, IsRunOf, AreRunsOf, meeting_of, IsMeetingOf, Gains, AreRunsOfEach, IsMetAt, AreMeetings}
 use Rattle.vg_front.proofs.TakenLemmas.{of_between, more_taken, between_taken, taken_cases, between_in, still_taken, now_taken, taken_one}
-use Rattle.vg_front.proofs.OfferLemmas.{part_none, part_more, part_as, adds_settled}
+use Rattle.vg_front.proofs.OfferLemmas.{part_none, part_more, part_as, part_kept}
 use Rattle.vg_front.proofs.ListLemmas.{any_default}
 
 pub run_bounded : (xs : List Candidate) (r : Run) → IsRunOf xs r → AreBounded xs → AreBounded (run_in xs r)
@@ -208,17 +208,19 @@ module _ (xs ys : List Candidate) where
   pub met_begins : (ms : List Meeting) (made : List Proposal) → made ≡ [] → IsPartOf (IsMetAt xs ys (take 0 ms)) made
   met_begins ms made none = part_none (IsMetAt xs ys (take 0 ms)) made none (λ q (m, (k, k_n, e), is). absurd (omega arith))
 
-  pub met_more : (ms : List Meeting) (from end : ℕ) (made none fresh after : List Proposal) → from ≤ end → end ≤ length ms → none ≡ []
-      → IsPartOf (IsMetAt xs ys (take from ms)) made → Adds (IsMetAt xs ys (between from end ms)) none fresh → Adds (Contains fresh) made after
-      → IsPartOf (IsMetAt xs ys (take end ms)) after
-  met_more ms from end made none fresh after order within none_is before new kept =
-      part_more (IsMetAt xs ys (take from ms)) (IsMetAt xs ys (between from end ms)) (IsMetAt xs ys (take end ms)) made after before
-      (adds_settled (IsMetAt xs ys (between from end ms)) none fresh made after none_is new kept)
+  pub met_more : (ms : List Meeting) (from end : ℕ) (made none mid fresh after : List Proposal) → from ≤ end → end ≤ length ms → none ≡ []
+      → IsPartOf (IsMetAt xs ys (take from ms)) made → Adds (IsMetAt xs ys (between from end ms)) (made ++ none) (mid ++ fresh)
+      → Adds (Contains fresh) mid after → IsPartOf (IsMetAt xs ys (take end ms)) after
+  met_more ms from end made none mid fresh after order within none_is before new kept =
+      part_kept (IsMetAt xs ys (take end ms)) mid fresh after
+      (part_more (IsMetAt xs ys (take from ms)) (IsMetAt xs ys (between from end ms)) (IsMetAt xs ys (take end ms)) (made ++ none) (mid ++ fresh)
+      (subst (IsPartOf (IsMetAt xs ys (take from ms))) (sym (ap (λ (l : List Proposal). made ++ l) none_is ∙ append-nil made)) before) new
       (λ q (m, m_in, is). (m, more_taken ms from end m order within m_in, is)) (λ q (m, m_in, is). (m, between_taken ms from end m within m_in, is))
       (λ q (m, m_in, is). elim (taken_cases ms from end m order within m_in) [
         | inl early ↦ inl (m, early, is)
         | inr late ↦ inr (m, late, is)
-      ])
+      ]))
+      kept
 
   pub met_ends : (ms : List Meeting) (k : ℕ) (made : List Proposal) → length ms ≤ k → IsPartOf (IsMetAt xs ys (take k ms)) made
       → IsPartOf (IsMetAt xs ys ms) made

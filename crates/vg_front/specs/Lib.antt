@@ -1,5 +1,6 @@
 pub mod Offers
 pub mod Seen
+pub mod Desks
 pub mod Held
 pub mod Making
 pub mod Driving

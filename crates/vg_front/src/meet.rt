@@ -2,14 +2,16 @@
 
 ghost use Rattle.std.specs.Prelude.{[], ◌≡◌, ◌+◌, ◌<◌, ◌≤◌, ◌^◌, length, OnOk};
 ghost use Rattle.std.specs.Int.{int_min};
-ghost use Rattle.vg_front.specs.Offers.{IsPartOf, Adds};
+ghost use Rattle.vg_front.specs.Desks.{all_in};
+ghost use Rattle.vg_front.specs.Offers.{proposed_by, IsPartOf, Adds};
+ghost use Rattle.vg_front.specs.Seen.{AreReached};
 ghost use Rattle.vg_front.specs.Held.{IsBounded, AreBounded};
 ghost use Rattle.vg_front.specs.Meeting.{met_offer, IsMetOf, IsMet, IsRun, IsAdvance};
 ghost use Rattle.vg_front.specs.Runs.{IsRunOf, AreRunsOfEach, IsMetIn, IsMetAt};
 ghost use Rattle.vg_front.specs.declared.offer.Proposal.{Proposal as ProposalSpec};
 
 use crate::offer::{Candidate, Offer, Origin, Proposal};
-use crate::propose::{Desk, put};
+use crate::propose::Desk;
 use crate::runs::{Meeting, end_of_cost, meetings_of, run_in};
 use std::alloc::Global;
 use vg_num::Memory;
@@ -62,19 +64,21 @@ fn advance(x: Offer, y: Offer, i: &mut usize, j: &mut usize)
 }
 
 /// Proposes the pairs of two runs, but those that others beat (van Ginneken 1990). Answers `Memory` where there is no room.
-fn meet_runs(xs: &[Candidate], ys: &[Candidate], made: &mut Vec<Proposal>) -> Result<(), Memory>
+fn meet_runs(xs: &[Candidate], ys: &[Candidate], desk: &mut Desk) -> Result<(), Memory>
     requires first { IsRun xs.now }
     requires second { IsRun ys.now }
     requires bounded_first { AreBounded xs.now }
     requires bounded_second { AreBounded ys.now }
-    ensures { OnOk result (Adds (IsMetOf xs.now ys.now) made.old.items made.new.items) }
+    requires reached { AreReached desk.old.stairs (proposed_by desk.old.made.items) }
+    ensures met { OnOk result (Adds (IsMetOf xs.now ys.now) (all_in desk.old) (all_in desk.new)) }
+    ensures reached { OnOk result (AreReached desk.new.stairs (proposed_by desk.new.made.items)) }
 {
     let (mut i, mut j) = (0, 0);
     'pairs: while i < xs.len() && j < ys.len() {
         let (x, y) = (xs[i], ys[j]);
         let origin = Origin::Join { a: x.sol, b: y.sol };
         let offer = met(x.offer, y.offer);
-        put(made, Proposal { offer, origin })?;
+        desk.propose(Proposal { offer, origin })?;
         advance(x.offer, y.offer, &mut i, &mut j);
     }
     Ok(())
@@ -85,17 +89,19 @@ fn meet_one(
     xs: &[Candidate],
     ys: &[Candidate],
     meeting: Meeting,
-    made: &mut Vec<Proposal>,
+    desk: &mut Desk,
 ) -> Result<(), Memory>
     requires first { IsRunOf xs.now meeting.first }
     requires second { IsRunOf ys.now meeting.second }
     requires bounded_first { AreBounded xs.now }
     requires bounded_second { AreBounded ys.now }
-    ensures { OnOk result (Adds (IsMetIn xs.now ys.now meeting) made.old.items made.new.items) }
+    requires reached { AreReached desk.old.stairs (proposed_by desk.old.made.items) }
+    ensures met { OnOk result (Adds (IsMetIn xs.now ys.now meeting) (all_in desk.old) (all_in desk.new)) }
+    ensures reached { OnOk result (AreReached desk.new.stairs (proposed_by desk.new.made.items)) }
 {
     let first = run_in(xs, meeting.first);
     let second = run_in(ys, meeting.second);
-    meet_runs(first, second, made)?;
+    meet_runs(first, second, desk)?;
     Ok(())
 }
 
@@ -104,15 +110,17 @@ fn meet_each(
     xs: &[Candidate],
     ys: &[Candidate],
     meetings: &[Meeting],
-    made: &mut Vec<Proposal>,
+    desk: &mut Desk,
 ) -> Result<(), Memory>
     requires meetings { AreRunsOfEach xs.now ys.now meetings.now }
     requires bounded_first { AreBounded xs.now }
     requires bounded_second { AreBounded ys.now }
-    ensures { OnOk result (Adds (IsMetAt xs.now ys.now meetings.now) made.old.items made.new.items) }
+    requires reached { AreReached desk.old.stairs (proposed_by desk.old.made.items) }
+    ensures met { OnOk result (Adds (IsMetAt xs.now ys.now meetings.now) (all_in desk.old) (all_in desk.new)) }
+    ensures reached { OnOk result (AreReached desk.new.stairs (proposed_by desk.new.made.items)) }
 {
     'meetings: for meeting in meetings {
-        meet_one(xs, ys, *meeting, made)?;
+        meet_one(xs, ys, *meeting, desk)?;
     }
     Ok(())
 }
@@ -134,8 +142,7 @@ fn meet_by_cost(
     let mut from = 0;
     'costs: while from < meetings.len() {
         let end = end_of_cost(meetings, from);
-        desk.fresh.clear();
-        meet_each(xs, ys, &meetings[from..end], &mut desk.fresh)?;
+        meet_each(xs, ys, &meetings[from..end], desk)?;
         desk.settle()?;
         from = end;
     }

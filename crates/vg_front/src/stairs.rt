@@ -172,6 +172,15 @@ impl Stairs {
         keep(&mut self.passed, stair);
     }
 
+    /// Whether a candidate is beaten by one that was seen before, as far as the stairs tell. It is not seen itself.
+    pub fn beats(&mut self, offer: Offer) -> bool
+        ensures told { (zs : List Priced) → AreReached self.old zs → (IsTrue result → IsBeaten zs (priced offer)) × AreReached self.new zs }
+        ensures cost { self.new.cost ≡ self.old.cost }
+    {
+        self.go_to(offer.c);
+        self.cost <= offer.cost && self.refuses(offer)
+    }
+
     /// Whether a candidate is beaten by none that was seen before, as far as the stairs tell; then it is seen too. Where the
     /// candidates come by rising cost, and by rising load among those of one cost, nothing that was seen is forgotten.
     pub fn admits(&mut self, offer: Offer) -> bool
@@ -179,8 +188,7 @@ impl Stairs {
             (IsBeaten zs (priced offer) × AreReached self.new zs) }
     {
         self.reach(offer.cost);
-        self.go_to(offer.c);
-        if self.refuses(offer) {
+        if self.beats(offer) {
             return false;
         }
         self.put(offer);

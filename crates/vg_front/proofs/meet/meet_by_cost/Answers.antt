@@ -6,6 +6,7 @@ pub costs-init : goal.costs-init
 costs-init c = record {
   within = omega arith;
   so_far = met_begins c.args.xs.now c.args.ys.now c.args.meetings.now c.clear.new.self.made.items c.clear.ensures.none;
+  none = c.clear.ensures.fresh;
   reached = c.clear.ensures.reached;
 }
 
@@ -18,9 +19,10 @@ costs-preserved c = record {
   within = c.end_of_cost-end.ensures.within;
   so_far =
       met_more c.args.xs.now c.args.ys.now c.args.meetings.now c.costs.from c.end_of_cost-end.result c.costs.desk.made.items
-      c.clear-in-costs.new.self.items c.meet_each.new.made.items c.settle.new.self.made.items
-      (omega (arith, c.end_of_cost-end.ensures.after)) c.end_of_cost-end.ensures.within c.clear-in-costs.ensures.items
-      c.costs.invariant.so_far c.in_ok-meet_each.ensures c.in_ok-settle.ensures.kept;
+      c.costs.desk.fresh.items c.meet_each.new.desk.made.items c.meet_each.new.desk.fresh.items c.settle.new.self.made.items
+      (omega (arith, c.end_of_cost-end.ensures.after)) c.end_of_cost-end.ensures.within c.costs.invariant.none
+      c.costs.invariant.so_far c.in_ok-meet_each.ensures.met c.in_ok-settle.ensures.kept;
+  none = c.in_ok-settle.ensures.fresh;
   reached = c.in_ok-settle.ensures.reached;
 }
 

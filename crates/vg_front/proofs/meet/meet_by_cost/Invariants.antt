@@ -1,4 +1,4 @@
-use Rattle.std.proofs.Common.{◌≤◌, ◌-◌, length, take}
+use Rattle.std.proofs.Common.{◌≡◌, ◌≤◌, ◌-◌, length, take, []}
 use Rattle.vg_front.specs.Offers.{IsPartOf, proposed_by}
 use Rattle.vg_front.specs.Runs.{IsMetAt}
 use Rattle.vg_front.specs.Seen.{AreReached}
@@ -8,6 +8,7 @@ abbrev pub invariant-costs : goal.invariant-costs
 invariant-costs l = record {
   within : l.from ≤ length l.meetings;
   so_far : IsPartOf (IsMetAt l.xs l.ys (take l.from l.meetings)) l.desk.made.items;
+  none : l.desk.fresh.items ≡ [];
   reached : AreReached l.desk.stairs (proposed_by l.desk.made.items);
 }
 
