@@ -1,9 +1,11 @@
 -- Cells that are proposed at a node.
-use Rattle.std.proofs.Common.{◌↔◌, Bool, true, false, IsTrue, MatchBool, ◌≡◌, ◌⊎◌, ℕ, ◌+◌, ◌<◌, ◌≤◌, List, [], ◌∷◌, length, take, get_or, refl, sym, ap, ◌∙◌, subst, arith, inl, inr, Option, Some, None}
+use Rattle.std.proofs.Common.{◌↔◌, Bool, true, false, IsTrue, MatchBool, ◌≡◌, ◌⊎◌, ℕ, ◌+◌, ◌<◌, ◌≤◌, List, [], ◌∷◌, ◌++◌, length, take, get_or, refl, sym, ap, ◌∙◌, subst, arith, inl, inr, Option, Some, None}
+use mathlib.Core.Bool.{beq}
 use Rattle.std.proofs.lemmas.Bool.{cases_lt, cases_eq, false≢true}
 use Rattle.std.proofs.lemmas.List.{take_more, take_all, get_or_default}
-use Rattle.std.proofs.lemmas.List.Elements.{Contains-append_left, Contains-push, Contains-push_cases}
-use Rattle.std.specs.List.{Contains}
+use Rattle.std.proofs.lemmas.List.Elements.{Contains-append_left, Contains-get_or, Contains-push, Contains-push_cases}
+use Rattle.std.proofs.lemmas.List.Quantifiers.{all_pairs_push}
+use Rattle.std.specs.List.{Contains, AllPairs}
 use Rattle.elmore.specs.Allowances.{allowed_at, Allows}
 use Rattle.elmore.specs.Cells.{rep_at}
 use Rattle.elmore.specs.Legal.{IsWithin}
@@ -13,17 +15,12 @@ use Rattle.elmore.specs.declared.problem.Problem.{Problem}
 use Rattle.elmore.specs.declared.rep.Rep.{Rep}
 use Rattle.vg_front.specs.declared.offer.Candidate.{Candidate}
 use Rattle.vg_front.specs.declared.offer.Proposal.{Proposal}
-use Rattle.vg_front.specs.Offers.{priced, proposed_by, IsBeaten, IsPartOf, Adds}
+use Rattle.vg_front.specs.Offers.{priced, proposed_by, IsBeaten, IsPartOf, Adds, OfSome}
 use Rattle.vg_front.specs.declared.offer.Offer.{Offer}
 use Rattle.vg_front.specs.Driving.{Stand, driven_at, BeatsBy, IsReached, IsDrivable, IsDriven, IsTried, IsCelled, stand_of, behind}
+use Rattle.vg_front.specs.Tries.{IsUsable, AreUsable, IsUsed, IsTriedBy}
 use Rattle.vg_front.proofs.SeenLemmas.{beaten_over}
-use Rattle.vg_front.proofs.OfferLemmas.{beaten_itself, part_more, adds_none, adds_then, adds_as}
-
-pub part_none : (A : Proposal → Type 0) (xs : List Proposal) → xs ≡ [] → ((q : Proposal) → A q → ⊥) → IsPartOf A xs
-part_none A xs none never = record {
-  part = λ q found. let (k, k_n, e) = subst (λ (l : List Proposal). Contains l q) none found in absurd (omega arith);
-  covers = λ q q_in. absurd (never q q_in);
-}
+use Rattle.vg_front.proofs.OfferLemmas.{beaten_itself, adds_none, adds_then, adds_as, adds_alone}
 
 -- ONE REPEATER
 -- after the first k candidates
@@ -123,44 +120,94 @@ allows_cases true a b n e is = subst (λ (x : Allowed). Allows x n) e (is.0 refl
 allows_cases false a b n e is = λ there. false≢true (is.1 (subst (λ (x : Allowed). Allows x n) (sym e) there))
 
 -- ALL REPEATERS
-module _ (p : Problem) (v : ℕ) (odd : Bool) (cap : Option ℕ) (classes : Bool → List Candidate) where
-  pub celled_begins : (made : List Proposal) → made ≡ [] → IsPartOf (IsCelled p v odd cap classes 0) made
-  celled_begins made none = part_none (IsCelled p v odd cap classes 0) made none (λ q (b, low, named, allows, driven). absurd (omega arith))
+-- of the first k repeaters those that are usable, by rising resistance
+pub record AreUsableBelow (p : Problem) (v : ℕ) (odd below : Bool) (k : ℕ) (numbers : List ℕ) : Type 0 where
+  pub part : (b : ℕ) → Contains numbers b → IsUsable p v odd below b
+  pub early : (b : ℕ) → Contains numbers b → b < k
+  pub whole : (b : ℕ) → b < k → IsUsable p v odd below b → Contains numbers b
+  pub rising : AllPairs (λ a b. (rep_at p.reps a).r ≤ (rep_at p.reps b).r) numbers
 
-  more_celled : (k : ℕ) (q : Proposal) → IsCelled p v odd cap classes k q → IsCelled p v odd cap classes (k + 1) q
-  more_celled k q (b, low, named, allows, driven) = (b, omega (arith, low), named, allows, driven)
+pub usable_cases : (p : Problem) (v k : ℕ) (odd r below : Bool) → r ≡ behind (rep_at p.reps k) odd → k < length p.reps → Allows (allowed_at p.allowed v) k
+    → MatchBool (beq r below) (IsUsable p v odd below k) (IsUsable p v odd below k → ⊥)
+usable_cases p v k odd true true same named allows = record { named = named; allows = allows; class = sym same }
+usable_cases p v k odd false false same named allows = record { named = named; allows = allows; class = sym same }
+usable_cases p v k odd true false same named allows = λ is. false≢true (sym (same ∙ is.class))
+usable_cases p v k odd false true same named allows = λ is. false≢true (same ∙ is.class)
 
-  pub celled_more : (k : ℕ) (made both : List Proposal) → k < length p.reps → Allows (allowed_at p.allowed v) k
-      → Adds (IsDriven (stand_of p v k) cap (classes (behind (rep_at p.reps k) odd))) made both
-      → IsPartOf (IsCelled p v odd cap classes k) made → IsPartOf (IsCelled p v odd cap classes (k + 1)) both
-  celled_more k made both inside allowed driven before =
-      part_more (IsCelled p v odd cap classes k) (IsDriven (stand_of p v k) cap (classes (behind (rep_at p.reps k) odd)))
-      (IsCelled p v odd cap classes (k + 1)) made both
-      before driven (more_celled k) (λ q is. (k, omega arith, inside, allowed, is)) split
-    where
-      split : (q : Proposal) → IsCelled p v odd cap classes (k + 1) q
-          → IsCelled p v odd cap classes k q ⊎ IsDriven (stand_of p v k) cap (classes (behind (rep_at p.reps k) odd)) q
-      split q (b, low, named, allows, is) = elim (cases_eq b k) [
-        | inl e ↦ inr (subst (λ (n : ℕ). IsDriven (stand_of p v n) cap (classes (behind (rep_at p.reps n) odd)) q) e is)
-        | inr other ↦ inl (b, omega (arith, low, other), named, allows, is)
-      ]
+module _ (p : Problem) (v : ℕ) (odd below : Bool) where
+  pub usable_begins : (numbers : List ℕ) → numbers ≡ [] → AreUsableBelow p v odd below 0 numbers
+  usable_begins numbers none = subst (AreUsableBelow p v odd below 0) (sym none) (record {
+    part = λ b (k, k_n, e). absurd (omega arith);
+    early = λ b (k, k_n, e). absurd (omega arith);
+    whole = λ b low is. absurd (omega arith);
+    rising = λ i j d less j_n. absurd (omega arith);
+  })
 
-  pub celled_pass : (k : ℕ) (made : List Proposal) → (Allows (allowed_at p.allowed v) k → ⊥) → IsPartOf (IsCelled p v odd cap classes k) made
-      → IsPartOf (IsCelled p v odd cap classes (k + 1)) made
-  celled_pass k made never before = record { part = λ q found. more_celled k q (before.part q found); covers = λ q is. before.covers q (back q is) }
-    where
-      back : (q : Proposal) → IsCelled p v odd cap classes (k + 1) q → IsCelled p v odd cap classes k q
-      back q (b, low, named, allows, is) = elim (cases_eq b k) [
-        | inl e ↦ absurd (never (subst (λ (n : ℕ). Allows (allowed_at p.allowed v) n) e allows))
-        | inr other ↦ (b, omega (arith, low, other), named, allows, is)
-      ]
+  pub usable_more : (k : ℕ) (numbers : List ℕ) → IsUsable p v odd below k → AreUsableBelow p v odd below k numbers
+      → AreUsableBelow p v odd below (k + 1) (numbers ++ k ∷ [])
+  usable_more k numbers is so_far = record {
+    part = λ b found. elim (Contains-push_cases numbers k b found) [
+      | inl there ↦ so_far.part b there
+      | inr e ↦ subst (IsUsable p v odd below) e is
+    ];
+    early = λ b found. elim (Contains-push_cases numbers k b found) [
+      | inl there ↦ omega (arith, so_far.early b there)
+      | inr e ↦ omega (arith, e)
+    ];
+    whole = λ b low usable. elim (cases_eq b k) [
+      | inl e ↦ subst (Contains (numbers ++ k ∷ [])) (sym e) (Contains-push numbers k)
+      | inr other ↦ Contains-append_left numbers (k ∷ []) b (so_far.whole b (omega (arith, low, other)) usable)
+    ];
+    rising =
+        all_pairs_push (λ a b. (rep_at p.reps a).r ≤ (rep_at p.reps b).r) numbers k so_far.rising
+        (λ i d i_n. p.rising (get_or numbers i d) k _ (so_far.early (get_or numbers i d) (Contains-get_or numbers i d i_n)) is.named);
+  }
 
--- a repeater as it is read
-pub driven_as : (p : Problem) (v k : ℕ) (odd o : Bool) (cap : Option ℕ) (classes : Bool → List Candidate) (reps : List Rep) (from : List Candidate)
-    (old made : List Proposal)
-    → reps ≡ p.reps → o ≡ behind (rep_at reps k) odd → from ≡ classes o
-    → Adds (IsDriven (record { node = v; number = k; rep = rep_at reps k }) cap from) old made
-    → Adds (IsDriven (stand_of p v k) cap (classes (behind (rep_at p.reps k) odd))) old made
-driven_as p v k odd o cap classes reps from old made reps_are o_is from_is is =
-    subst (λ (l : List Rep). Adds (IsDriven (record { node = v; number = k; rep = rep_at l k }) cap (classes (behind (rep_at l k) odd))) old made) reps_are
-    (subst (λ (xs : List Candidate). Adds (IsDriven (record { node = v; number = k; rep = rep_at reps k }) cap xs) old made) (from_is ∙ ap classes o_is) is)
+  pub usable_pass : (k : ℕ) (numbers : List ℕ) → (IsUsable p v odd below k → ⊥) → AreUsableBelow p v odd below k numbers
+      → AreUsableBelow p v odd below (k + 1) numbers
+  usable_pass k numbers never so_far = record {
+    part = so_far.part;
+    early = λ b found. omega (arith, so_far.early b found);
+    whole = λ b low usable. elim (cases_eq b k) [
+      | inl e ↦ absurd (never (subst (IsUsable p v odd below) e usable))
+      | inr other ↦ so_far.whole b (omega (arith, low, other)) usable
+    ];
+    rising = so_far.rising;
+  }
+
+  pub usable_all : (k : ℕ) (numbers : List ℕ) → length p.reps ≤ k → AreUsableBelow p v odd below k numbers → AreUsable p v odd below numbers
+  usable_all k numbers all are = record {
+    part = are.part;
+    whole = λ b usable. are.whole b (omega (arith, all, usable.named)) usable;
+    rising = record { named = λ b found. (are.part b found).named; rising = are.rising };
+  }
+
+  -- all of them were tried
+  pub usable_tried : (cap : Option ℕ) (xs from : List Candidate) (reps : List Rep) (numbers named : List ℕ) (old new : List Proposal) → reps ≡ p.reps
+      → named ≡ numbers → from ≡ xs → AreUsable p v odd below numbers
+      → Adds (OfSome named (IsTriedBy (record { node = v; cap = cap }) reps from)) old new → Adds (IsUsed p v odd below cap xs) old new
+  usable_tried cap xs from reps numbers named old new reps_are named_are from_is are tried =
+      adds_as (OfSome numbers (IsTriedBy (record { node = v; cap = cap }) p.reps xs)) (IsUsed p v odd below cap xs) old new
+      (subst (λ (l : List Candidate). Adds (OfSome numbers (IsTriedBy (record { node = v; cap = cap }) p.reps l)) old new) from_is
+      (subst (λ (l : List ℕ). Adds (OfSome l (IsTriedBy (record { node = v; cap = cap }) p.reps from)) old new) named_are
+      (subst (λ (l : List Rep). Adds (OfSome named (IsTriedBy (record { node = v; cap = cap }) l from)) old new) reps_are tried)))
+      (λ q (b, b_in, driven). (b, are.part b b_in, driven)) (λ q (b, usable, driven). (b, are.whole b usable, driven))
+
+-- with either class behind them
+pub celled_all : (p : Problem) (v : ℕ) (odd : Bool) (cap : Option ℕ) (classes : Bool → List Candidate) (none one both : List Proposal) → none ≡ []
+    → Adds (IsUsed p v odd false cap (classes false)) none one → Adds (IsUsed p v odd true cap (classes true)) one both
+    → IsPartOf (IsCelled p v odd cap classes) both
+celled_all p v odd cap classes none one both none_is first second =
+    adds_alone (IsCelled p v odd cap classes) none both none_is
+    (adds_then (IsUsed p v odd false cap (classes false)) (IsUsed p v odd true cap (classes true)) (IsCelled p v odd cap classes) none one both first second
+    (celled false) (celled true) (λ q (b, named, allows, driven). cases q b named allows (behind (rep_at p.reps b) odd) refl driven))
+  where
+    celled : (o : Bool) (q : Proposal) → IsUsed p v odd o cap (classes o) q → IsCelled p v odd cap classes q
+    celled o q (b, usable, driven) =
+        (b, usable.named, usable.allows, subst (λ (c : Bool). IsDriven (stand_of p v b) cap (classes c) q) (sym usable.class) driven)
+
+    cases : (q : Proposal) (b : ℕ) → b < length p.reps → Allows (allowed_at p.allowed v) b → (o : Bool) → behind (rep_at p.reps b) odd ≡ o
+        → IsDriven (stand_of p v b) cap (classes o) q
+        → IsUsed p v odd false cap (classes false) q ⊎ IsUsed p v odd true cap (classes true) q
+    cases q b named allows false class driven = inl (b, record { named = named; allows = allows; class = class }, driven)
+    cases q b named allows true class driven = inr (b, record { named = named; allows = allows; class = class }, driven)

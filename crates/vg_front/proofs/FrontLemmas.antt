@@ -1,5 +1,5 @@
 -- From lists of candidates to parts of what placements come to.
-use Rattle.std.proofs.Common.{◌≡◌, ℕ, ◌+◌, Bool, true, false, List, length, slice_index_or, refl, sym, ap, ◌∙◌, subst, arith, inl, inr, Option, Some, None}
+use Rattle.std.proofs.Common.{◌≡◌, ℕ, ◌+◌, Bool, true, false, List, slice_index_or, refl, sym, ap, ◌∙◌, subst, arith, inl, inr, Option, Some, None}
 use Rattle.std.specs.List.{Contains}
 use Rattle.elmore.specs.Allowances.{allowed_at}
 use Rattle.elmore.specs.Cells.{rep_of, rep_at}
@@ -39,13 +39,13 @@ made_in ms ms' ps zs z made found =
 
 -- CELLS
 module _ (p : Problem) (cap : Option ℕ) (v : ℕ) (odd : Bool) (classes : Bool → List Candidate) (place : slice_index_or p.places v false ≡ true)
-    (ms ms' : List Made) (ps : List Proposal) (zs : List Candidate) (is : IsPartOf (IsCelled p v odd cap classes (length p.reps)) ps)
+    (ms ms' : List Made) (ps : List Proposal) (zs : List Candidate) (is : IsPartOf (IsCelled p v odd cap classes) ps)
     (made : AreMadeOf ms ms' ps zs) where
   pub cells_are : AreCells p cap v odd (λ o. In (classes o)) zs
   cells_are = record {
     part = λ a found.
         let (q, q_in, a_is) = made_in ms ms' ps zs a made found in
-        let (b, low, named, allows, driven) = is.part q q_in in
+        let (b, named, allows, driven) = is.part q q_in in
         let (x, x_in, may, q_is) = driven in (
           Some b,
           priced x.offer,
@@ -61,7 +61,7 @@ module _ (p : Problem) (cap : Option ℕ) (v : ℕ) (odd : Bool) (classes : Bool
         let costs : IsWithin cap (x.offer.cost + (rep_at p.reps b).cost) = subst (λ (t : Priced). IsWithin cap (t.cost + (rep_at p.reps b).cost)) y_is
         within in
         let q : Proposal = driven_at (stand_of p v b) x in
-        let beaten = is.covers q (b, fit.named, fit.named, fit.allows, (x, x_in, record { limit = limit; costs = costs }, refl)) in
+        let beaten = is.covers q (b, fit.named, fit.allows, (x, x_in, record { limit = limit; costs = costs }, refl)) in
         subst (λ (t : Priced). IsBeaten (offers_of zs) (with_price (rep_of p.reps (Some b)) t)) (sym y_is)
         (made_beats ms ms' ps zs (priced q.offer) made beaten);
   }

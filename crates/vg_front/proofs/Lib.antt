@@ -5,6 +5,7 @@ pub mod HeldLemmas
 pub mod ListLemmas
 pub mod MakeLemmas
 pub mod CellLemmas
+pub mod TryLemmas
 pub mod MeetLemmas
 pub mod RunLemmas
 pub mod FrontLemmas

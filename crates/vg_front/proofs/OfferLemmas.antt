@@ -268,6 +268,16 @@ part_kept A made fresh after is kept = record {
       beaten_over (proposed_by after) (priced x.offer) (priced q.offer) (kept.covers x (Contains-append_cases made fresh x x_in)) x_q;
 }
 
+-- of nothing
+pub adds_alone : (A : Proposal → Type 0) (none made : List Proposal) → none ≡ [] → Adds A none made → IsPartOf A made
+adds_alone A none made none_is is = record {
+  part = λ q found. elim (is.part q found) [
+    | inl there ↦ let (k, k_n, e) = subst (λ (l : List Proposal). Contains l q) none_is there in absurd (omega arith)
+    | inr a ↦ a
+  ];
+  covers = λ q a. is.covers q (inr a);
+}
+
 -- what was proposed of a set is kept alone
 pub part_settled : (A : Proposal → Type 0) (none fresh made : List Proposal) → none ≡ [] → IsPartOf A fresh → Adds (Contains fresh) none made
     → IsPartOf A made

@@ -31,11 +31,11 @@ in_branch branch true x found = Contains-append_right branch.even.items branch.o
 
 module _ (p : Problem) (cap : Option ℕ) (v : ℕ) (odd : Bool) (branch : Branch) (ms : List Made) (ps : List Proposal)
     (solved : (o : Bool) → AreSolved p (IsOpenSolutionOf p o (fork_from p v (v + 1))) ms (list_of branch o))
-    (is : IsPartOf (IsCelled p v odd cap (list_of branch) (length p.reps)) ps) where
+    (is : IsPartOf (IsCelled p v odd cap (list_of branch)) ps) where
   -- they are to be made of candidates that have no cell there
   pub place_from : AreFrom ms (all_of branch) ps
   place_from q q_in =
-      let (b, low, named, allows, driven) = is.part q q_in in
+      let (b, named, allows, driven) = is.part q q_in in
       let (x, x_in, may, q_is) = driven in
       let o : Bool = behind (rep_at p.reps b) odd in
       subst (λ (t : Proposal). IsFrom ms (all_of branch) t.origin) (sym q_is)
@@ -45,7 +45,7 @@ module _ (p : Problem) (cap : Option ℕ) (v : ℕ) (odd : Bool) (branch : Branc
       → AreSolved p (IsSolutionOf p v odd) ms' zs
   place_solved ms' zs v_n place made z found =
       let (q, q_in, z_is) = made.part z found in
-      let (b, low, named, allows, driven) = is.part q q_in in
+      let (b, named, allows, driven) = is.part q q_in in
       let (x, x_in, may, q_is) = driven in
       let o : Bool = behind (rep_at p.reps b) odd in
       cell_solved p v b odd ms ms' x z v_n

@@ -104,8 +104,8 @@ moved_on p a p' a' moved x found = both_cases p a x (flip (moved x (flip (Contai
       | inr b ↦ inl b
     ]
 
-left_in : (stairs : List Stair) (n : ℕ) (x : Stair) → Contains (take n stairs) x → Contains stairs x
-left_in stairs n x found = subst (λ (l : List Stair). Contains l x) (take-append-drop n stairs) (Contains-append_left (take n stairs) (drop n stairs) x found)
+pub left_in : {X : Type 0} (xs : List X) (n : ℕ) (x : X) → Contains (take n xs) x → Contains xs x
+left_in {X} xs n x found = subst (λ (l : List X). Contains l x) (take-append-drop n xs) (Contains-append_left (take n xs) (drop n xs) x found)
 
 -- some stairs at an end are dropped
 pub dropped_behind : (p a : List Stair) (n : ℕ) (x : Stair) → Contains (take n p ++ a) x → Contains (p ++ a) x

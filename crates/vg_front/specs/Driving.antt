@@ -59,7 +59,7 @@ stand_of p v b = record { node = v; number = b; rep = rep_at p.reps b }
 abbrev pub behind : Rep → Bool → Bool
 behind rep odd = cond rep.inverts (not odd) odd
 
--- one of the first so many repeaters of a problem is proposed, which the node allows, for a candidate of the class behind it
-abbrev pub IsCelled : Problem → ℕ → Bool → Option ℕ → (Bool → List Candidate) → ℕ → Proposal → Type 0
-IsCelled p v odd cap classes k q =
-    (b : ℕ) × (b < k) × (b < length p.reps) × Allows (allowed_at p.allowed v) b × IsDriven (stand_of p v b) cap (classes (behind (rep_at p.reps b) odd)) q
+-- a repeater of a problem is proposed which the node allows, for a candidate of the class behind it
+abbrev pub IsCelled : Problem → ℕ → Bool → Option ℕ → (Bool → List Candidate) → Proposal → Type 0
+IsCelled p v odd cap classes q =
+    (b : ℕ) × (b < length p.reps) × Allows (allowed_at p.allowed v) b × IsDriven (stand_of p v b) cap (classes (behind (rep_at p.reps b) odd)) q

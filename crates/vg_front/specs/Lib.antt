@@ -4,6 +4,7 @@ pub mod Desks
 pub mod Held
 pub mod Making
 pub mod Driving
+pub mod Tries
 pub mod Branches
 pub mod Meeting
 pub mod Runs

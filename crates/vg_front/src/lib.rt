@@ -17,6 +17,7 @@ mod propose;
 mod root;
 mod runs;
 mod stairs;
+mod tries;
 
 pub use front::{frontier, frontier_in};
 pub use root::Point;

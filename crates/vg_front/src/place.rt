@@ -42,7 +42,7 @@ impl Branch {
         ensures cells { IfOk result (λ cells. AreCells p.now cap node odd (λ o. In (list_of self.now o)) cells.items) }
         ensures solved { IfOk result (λ cells. AreSolved p.now (IsSolutionOf p.now node odd) (made_of arena.new) cells.items) }
     {
-        self.propose_cells(p, node, odd, cap, desk)?;
+        self.propose_cells(alloc, p, node, odd, cap, desk)?;
         let cells = make_all(alloc, arena, &desk.made)?;
         Ok(cells)
     }

@@ -40,7 +40,7 @@ fn goes_on(xs: &[Candidate], from: usize, end: usize) -> bool
 }
 
 /// Where the candidates end that have the cost of the one of number `from`, and rise by load.
-fn run_end(xs: &[Candidate], from: usize) -> usize
+pub(crate) fn run_end(xs: &[Candidate], from: usize) -> usize
     requires { from < length xs.now }
     ensures { IsRunAt xs.now from result }
 {
