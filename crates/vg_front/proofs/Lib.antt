@@ -8,6 +8,7 @@ pub mod CellLemmas
 pub mod TryLemmas
 pub mod MeetLemmas
 pub mod RunLemmas
+pub mod TurnLemmas
 pub mod FrontLemmas
 pub mod CostLemmas
 pub mod PlaceLemmas

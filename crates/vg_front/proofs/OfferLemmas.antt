@@ -2,7 +2,7 @@
 use Rattle.std.proofs.Common.{◌≡◌, ◌⊎◌, ℕ, zero, suc, ◌+◌, ◌<◌, ◌≤◌, List, [], ◌∷◌, ◌++◌, map, length, take, get_or, set, refl}
 use Rattle.std.proofs.Common.{sym, ap, ◌∙◌, subst, arith, inl, inr}
 use Rattle.std.proofs.lemmas.Bool.{cases_eq}
-use Rattle.std.proofs.lemmas.List.{length-set, get_or-set_same, get_or-set_other, map-append, take_all}
+use Rattle.std.proofs.lemmas.List.{append-nil, length-set, get_or-set_same, get_or-set_other, map-append, take_all}
 use Rattle.std.proofs.lemmas.List.Elements.{Contains-append_left, Contains-append_right, Contains-append_cases, Contains-push, Contains-push_cases}
 use Rattle.std.proofs.lemmas.List.Sorted.{Contains-permutation, IsPermutation-sym}
 use Rattle.std.specs.List.{Contains}
@@ -145,17 +145,6 @@ propose_fresh made fresh after x put = record {
 }
 
 -- PARTS OF PARTS
--- a set by another name
-pub part_as : (A B : Proposal → Type 0) (xs : List Proposal) → IsPartOf A xs → ((q : Proposal) → A q → B q) → ((q : Proposal) → B q → A q) → IsPartOf B xs
-part_as A B xs is to from = record { part = λ q found. to q (is.part q found); covers = λ q b. is.covers q (from q b) }
-
--- of a set of none
-pub part_none : (A : Proposal → Type 0) (xs : List Proposal) → xs ≡ [] → ((q : Proposal) → A q → ⊥) → IsPartOf A xs
-part_none A xs none never = record {
-  part = λ q found. let (k, k_n, e) = subst (λ (l : List Proposal). Contains l q) none found in absurd (omega arith);
-  covers = λ q q_in. absurd (never q q_in);
-}
-
 -- a part of a set, and of another set besides
 pub part_more : (A B C : Proposal → Type 0) (xs zs : List Proposal) → IsPartOf A xs → Adds B xs zs
     → ((q : Proposal) → A q → C q) → ((q : Proposal) → B q → C q) → ((q : Proposal) → C q → A q ⊎ B q) → IsPartOf C zs
@@ -277,6 +266,16 @@ adds_alone A none made none_is is = record {
   ];
   covers = λ q a. is.covers q (inr a);
 }
+
+-- of itself
+pub part_itself : (xs : List Proposal) → IsPartOf (Contains xs) xs
+part_itself xs = record { part = λ q found. found; covers = λ q found. beaten_itself xs q found }
+
+-- all that was proposed is kept, and nothing is fresh
+pub part_turned : (made fresh after none : List Proposal) → none ≡ [] → Adds (Contains fresh) made after → IsPartOf (Contains (made ++ fresh)) (after ++ none)
+part_turned made fresh after none none_is kept =
+    subst (IsPartOf (Contains (made ++ fresh))) (sym (ap (λ (l : List Proposal). after ++ l) none_is ∙ append-nil after))
+    (part_kept (Contains (made ++ fresh)) made fresh after (part_itself (made ++ fresh)) kept)
 
 -- what was proposed of a set is kept alone
 pub part_settled : (A : Proposal → Type 0) (none fresh made : List Proposal) → none ≡ [] → IsPartOf A fresh → Adds (Contains fresh) none made

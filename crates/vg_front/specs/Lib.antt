@@ -8,6 +8,7 @@ pub mod Tries
 pub mod Branches
 pub mod Meeting
 pub mod Runs
+pub mod Turns
 pub mod Fronts
 pub mod Joining
 pub mod Parts

@@ -18,6 +18,7 @@ mod root;
 mod runs;
 mod stairs;
 mod tries;
+mod turns;
 
 pub use front::{frontier, frontier_in};
 pub use root::Point;

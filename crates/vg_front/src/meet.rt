@@ -1,19 +1,25 @@
 //! Two branches meet.
 
 ghost use Rattle.std.specs.Prelude.{[], ◌≡◌, ◌+◌, ◌<◌, ◌≤◌, ◌^◌, length, OnOk};
+ghost use Rattle.std.specs.BinaryHeap.{heap_items};
 ghost use Rattle.std.specs.Int.{int_min};
+ghost use Rattle.std.specs.List.{Contains};
 ghost use Rattle.vg_front.specs.Desks.{all_in};
 ghost use Rattle.vg_front.specs.Offers.{proposed_by, IsPartOf, Adds};
 ghost use Rattle.vg_front.specs.Seen.{AreReached};
 ghost use Rattle.vg_front.specs.Held.{IsBounded, AreBounded};
 ghost use Rattle.vg_front.specs.Meeting.{met_offer, IsMetOf, IsMet, IsRun, IsAdvance};
-ghost use Rattle.vg_front.specs.Runs.{IsRunOf, AreRunsOfEach, IsMetIn, IsMetAt};
+ghost use Rattle.vg_front.specs.Runs.{run_in as run_in_spec, IsRunOf, AreRunsOf};
+ghost use Rattle.vg_front.specs.Turns.{AreTurns};
 ghost use Rattle.vg_front.specs.declared.offer.Proposal.{Proposal as ProposalSpec};
 
 use crate::offer::{Candidate, Offer, Origin, Proposal};
 use crate::propose::Desk;
-use crate::runs::{Meeting, end_of_cost, meetings_of, run_in};
+use crate::runs::{Run, run_in, runs_of};
+use crate::turns::{Turn, put, put_all};
 use std::alloc::Global;
+use std::cmp::Reverse;
+use std::collections::BinaryHeap;
 use vg_num::Memory;
 
 /// The lesser of two times (zs).
@@ -84,67 +90,69 @@ fn meet_runs(xs: &[Candidate], ys: &[Candidate], desk: &mut Desk) -> Result<(), 
     Ok(())
 }
 
-/// Proposes the pairs of a meeting, but those that others beat. Answers `Memory` where there is no room.
+/// Proposes the pairs of a run of each of two lists, but those that others beat. Answers `Memory` where there is no room.
 fn meet_one(
     xs: &[Candidate],
     ys: &[Candidate],
-    meeting: Meeting,
+    first: Run,
+    second: Run,
     desk: &mut Desk,
 ) -> Result<(), Memory>
-    requires first { IsRunOf xs.now meeting.first }
-    requires second { IsRunOf ys.now meeting.second }
+    requires first { IsRunOf xs.now first }
+    requires second { IsRunOf ys.now second }
     requires bounded_first { AreBounded xs.now }
     requires bounded_second { AreBounded ys.now }
     requires reached { AreReached desk.old.stairs (proposed_by desk.old.made.items) }
-    ensures met { OnOk result (Adds (IsMetIn xs.now ys.now meeting) (all_in desk.old) (all_in desk.new)) }
+    ensures met { OnOk result (Adds (IsMetOf (run_in_spec xs.now first) (run_in_spec ys.now second)) (all_in desk.old) (all_in desk.new)) }
     ensures reached { OnOk result (AreReached desk.new.stairs (proposed_by desk.new.made.items)) }
 {
-    let first = run_in(xs, meeting.first);
-    let second = run_in(ys, meeting.second);
+    let first = run_in(xs, first);
+    let second = run_in(ys, second);
     meet_runs(first, second, desk)?;
     Ok(())
 }
 
-/// Proposes the pairs of all these meetings, but those that others beat. Answers `Memory` where there is no room.
-fn meet_each(
-    xs: &[Candidate],
-    ys: &[Candidate],
-    meetings: &[Meeting],
-    desk: &mut Desk,
-) -> Result<(), Memory>
-    requires meetings { AreRunsOfEach xs.now ys.now meetings.now }
-    requires bounded_first { AreBounded xs.now }
-    requires bounded_second { AreBounded ys.now }
+/// Where another cost begins, keeps what no others beat of what was proposed at the cost before. Answers `Memory` where there is no
+/// room.
+fn turn_to(cost: u64, at: &mut u64, desk: &mut Desk) -> Result<(), Memory>
     requires reached { AreReached desk.old.stairs (proposed_by desk.old.made.items) }
-    ensures met { OnOk result (Adds (IsMetAt xs.now ys.now meetings.now) (all_in desk.old) (all_in desk.new)) }
+    ensures kept { OnOk result (IsPartOf (Contains (all_in desk.old)) (all_in desk.new)) }
     ensures reached { OnOk result (AreReached desk.new.stairs (proposed_by desk.new.made.items)) }
 {
-    'meetings: for meeting in meetings {
-        meet_one(xs, ys, *meeting, desk)?;
+    if cost == *at {
+        return Ok(());
     }
+    desk.settle()?;
+    *at = cost;
     Ok(())
 }
 
-/// Proposes the pairs of all these meetings, and keeps those that no others beat: the meetings of one cost after those of another,
-/// so that only pairs of one cost are to be put in order. Answers `Memory` where there is no room.
-fn meet_by_cost(
+/// Proposes the pairs of all runs of two lists within the cap, turn by turn, but those that others beat: the pairs of one cost after
+/// those of another, so that only pairs of one cost are to be put in order. Answers `Memory` where there is no room.
+fn meet_by_turns(
     xs: &[Candidate],
     ys: &[Candidate],
-    meetings: &[Meeting],
+    firsts: &[Run],
+    seconds: &[Run],
+    cap: Option<u64>,
+    turns: &mut BinaryHeap<Reverse<Turn>, Global>,
     desk: &mut Desk,
 ) -> Result<(), Memory>
-    requires meetings { AreRunsOfEach xs.now ys.now meetings.now }
+    requires firsts { AreRunsOf xs.now xs.now firsts.now }
+    requires seconds { AreRunsOf ys.now ys.now seconds.now }
+    requires turns { AreTurns cap firsts.now seconds.now (heap_items turns.old) }
     requires bounded_first { AreBounded xs.now }
     requires bounded_second { AreBounded ys.now }
-    ensures { OnOk result (IsPartOf (IsMetAt xs.now ys.now meetings.now) desk.new.made.items) }
+    ensures met { OnOk result (IsPartOf (IsMet cap xs.now ys.now) (all_in desk.new)) }
+    ensures reached { OnOk result (AreReached desk.new.stairs (proposed_by desk.new.made.items)) }
 {
     desk.clear();
-    let mut from = 0;
-    'costs: while from < meetings.len() {
-        let end = end_of_cost(meetings, from);
-        meet_each(xs, ys, &meetings[from..end], desk)?;
-        desk.settle()?;
-        from = end;
+    let mut cost = 0;
+    'turns: while let Some(next) = turns.pop() {
+        let turn = next.0;
+        turn_to(turn.cost, &mut cost, desk)?;
+        meet_one(xs, ys, turn.first, seconds[turn.second], desk)?;
+        put(turns, turn.first, seconds, cap, turn.second + 1)?;
     }
     Ok(())
 }
@@ -161,7 +169,11 @@ pub(crate) fn meet_lists(
     requires bounded_second { AreBounded ys.now }
     ensures { OnOk result (IsPartOf (IsMet cap xs.now ys.now) desk.new.made.items) }
 {
-    let meetings = meetings_of(alloc, xs, ys, cap)?;
-    meet_by_cost(xs, ys, &meetings, desk)?;
+    let firsts = runs_of(alloc, xs)?;
+    let seconds = runs_of(alloc, ys)?;
+    let mut turns = BinaryHeap::new(alloc);
+    put_all(&mut turns, &firsts, &seconds, cap)?;
+    meet_by_turns(xs, ys, &firsts, &seconds, cap, &mut turns, desk)?;
+    desk.settle()?;
     Ok(())
 }
