@@ -1,13 +1,14 @@
 -- Lines without a fault, one after another.
-use Rattle.std.proofs.Common.{◌≡◌, ℕ, zero, suc, ◌<◌, Bool, true, false, cond, nat_lt, List, [], ◌∷◌, ◌++◌, length, get_or, refl, ap, ◌∙◌, arith, Option, Some, None}
+use Rattle.std.proofs.Common.{◌≡◌, ℕ, zero, suc, ◌<◌, cond, List, [], ◌∷◌, ◌++◌, length, get_or, refl, ap, ◌∙◌, arith, Option, Some, None}
 use Rattle.std.specs.Prelude.{⊤}
-use Rattle.std.proofs.lemmas.Bool.Decides.{nat_tests}
 use Rattle.std.proofs.lemmas.List.{get_or_past}
 use Rattle.elmore.specs.declared.problem.Problem.{Problem}
 use Rattle.vg_scan.specs.declared.name.NetNames.{NetNames}
 use Rattle.vg_cert.specs.Lines.{Line, parts, lines, line_at}
 use Rattle.vg_cert.specs.Roles.{Role, over, goes_on, roles, role_at, line_before}
-use Rattle.vg_cert.specs.Faults.{fault_of, fault_at, line_fault, rest_fault, IsFaultless}
+use Rattle.vg_cert.specs.Faults.{fault_of, own_fault, IsFaultless}
+use Rattle.vg_cert.proofs.ReadLemmas.{last_ends}
+use Rattle.vg_cert.proofs.EndLemmas.{lines_faultless}
 use Rattle.vg_cert.proofs.TextLemmas.{no_line}
 
 -- the line before, if there is one, and its role
@@ -48,29 +49,19 @@ before_is_at : (p : Problem) (ls : List Line) (i : ℕ) (role : Role) → line_b
 before_is_at p ls zero role = refl
 before_is_at p ls (suc i) role = refl
 
-no_rest : (role : Role) (rest : List ℕ) → role ≡ over → rest ≡ [] → rest_fault role rest ≡ None
-no_rest role rest e f = ap (λ r. rest_fault r rest) e ∙ ap (rest_fault over) f
-
 -- a text of lines without a fault has none
 module _ (p : Problem) (names : NetNames) (text : List ℕ) (ls : List Line) (same : lines text ≡ ls ++ no_line) (count : length (parts text) ≡ suc (length ls)) (last : get_or (parts text) (length ls) [] ≡ [])
     (clear : AreClear names (line_at (ls ++ no_line) 2) None (roles p (ls ++ no_line)) ls) where
-  line_clear : (i : ℕ) → i < length ls → line_fault p names (lines text) i ≡ None
+  line_clear : (i : ℕ) → i < length ls → own_fault p names (lines text) i ≡ None
   line_clear i l =
-      ap (λ all. line_fault p names all i) same
+      ap (λ all. own_fault p names all i) same
       ∙ ap (λ o. fault_of names (line_at (ls ++ no_line) 2) (role_at p (ls ++ no_line) i) o (line_at (ls ++ no_line) i)) (before_is_at p (ls ++ no_line) i (role_at p (ls ++ no_line) i))
       ∙ clear_at names (line_at (ls ++ no_line) 2) None (roles p (ls ++ no_line)) ls no_line clear i l
 
-  rest_clear : (i : ℕ) → i ≡ length ls → rest_fault (role_at p (lines text) i) (get_or (parts text) i []) ≡ None
-  rest_clear i e =
-      no_rest (role_at p (lines text) i) (get_or (parts text) i [])
-      (ap (λ all. role_at p all i) same ∙ get_or_past (roles p (ls ++ no_line)) i over (omega (arith, e, clear_each names (line_at (ls ++ no_line) 2) None (roles p (ls ++ no_line)) ls clear)))
-      (ap (λ k. get_or (parts text) k []) e ∙ last)
-
-  by_place : (i : ℕ) (b : Bool) → nat_lt (suc i) (length (parts text)) ≡ b → i < length (parts text)
-      → cond b (line_fault p names (lines text) i) (rest_fault (role_at p (lines text) i) (get_or (parts text) i [])) ≡ None
-  by_place i true e l = line_clear i (grind (arith, nat_tests, count))
-  by_place i false e l = rest_clear i (grind (arith, nat_tests, count))
+  over_then : role_at p (lines text) (length ls) ≡ over
+  over_then =
+      ap (λ all. role_at p all (length ls)) same
+      ∙ get_or_past (roles p (ls ++ no_line)) (length ls) over (omega (arith, clear_each names (line_at (ls ++ no_line) 2) None (roles p (ls ++ no_line)) ls clear))
 
   pub text_clear : IsFaultless p names text
-  unfolding fault_at
-  text_clear = λ i l. by_place i (nat_lt (suc i) (length (parts text))) refl l
+  text_clear = lines_faultless p names text (length ls) count (last_ends text [] (length ls) count last) over_then line_clear

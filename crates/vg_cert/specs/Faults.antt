@@ -107,23 +107,37 @@ fault_of names head role before line =
     (option_or (when (is_cell_fault names role line) Cell)
     (when (is_order_fault names role before line) Order))))
 
--- the fault of the line at a place
-abbrev pub line_fault : Problem → NetNames → List Line → ℕ → Option CertKind
-line_fault p names ls i = fault_of names (line_at ls 2) (role_at p ls i) (line_before p ls i (role_at p ls i)) (line_at ls i)
+-- the fault that the line at a place has by itself
+abbrev pub own_fault : Problem → NetNames → List Line → ℕ → Option CertKind
+own_fault p names ls i = fault_of names (line_at ls 2) (role_at p ls i) (line_before p ls i (role_at p ls i)) (line_at ls i)
 
 abbrev pub is_over_role : Role → Bool
 is_over_role over = true
 is_over_role _ = false
 
--- what stands after the last newline is no line: there has to be nothing, after all lines
-abbrev pub rest_fault : Role → List ℕ → Option CertKind
-rest_fault role rest = when (not (is_empty rest && is_over_role role)) Form
+-- a newline ends what stands at a place: that is a line
+abbrev pub is_whole : List ℕ → ℕ → Bool
+is_whole text i = nat_lt (suc i) (length (parts text))
+
+-- nothing stands at a place, where a line would begin: the text ends there
+abbrev pub ends_at : List ℕ → ℕ → Bool
+ends_at text i = (suc i == length (parts text)) && is_empty (get_or (parts text) i [])
+
+-- the text ends after the line at a place, and another line is due
+abbrev pub is_cut_short : Problem → List ℕ → ℕ → Bool
+is_cut_short p text i = ends_at text (suc i) && not (is_over_role (role_at p (lines text) (suc i)))
+
+-- the fault of a line: its own, or else that the line after it is missing
+abbrev pub line_fault : Problem → NetNames → List ℕ → ℕ → Option CertKind
+line_fault p names text i = option_or (own_fault p names (lines text) i) (when (is_cut_short p text i) Form)
+
+-- what stands after the last newline is no line, and has to be nothing; where no line stands before it, the first one is missing
+abbrev pub rest_fault : List ℕ → ℕ → Option CertKind
+rest_fault text i = when (not (ends_at text i) || (i == 0)) Form
 
 -- the fault at a place of a text, from 0
 unfoldable pub fault_at : Problem → NetNames → List ℕ → ℕ → Option CertKind
-fault_at p names text i =
-    cond (nat_lt (suc i) (length (parts text))) (line_fault p names (lines text) i)
-    (rest_fault (role_at p (lines text) i) (get_or (parts text) i []))
+fault_at p names text i = cond (is_whole text i) (line_fault p names text i) (rest_fault text i)
 
 abbrev pub IsFaultless : Problem → NetNames → List ℕ → Type 0
 IsFaultless p names text = IsClear (fault_at p names text) (length (parts text))

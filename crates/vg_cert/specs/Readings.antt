@@ -17,11 +17,11 @@ use Rattle.vg_cert.specs.declared.certificate.NodeLists.{NodeLists}
 use Rattle.vg_cert.specs.declared.head.Head.{Head}
 use Rattle.vg_cert.specs.Denoted.{slack_in, placed_in, cell_of, lists_in, section_lists, both}
 use Rattle.vg_cert.specs.Fits.{IsTime, IsEntry, IsList}
-use Rattle.vg_cert.specs.Lines.{Line, parts, lines, line_at, is_no_count, fault_in, count_in}
+use Rattle.vg_cert.specs.Lines.{Line, parts, lines, line_at, is_empty, is_no_count, fault_in, count_in}
 use Rattle.vg_cert.specs.Names.{text_of_node}
 use Rattle.std.specs.Str.{bytes_eq}
 use Rattle.vg_cert.specs.Roles.{Role, even, odd, at, end, roles, sections, role_at, line_before, cell_count, section_length}
-use Rattle.vg_cert.specs.Faults.{is_none, fault_at, IsFaultIn, has_shape, pair_fault, pair_in, is_below, is_node_fault, is_cell_fault, node_in, when}
+use Rattle.vg_cert.specs.Faults.{is_none, own_fault, IsFaultIn, has_shape, pair_fault, pair_in, is_below, is_node_fault, is_cell_fault, node_in, when}
 
 -- a text, with the problem and the names that it is read for
 pub record Reading : Type 0 where
@@ -47,10 +47,10 @@ pub record IsPlace (text : List ℕ) (place : Place) : Type 0 where
   pub counted : place.count ≤ place.at
   pub left : drop place.count (parts text) ≡ parts (drop place.at text)
 
--- and the lines before it have no fault
+-- and the lines before it have no fault of their own
 pub record IsUpTo (r : Reading) (place : Place) : Type 0 where
   pub here : IsPlace r.text place
-  pub clear : IsClear (fault_at r.problem r.names r.text) place.count
+  pub clear : IsClear (own_fault r.problem r.names (lines_of r)) place.count
 
 -- a word before some words, if there are any
 abbrev pub put_before : List ℕ → Line → Line
@@ -63,11 +63,21 @@ pub record IsTaken (text line : List ℕ) (old new : Place) : Type 0 where
   pub next : new.count ≡ suc old.count
   pub parted : parts (drop old.at text) ≡ line ∷ parts (drop new.at text)
 
+-- the line at which it is told that the line that is due does not stand here, given what is left of the text and how many lines stand
+-- before: where nothing is left it is the line before, if there is one
+abbrev pub line_told : List ℕ → ℕ → ℕ
+line_told left zero = 1
+line_told left (suc n) = cond (is_empty left) (suc n) (suc (suc n))
+
+-- the line that is due does not stand here
+pub record IsNotDue (left : List ℕ) (count : ℕ) (fault : LineFault CertKind) : Type 0 where
+  pub kind : fault.kind ≡ Form
+  pub line : fault.line ≡ line_told left count
+
 -- there is no line: no newline is left
 pub record IsMissing (text : List ℕ) (old : Place) (fault : LineFault CertKind) : Type 0 where
   pub rest : parts (drop old.at text) ≡ drop old.at text ∷ []
-  pub kind : fault.kind ≡ Form
-  pub line : fault.line ≡ suc old.count
+  pub told : IsNotDue (drop old.at text) old.count fault
 
 -- what a line writes, or its fault, or out of memory
 abbrev pub Judges : {A : Type 0} → Result A CertKind → Option CertKind → (A → Type 0) → Type 0

@@ -16,7 +16,7 @@ use crate::head::Head;
 use crate::line::{
     at_line, cells_line, end_line, heading_line, net_line, node_line, pair_line, slack_line,
 };
-use crate::lines::next_line;
+use crate::lines::{next_line, not_due};
 use crate::place::Place;
 use crate::source::Source;
 use elmore::{Pair, Placement, Problem};
@@ -144,7 +144,7 @@ fn is_needless(head: Head) -> bool
     }
 }
 
-/// The placement. Where there is no slack, a line of a cell is none that is due.
+/// The placement. Where there is no slack, a cell is none that is due.
 fn read_placement(
     alloc: Global,
     source: &Source<'_>,
@@ -160,7 +160,7 @@ fn read_placement(
     ensures needless { IfOk result (λ _. head.slack ≡ None → head.cells ≡ 0) }
 {
     if is_needless(head) {
-        return Err(place.next_fault(CertKind::Form));
+        return Err(not_due(&source.bytes[place.at..], *place));
     }
     let Ok(mut cells) = vec![in alloc; None; source.names.nodes.len()] else {
         return Err(place.fault(CertKind::Memory));
@@ -350,7 +350,8 @@ fn read_lines(alloc: Global, source: &Source<'_>) -> Result<Certificate, CertFau
     })
 }
 
-/// The certificate of a problem that a text writes, or the text's first fault with the number of its line.
+/// The certificate of a problem that a text writes, or the text's first fault with the number of its line. That a line is
+/// missing is told at the last one.
 ///
 /// Answers `Memory` where there is no room, with the number of the line at which it was wanted, or of the line before.
 pub fn read_certificate(
