@@ -1,5 +1,5 @@
 -- What a judgment of the given values says of the words.
-use Rattle.std.proofs.Common.{◌≡◌, ◌≤◌, ℕ, Bool, true, false, not, ◌&&◌, ◌||◌, ◌⊎◌, inl, inr, List, [], ◌∷◌, refl, sym, ap, ◌∙◌, subst, Option, Some, None, is_some, unwrap_or, Result, Ok, Err, codes, if◌then◌else◌}
+use Rattle.std.proofs.Common.{◌≡◌, ◌≢◌, ◌≤◌, ℕ, Bool, true, false, not, ◌&&◌, ◌||◌, ◌⊎◌, inl, inr, List, [], ◌∷◌, refl, sym, ap, ◌∙◌, subst, Option, Some, None, is_some, unwrap_or, Result, Ok, Err, codes, if◌then◌else◌}
 use Rattle.std.proofs.lemmas.Bool.{false≢true, true≢false}
 use Rattle.std.specs.List.{find, list_any}
 use Rattle.std.specs.Result.{IsErrAnd}
@@ -9,16 +9,16 @@ use Rattle.vg_num.specs.Number.{value_of as number_of}
 use Rattle.vg_words.proofs.OptionLemmas.{each, same_option}
 use Rattle.vg_words.proofs.SizeLemmas.{size_small}
 use Rattle.vg_words.proofs.SpellingLemmas.{one_setting}
-use Rattle.vg_words.specs.Laws.{AsksAsIn}
+use Rattle.vg_words.specs.Laws.{AsksAsIn, AsksForNet}
 use Rattle.vg_words.specs.Views.{AreValues}
 use Rattle.vg_words.specs.declared.ask.Ask.{Ask}
 use mathlib.Core.Path.{fun_ext}
 use Rattle.vg_words.specs.Options.{options, file_options, is_same, required, mode_of, mode_name}
 use Rattle.vg_words.specs.Request.{Setting, Sets, Values, values_in, value_of, IsRequest, is_missing, is_excluded, flag_value, has_bad_value, is_bad, is_cap, is_size, or_else, of_first, of_pair, first_equal, fault_in, fault_of_mode, fault_of_name, fault_of, HasMode, IsRefused, ReadsWords, value, cap_in, cap_of, size_in, size_of}
 use Rattle.vg_words.specs.declared.option.Opt.{Opt}
-use Rattle.vg_words.specs.declared.option.Opt.TheVariants.{Mode, Spef, Lib, Verilog, Cons, Net, All, OutSpef, OutVerilog, Cap, Prefix, Size}
+use Rattle.vg_words.specs.declared.option.Opt.TheVariants.{Mode, Spef, Lib, Verilog, Cons, Net, All, OutSpef, OutVerilog, Cert, Cap, Prefix, Size}
 use Rattle.vg_words.specs.declared.ask.Mode.{Mode as ModeSpec}
-use Rattle.vg_words.specs.declared.ask.Mode.TheVariants.{Wire, Time, Best, Frontier, Gen}
+use Rattle.vg_words.specs.declared.ask.Mode.TheVariants.{Wire, Time, Best, Frontier, Check, Gen}
 use Rattle.vg_words.specs.declared.ask.WordFault.{WordFault}
 use Rattle.vg_words.specs.declared.ask.WordFault.TheVariants.{Unread, Missing, Excluded, BadValue, Equal, Memory}
 
@@ -99,20 +99,21 @@ some_mode a b e = cc
 
 requested_values : (values : Values) (ask : Ask) → values Mode ≡ Some (mode_name ask.mode) → values Spef ≡ ask.spef → values Lib ≡ ask.lib
     → values Verilog ≡ ask.verilog → values Cons ≡ ask.cons → values Net ≡ ask.net → values All ≡ flag_value ask.all
-    → values OutSpef ≡ ask.out_spef → values OutVerilog ≡ ask.out_verilog → values Cap ≡ ask.cap → values Prefix ≡ ask.prefix → values Size ≡ ask.size
-    → (option : Opt) → values option ≡ value ask option
-requested_values values ask m s l v c n a os ov k p z Mode = m
-requested_values values ask m s l v c n a os ov k p z Spef = s
-requested_values values ask m s l v c n a os ov k p z Lib = l
-requested_values values ask m s l v c n a os ov k p z Verilog = v
-requested_values values ask m s l v c n a os ov k p z Cons = c
-requested_values values ask m s l v c n a os ov k p z Net = n
-requested_values values ask m s l v c n a os ov k p z All = a
-requested_values values ask m s l v c n a os ov k p z OutSpef = os
-requested_values values ask m s l v c n a os ov k p z OutVerilog = ov
-requested_values values ask m s l v c n a os ov k p z Cap = k
-requested_values values ask m s l v c n a os ov k p z Prefix = p
-requested_values values ask m s l v c n a os ov k p z Size = z
+    → values OutSpef ≡ ask.out_spef → values OutVerilog ≡ ask.out_verilog → values Cert ≡ ask.cert → values Cap ≡ ask.cap
+    → values Prefix ≡ ask.prefix → values Size ≡ ask.size → (option : Opt) → values option ≡ value ask option
+requested_values values ask m s l v c n a os ov r k p z Mode = m
+requested_values values ask m s l v c n a os ov r k p z Spef = s
+requested_values values ask m s l v c n a os ov r k p z Lib = l
+requested_values values ask m s l v c n a os ov r k p z Verilog = v
+requested_values values ask m s l v c n a os ov r k p z Cons = c
+requested_values values ask m s l v c n a os ov r k p z Net = n
+requested_values values ask m s l v c n a os ov r k p z All = a
+requested_values values ask m s l v c n a os ov r k p z OutSpef = os
+requested_values values ask m s l v c n a os ov r k p z OutVerilog = ov
+requested_values values ask m s l v c n a os ov r k p z Cert = r
+requested_values values ask m s l v c n a os ov r k p z Cap = k
+requested_values values ask m s l v c n a os ov r k p z Prefix = p
+requested_values values ask m s l v c n a os ov r k p z Size = z
 
 -- a text that is the name of one mode, or else names another
 named_or : (text : List ℕ) (own mode : ModeSpec) (rest : Option ModeSpec) → (if bytes_eq text (mode_name own) then Some own else rest) ≡ Some mode
@@ -126,7 +127,8 @@ named_or text own mode rest e later =
 -- a text that names a mode is its name
 mode_named : (text : List ℕ) (mode : ModeSpec) → mode_of text ≡ Some mode → text ≡ mode_name mode
 mode_named text mode e =
-    let after_frontier : Option ModeSpec = if bytes_eq text (codes "gen") then Some Gen else None in
+    let after_check : Option ModeSpec = if bytes_eq text (codes "gen") then Some Gen else None in
+    let after_frontier : Option ModeSpec = if bytes_eq text (codes "check") then Some Check else after_check in
     let after_best : Option ModeSpec = if bytes_eq text (codes "frontier") then Some Frontier else after_frontier in
     let after_time : Option ModeSpec = if bytes_eq text (codes "best") then Some Best else after_best in
     let after_wire : Option ModeSpec = if bytes_eq text (codes "time") then Some Time else after_time in
@@ -134,7 +136,8 @@ mode_named text mode e =
     (λ e. named_or text Time mode after_time e
     (λ e. named_or text Best mode after_best e
     (λ e. named_or text Frontier mode after_frontier e
-    (λ e. named_or text Gen mode None e (λ none. absurd (cc))))))
+    (λ e. named_or text Check mode after_check e
+    (λ e. named_or text Gen mode None e (λ none. absurd (cc)))))))
 
 mode_given : (name : Option (List ℕ)) (mode : ModeSpec) → HasMode name mode → name ≡ Some (mode_name mode)
 mode_given None mode h = absurd h
@@ -144,11 +147,11 @@ mode_given (Some name) mode h = ap (λ text. Some text) (mode_named name mode h)
 pub requested : (words : List (List ℕ)) (values : Values) (mode : ModeSpec) (ask : Ask) → AreValues words values
     → (fault_of values ≡ None) × HasMode (values Mode) mode
     → ask.mode ≡ mode → ask.spef ≡ values Spef → ask.lib ≡ values Lib → ask.verilog ≡ values Verilog → ask.cons ≡ values Cons → ask.net ≡ values Net
-    → flag_value ask.all ≡ values All → ask.out_spef ≡ values OutSpef → ask.out_verilog ≡ values OutVerilog → ask.cap ≡ values Cap
+    → flag_value ask.all ≡ values All → ask.out_spef ≡ values OutSpef → ask.out_verilog ≡ values OutVerilog → ask.cert ≡ values Cert → ask.cap ≡ values Cap
     → ask.prefix ≡ values Prefix → ask.size ≡ values Size → IsRequest words ask
-requested words values mode ask given (e, h) m s l v c n a os ov k p z =
+requested words values mode ask given (e, h) m s l v c n a os ov r k p z =
     let named = mode_given (values Mode) mode h ∙ ap (λ x. Some (mode_name x)) (sym m) in
-    let kept = requested_values values ask named (sym s) (sym l) (sym v) (sym c) (sym n) (sym a) (sym os) (sym ov) (sym k) (sym p) (sym z) in
+    let kept = requested_values values ask named (sym s) (sym l) (sym v) (sym c) (sym n) (sym a) (sym os) (sym ov) (sym r) (sym k) (sym p) (sym z) in
     record {
       settings = given.settings;
       set = given.set;
@@ -162,6 +165,7 @@ named_mode Wire = refl
 named_mode Time = refl
 named_mode Best = refl
 named_mode Frontier = refl
+named_mode Check = refl
 named_mode Gen = refl
 
 one_mode : (a b : ModeSpec) → mode_name a ≡ mode_name b → a ≡ b
@@ -193,6 +197,7 @@ one words a b x y =
       all = all i;
       out_spef = values OutSpef i;
       out_verilog = values OutVerilog i;
+      cert = values Cert i;
       cap = values Cap i;
       prefix = values Prefix i;
       size = values Size i;
@@ -219,7 +224,7 @@ no_option : (o : Opt) → Some o ≡ None → ⊥
 no_option o e = cc
 
 -- where no option of a list is found, none of them is meant
-none_found : (p : Opt → Bool) (os : List Opt) (o : Opt) → find p os ≡ None → list_any (is_same o) os ≡ true → p o ≡ false
+pub none_found : (p : Opt → Bool) (os : List Opt) (o : Opt) → find p os ≡ None → list_any (is_same o) os ≡ true → p o ≡ false
 none_found p [] o e among = absurd (false≢true among)
 none_found p (x ∷ xs) o e among = go (p x) refl (is_same o x) refl (none_found p xs o)
   where
@@ -232,31 +237,37 @@ no_first : (fault : Opt → WordFault) (o : Option Opt) → of_first fault o ≡
 no_first fault None e = refl
 no_first fault (Some o) e = absurd (cc)
 
+no_pair : (o : Option (Opt × Opt)) → of_pair o ≡ None → o ≡ None
+no_pair None e = refl
+no_pair (Some (one, other)) e = absurd (cc)
+
 no_faults : (a b : Option WordFault) → or_else a b ≡ None → (a ≡ None) × (b ≡ None)
 no_faults None b e = (refl, e)
 no_faults (Some fault) b e = absurd (cc)
 
 all_options : (o : Opt) → list_any (is_same o) options ≡ true
-all_options = each (λ o. list_any (is_same o) options ≡ true) refl refl refl refl refl refl refl refl refl refl refl refl
+all_options = each (λ o. list_any (is_same o) options ≡ true) refl refl refl refl refl refl refl refl refl refl refl refl refl
 
--- what a judgment without a fault says of each option
-record IsWhole (mode : ModeSpec) (values : Values) : Type 0 where
-  found : (o : Opt) → list_any (is_same o) (required mode) ≡ true → is_missing mode values o ≡ false
-  allowed : (o : Opt) → is_excluded mode values o ≡ false
-  good : (o : Opt) → is_bad values o ≡ false
+-- what a judgment without a fault says of each option, and of those that name files
+pub record IsWhole (mode : ModeSpec) (values : Values) : Type 0 where
+  pub found : (o : Opt) → list_any (is_same o) (required mode) ≡ true → is_missing mode values o ≡ false
+  pub allowed : (o : Opt) → is_excluded mode values o ≡ false
+  pub good : (o : Opt) → is_bad values o ≡ false
+  pub apart : first_equal values file_options ≡ None
 
 whole : (mode : ModeSpec) (values : Values) → fault_in mode values ≡ None → IsWhole mode values
 whole mode values e =
     let (missing, later) = no_faults _ _ e in
     let (excluded, last) = no_faults _ _ later in
-    let (bad, _) = no_faults _ _ last in
+    let (bad, equal) = no_faults _ _ last in
     record {
       found = λ o. none_found (is_missing mode values) (required mode) o (no_first Missing _ missing);
       allowed = λ o. none_found (is_excluded mode values) options o (no_first Excluded _ excluded) (all_options o);
       good = λ o. none_found (is_bad values) options o (no_first BadValue _ bad) (all_options o);
+      apart = no_pair _ equal;
     }
 
-whole_request : (words : List (List ℕ)) (ask : Ask) → IsRequest words ask → IsWhole ask.mode (value ask)
+pub whole_request : (words : List (List ℕ)) (ask : Ask) → IsRequest words ask → IsWhole ask.mode (value ask)
 unfolding fault_of
 whole_request words ask is =
     let same : values_in is.settings ≡ value ask = fun_ext is.values in
@@ -289,10 +300,31 @@ asks_as_in Wire ask w = one_net ask.net ask.all (w.found Net refl) (w.allowed Al
 asks_as_in Time ask w = net_or_all ask.net ask.all (w.found Net refl) (w.allowed All)
 asks_as_in Best ask w = net_or_all ask.net ask.all (w.found Net refl) (w.allowed All)
 asks_as_in Frontier ask w = net_or_all ask.net ask.all (w.found Net refl) (w.allowed All)
+asks_as_in Check ask w = one_net ask.net ask.all (w.found Net refl) (w.allowed All)
 asks_as_in Gen ask w = no_net ask.net ask.all (w.allowed Net) (w.allowed All)
 
 pub one_or_all : (words : List (List ℕ)) (ask : Ask) → IsRequest words ask → AsksAsIn ask.mode ask
 one_or_all words ask is = asks_as_in ask.mode ask (whole_request words ask is)
+
+-- a request with a certificate asks for one net
+no_cert : (cert : Option (List ℕ)) → (is_some cert && true) ≡ false → cert ≡ None
+no_cert None allowed = refl
+no_cert (Some c) allowed = absurd (true≢false allowed)
+
+cert_of_net : (mode : ModeSpec) (ask : Ask) → IsWhole mode (value ask) → ask.cert ≢ None → AsksForNet ask
+cert_of_net Wire ask w named = absurd (named (no_cert ask.cert (w.allowed Cert)))
+cert_of_net Time ask w named = absurd (named (no_cert ask.cert (w.allowed Cert)))
+cert_of_net Best ask w named =
+    elim (asks_as_in Best ask w) [
+      | inl net ↦ net
+      | inr (_, all) ↦ absurd (named (no_cert ask.cert (ap (λ a. is_some ask.cert && is_some (flag_value a)) (sym all) ∙ w.allowed Cert)))
+    ]
+cert_of_net Frontier ask w named = absurd (named (no_cert ask.cert (w.allowed Cert)))
+cert_of_net Check ask w named = asks_as_in Check ask w
+cert_of_net Gen ask w named = absurd (named (no_cert ask.cert (w.allowed Cert)))
+
+pub certs : (words : List (List ℕ)) (ask : Ask) → IsRequest words ask → ask.cert ≢ None → AsksForNet ask
+certs words ask is = cert_of_net ask.mode ask (whole_request words ask is)
 
 not_not : (b : Bool) → not b ≡ false → b ≡ true
 not_not true e = refl

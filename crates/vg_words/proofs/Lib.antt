@@ -4,6 +4,7 @@ pub mod SizeLemmas
 pub mod CapLemmas
 pub mod JudgeLemmas
 pub mod EqualLemmas
+pub mod FileLemmas
 pub mod CommandLemmas
 pub mod WordLemmas
 pub mod WalkLemmas

@@ -1,10 +1,12 @@
--- Words ask for one thing at most, and for as many nets as their mode has a use for, or for a size.
-use Rattle.std.specs.Prelude.{◌≡◌, ◌≤◌, ◌⊎◌, ℕ, true, false, List, Some, None, is_some}
+-- Words ask for one thing at most, for as many nets as their mode has a use for, or for a size, and name no file twice.
+use Rattle.std.specs.Prelude.{◌≡◌, ◌≢◌, ◌≤◌, ◌⊎◌, ℕ, true, false, List, Some, None, is_some}
 use Rattle.vg_num.specs.Number.{value_of as number_of}
-use Rattle.vg_words.specs.Request.{IsRequest, cap_of, size_of}
+use Rattle.vg_words.specs.Options.{names_file}
+use Rattle.vg_words.specs.Request.{IsRequest, cap_of, size_of, value}
 use Rattle.vg_words.specs.declared.ask.Ask.{Ask}
 use Rattle.vg_words.specs.declared.ask.Mode.{Mode}
-use Rattle.vg_words.specs.declared.ask.Mode.TheVariants.{Wire, Time, Best, Frontier, Gen}
+use Rattle.vg_words.specs.declared.ask.Mode.TheVariants.{Wire, Time, Best, Frontier, Check, Gen}
+use Rattle.vg_words.specs.declared.option.Opt.{Opt}
 
 abbrev pub OneRequest : Type 0
 OneRequest = (words : List (List ℕ)) (a b : Ask) → IsRequest words a → IsRequest words b → a ≡ b
@@ -27,11 +29,21 @@ AsksAsIn Wire ask = AsksForNet ask
 AsksAsIn Time ask = AsksForNet ask ⊎ AsksForAll ask
 AsksAsIn Best ask = AsksForNet ask ⊎ AsksForAll ask
 AsksAsIn Frontier ask = AsksForNet ask ⊎ AsksForAll ask
+AsksAsIn Check ask = AsksForNet ask
 AsksAsIn Gen ask = AsksForNone ask
 
--- in mode `wire` a request asks for one net, in modes `time`, `best` and `frontier` for one or for all, and in mode `gen` for none
+-- in modes `wire` and `check` a request asks for one net, in modes `time`, `best` and `frontier` for one or for all, and in mode `gen` for none
 abbrev pub OneOrAll : Type 0
 OneOrAll = (words : List (List ℕ)) (ask : Ask) → IsRequest words ask → AsksAsIn ask.mode ask
+
+-- a request that names a certificate asks for one net
+abbrev pub CertsAreOfOneNet : Type 0
+CertsAreOfOneNet = (words : List (List ℕ)) (ask : Ask) → IsRequest words ask → ask.cert ≢ None → AsksForNet ask
+
+-- in a request no two options name one file
+abbrev pub FilesDiffer : Type 0
+FilesDiffer = (words : List (List ℕ)) (ask : Ask) → IsRequest words ask → (one other : Opt) → names_file one ≡ true → names_file other ≡ true
+    → one ≢ other → (a b : List ℕ) → value ask one ≡ Some a → value ask other ≡ Some b → a ≢ b
 
 -- a request with a cap asks for the number that it writes
 abbrev pub CapsAreRead : Type 0

@@ -1,10 +1,11 @@
 -- The options of the command line, and the modes.
 use Rattle.std.specs.Prelude.{ℕ, ◌==◌, Bool, true, false, List, [], ◌∷◌, ◌++◌, codes, Option, Some, None, if◌then◌else◌}
+use Rattle.std.specs.List.{list_any}
 use Rattle.std.specs.Str.{bytes_eq}
 use Rattle.vg_words.specs.declared.option.Opt.{Opt}
-use Rattle.vg_words.specs.declared.option.Opt.TheVariants.{Mode, Spef, Lib, Verilog, Cons, Net, All, OutSpef, OutVerilog, Cap, Prefix, Size}
+use Rattle.vg_words.specs.declared.option.Opt.TheVariants.{Mode, Spef, Lib, Verilog, Cons, Net, All, OutSpef, OutVerilog, Cert, Cap, Prefix, Size}
 use Rattle.vg_words.specs.declared.ask.Mode.{Mode as ModeSpec}
-use Rattle.vg_words.specs.declared.ask.Mode.TheVariants.{Wire, Time, Best, Frontier, Gen}
+use Rattle.vg_words.specs.declared.ask.Mode.TheVariants.{Wire, Time, Best, Frontier, Check, Gen}
 
 abbrev pub name_of : Opt → List ℕ
 name_of Mode = codes "--mode"
@@ -16,6 +17,7 @@ name_of Net = codes "--net"
 name_of All = codes "--all"
 name_of OutSpef = codes "--out-spef"
 name_of OutVerilog = codes "--out-verilog"
+name_of Cert = codes "--cert"
 name_of Cap = codes "--cap"
 name_of Prefix = codes "--prefix"
 name_of Size = codes "--size"
@@ -31,15 +33,16 @@ place_of Net = 5
 place_of All = 6
 place_of OutSpef = 7
 place_of OutVerilog = 8
-place_of Cap = 9
-place_of Prefix = 10
-place_of Size = 11
+place_of Cert = 9
+place_of Cap = 10
+place_of Prefix = 11
+place_of Size = 12
 
 abbrev pub is_same : Opt → Opt → Bool
 is_same a b = place_of a == place_of b
 
 abbrev pub options : List Opt
-options = Mode ∷ Spef ∷ Lib ∷ Verilog ∷ Cons ∷ Net ∷ All ∷ OutSpef ∷ OutVerilog ∷ Cap ∷ Prefix ∷ Size ∷ []
+options = Mode ∷ Spef ∷ Lib ∷ Verilog ∷ Cons ∷ Net ∷ All ∷ OutSpef ∷ OutVerilog ∷ Cert ∷ Cap ∷ Prefix ∷ Size ∷ []
 
 -- the option has no value: it is given, or it is not
 abbrev pub is_flag : Opt → Bool
@@ -48,7 +51,10 @@ is_flag option = false
 
 -- the options that name files
 abbrev pub file_options : List Opt
-file_options = Spef ∷ Lib ∷ Verilog ∷ Cons ∷ OutSpef ∷ OutVerilog ∷ []
+file_options = Spef ∷ Lib ∷ Verilog ∷ Cons ∷ OutSpef ∷ OutVerilog ∷ Cert ∷ []
+
+abbrev pub names_file : Opt → Bool
+names_file option = list_any (is_same option) file_options
 
 -- the mode that a text names
 abbrev pub mode_of : List ℕ → Option ModeSpec
@@ -57,13 +63,15 @@ mode_of text =
     else (if bytes_eq text (codes "time") then Some Time
     else (if bytes_eq text (codes "best") then Some Best
     else (if bytes_eq text (codes "frontier") then Some Frontier
-    else (if bytes_eq text (codes "gen") then Some Gen else None))))
+    else (if bytes_eq text (codes "check") then Some Check
+    else (if bytes_eq text (codes "gen") then Some Gen else None)))))
 
 abbrev pub mode_name : ModeSpec → List ℕ
 mode_name Wire = codes "wire"
 mode_name Time = codes "time"
 mode_name Best = codes "best"
 mode_name Frontier = codes "frontier"
+mode_name Check = codes "check"
 mode_name Gen = codes "gen"
 
 -- the options that a mode asks for; `--all` may stand for `--net` where the mode may be given it
@@ -72,14 +80,16 @@ required Wire = Spef ∷ Net ∷ []
 required Time = Spef ∷ Lib ∷ Verilog ∷ Cons ∷ Net ∷ []
 required Best = Spef ∷ Lib ∷ Verilog ∷ Cons ∷ Net ∷ OutSpef ∷ OutVerilog ∷ []
 required Frontier = Spef ∷ Lib ∷ Verilog ∷ Cons ∷ Net ∷ []
+required Check = Spef ∷ Lib ∷ Verilog ∷ Cons ∷ Net ∷ Cert ∷ []
 required Gen = Size ∷ []
 
 -- those that it may be given besides
 abbrev pub optional : ModeSpec → List Opt
 optional Wire = []
 optional Time = All ∷ Prefix ∷ []
-optional Best = All ∷ Prefix ∷ []
+optional Best = All ∷ Cert ∷ Prefix ∷ []
 optional Frontier = All ∷ Cap ∷ []
+optional Check = []
 optional Gen = []
 
 -- those that it may be given; it has no use for others

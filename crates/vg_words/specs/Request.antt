@@ -7,7 +7,7 @@ use Rattle.std.specs.declared.alloc.Global.{Global}
 use Rattle.vg_num.specs.Number.{are_digits, value_of as number_of}
 use Rattle.vg_words.specs.Options.{name_of, mode_of, mode_name, is_flag, is_same, options, file_options, required, allowed}
 use Rattle.vg_words.specs.declared.option.Opt.{Opt}
-use Rattle.vg_words.specs.declared.option.Opt.TheVariants.{Mode, Spef, Lib, Verilog, Cons, Net, All, OutSpef, OutVerilog, Cap, Prefix, Size}
+use Rattle.vg_words.specs.declared.option.Opt.TheVariants.{Mode, Spef, Lib, Verilog, Cons, Net, All, OutSpef, OutVerilog, Cert, Cap, Prefix, Size}
 use Rattle.vg_words.specs.declared.ask.Mode.{Mode as ModeSpec}
 use Rattle.vg_words.specs.declared.ask.Ask.{Ask}
 use Rattle.vg_words.specs.declared.ask.WordFault.{WordFault}
@@ -79,14 +79,15 @@ has_stand_in mode values option = false
 abbrev pub is_missing : ModeSpec → Values → Opt → Bool
 is_missing mode values option = not (is_given values option || has_stand_in mode values option)
 
--- `--all` has no use beside `--net`
-abbrev pub is_beside_net : Values → Opt → Bool
-is_beside_net values All = is_given values Net
-is_beside_net values option = false
+-- `--all` has no use beside `--net`, and `--cert` none beside `--all`
+abbrev pub has_no_use_beside : Values → Opt → Bool
+has_no_use_beside values All = is_given values Net
+has_no_use_beside values Cert = is_given values All
+has_no_use_beside values option = false
 
 -- the option is given, and the mode has no use for it, or has none beside what else is given
 abbrev pub is_excluded : ModeSpec → Values → Opt → Bool
-is_excluded mode values option = is_given values option && (not (may_be_given mode option) || is_beside_net values option)
+is_excluded mode values option = is_given values option && (not (may_be_given mode option) || has_no_use_beside values option)
 
 -- a letter or `_`
 abbrev pub is_letter : ℕ → Bool
@@ -191,6 +192,7 @@ value ask Net = ask.net
 value ask All = flag_value ask.all
 value ask OutSpef = ask.out_spef
 value ask OutVerilog = ask.out_verilog
+value ask Cert = ask.cert
 value ask Cap = ask.cap
 value ask Prefix = ask.prefix
 value ask Size = ask.size

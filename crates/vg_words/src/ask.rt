@@ -19,9 +19,12 @@ pub enum Mode {
     /// Prints the slack of one net or of all through the cells that were put in, and whether the sinks have their wanted polarity.
     Time,
     /// Prints a best placement of repeaters on one net or on each, and the slack, and writes the netlist and the parasitics with the cells.
+    /// Of one net it writes a certificate too, where one is named.
     Best,
     /// Prints the costs and slacks of which no placement of repeaters on one net, or on each, has both better, each with such a placement.
     Frontier,
+    /// Checks a certificate of one net: that its placement is best, or that no placement is good.
+    Check,
     /// Makes up a design of a given size.
     Gen,
 }
@@ -40,10 +43,22 @@ const CHANGE_OPTIONS: [Opt; 7] = [
     Opt::OutVerilog,
 ];
 
+const CHECK_OPTIONS: [Opt; 6] = [
+    Opt::Spef,
+    Opt::Lib,
+    Opt::Verilog,
+    Opt::Cons,
+    Opt::Net,
+    Opt::Cert,
+];
+
 const SIZE_OPTIONS: [Opt; 1] = [Opt::Size];
 
-/// What modes `time` and `best` may be given besides.
-const DESIGN_EXTRAS: [Opt; 2] = [Opt::All, Opt::Prefix];
+/// What mode `time` may be given besides.
+const TIME_EXTRAS: [Opt; 2] = [Opt::All, Opt::Prefix];
+
+/// What mode `best` may be given besides.
+const CHANGE_EXTRAS: [Opt; 3] = [Opt::All, Opt::Cert, Opt::Prefix];
 
 /// What mode `frontier` may be given besides.
 const FRONTIER_EXTRAS: [Opt; 2] = [Opt::All, Opt::Cap];
@@ -57,6 +72,7 @@ impl Mode {
             Mode::Wire => &WIRE_OPTIONS,
             Mode::Time | Mode::Frontier => &DESIGN_OPTIONS,
             Mode::Best => &CHANGE_OPTIONS,
+            Mode::Check => &CHECK_OPTIONS,
             Mode::Gen => &SIZE_OPTIONS,
         }
     }
@@ -66,8 +82,9 @@ impl Mode {
         ensures { result.now ≡ optional self }
     {
         match self {
-            Mode::Wire | Mode::Gen => &[],
-            Mode::Time | Mode::Best => &DESIGN_EXTRAS,
+            Mode::Wire | Mode::Check | Mode::Gen => &[],
+            Mode::Time => &TIME_EXTRAS,
+            Mode::Best => &CHANGE_EXTRAS,
             Mode::Frontier => &FRONTIER_EXTRAS,
         }
     }
@@ -90,6 +107,7 @@ impl Mode {
             Mode::Time => "time",
             Mode::Best => "best",
             Mode::Frontier => "frontier",
+            Mode::Check => "check",
             Mode::Gen => "gen",
         }
     }
@@ -115,6 +133,8 @@ pub struct Ask {
     pub out_spef: Option<Text>,
     /// The name of the netlist that is written.
     pub out_verilog: Option<Text>,
+    /// The name of the certificate: that which mode `best` writes, and mode `check` reads.
+    pub cert: Option<Text>,
     /// The greatest cost of a placement, as it is written.
     pub cap: Option<Text>,
     /// What the names of cells that are put in begin with.
@@ -141,6 +161,7 @@ impl Ask {
             Opt::All => return "",
             Opt::OutSpef => &self.out_spef,
             Opt::OutVerilog => &self.out_verilog,
+            Opt::Cert => &self.cert,
             Opt::Cap => &self.cap,
             Opt::Prefix => &self.prefix,
             Opt::Size => &self.size,
@@ -185,7 +206,7 @@ pub enum WordFault {
     Unread,
     /// The mode asks for this option, or it is the mode, and neither it is given nor, for `--net`, `--all` in its place.
     Missing(Opt),
-    /// The option is given, and the mode has no use for it, or it is `--all` and `--net` is given too.
+    /// The option is given, and the mode has no use for it, or it is `--all` and `--net` is given too, or it is `--cert` and `--all` is.
     Excluded(Opt),
     /// The option's value is empty, or is no mode; or a cap is not 1 to 18 digits; or a prefix is not a letter or `_`, followed by at most
     /// 31 letters, digits or `_`; or a size is not one to four digits, which write 1 to 4000.

@@ -2,7 +2,7 @@
 ghost use Rattle.std.specs.Prelude.{◌≡◌, Some, None, IfOk, option_map};
 ghost use Rattle.std.specs.List.{find, list_all};
 ghost use Rattle.vg_words.specs.Options.{mode_of, options, file_options, required};
-ghost use Rattle.vg_words.specs.Request.{texts, flag_value, has_stand_in, is_beside_net, is_given, is_missing, is_excluded, is_letter, is_name_byte, is_prefix, is_bad_value, is_bad, are_equal, first_equal, fault_in, Judges, ReadsWords};
+ghost use Rattle.vg_words.specs.Request.{texts, flag_value, has_stand_in, has_no_use_beside, is_given, is_missing, is_excluded, is_letter, is_name_byte, is_prefix, is_bad_value, is_bad, are_equal, first_equal, fault_in, Judges, ReadsWords};
 ghost use Rattle.vg_words.specs.declared.option.Opt.{Opt};
 ghost use Rattle.vg_words.specs.Views.{given_by};
 
@@ -26,6 +26,8 @@ fn mode_of(name: &str) -> Option<Mode>
         Some(Mode::Best)
     } else if name == "frontier" {
         Some(Mode::Frontier)
+    } else if name == "check" {
+        Some(Mode::Check)
     } else if name == "gen" {
         Some(Mode::Gen)
     } else {
@@ -55,12 +57,13 @@ fn is_missing(mode: Mode, given: &Given<'_>, option: Opt) -> bool
     !(is_given(given, option) || has_stand_in(mode, given, option))
 }
 
-/// Whether an option, which is `--all`, has no use beside another, which is `--net`.
-fn is_beside_net(given: &Given<'_>, option: Opt) -> bool
-    ensures { result ≡ is_beside_net (given_by given.now) option }
+/// Whether an option has no use beside another that is given: `--all` has none beside `--net`, and `--cert` none beside `--all`.
+fn has_no_use_beside(given: &Given<'_>, option: Opt) -> bool
+    ensures { result ≡ has_no_use_beside (given_by given.now) option }
 {
     match option {
         Opt::All => is_given(given, Opt::Net),
+        Opt::Cert => is_given(given, Opt::All),
         _ => false,
     }
 }
@@ -68,7 +71,7 @@ fn is_beside_net(given: &Given<'_>, option: Opt) -> bool
 fn is_excluded(mode: Mode, given: &Given<'_>, option: Opt) -> bool
     ensures { result ≡ is_excluded mode (given_by given.now) option }
 {
-    is_given(given, option) && (!mode.allows(option) || is_beside_net(given, option))
+    is_given(given, option) && (!mode.allows(option) || has_no_use_beside(given, option))
 }
 
 /// Whether a byte is a letter or `_`.
@@ -243,6 +246,7 @@ fn ask_of(alloc: Global, mode: Mode, given: &Given<'_>) -> Result<Ask, Memory>
     ensures all { IfOk result (λ ask. flag_value ask.all ≡ given_by given.now Opt.All) }
     ensures out_spef { IfOk result (λ ask. ask.out_spef ≡ given_by given.now Opt.OutSpef) }
     ensures out_verilog { IfOk result (λ ask. ask.out_verilog ≡ given_by given.now Opt.OutVerilog) }
+    ensures cert { IfOk result (λ ask. ask.cert ≡ given_by given.now Opt.Cert) }
     ensures cap { IfOk result (λ ask. ask.cap ≡ given_by given.now Opt.Cap) }
     ensures prefix { IfOk result (λ ask. ask.prefix ≡ given_by given.now Opt.Prefix) }
     ensures size { IfOk result (λ ask. ask.size ≡ given_by given.now Opt.Size) }
@@ -254,6 +258,7 @@ fn ask_of(alloc: Global, mode: Mode, given: &Given<'_>) -> Result<Ask, Memory>
     let net = text_of(alloc, given.get(Opt::Net))?;
     let out_spef = text_of(alloc, given.get(Opt::OutSpef))?;
     let out_verilog = text_of(alloc, given.get(Opt::OutVerilog))?;
+    let cert = text_of(alloc, given.get(Opt::Cert))?;
     let cap = text_of(alloc, given.get(Opt::Cap))?;
     let prefix = text_of(alloc, given.get(Opt::Prefix))?;
     let size = text_of(alloc, given.get(Opt::Size))?;
@@ -267,6 +272,7 @@ fn ask_of(alloc: Global, mode: Mode, given: &Given<'_>) -> Result<Ask, Memory>
         all: is_given(given, Opt::All),
         out_spef,
         out_verilog,
+        cert,
         cap,
         prefix,
         size,
@@ -277,9 +283,10 @@ fn ask_of(alloc: Global, mode: Mode, given: &Given<'_>) -> Result<Ask, Memory>
 ///
 /// Each option is `--name value` or `--name=value`, in any order, at most once; a value that stands in a word of its own does not begin
 /// with `-`. The option `--all` is that word alone. Mode `wire` asks for `--spef` and `--net`, modes `time` and `frontier` for `--lib`,
-/// `--verilog` and `--cons` too, and mode `best` besides for `--out-spef` and `--out-verilog`. Modes `time` and `best` may be given
-/// `--prefix`, mode `frontier` may be given `--cap`, and all three `--all` in the place of `--net`. Mode `gen` asks for `--size` alone. The
-/// faults come in the order of `WordFault`, and of one kind the first option in the order of `Opt`. Answers `Memory` where there is no room.
+/// `--verilog` and `--cons` too, mode `best` besides for `--out-spef` and `--out-verilog`, and mode `check` in place of these two for
+/// `--cert`. Modes `time` and `best` may be given `--prefix`, mode `frontier` may be given `--cap`, and all three `--all` in the place of
+/// `--net`; mode `best` may be given `--cert` too, but not beside `--all`. Mode `gen` asks for `--size` alone. The faults come in the order
+/// of `WordFault`, and of one kind the first option in the order of `Opt`. Answers `Memory` where there is no room.
 pub fn read_words(alloc: Global, words: &[String]) -> Result<Ask, WordFault>
     ensures { ReadsWords result (texts words.now) }
 {

@@ -1,14 +1,25 @@
-ghost use Rattle.vg_words.specs.Laws.{CapsAreRead, OneOrAll, OneRequest, SizesAreSmall};
+ghost use Rattle.vg_words.specs.Laws.{CapsAreRead, CertsAreOfOneNet, FilesDiffer, OneOrAll, OneRequest, SizesAreSmall};
 
 /// Words are one request at most. The function does nothing: its contract is the law, which a proof may cite.
 pub fn one_request()
     ensures { OneRequest }
 {}
 
-/// A request asks for one net in mode `wire`, for one net or for all nets in modes `time`, `best` and `frontier`, and for none in mode
-/// `gen`. The function does nothing: its contract is the law, which a proof may cite.
+/// A request asks for one net in modes `wire` and `check`, for one net or for all nets in modes `time`, `best` and `frontier`, and for none
+/// in mode `gen`. The function does nothing: its contract is the law, which a proof may cite.
 pub fn one_or_all()
     ensures { OneOrAll }
+{}
+
+/// A request that names a certificate names a net, and does not ask for all. The function does nothing: its contract is the law, which a
+/// proof may cite.
+pub fn certs_are_of_one_net()
+    ensures { CertsAreOfOneNet }
+{}
+
+/// In a request no two options name one file. The function does nothing: its contract is the law, which a proof may cite.
+pub fn files_differ()
+    ensures { FilesDiffer }
 {}
 
 /// A request with a cap asks for the number that it writes. The function does nothing: its contract is the law, which a proof may cite.

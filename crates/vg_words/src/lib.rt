@@ -12,5 +12,7 @@ mod size;
 
 pub use ask::{Ask, Mode, WordFault};
 pub use judge::read_words;
-pub use laws::{caps_are_read, one_or_all, one_request, sizes_are_small};
+pub use laws::{
+    caps_are_read, certs_are_of_one_net, files_differ, one_or_all, one_request, sizes_are_small,
+};
 pub use option::{Opt, options};

@@ -26,6 +26,8 @@ pub enum Opt {
     OutSpef,
     /// The name of the netlist that is written.
     OutVerilog,
+    /// The name of the certificate.
+    Cert,
     /// The greatest cost of a placement (thousandths).
     Cap,
     /// What the names of cells that were put in begin with.
@@ -35,7 +37,7 @@ pub enum Opt {
 }
 
 /// All options, in order.
-pub const OPTIONS: [Opt; 12] = [
+pub const OPTIONS: [Opt; 13] = [
     Opt::Mode,
     Opt::Spef,
     Opt::Lib,
@@ -45,19 +47,21 @@ pub const OPTIONS: [Opt; 12] = [
     Opt::All,
     Opt::OutSpef,
     Opt::OutVerilog,
+    Opt::Cert,
     Opt::Cap,
     Opt::Prefix,
     Opt::Size,
 ];
 
 /// Those that name files.
-pub const FILE_OPTIONS: [Opt; 6] = [
+pub const FILE_OPTIONS: [Opt; 7] = [
     Opt::Spef,
     Opt::Lib,
     Opt::Verilog,
     Opt::Cons,
     Opt::OutSpef,
     Opt::OutVerilog,
+    Opt::Cert,
 ];
 
 /// All options, in the order in which refusals name them.
@@ -82,6 +86,7 @@ impl Opt {
             Opt::All => "--all",
             Opt::OutSpef => "--out-spef",
             Opt::OutVerilog => "--out-verilog",
+            Opt::Cert => "--cert",
             Opt::Cap => "--cap",
             Opt::Prefix => "--prefix",
             Opt::Size => "--size",

@@ -1,5 +1,5 @@
 -- Answers that refuse a net, and faults that are handed on.
-use Rattle.std.proofs.Common.{◌≡◌, ℕ, List, [], inl, inr, refl, sym, ap, ◌∙◌, subst, Option, Some, None, Result, Ok, Err}
+use Rattle.std.proofs.Common.{◌≡◌, ℕ, List, [], false, inl, inr, refl, sym, ap, ◌∙◌, subst, Option, Some, None, Result, Ok, Err}
 use Rattle.std.specs.Prelude.{IfOk, IfErr}
 use Rattle.std.specs.Result.{IsErrAnd}
 use Rattle.vg_design.specs.Designs.{Design}
@@ -11,7 +11,7 @@ use Rattle.vg_scan.specs.declared.comments.Comments.TheVariants.{Spef as SpefCom
 use Rattle.vg_wire.specs.Nets.{IsRefusalOf}
 use Rattle.vg_wire.specs.declared.refusal.Refusal.{Refusal}
 use Rattle.vg_words.specs.declared.ask.Mode.{Mode}
-use Rattle.vg_words.specs.declared.ask.Mode.TheVariants.{Wire, Time, Best, Frontier, Gen}
+use Rattle.vg_words.specs.declared.ask.Mode.TheVariants.{Wire, Time, Best, Frontier, Check, Gen}
 use Rattle.vginsert_top.specs.Answer.{AnswersFor, FrontsNets, IsAnswerFor, IsAnswerWith, IsNoDesign, IsNoDesignOf, IsRefusedWith, IsWireAnswer, Tells, TimesNets, design_texts, files_in, one_net, said_by, texts_by, texts_of}
 use Rattle.vginsert_top.specs.Best.{IsJudged, Judges, said_with}
 use Rattle.vg_design.specs.Refusals.{IsFirstRefusal}
@@ -19,17 +19,18 @@ use Rattle.vg_gen.specs.Designs.{IsDesign as IsMadeDesign}
 use Rattle.vg_gen.specs.declared.design.Generated.{Generated}
 use Rattle.vg_design.specs.declared.net_problem.PosedNet.{PosedNet}
 use Rattle.vg_design.specs.declared.time.Timed.{Timed}
+use Rattle.vginsert_top.specs.Check.{ChecksNet}
 use Rattle.vginsert_top.specs.Gen.{IsNetOf, SumsUpNet}
 use Rattle.vginsert_top.specs.Inputs.{design_inputs, made_up, IsFirstFault as IsFirstFaultOf}
 use Rattle.vginsert_top.specs.Results.{Asked, Said, IsFreeDesign, kept, made_net}
-use Rattle.vginsert_top.specs.Reports.{refusal_line}
+use Rattle.vg_report.specs.Reports.{refusal_line}
 use Rattle.vginsert_top.specs.declared.answer.Answer.{Answer}
 use Rattle.vginsert_top.specs.declared.answer.Written.{Written}
 use Rattle.vginsert_top.specs.declared.answer.AnswerKind.{AnswerKind}
 use Rattle.vginsert_top.specs.declared.answer.AnswerKind.TheVariants.{Refusal as Refused}
 use Rattle.vginsert_top.specs.declared.best.Judged.{Judged}
 use Rattle.vginsert_top.specs.declared.input.Input.{Input}
-use Rattle.vginsert_top.specs.declared.input.Input.TheVariants.{Spef}
+use Rattle.vginsert_top.specs.declared.input.Input.TheVariants.{Spef, Cert}
 use Rattle.vginsert_top.specs.declared.answer.NoAnswer.{NoAnswer}
 use Rattle.vginsert_top.specs.declared.answer.NoAnswer.TheVariants.{Faulty, Taken, Memory}
 
@@ -43,9 +44,9 @@ answer_with kind mode texts asked text answer is with =
 
 pub refused_answer : (file name prefix : List ℕ) (refusal : Refusal) (answer : Answer) → IsRefusalOf file name refusal
     → IsRefusedWith (refusal_line name refusal) answer
-    → AnswersFor Wire (texts_of file [] [] []) (record { net = Some name; cap = None; prefix = prefix; size = 0 }) (Ok answer)
+    → AnswersFor Wire (texts_of file [] [] [] []) (record { net = Some name; certified = false; cap = None; prefix = prefix; size = 0 }) (Ok answer)
 refused_answer file name prefix refusal answer of with =
-    answer_with Refused Wire (texts_of file [] [] []) (record { net = Some name; cap = None; prefix = prefix; size = 0 }) (refusal_line name refusal) answer
+    answer_with Refused Wire (texts_of file [] [] [] []) (record { net = Some name; certified = false; cap = None; prefix = prefix; size = 0 }) (refusal_line name refusal) answer
     (record { refusal = refusal; refused = of; text_is = refl }, refl) with
 
 -- a design of three texts, and of every SPEF text that is, without its comments, this one
@@ -73,6 +74,16 @@ fronts_answered texts asked d answer of is = record {
   design = d;
   design_of = of;
   nets = is.nets;
+  no_files = ap files_in is.no_files;
+}
+
+-- and of certificates
+pub checks_answered : (texts : Input → List ℕ) (asked : Asked) (d : Design) (answer : Answer) → IsDesign (design_texts texts) d
+    → ChecksNet d (one_net asked) (texts Cert) answer → AnswersFor Check texts asked (Ok answer)
+checks_answered texts asked d answer of is = record {
+  design = d;
+  design_of = of;
+  says = is.says;
   no_files = ap files_in is.no_files;
 }
 
@@ -117,6 +128,12 @@ none_of_design texts name (Faulty input line) is = is
 none_of_design texts name (Taken taken) is = absurd is
 none_of_design texts name Memory is = tt
 
+pub none_to_check : (texts : Texts) (cert : Input → List ℕ) (asked : Asked) (fault : NoAnswer) → design_texts cert ≡ texts → IsNoDesign texts fault
+    → AnswersFor Check cert asked (Err fault)
+none_to_check texts cert asked (Faulty input line) same is = subst (λ (t : Texts). IsFirstFaultOf (texts_by t) design_inputs line input) (sym same) is
+none_to_check texts cert asked (Taken taken) same is = absurd is
+none_to_check texts cert asked Memory same is = tt
+
 -- a fault that is handed on
 pub handed : (P : Result Answer NoAnswer → Type 0) (answered : Result Answer NoAnswer) (fault : NoAnswer) → IsErrAnd answered (λ f. f ≡ fault) → P (Err fault) → P answered
 handed P (Ok answer) fault is answers = absurd is
@@ -150,6 +167,8 @@ gen_answered size texts asked d found answer same of net is =
         net_of = net.posed;
         found = is.found;
         found_of = is.found_of;
+        entries = is.entries;
+        entries_are = is.entries_are;
         text_is = is.with.text_is;
       },
       ap files_in is.with.no_files,

@@ -29,16 +29,18 @@ use Rattle.vg_design.specs.declared.net_problem.PosedNet.{PosedNet}
 use Rattle.vg_design.specs.Refusals.{IsFirstRefusal}
 use Rattle.vg_num.specs.declared.memory.Memory.{Memory}
 use Rattle.vg_patch.specs.Edits.{Edit, Rise, patched}
-use Rattle.vg_slack.specs.Bests.{HasNoCell, HasNoGood, IsFound}
+use Rattle.vg_slack.specs.Bests.{HasNoCell}
 use Rattle.vg_slack.specs.declared.answer.Best.{Best}
 use Rattle.vg_split.specs.Conditions.{IsNamed}
 use Rattle.vg_wire.specs.declared.refusal.Refusal.{Refusal}
-use Rattle.vginsert_top.specs.Best.{AreFinished, AreJudged, ArePatchesFor, ArePut, FitIn, HaveChange, IsJudged, IsOneMore, JudgesOne, files_with, has_any}
-use Rattle.vginsert_top.specs.Reports.{best_report, cell_count, none_line, refusal_line}
-use Rattle.vginsert_top.specs.Results.{Asked, Files, AreFilesOf, IsBestSaid, best_verdict, nets_for, problem_in, put_of}
+use Rattle.vginsert_top.specs.Best.{AreCertified, AreFinished, AreJudged, ArePatchesFor, ArePut, FitIn, HaveChange, IsJudged, IsOneMore, JudgesOne, files_with, has_any}
+use Rattle.vg_report.specs.Reports.{best_report, cell_count, none_line, refusal_line}
+use Rattle.vginsert_top.specs.Results.{Asked, Files, AreFilesOf, IsBestSaid, IsCertFor, problem_in, put_of}
 use Rattle.vginsert_top.specs.Verdicts.{Verdict, AreSaid, bare_verdict, put_in, worse}
+use Rattle.vginsert_top.specs.declared.answer.AnswerKind.{AnswerKind}
 use Rattle.vginsert_top.specs.declared.answer.AnswerKind.TheVariants.{Report, NoneGood, Refusal as Refused}
 use Rattle.vginsert_top.specs.declared.best.Judged.{Judged}
+use Rattle.vginsert_top.specs.declared.judging.Certified.{Certified}
 use Rattle.vginsert_top.specs.declared.judging.Judging.{Judging}
 use Rattle.vginsert_top.proofs.VerdictLemmas.{put_more, said_more}
 
@@ -205,10 +207,18 @@ same_report name repeaters all part net best same problem names =
     ap (λ (rs : List Repeater). best_report name (cells_of rs) part best) same
     ∙ ap (λ (x : NetProblem). best_report name (cells_of all) x best) (λ i. record { problem = problem i; names = names i })
 
+-- a certificate beside what is said again
+cert_as : (d : Design) (asked : Asked) (kind other : AnswerKind) (text told : List ℕ) (cert same : Option (List ℕ)) → other ≡ kind → told ≡ text → same ≡ cert
+    → IsCertFor d asked kind text cert → IsCertFor d asked other told same
+cert_as d asked kind other text told cert same k t c is =
+    subst (λ (x : AnswerKind). IsCertFor d asked x told same) (sym k)
+    (subst (λ (x : List ℕ). IsCertFor d asked kind x same) (sym t) (subst (λ (x : Option (List ℕ)). IsCertFor d asked kind text x) (sym c) is))
+
 -- the nets that are asked for are judged, with what is to be replaced
-pub finished : (d : Design) (asked : Asked) (all : Judging) (found : Judged) → AreJudged d asked.prefix (nets_for d asked.net) all → AreFinished all found → IsJudged d asked found
-finished d asked all found are is =
-    let patches = patches_are d asked.prefix (flat_map put_in are.nets.verdicts) all.changes found.patches all.changed are.put is.patches in
+pub finished : (d : Design) (asked : Asked) (all : Certified) (found : Judged) → AreCertified d asked.prefix asked all → AreFinished all found → IsJudged d asked found
+finished d asked all found certified is =
+    let are = certified.nets in
+    let patches = patches_are d asked.prefix (flat_map put_in are.nets.verdicts) all.judging.changes found.patches all.judging.changed are.put is.patches in
     record {
       fit = patches.fit;
       says = λ read denotes. record {
@@ -220,21 +230,13 @@ finished d asked all found are is =
         };
         files = files_with found.patches read;
         files_of = patches.make read denotes;
+        cert = found.cert;
+        cert_of = cert_as d asked all.judging.kind found.kind all.judging.text.items found.text.items all.cert found.cert is.kind is.text is.cert certified.cert;
         files_are = refl;
       };
     }
 
 -- ---- what is said of one net, out of memory or not
-
-pub best_judged : (d : Design) (name : List ℕ) (old : Judging) (net : PosedNet) (best : Best) (result : Result Judging Memory) → IsPosedNet d name net
-    → IsFound net.problem best → IfOk result (IsOneMore old (best_verdict d name net best)) → IfOk result (JudgesOne d name old)
-best_judged d name old net best (Ok new) of found more = record { verdict = best_verdict d name net best; says = IsBestSaid.told_best net of best found refl; more = more }
-best_judged d name old net best (Err memory) of found more = tt
-
-pub none_judged : (d : Design) (name : List ℕ) (old : Judging) (net : PosedNet) (result : Result Judging Memory) → IsPosedNet d name net → HasNoGood net.problem
-    → IfOk result (IsOneMore old (bare_verdict NoneGood (none_line name))) → IfOk result (JudgesOne d name old)
-none_judged d name old net (Ok new) of none more = record { verdict = bare_verdict NoneGood (none_line name); says = IsBestSaid.told_none net of none refl; more = more }
-none_judged d name old net (Err memory) of none more = tt
 
 pub refused_judged : (d : Design) (name : List ℕ) (old : Judging) (refusal : Refusal) (result : Result Judging Memory) → IsFirstRefusal d name refusal
     → IfOk result (IsOneMore old (bare_verdict Refused (refusal_line name refusal))) → IfOk result (JudgesOne d name old)

@@ -26,7 +26,7 @@ use Rattle.vginsert_top.specs.Answer.{AnswersFor, IsAnswerFor, one_net, said_by,
 use Rattle.vginsert_top.specs.Results.{Asked, Said, IsSpefFault}
 use Rattle.vginsert_top.specs.declared.answer.Answer.{Answer}
 use Rattle.vginsert_top.specs.declared.answer.AnswerKind.{AnswerKind}
-use Rattle.vginsert_top.specs.declared.answer.AnswerKind.TheVariants.{Report, NoneGood, Refusal as Refused}
+use Rattle.vginsert_top.specs.declared.answer.AnswerKind.TheVariants.{Report, NoneGood, Refusal as Refused, Invalid}
 use Rattle.vginsert_top.specs.declared.answer.NoAnswer.{NoAnswer}
 use Rattle.vginsert_top.specs.declared.answer.NoAnswer.TheVariants.{Faulty as FaultyInput, Taken, Memory}
 
@@ -86,14 +86,15 @@ module _ (raw clear : List ℕ) (same : without_comments Spef clear ≡ without_
   spef_same line h = record { fault = h.fault; found = fault_of_file_same h.fault h.found; text_is = h.text_is }
 
   -- an answer of the one is an answer of the other
-  wire_kind : (lib verilog cons : List ℕ) (name : Asked) (said : Said) (kind : AnswerKind) → IsAnswerFor kind Wire (texts_of clear [] [] []) name said → IsAnswerFor kind Wire (texts_of raw lib verilog cons) name said
-  wire_kind lib verilog cons name said Report (h, none) = (record { wire = h.wire; wire_of = wire_same (one_net name) h.wire h.wire_of; text_is = h.text_is }, none)
-  wire_kind lib verilog cons name said NoneGood h = h
-  wire_kind lib verilog cons name said Refused (h, none) = (record { refusal = h.refusal; refused = refusal_same (one_net name) h.refusal h.refused; text_is = h.text_is }, none)
+  wire_kind : (lib verilog cons cert : List ℕ) (name : Asked) (said : Said) (kind : AnswerKind) → IsAnswerFor kind Wire (texts_of clear [] [] [] []) name said → IsAnswerFor kind Wire (texts_of raw lib verilog cons cert) name said
+  wire_kind lib verilog cons cert name said Report (h, none) = (record { wire = h.wire; wire_of = wire_same (one_net name) h.wire h.wire_of; text_is = h.text_is }, none)
+  wire_kind lib verilog cons cert name said NoneGood h = h
+  wire_kind lib verilog cons cert name said Invalid h = h
+  wire_kind lib verilog cons cert name said Refused (h, none) = (record { refusal = h.refusal; refused = refusal_same (one_net name) h.refusal h.refused; text_is = h.text_is }, none)
 
-  pub wire_answers : (lib verilog cons : List ℕ) (name : Asked) (result : Result Answer NoAnswer) → AnswersFor Wire (texts_of clear [] [] []) name result → AnswersFor Wire (texts_of raw lib verilog cons) name result
-  wire_answers lib verilog cons name (Ok answer) h = wire_kind lib verilog cons name (said_by answer) answer.kind h
-  wire_answers lib verilog cons name (Err (FaultyInput input line)) (inl (is, fault)) = inl (is, spef_same line fault)
-  wire_answers lib verilog cons name (Err (FaultyInput input line)) (inr (good, none)) = absurd none
-  wire_answers lib verilog cons name (Err (Taken taken)) h = absurd h
-  wire_answers lib verilog cons name (Err Memory) h = tt
+  pub wire_answers : (lib verilog cons cert : List ℕ) (name : Asked) (result : Result Answer NoAnswer) → AnswersFor Wire (texts_of clear [] [] [] []) name result → AnswersFor Wire (texts_of raw lib verilog cons cert) name result
+  wire_answers lib verilog cons cert name (Ok answer) h = wire_kind lib verilog cons cert name (said_by answer) answer.kind h
+  wire_answers lib verilog cons cert name (Err (FaultyInput input line)) (inl (is, fault)) = inl (is, spef_same line fault)
+  wire_answers lib verilog cons cert name (Err (FaultyInput input line)) (inr (good, none)) = absurd none
+  wire_answers lib verilog cons cert name (Err (Taken taken)) h = absurd h
+  wire_answers lib verilog cons cert name (Err Memory) h = tt

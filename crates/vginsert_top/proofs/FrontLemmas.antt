@@ -20,7 +20,7 @@ use Rattle.vg_design.proofs.PartLemmas.{order_size, tree_size}
 use Rattle.vg_design.specs.declared.net_problem.NetProblem.{NetProblem}
 use Rattle.vg_front.specs.Points.{IsFrontierOf, point_in}
 use Rattle.vg_front.specs.declared.root.Point.{Point}
-use Rattle.vginsert_top.specs.Reports.{front_report, none_line}
+use Rattle.vg_report.specs.Reports.{front_report, none_line}
 use Rattle.vginsert_top.specs.Results.{HasNoneWithin, IsFrontSaid, IsPosedIn, problem_in}
 use Rattle.vginsert_top.specs.Verdicts.{SaysOfNet}
 use Rattle.vginsert_top.specs.declared.answer.AnswerKind.TheVariants.{Report, NoneGood}

@@ -59,6 +59,14 @@ all_four P x y z w p q r s (suc (suc zero)) d h = r
 all_four P x y z w p q r s (suc (suc (suc zero))) d h = s
 all_four P x y z w p q r s (suc (suc (suc (suc k)))) d h = absurd (omega (arith, h))
 
+pub all_five : (P : Input → Type 0) (x y z w v : Input) → P x → P y → P z → P w → P v → All P (x ∷ y ∷ z ∷ w ∷ v ∷ [])
+all_five P x y z w v p q r s t zero d h = p
+all_five P x y z w v p q r s t (suc zero) d h = q
+all_five P x y z w v p q r s t (suc (suc zero)) d h = r
+all_five P x y z w v p q r s t (suc (suc (suc zero))) d h = s
+all_five P x y z w v p q r s t (suc (suc (suc (suc zero)))) d h = t
+all_five P x y z w v p q r s t (suc (suc (suc (suc (suc k))))) d h = absurd (omega (arith, h))
+
 -- what was read of a file that is held as before
 pub read_as : (held before : Option (List ℕ)) (text : List ℕ) → held ≡ before → IfSome held (λ file. text ≡ file) → IsShort text → IsRead before text
 read_as held before text same is short = record { is_file = subst (λ (o : Option (List ℕ)). IfSome o (λ file. text ≡ file)) same is; short = short }

@@ -1,5 +1,6 @@
 pub mod GainLemmas
 pub mod InputLemmas
+pub mod ProblemLemmas
 pub mod VerdictLemmas
 pub mod BestLemmas
 pub mod RequestLemmas
@@ -8,5 +9,5 @@ pub mod ApartLemmas
 pub mod RunLemmas
 pub mod AnswerLemmas
 pub mod ClearLemmas
-pub mod ReportLemmas
 pub mod FrontLemmas
+pub mod CertLemmas

@@ -1,5 +1,5 @@
 -- What a status tells of a run.
-use Rattle.std.proofs.Common.{◌≡◌, ◌≢◌, ◌⊎◌, inl, inr, ℕ, ◌^◌, ◌<◌, List, length, refl, sym, ap, ◌∙◌, subst, arith, Option, Some, IfSome, Err, true}
+use Rattle.std.proofs.Common.{◌≡◌, ◌≢◌, ◌⊎◌, inl, inr, ℕ, ◌^◌, ◌<◌, ◌≤◌, List, [], length, refl, sym, ap, ◌∙◌, subst, arith, Option, Some, IfSome, Err, true}
 use Rattle.std.specs.List.{All}
 use Rattle.vg_store.specs.Causes.{Rose}
 use Rattle.vg_store.specs.Reading.{FilesState}
@@ -7,24 +7,24 @@ use Rattle.vg_store.specs.Writing.{OutState, Gains}
 use Rattle.vg_words.specs.Request.{IsRequest, IsRefused, ReadsWords}
 use Rattle.vg_words.specs.declared.ask.Ask.{Ask}
 use Rattle.vg_words.specs.declared.ask.Mode.{Mode}
-use Rattle.vg_words.specs.declared.ask.Mode.TheVariants.{Wire, Time, Best, Frontier, Gen}
+use Rattle.vg_words.specs.declared.ask.Mode.TheVariants.{Wire, Time, Best, Frontier, Check, Gen}
 use Rattle.vg_words.specs.declared.ask.WordFault.{WordFault}
 use Rattle.vg_words.specs.declared.ask.WordFault.TheVariants.{Unread, Missing, Excluded, BadValue, Equal, Memory as NoRoom}
 use Rattle.vg_words.proofs.JudgeLemmas.{refused_none, one}
 use Rattle.vginsert_top.specs.Answer.{IsAnswerFor, IsTakenFor, texts_of}
 use Rattle.vginsert_top.specs.Inputs.{asked_by, design_inputs, inputs, told, Change, IsShort, IsLong, IsRead, IsFaultFor}
 use Rattle.vginsert_top.specs.Results.{Asked, Said}
-use Rattle.vginsert_top.specs.Run.{AllStay, AreTold, AreShort, IsExact, IsStatusFor, Prints, Says, TellsFlaw, TellsRefusedInput, TellsWriteFault, is_status, prints_nothing, status_for}
+use Rattle.vginsert_top.specs.Run.{AllStay, AreTold, ErrorLine, AreShort, IsExact, IsStatusFor, Prints, Says, TellsFlaw, TellsRefusedInput, TellsWriteFault, is_status, prints_nothing, status_for}
 use Rattle.vginsert_top.specs.Outcomes.{Ends, IsStatusOf, Tells, status_of, fault_status}
 use Rattle.vginsert_top.specs.declared.answer.AnswerKind.{AnswerKind}
-use Rattle.vginsert_top.specs.declared.answer.AnswerKind.TheVariants.{Report, NoneGood, Refusal}
+use Rattle.vginsert_top.specs.declared.answer.AnswerKind.TheVariants.{Report, NoneGood, Refusal, Invalid}
 use Rattle.vginsert_top.specs.declared.input.Input.{Input}
-use Rattle.vginsert_top.specs.declared.input.Input.TheVariants.{Spef, Lib, Verilog, Cons}
+use Rattle.vginsert_top.specs.declared.input.Input.TheVariants.{Spef, Lib, Verilog, Cons, Cert}
 use Rattle.vginsert_top.specs.declared.input.Flaw.TheVariants.{Failed, TooLong, Faulty}
 use Rattle.vginsert_top.specs.declared.outcome.Outcome.{Outcome}
 use Rattle.vginsert_top.specs.declared.outcome.Outcome.TheVariants.{Printed, Flawed, Taken, Unwritten, WriteFault, Memory}
 use Rattle.vginsert_top.proofs.ApartLemmas.{not_faulty, not_taken, one_kind}
-use Rattle.vginsert_top.proofs.InputLemmas.{all_one, all_four, none_first}
+use Rattle.vginsert_top.proofs.InputLemmas.{all_one, all_four, all_five, none_first}
 
 abbrev Bytes : Type 0
 Bytes = List ℕ
@@ -88,6 +88,7 @@ Agree Wire a b = a Spef ≡ b Spef
 Agree Time a b = AgreeOnAll a b
 Agree Best a b = AgreeOnAll a b
 Agree Frontier a b = AgreeOnAll a b
+Agree Check a b = AgreeOnAll a b × (a Cert ≡ b Cert)
 Agree Gen a b = Unit {0}
 
 told_is : (file : Option Bytes) (a b : Bytes) → IsRead file a → file ≡ Some b → a ≡ b
@@ -106,34 +107,51 @@ agree Wire tell a b read told = told_is (tell Spef) (a Spef) (b Spef) (read 0 Sp
 agree Time tell a b read told = agree_on_all tell a b read told
 agree Best tell a b read told = agree_on_all tell a b read told
 agree Frontier tell a b read told = agree_on_all tell a b read told
+agree Check tell a b read told = (
+  (
+    told_is (tell Spef) (a Spef) (b Spef) (read 0 Spef (omega arith)) (told 0 Spef (omega arith)),
+    told_is (tell Lib) (a Lib) (b Lib) (read 1 Spef (omega arith)) (told 1 Spef (omega arith)),
+    told_is (tell Verilog) (a Verilog) (b Verilog) (read 2 Spef (omega arith)) (told 2 Spef (omega arith)),
+    told_is (tell Cons) (a Cons) (b Cons) (read 3 Spef (omega arith)) (told 3 Spef (omega arith)),
+  ),
+  told_is (tell Cert) (a Cert) (b Cert) (read 4 Spef (omega arith)) (told 4 Spef (omega arith)),
+)
 agree Gen tell a b read told = tt
 
 -- what is said of the ones is said of the others
-along : (P : (Input → Bytes) → Type 0) (a b : Input → Bytes) → AgreeOnAll a b → P (texts_of (a Spef) (a Lib) (a Verilog) (a Cons)) → P (texts_of (b Spef) (b Lib) (b Verilog) (b Cons))
-along P a b (s, l, v, c) p =
-    subst (λ (cons : Bytes). P (texts_of (b Spef) (b Lib) (b Verilog) cons)) c
-    (subst (λ (verilog : Bytes). P (texts_of (b Spef) (b Lib) verilog (a Cons))) v
-    (subst (λ (lib : Bytes). P (texts_of (b Spef) lib (a Verilog) (a Cons))) l (subst (λ (spef : Bytes). P (texts_of spef (a Lib) (a Verilog) (a Cons))) s p)))
+along : (P : (Input → Bytes) → Type 0) (a b : Input → Bytes) (cert : Bytes) → AgreeOnAll a b → P (texts_of (a Spef) (a Lib) (a Verilog) (a Cons) cert)
+    → P (texts_of (b Spef) (b Lib) (b Verilog) (b Cons) cert)
+along P a b cert (s, l, v, c) p =
+    subst (λ (cons : Bytes). P (texts_of (b Spef) (b Lib) (b Verilog) cons cert)) c
+    (subst (λ (verilog : Bytes). P (texts_of (b Spef) (b Lib) verilog (a Cons) cert)) v
+    (subst (λ (lib : Bytes). P (texts_of (b Spef) lib (a Verilog) (a Cons) cert)) l (subst (λ (spef : Bytes). P (texts_of spef (a Lib) (a Verilog) (a Cons) cert)) s p)))
+
+along_cert : (P : (Input → Bytes) → Type 0) (a b : Input → Bytes) → AgreeOnAll a b → a Cert ≡ b Cert → P (texts_of (a Spef) (a Lib) (a Verilog) (a Cons) (a Cert))
+    → P (texts_of (b Spef) (b Lib) (b Verilog) (b Cons) (b Cert))
+along_cert P a b e same p = subst (λ (cert : Bytes). P (texts_of (b Spef) (b Lib) (b Verilog) (b Cons) cert)) same (along P a b (a Cert) e p)
 
 answer_as : (kind : AnswerKind) (mode : Mode) (a b : Input → Bytes) (asked : Asked) (t : Said) → Agree mode a b → IsAnswerFor kind mode a asked t → IsAnswerFor kind mode b asked t
-answer_as kind Wire a b asked t e is = subst (λ (s : Bytes). IsAnswerFor kind Wire (texts_of s (b Lib) (b Verilog) (b Cons)) asked t) e is
-answer_as kind Time a b asked t e is = along (λ texts. IsAnswerFor kind Time texts asked t) a b e is
-answer_as kind Best a b asked t e is = along (λ texts. IsAnswerFor kind Best texts asked t) a b e is
-answer_as kind Frontier a b asked t e is = along (λ texts. IsAnswerFor kind Frontier texts asked t) a b e is
+answer_as kind Wire a b asked t e is = subst (λ (s : Bytes). IsAnswerFor kind Wire (texts_of s (b Lib) (b Verilog) (b Cons) []) asked t) e is
+answer_as kind Time a b asked t e is = along (λ texts. IsAnswerFor kind Time texts asked t) a b [] e is
+answer_as kind Best a b asked t e is = along (λ texts. IsAnswerFor kind Best texts asked t) a b [] e is
+answer_as kind Frontier a b asked t e is = along (λ texts. IsAnswerFor kind Frontier texts asked t) a b [] e is
+answer_as kind Check a b asked t e is = along_cert (λ texts. IsAnswerFor kind Check texts asked t) a b e.0 e.1 is
 answer_as kind Gen a b asked t e is = is
 
 taken_as : (mode : Mode) (a b : Input → Bytes) (net : Asked) (name : Bytes) → Agree mode a b → IsTakenFor mode a net name → IsTakenFor mode b net name
 taken_as Wire a b net name e is = is
 taken_as Time a b net name e is = is
-taken_as Best a b net name e is = along (λ texts. IsTakenFor Best texts net name) a b e is
+taken_as Best a b net name e is = along (λ texts. IsTakenFor Best texts net name) a b [] e is
 taken_as Frontier a b net name e is = is
+taken_as Check a b net name e is = is
 taken_as Gen a b net name e is = is
 
 faulty_as : (mode : Mode) (a b : Input → Bytes) (asked : Asked) (line : Bytes) (input : Input) → Agree mode a b → IsFaultFor mode a asked line input → IsFaultFor mode b asked line input
-faulty_as Wire a b asked line input e is = subst (λ (s : Bytes). IsFaultFor Wire (texts_of s (b Lib) (b Verilog) (b Cons)) asked line input) e is
-faulty_as Time a b asked line input e is = along (λ texts. IsFaultFor Time texts asked line input) a b e is
-faulty_as Best a b asked line input e is = along (λ texts. IsFaultFor Best texts asked line input) a b e is
-faulty_as Frontier a b asked line input e is = along (λ texts. IsFaultFor Frontier texts asked line input) a b e is
+faulty_as Wire a b asked line input e is = subst (λ (s : Bytes). IsFaultFor Wire (texts_of s (b Lib) (b Verilog) (b Cons) []) asked line input) e is
+faulty_as Time a b asked line input e is = along (λ texts. IsFaultFor Time texts asked line input) a b [] e is
+faulty_as Best a b asked line input e is = along (λ texts. IsFaultFor Best texts asked line input) a b [] e is
+faulty_as Frontier a b asked line input e is = along (λ texts. IsFaultFor Frontier texts asked line input) a b [] e is
+faulty_as Check a b asked line input e is = along (λ texts. IsFaultFor Check texts asked line input) a b [] e.0 is
 faulty_as Gen a b asked line input e is = is
 
 all_short : (tell : Input → Option Bytes) (a b : Input → Bytes) → All (λ i. IsRead (tell i) (a i)) design_inputs → AgreeOnAll a b → All (λ i. IsShort (b i)) design_inputs
@@ -147,6 +165,10 @@ shorts Wire tell a b read e = all_one (λ i. IsShort (b i)) Spef (subst (λ (s :
 shorts Time tell a b read e = all_short tell a b read e
 shorts Best tell a b read e = all_short tell a b read e
 shorts Frontier tell a b read e = all_short tell a b read e
+shorts Check tell a b read e =
+    all_five (λ i. IsShort (b i)) Spef Lib Verilog Cons Cert (subst (λ (s : Bytes). IsShort s) e.0.0 (read 0 Spef (omega arith)).short)
+    (subst (λ (s : Bytes). IsShort s) e.0.1 (read 1 Spef (omega arith)).short) (subst (λ (s : Bytes). IsShort s) e.0.2 (read 2 Spef (omega arith)).short)
+    (subst (λ (s : Bytes). IsShort s) e.0.3 (read 3 Spef (omega arith)).short) (subst (λ (s : Bytes). IsShort s) e.1 (read 4 Spef (omega arith)).short)
 shorts Gen tell a b read e = λ i d low. absurd (omega (arith, low))
 
 -- what is told and short is not too long
@@ -159,27 +181,36 @@ both : (P Q : Input → Type 0) (list : List Input) → All P list → All Q lis
 both P Q list p q k d h = (p k d h, q k d h)
 
 -- the status tells the kind
-few_for : (kind : AnswerKind) → status_for kind < 3
-few_for Report = omega arith
-few_for NoneGood = omega arith
-few_for Refusal = omega arith
+answers_apart : (kind : AnswerKind) (status : ℕ) → 3 ≤ status → status ≤ 7 → status ≡ status_for kind → ⊥
+answers_apart Report status low high e = omega (arith, low, e)
+answers_apart NoneGood status low high e = omega (arith, low, e)
+answers_apart Refusal status low high e = omega (arith, low, e)
+answers_apart Invalid status low high e = omega (arith, high, e)
 
 kind_by_status : (a b : AnswerKind) → status_for a ≡ status_for b → a ≡ b
 kind_by_status Report Report e = refl
 kind_by_status NoneGood NoneGood e = refl
 kind_by_status Refusal Refusal e = refl
+kind_by_status Invalid Invalid e = refl
 kind_by_status Report NoneGood e = absurd (omega (arith, e))
 kind_by_status Report Refusal e = absurd (omega (arith, e))
+kind_by_status Report Invalid e = absurd (omega (arith, e))
 kind_by_status NoneGood Report e = absurd (omega (arith, e))
 kind_by_status NoneGood Refusal e = absurd (omega (arith, e))
+kind_by_status NoneGood Invalid e = absurd (omega (arith, e))
 kind_by_status Refusal Report e = absurd (omega (arith, e))
 kind_by_status Refusal NoneGood e = absurd (omega (arith, e))
+kind_by_status Refusal Invalid e = absurd (omega (arith, e))
+kind_by_status Invalid Report e = absurd (omega (arith, e))
+kind_by_status Invalid NoneGood e = absurd (omega (arith, e))
+kind_by_status Invalid Refusal e = absurd (omega (arith, e))
 
 -- a request ends with one of the statuses
 known_status : (outcome : Outcome) → is_status (status_of outcome) ≡ true
 known_status (Printed Report) = refl
 known_status (Printed NoneGood) = refl
 known_status (Printed Refusal) = refl
+known_status (Printed Invalid) = refl
 known_status (Flawed input Failed) = refl
 known_status (Flawed input TooLong) = refl
 known_status (Flawed input (Faulty line)) = refl
@@ -211,18 +242,19 @@ module _ (ask : Ask) (files : Change FilesState) (out : Change OutState) where
 
   printed_is : (kind : AnswerKind) (outcome : Outcome) → status_of outcome ≡ status_for kind → Ends ask files out outcome → Prints kind files (Gains out.0 out.1) ask
   printed_is kind (Printed other) e ends = subst (λ (k : AnswerKind). Prints k files (Gains out.0 out.1) ask) (kind_by_status other kind e) ends
-  printed_is kind (Flawed input Failed) e ends = absurd (omega (arith, e, few_for kind))
-  printed_is kind (Flawed input TooLong) e ends = absurd (omega (arith, e, few_for kind))
-  printed_is kind (Flawed input (Faulty line)) e ends = absurd (omega (arith, e, few_for kind))
-  printed_is kind (Taken name) e ends = absurd (omega (arith, e, few_for kind))
-  printed_is kind (Unwritten output) e ends = absurd (omega (arith, e, few_for kind))
-  printed_is kind WriteFault e ends = absurd (omega (arith, e, few_for kind))
-  printed_is kind Memory e ends = absurd (omega (arith, e, few_for kind))
+  printed_is kind (Flawed input Failed) e ends = absurd (answers_apart kind 5 (omega arith) (omega arith) e)
+  printed_is kind (Flawed input TooLong) e ends = absurd (answers_apart kind 4 (omega arith) (omega arith) e)
+  printed_is kind (Flawed input (Faulty line)) e ends = absurd (answers_apart kind 4 (omega arith) (omega arith) e)
+  printed_is kind (Taken name) e ends = absurd (answers_apart kind 4 (omega arith) (omega arith) e)
+  printed_is kind (Unwritten output) e ends = absurd (answers_apart kind 6 (omega arith) (omega arith) e)
+  printed_is kind WriteFault e ends = absurd (answers_apart kind 6 (omega arith) (omega arith) e)
+  printed_is kind Memory e ends = absurd (answers_apart kind 7 (omega arith) (omega arith) e)
 
   all_stay : (outcome : Outcome) → prints_nothing (status_of outcome) ≡ true → Ends ask files out outcome → AllStay files
   all_stay (Printed Report) e ends = absurd cc
   all_stay (Printed NoneGood) e ends = absurd cc
   all_stay (Printed Refusal) e ends = absurd cc
+  all_stay (Printed Invalid) e ends = absurd cc
   all_stay (Flawed input flaw) e (_, stay, _) = stay
   all_stay (Taken name) e (_, stay, _) = stay
   all_stay (Unwritten output) e ends = absurd cc
@@ -233,6 +265,7 @@ module _ (ask : Ask) (files : Change FilesState) (out : Change OutState) where
   unprinted (Printed Report) e ends = absurd cc
   unprinted (Printed NoneGood) e ends = absurd cc
   unprinted (Printed Refusal) e ends = absurd cc
+  unprinted (Printed Invalid) e ends = absurd cc
   unprinted (Flawed input flaw) e (_, _, same) = same
   unprinted (Taken name) e (_, _, same) = same
   unprinted (Unwritten output) e ends = absurd cc
@@ -240,7 +273,7 @@ module _ (ask : Ask) (files : Change FilesState) (out : Change OutState) where
   unprinted Memory e (_, same) = same
 
   not_three : (outcome : Outcome) → status_of outcome ≡ 3 → ⊥
-  not_three (Printed kind) e = omega (arith, e, few_for kind)
+  not_three (Printed kind) e = answers_apart kind 3 (omega arith) (omega arith) (sym e)
   not_three (Flawed input Failed) e = omega arith
   not_three (Flawed input TooLong) e = omega arith
   not_three (Flawed input (Faulty line)) e = omega arith
@@ -255,7 +288,7 @@ module _ (ask : Ask) (files : Change FilesState) (out : Change OutState) where
     unreadable_is (Flawed input (Faulty line)) e (flawed, _, _) tells = inl (input, Faulty line, refl, flawed, tells)
     unreadable_is (Flawed input Failed) e ends tells = absurd (omega arith)
     unreadable_is (Taken name) e (takes, _, _) tells = inr (name, takes, tells)
-    unreadable_is (Printed kind) e ends tells = absurd (omega (arith, e, few_for kind))
+    unreadable_is (Printed kind) e ends tells = absurd (answers_apart kind 4 (omega arith) (omega arith) (sym e))
     unreadable_is (Unwritten output) e ends tells = absurd (omega arith)
     unreadable_is WriteFault e ends tells = absurd (omega arith)
     unreadable_is Memory e ends tells = absurd (omega arith)
@@ -266,7 +299,7 @@ module _ (ask : Ask) (files : Change FilesState) (out : Change OutState) where
     read_fault_is (Flawed input TooLong) e ends tells = absurd (omega arith)
     read_fault_is (Flawed input (Faulty line)) e ends tells = absurd (omega arith)
     read_fault_is (Taken name) e ends tells = absurd (omega arith)
-    read_fault_is (Printed kind) e ends tells = absurd (omega (arith, e, few_for kind))
+    read_fault_is (Printed kind) e ends tells = absurd (answers_apart kind 5 (omega arith) (omega arith) (sym e))
     read_fault_is (Unwritten output) e ends tells = absurd (omega arith)
     read_fault_is WriteFault e ends tells = absurd (omega arith)
     read_fault_is Memory e ends tells = absurd (omega arith)
@@ -274,12 +307,23 @@ module _ (ask : Ask) (files : Change FilesState) (out : Change OutState) where
     write_fault_is : (outcome : Outcome) → status_of outcome ≡ 6 → Ends ask files out outcome → Tells ask err outcome → TellsWriteFault files out (Says err.0 err.1) ask
     write_fault_is WriteFault e (rose, prints) tells = inl (rose, prints, tells)
     write_fault_is (Unwritten output) e (fails, same) tells = inr (output, fails, same, tells)
-    write_fault_is (Printed kind) e ends tells = absurd (omega (arith, e, few_for kind))
+    write_fault_is (Printed kind) e ends tells = absurd (answers_apart kind 6 (omega arith) (omega arith) (sym e))
     write_fault_is (Flawed input Failed) e ends tells = absurd (omega arith)
     write_fault_is (Flawed input TooLong) e ends tells = absurd (omega arith)
     write_fault_is (Flawed input (Faulty line)) e ends tells = absurd (omega arith)
     write_fault_is (Taken name) e ends tells = absurd (omega arith)
     write_fault_is Memory e ends tells = absurd (omega arith)
+
+-- standard error has its line, or stays as it is after a printed answer
+line_is : (ask : Ask) (err : Change OutState) (outcome : Outcome) → Tells ask err outcome → ErrorLine (status_of outcome) (Says err.0 err.1) (err.1.written ≡ err.0.written)
+line_is ask err (Printed kind) tells = record { printed = λ _. tells; memory = λ e. absurd (answers_apart kind 7 (omega arith) (omega arith) (sym e)) }
+line_is ask err (Flawed input Failed) tells = record { printed = λ e. absurd cc; memory = λ e. absurd (omega (arith, e)) }
+line_is ask err (Flawed input TooLong) tells = record { printed = λ e. absurd cc; memory = λ e. absurd (omega (arith, e)) }
+line_is ask err (Flawed input (Faulty line)) tells = record { printed = λ e. absurd cc; memory = λ e. absurd (omega (arith, e)) }
+line_is ask err (Taken name) tells = record { printed = λ e. absurd cc; memory = λ e. absurd (omega (arith, e)) }
+line_is ask err (Unwritten output) tells = record { printed = λ e. absurd cc; memory = λ e. absurd (omega (arith, e)) }
+line_is ask err WriteFault tells = record { printed = λ e. absurd cc; memory = λ e. absurd (omega (arith, e)) }
+line_is ask err Memory tells = record { printed = λ e. absurd cc; memory = λ _. tells }
 
 -- the request is the one that the words denote
 exact_for : (words : List Bytes) (ask : Ask) (files : Change FilesState) (out : Change OutState) (outcome : Outcome) (status : ℕ)
@@ -308,6 +352,10 @@ module _ {ask : Ask} {files : Change FilesState} {out err : Change OutState} {st
 
   pub run_write_fault : status ≡ 6 → TellsWriteFault files out (Says err.0 err.1) ask
   run_write_fault e = write_fault_is ask files out err run.outcome (sym run.status_is ∙ e) run.ends run.tells
+
+  pub run_line : ErrorLine status (Says err.0 err.1) (err.1.written ≡ err.0.written)
+  run_line =
+      subst (λ (s : ℕ). ErrorLine s (Says err.0 err.1) (err.1.written ≡ err.0.written)) (sym run.status_is) (line_is ask err run.outcome run.tells)
 
   pub run_status : is_status status ≡ true
   run_status = ap is_status run.status_is ∙ known_status run.outcome

@@ -1,5 +1,5 @@
 -- What is said of one net more, and of the same nets again.
-use Rattle.std.proofs.Common.{◌≡◌, ℕ, suc, ◌+◌, ◌<◌, Bool, true, false, ◌||◌, List, [], ◌∷◌, ◌++◌, length, map, take, Some, refl, sym, ap, ◌∙◌, subst}
+use Rattle.std.proofs.Common.{◌≡◌, ℕ, ◌+◌, Bool, true, false, ◌||◌, List, [], ◌∷◌, ◌++◌, map, take, Some, refl, sym, ap, ◌∙◌, subst}
 use Rattle.std.specs.Prelude.{cond, filter, if◌then◌else◌}
 use Rattle.std.specs.List.{AllZip, flat_map, list_any, slice_get}
 use Rattle.std.proofs.lemmas.List.{append-nil, map-append, take_more}
@@ -7,40 +7,60 @@ use Rattle.std.proofs.lemmas.Option.{get_or_from_slice_get, slice_get_within}
 use Rattle.std.proofs.lemmas.List.Concat.{flat_map-append}
 use Rattle.std.proofs.lemmas.List.Folds.{list_any-append}
 use Rattle.std.proofs.lemmas.List.Elements.{filter-append}
-use Rattle.vg_change.specs.Placed.{PlacedNet}
-use Rattle.vginsert_top.specs.Verdicts.{Verdict, AreSaid, SaysOfNet, bare_verdict, is_none_good, is_refusal, kind_in, kind_of, put_in, text_in, worse}
+use Rattle.vginsert_top.specs.Verdicts.{Verdict, AreSaid, SaysOfNet, bare_verdict, is_invalid, is_none_good, is_refusal, kind_in, kind_of, put_in, text_in, worse}
 use Rattle.vginsert_top.specs.declared.answer.AnswerKind.{AnswerKind}
-use Rattle.vginsert_top.specs.declared.answer.AnswerKind.TheVariants.{Report, NoneGood, Refusal}
+use Rattle.vginsert_top.specs.declared.answer.AnswerKind.TheVariants.{Report, NoneGood, Refusal, Invalid}
 
 -- ---- kinds
 
--- whether there is a refusal, and whether there is a net without a good placement
-abbrev kind_by : Bool → Bool → AnswerKind
-kind_by a b = if a then Refusal else (if b then NoneGood else Report)
+-- whether there is a refusal, a certificate that is not valid, and a net without a good placement
+abbrev kind_by : Bool → Bool → Bool → AnswerKind
+kind_by a b c = if a then Refusal else (if b then Invalid else (if c then NoneGood else Report))
 
-by_cases : (a b : Bool) (k : AnswerKind) → kind_by (a || list_any is_refusal (k ∷ [])) (b || list_any is_none_good (k ∷ [])) ≡ worse (kind_by a b) k
-by_cases true true Report = refl
-by_cases true true NoneGood = refl
-by_cases true true Refusal = refl
-by_cases true false Report = refl
-by_cases true false NoneGood = refl
-by_cases true false Refusal = refl
-by_cases false true Report = refl
-by_cases false true NoneGood = refl
-by_cases false true Refusal = refl
-by_cases false false Report = refl
-by_cases false false NoneGood = refl
-by_cases false false Refusal = refl
+by_cases : (a b c : Bool) (k : AnswerKind) → kind_by (a || list_any is_refusal (k ∷ [])) (b || list_any is_invalid (k ∷ [])) (c || list_any is_none_good (k ∷ [])) ≡ worse (kind_by a b c) k
+by_cases true true true Report = refl
+by_cases true true true NoneGood = refl
+by_cases true true true Refusal = refl
+by_cases true true true Invalid = refl
+by_cases true true false Report = refl
+by_cases true true false NoneGood = refl
+by_cases true true false Refusal = refl
+by_cases true true false Invalid = refl
+by_cases true false true Report = refl
+by_cases true false true NoneGood = refl
+by_cases true false true Refusal = refl
+by_cases true false true Invalid = refl
+by_cases true false false Report = refl
+by_cases true false false NoneGood = refl
+by_cases true false false Refusal = refl
+by_cases true false false Invalid = refl
+by_cases false true true Report = refl
+by_cases false true true NoneGood = refl
+by_cases false true true Refusal = refl
+by_cases false true true Invalid = refl
+by_cases false true false Report = refl
+by_cases false true false NoneGood = refl
+by_cases false true false Refusal = refl
+by_cases false true false Invalid = refl
+by_cases false false true Report = refl
+by_cases false false true NoneGood = refl
+by_cases false false true Refusal = refl
+by_cases false false true Invalid = refl
+by_cases false false false Report = refl
+by_cases false false false NoneGood = refl
+by_cases false false false Refusal = refl
+by_cases false false false Invalid = refl
 
 kind_more : (kinds : List AnswerKind) (k : AnswerKind) → kind_of (kinds ++ k ∷ []) ≡ worse (kind_of kinds) k
 kind_more kinds k =
-    (λ i. kind_by (list_any-append is_refusal kinds (k ∷ []) i) (list_any-append is_none_good kinds (k ∷ []) i))
-    ∙ by_cases (list_any is_refusal kinds) (list_any is_none_good kinds) k
+    (λ i. kind_by (list_any-append is_refusal kinds (k ∷ []) i) (list_any-append is_invalid kinds (k ∷ []) i) (list_any-append is_none_good kinds (k ∷ []) i))
+    ∙ by_cases (list_any is_refusal kinds) (list_any is_invalid kinds) (list_any is_none_good kinds) k
 
 kind_one : (k : AnswerKind) → kind_of (k ∷ []) ≡ k
 kind_one Report = refl
 kind_one NoneGood = refl
 kind_one Refusal = refl
+kind_one Invalid = refl
 
 -- ---- one net more
 

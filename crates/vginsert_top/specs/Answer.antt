@@ -9,17 +9,17 @@ use Rattle.vg_inputs.specs.declared.design_fault.DesignFault.TheVariants.{Spef a
 use Rattle.vg_scan.specs.Comments.{without_comments}
 use Rattle.vg_scan.specs.declared.comments.Comments.TheVariants.{Spef as SpefComments}
 use Rattle.vg_words.specs.declared.ask.Mode.{Mode}
-use Rattle.vg_words.specs.declared.ask.Mode.TheVariants.{Wire, Time, Best, Frontier, Gen}
+use Rattle.vg_words.specs.declared.ask.Mode.TheVariants.{Wire, Time, Best, Frontier, Check, Gen}
 use Rattle.vginsert_top.specs.Inputs.{inputs, made_up, IsFaultFor, IsFirstFault}
-use Rattle.vginsert_top.specs.Faults.{cons_fault, lib_fault, spef_fault, ver_fault}
-use Rattle.vginsert_top.specs.Results.{Asked, Files, Said, IsBestAnswer, IsDelays, IsFrontAnswer, IsFrontSaid, IsMadeRefusal, IsRefusal, IsSummary, IsTaken, IsTimeAnswer, IsTimeSaid, IsSpefFault, nets_for, nets_to_time}
+use Rattle.vg_report.specs.Faults.{cons_fault, lib_fault, spef_fault, ver_fault}
+use Rattle.vginsert_top.specs.Results.{Asked, Said, Written as WrittenFiles, IsBestAnswer, IsCheckAnswer, IsDelays, IsFrontAnswer, IsFrontSaid, IsMadeRefusal, IsRefusal, IsSummary, IsTaken, IsTimeAnswer, IsTimeSaid, IsSpefFault, nets_for, nets_to_time}
 use Rattle.vginsert_top.specs.Verdicts.{AreSaid}
 use Rattle.vginsert_top.specs.declared.input.Input.{Input}
-use Rattle.vginsert_top.specs.declared.input.Input.TheVariants.{Spef, Lib, Verilog, Cons}
+use Rattle.vginsert_top.specs.declared.input.Input.TheVariants.{Spef, Lib, Verilog, Cons, Cert}
 use Rattle.vginsert_top.specs.declared.input.Texts.{Texts as TextsRead}
 use Rattle.vginsert_top.specs.declared.answer.Answer.{Answer}
 use Rattle.vginsert_top.specs.declared.answer.AnswerKind.{AnswerKind}
-use Rattle.vginsert_top.specs.declared.answer.AnswerKind.TheVariants.{Report, NoneGood, Refusal}
+use Rattle.vginsert_top.specs.declared.answer.AnswerKind.TheVariants.{Report, NoneGood, Refusal, Invalid}
 use Rattle.vginsert_top.specs.declared.answer.Written.{Written}
 use Rattle.vginsert_top.specs.declared.answer.NoAnswer.{NoAnswer}
 use Rattle.vginsert_top.specs.declared.answer.NoAnswer.TheVariants.{Faulty, Taken, Memory}
@@ -37,8 +37,9 @@ abbrev pub IsWireAnswer : AnswerKind → List ℕ → List ℕ → Said → Type
 IsWireAnswer Report file name said = IsText (IsDelays file name) said
 IsWireAnswer NoneGood file name said = ⊥
 IsWireAnswer Refusal file name said = IsText (IsRefusal file name) said
+IsWireAnswer Invalid file name said = ⊥
 
--- the net that mode `wire` is asked for
+-- the net that modes `wire` and `check` are asked for
 abbrev pub one_net : Asked → List ℕ
 one_net asked = unwrap_or asked.net []
 
@@ -47,6 +48,7 @@ abbrev pub IsGenAnswer : AnswerKind → Texts → Said → Type 0
 IsGenAnswer Report texts said = IsText (IsSummary texts) said
 IsGenAnswer NoneGood texts said = ⊥
 IsGenAnswer Refusal texts said = IsText (IsMadeRefusal texts) said
+IsGenAnswer Invalid texts said = ⊥
 
 -- this is an answer of this kind
 abbrev pub IsAnswerFor : AnswerKind → Mode → (Input → List ℕ) → Asked → Said → Type 0
@@ -54,6 +56,7 @@ IsAnswerFor kind Wire texts asked said = IsWireAnswer kind (texts Spef) (one_net
 IsAnswerFor kind Time texts asked said = IsTimeAnswer (design_texts texts) asked kind said
 IsAnswerFor kind Best texts asked said = IsBestAnswer (design_texts texts) asked kind said
 IsAnswerFor kind Frontier texts asked said = IsFrontAnswer (design_texts texts) asked kind said
+IsAnswerFor kind Check texts asked said = IsCheckAnswer (design_texts texts) (texts Cert) (one_net asked) kind said
 IsAnswerFor kind Gen texts asked said = IsGenAnswer kind (design_texts (made_up asked.size)) said
 
 -- a name of the design begins with the prefix, for which mode `best` alone asks
@@ -62,13 +65,14 @@ IsTakenFor Wire texts asked name = ⊥
 IsTakenFor Time texts asked name = ⊥
 IsTakenFor Best texts asked name = IsTaken (design_texts texts) asked.prefix name
 IsTakenFor Frontier texts asked name = ⊥
+IsTakenFor Check texts asked name = ⊥
 IsTakenFor Gen texts asked name = ⊥
 
-abbrev pub files_by : Written → Files
-files_by written = record { verilog = written.verilog; spef = written.spef }
+abbrev pub files_by : Written → WrittenFiles
+files_by written = record { design = record { verilog = written.verilog; spef = written.spef }; cert = written.cert }
 
 -- the files of an answer
-abbrev pub files_in : Option Written → Option Files
+abbrev pub files_in : Option Written → Option WrittenFiles
 files_in None = None
 files_in (Some written) = Some (files_by written)
 
@@ -93,18 +97,19 @@ AnswersFor mode texts asked (Err (Taken name)) = IsTakenFor mode texts asked nam
 AnswersFor mode texts asked (Err Memory) = Unit {0}
 
 -- these texts
-abbrev pub texts_of : List ℕ → List ℕ → List ℕ → List ℕ → Input → List ℕ
-texts_of spef lib verilog cons Spef = spef
-texts_of spef lib verilog cons Lib = lib
-texts_of spef lib verilog cons Verilog = verilog
-texts_of spef lib verilog cons Cons = cons
+abbrev pub texts_of : List ℕ → List ℕ → List ℕ → List ℕ → List ℕ → Input → List ℕ
+texts_of spef lib verilog cons cert Spef = spef
+texts_of spef lib verilog cons cert Lib = lib
+texts_of spef lib verilog cons cert Verilog = verilog
+texts_of spef lib verilog cons cert Cons = cons
+texts_of spef lib verilog cons cert Cert = cert
 
 abbrev pub texts_by : Texts → Input → List ℕ
-texts_by texts = texts_of texts.spef texts.lib texts.verilog texts.cons
+texts_by texts = texts_of texts.spef texts.lib texts.verilog texts.cons []
 
 -- the texts that were read
 abbrev pub texts_in : TextsRead → Input → List ℕ
-texts_in texts = texts_of texts.spef.items texts.lib.items texts.verilog.items texts.cons.items
+texts_in texts = texts_of texts.spef.items texts.lib.items texts.verilog.items texts.cons.items texts.cert.items
 
 -- the answer is of this kind, with this text, and without files
 pub record IsAnswerWith (kind : AnswerKind) (text : List ℕ) (answer : Answer) : Type 0 where
@@ -122,6 +127,7 @@ Indexes (Err (Faulty Spef line)) file = IsSpefFault file line
 Indexes (Err (Faulty Lib line)) file = ⊥
 Indexes (Err (Faulty Verilog line)) file = ⊥
 Indexes (Err (Faulty Cons line)) file = ⊥
+Indexes (Err (Faulty Cert line)) file = ⊥
 Indexes (Err (Taken name)) file = ⊥
 Indexes (Err Memory) file = Unit {0}
 

@@ -1,6 +1,6 @@
 -- What is said of the best placements of nets, one after another, and what is replaced in the texts of their design: for the functions
 -- between.
-use Rattle.std.specs.Prelude.{◌≡◌, ℕ, ◌||◌, Bool, true, false, List, [], ◌∷◌, ◌++◌, Some, None, Result, Ok, Err, length}
+use Rattle.std.specs.Prelude.{◌≡◌, ℕ, ◌||◌, Bool, true, false, List, [], ◌∷◌, ◌++◌, Option, Some, None, Result, Ok, Err, length}
 use Rattle.std.specs.List.{flat_map}
 use Rattle.ver_file.specs.Modules.{Denotes}
 use Rattle.vg_change.specs.Changes.{Changes, HavePut, nothing}
@@ -8,13 +8,21 @@ use Rattle.vg_change.specs.Patches.{ArePatchesOf}
 use Rattle.vg_change.specs.Placed.{PlacedNet}
 use Rattle.vg_change.specs.Taken.{taken}
 use Rattle.vg_change.specs.declared.changes.Patches.{Patches}
+use Rattle.vg_cert.specs.Names.{AreNamesOf}
 use Rattle.vg_design.specs.Designs.{Design}
+use Rattle.vg_design.specs.Nets.{IsPosedNet}
+use Rattle.vg_design.specs.declared.net_problem.PosedNet.{PosedNet}
 use Rattle.vg_patch.specs.Edits.{Rise, patched}
-use Rattle.vginsert_top.specs.Results.{Asked, Files, Said, AreFilesOf, IsBestOf, IsBestSaid}
+use Rattle.vg_slack.specs.Bests.{IsAnswer}
+use Rattle.vg_slack.specs.declared.answer.Best.{Best}
+use Rattle.vg_verdict.specs.Judged.{IsCertificateOf}
+use Rattle.vg_verdict.specs.Laws.{names_in}
+use Rattle.vginsert_top.specs.Results.{Asked, Files, Said, AreFilesOf, IsBestOf, IsBestSaid, IsCertFor, found_verdict, nets_for}
 use Rattle.vginsert_top.specs.Verdicts.{Verdict, AreSaid, put_in, worse}
 use Rattle.vginsert_top.specs.declared.answer.NoAnswer.{NoAnswer}
 use Rattle.vginsert_top.specs.declared.answer.NoAnswer.TheVariants.{Faulty, Taken, Memory}
 use Rattle.vginsert_top.specs.declared.best.Judged.{Judged}
+use Rattle.vginsert_top.specs.declared.judging.Certified.{Certified}
 use Rattle.vginsert_top.specs.declared.judging.Judging.{Judging}
 
 -- ---- one net after another
@@ -67,15 +75,41 @@ abbrev pub HaveChange : Changes → Bool → Patches → Type 0
 HaveChange c false patches = (patches.verilog ≡ []) × (patches.spef ≡ [])
 HaveChange c true patches = ArePatchesOf c patches
 
+-- ---- with a certificate
+
+-- the names of each posed net can stand in a certificate
+abbrev pub AreFitNames : Design → Type 0
+AreFitNames d = (name : List ℕ) (net : PosedNet) → IsPosedNet d name net → AreNamesOf net.problem (names_in d name net)
+
+-- a posed net is judged, and a certificate of what was found is made
+pub record CertifiesOne (d : Design) (name : List ℕ) (net : PosedNet) (old : Judging) (made : Certified) : Type 0 where
+  pub found : Option Best
+  pub found_of : IsAnswer net.problem found
+  pub more : IsOneMore old (found_verdict d name net found) made.judging
+  pub text : List ℕ
+  pub cert_is : made.cert ≡ Some text
+  pub cert_of : IsCertificateOf net.problem (names_in d name net) found text
+
+-- a net is judged, with nothing before, and its certificate is made, unless it is refused
+pub record IsCertifiedNet (d : Design) (prefix name : List ℕ) (made : Certified) : Type 0 where
+  pub nets : AreJudged d prefix (name ∷ []) made.judging
+  pub cert : (asked : Asked) → asked.certified ≡ true → asked.net ≡ Some name → IsCertFor d asked made.judging.kind made.judging.text.items made.cert
+
+-- the nets that are asked for are judged, and a certificate is made where it is asked for
+pub record AreCertified (d : Design) (prefix : List ℕ) (asked : Asked) (made : Certified) : Type 0 where
+  pub nets : AreJudged d prefix (nets_for d asked.net) made.judging
+  pub cert : IsCertFor d asked made.judging.kind made.judging.text.items made.cert
+
 -- what was said is kept, with what is to be replaced for it
-pub record AreFinished (all : Judging) (found : Judged) : Type 0 where
-  pub kind : found.kind ≡ all.kind
-  pub text : found.text.items ≡ all.text.items
-  pub patches : HaveChange all.changes all.changed found.patches
+pub record AreFinished (all : Certified) (found : Judged) : Type 0 where
+  pub kind : found.kind ≡ all.judging.kind
+  pub text : found.text.items ≡ all.judging.text.items
+  pub patches : HaveChange all.judging.changes all.judging.changed found.patches
+  pub cert : found.cert ≡ all.cert
 
 -- what is said where these are the texts of the design
 abbrev pub said_with : Judged → Files → Said
-said_with found read = record { text = found.text.items; files = Some (files_with found.patches read) }
+said_with found read = record { text = found.text.items; files = Some (record { design = files_with found.patches read; cert = found.cert }) }
 
 -- the nets that are asked for are judged, whatever the texts of the design are
 pub record IsJudged (d : Design) (asked : Asked) (found : Judged) : Type 0 where

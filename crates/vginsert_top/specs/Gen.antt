@@ -6,8 +6,9 @@ use Rattle.vg_design.specs.declared.net_problem.PosedNet.{PosedNet}
 use Rattle.vg_design.specs.declared.time.Timed.{Timed}
 use Rattle.vg_slack.specs.Bests.{IsAnswer}
 use Rattle.vg_slack.specs.declared.answer.Best.{Best}
+use Rattle.vg_verdict.specs.Judged.{CountsEntries}
 use Rattle.vginsert_top.specs.Answer.{IsAnswerWith}
-use Rattle.vginsert_top.specs.Reports.{gen_line, place_count}
+use Rattle.vg_report.specs.Reports.{gen_line, place_count}
 use Rattle.vginsert_top.specs.Results.{made_net}
 use Rattle.vginsert_top.specs.declared.answer.Answer.{Answer}
 use Rattle.vginsert_top.specs.declared.answer.AnswerKind.TheVariants.{Report}
@@ -16,7 +17,9 @@ use Rattle.vginsert_top.specs.declared.answer.AnswerKind.TheVariants.{Report}
 pub record SumsUpNet (timed : Timed) (net : PosedNet) (answer : Answer) : Type 0 where
   pub found : Option Best
   pub found_of : IsAnswer net.problem found
-  pub with : IsAnswerWith Report (gen_line (place_count net.problem.places) timed.slack found) answer
+  pub entries : ℕ
+  pub entries_are : CountsEntries net.problem entries
+  pub with : IsAnswerWith Report (gen_line (place_count net.problem.places) timed.slack found entries) answer
 
 -- this is the net of a made-up design, with its timing without a cell
 pub record IsNetOf (d : Design) (found : Timed × PosedNet) : Type 0 where

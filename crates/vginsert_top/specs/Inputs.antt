@@ -1,5 +1,5 @@
 -- The inputs of a request, and the first flaw along them.
-use Rattle.std.specs.Prelude.{◌≡◌, ◌⊎◌, ℕ, ◌^◌, ◌<◌, ◌≤◌, List, [], ◌∷◌, length, codes, Option, IfSome}
+use Rattle.std.specs.Prelude.{◌≡◌, ◌⊎◌, ℕ, ◌^◌, ◌<◌, ◌≤◌, List, [], ◌∷◌, length, codes, Option, None, IfSome, is_some}
 use Rattle.std.specs.List.{All}
 use Rattle.vg_store.specs.Reading.{FilesState, ReadFaultAt}
 use Rattle.vg_cons.specs.Lines.{lines_of as cons_lines}
@@ -9,13 +9,13 @@ use Rattle.vg_gen.specs.Texts.{constraints_text, library_text, netlist_text, spe
 use Rattle.vg_words.specs.Request.{cap_of, prefix_of, size_of, text_for}
 use Rattle.vg_words.specs.declared.ask.Ask.{Ask}
 use Rattle.vg_words.specs.declared.ask.Mode.{Mode}
-use Rattle.vg_words.specs.declared.ask.Mode.TheVariants.{Wire, Time, Best, Frontier, Gen}
+use Rattle.vg_words.specs.declared.ask.Mode.TheVariants.{Wire, Time, Best, Frontier, Check, Gen}
 use Rattle.vg_words.specs.declared.option.Opt.{Opt}
-use Rattle.vg_words.specs.declared.option.Opt.TheVariants.{Spef as SpefOption, Lib as LibOption, Verilog as VerilogOption, Cons as ConsOption}
+use Rattle.vg_words.specs.declared.option.Opt.TheVariants.{Spef as SpefOption, Lib as LibOption, Verilog as VerilogOption, Cons as ConsOption, Cert as CertOption}
 use Rattle.vg_inputs.specs.Designs.{IsSpef, IsLib, IsModule}
 use Rattle.vginsert_top.specs.Results.{Asked, IsSpefFault, IsLibFault, IsVerFault, IsConsFault}
 use Rattle.vginsert_top.specs.declared.input.Input.{Input}
-use Rattle.vginsert_top.specs.declared.input.Input.TheVariants.{Spef, Lib, Verilog, Cons}
+use Rattle.vginsert_top.specs.declared.input.Input.TheVariants.{Spef, Lib, Verilog, Cons, Cert}
 use Rattle.vginsert_top.specs.declared.input.Flaw.{Flaw}
 use Rattle.vginsert_top.specs.declared.input.Flaw.TheVariants.{Failed, TooLong, Faulty}
 
@@ -29,14 +29,17 @@ inputs Wire = Spef ∷ []
 inputs Time = design_inputs
 inputs Best = design_inputs
 inputs Frontier = design_inputs
+inputs Check = Spef ∷ Lib ∷ Verilog ∷ Cons ∷ Cert ∷ []
 inputs Gen = []
 
--- those whose texts it judges, in their order: mode `gen` judges those of the design that it makes up
+-- those whose faults it tells, in their order: mode `gen` tells those of the design that it makes up, and mode `check` judges the certificate
+-- when all others are in their form
 abbrev pub judged_inputs : Mode → List Input
 judged_inputs Wire = Spef ∷ []
 judged_inputs Time = design_inputs
 judged_inputs Best = design_inputs
 judged_inputs Frontier = design_inputs
+judged_inputs Check = design_inputs
 judged_inputs Gen = design_inputs
 
 -- the texts of the made-up design of a size
@@ -45,10 +48,23 @@ made_up size Spef = spef_text size
 made_up size Lib = library_text
 made_up size Verilog = netlist_text (branch_count size)
 made_up size Cons = constraints_text (branch_count size)
+made_up size Cert = []
+
+-- the certificate that mode `best` is to write, if it is named; other modes write none
+abbrev pub cert_in : Mode → Ask → Option (List ℕ)
+cert_in Wire ask = None
+cert_in Time ask = None
+cert_in Best ask = ask.cert
+cert_in Frontier ask = None
+cert_in Check ask = None
+cert_in Gen ask = None
+
+abbrev pub written_cert : Ask → Option (List ℕ)
+written_cert ask = cert_in ask.mode ask
 
 -- what a request asks
 abbrev pub asked_by : Ask → Asked
-asked_by ask = record { net = ask.net; cap = cap_of ask; prefix = prefix_of ask; size = size_of ask }
+asked_by ask = record { net = ask.net; certified = is_some (written_cert ask); cap = cap_of ask; prefix = prefix_of ask; size = size_of ask }
 
 -- the option that names an input
 abbrev pub option_of : Input → Opt
@@ -56,13 +72,15 @@ option_of Spef = SpefOption
 option_of Lib = LibOption
 option_of Verilog = VerilogOption
 option_of Cons = ConsOption
+option_of Cert = CertOption
 
--- an input is in its form
+-- an input is in its form; any text may be read as a certificate
 abbrev pub IsInForm : Input → List ℕ → Type 0
 IsInForm Spef text = IsSpef text
 IsInForm Lib text = IsLib text
 IsInForm Verilog text = IsModule text
 IsInForm Cons text = IsFaultless (cons_lines text)
+IsInForm Cert text = Unit {0}
 
 -- it is not, and a line tells its fault
 abbrev pub IsFault : Input → List ℕ → List ℕ → Type 0
@@ -70,6 +88,7 @@ IsFault Spef text line = IsSpefFault text line
 IsFault Lib text line = IsLibFault text line
 IsFault Verilog text line = IsVerFault text line
 IsFault Cons text line = IsConsFault text line
+IsFault Cert text line = ⊥
 
 -- the name of an input: that in the words, or, where the design is made up, `gen`
 abbrev pub name_in : Mode → Ask → Input → List ℕ
@@ -77,6 +96,7 @@ name_in Wire ask input = text_for ask (option_of input)
 name_in Time ask input = text_for ask (option_of input)
 name_in Best ask input = text_for ask (option_of input)
 name_in Frontier ask input = text_for ask (option_of input)
+name_in Check ask input = text_for ask (option_of input)
 name_in Gen ask input = codes "gen"
 
 abbrev pub name_of : Ask → Input → List ℕ
@@ -118,6 +138,7 @@ IsFaultFor Wire texts asked line input = IsFirstFault texts (judged_inputs Wire)
 IsFaultFor Time texts asked line input = IsFirstFault texts (judged_inputs Time) line input
 IsFaultFor Best texts asked line input = IsFirstFault texts (judged_inputs Best) line input
 IsFaultFor Frontier texts asked line input = IsFirstFault texts (judged_inputs Frontier) line input
+IsFaultFor Check texts asked line input = IsFirstFault texts (judged_inputs Check) line input
 IsFaultFor Gen texts asked line input = IsFirstFault (made_up asked.size) (judged_inputs Gen) line input
 
 -- the first flaw: an input could not be read or is too long, and those before it were read; or all were read, one has a

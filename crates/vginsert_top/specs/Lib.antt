@@ -1,5 +1,3 @@
-pub mod Faults
-pub mod Reports
 pub mod Verdicts
 pub mod Results
 pub mod Inputs
@@ -8,3 +6,4 @@ pub mod Run
 pub mod Best
 pub mod Outcomes
 pub mod Gen
+pub mod Check

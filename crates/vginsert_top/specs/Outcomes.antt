@@ -11,7 +11,7 @@ use Rattle.vg_words.specs.declared.ask.WordFault.TheVariants.{Unread, Missing, E
 use Rattle.vginsert_top.specs.Answer.{said_by}
 use Rattle.vginsert_top.specs.Inputs.{Change, name_of, IsFlawed}
 use Rattle.vginsert_top.specs.Run.{AllStay, AreWritten, FailsToWrite, HoldAfter, Prints, PrintsSome, Says, TakesName, flaw_line, flaw_status, output_name, status_for, taken_line, write_failed_line}
-use Rattle.vginsert_top.specs.Results.{Files}
+use Rattle.vginsert_top.specs.Results.{Written}
 use Rattle.vginsert_top.specs.declared.answer.Answer.{Answer}
 use Rattle.vginsert_top.specs.declared.input.Input.{Input}
 use Rattle.vginsert_top.specs.declared.input.Flaw.TheVariants.{Failed, TooLong}
@@ -21,7 +21,7 @@ use Rattle.vginsert_top.specs.declared.outcome.Outcome.TheVariants.{Printed, Fla
 
 -- writing this file of an answer failed
 pub record IsUnwritten (ask : Ask) (files : Change FilesState) (answer : Answer) (output : Output) : Type 0 where
-  pub written : Files
+  pub written : Written
   pub files_are : (said_by answer).files ≡ Some written
   pub hold : HoldAfter files ask written output
   pub fault : WriteFaultAt files.0 files.1 (λ blamed. output_name ask output ≡ Some blamed)
@@ -35,7 +35,7 @@ IsPrinted out text wanted outcome =
 -- how delivering an answer ends: its files were written, and it was printed; or writing a file or printing failed
 abbrev pub IsDelivered : Ask → Change FilesState → Change OutState → Answer → Outcome → Type 0
 IsDelivered ask files out answer outcome =
-    (IsPrinted out answer.text.items (Printed answer.kind) outcome × AreWritten files.1 ask (said_by answer).files)
+    (IsPrinted out answer.text.items (Printed answer.kind) outcome × AreWritten files ask (said_by answer).files)
     ⊎ ((output : Output) × (outcome ≡ Unwritten output) × (out.1.written ≡ out.0.written) × IsUnwritten ask files answer output)
 
 -- why the inputs were not read, and at which of them reading ended

@@ -1,5 +1,5 @@
 -- What the inputs say of the nets that are asked for.
-use Rattle.std.specs.Prelude.{◌≡◌, ◌≢◌, ℕ, ◌==◌, not, List, [], ◌∷◌, Option, Some, None, codes, filter, if◌then◌else◌}
+use Rattle.std.specs.Prelude.{◌≡◌, ◌≢◌, ℕ, ◌==◌, Bool, true, false, not, List, [], ◌∷◌, Option, Some, None, codes, filter, if◌then◌else◌}
 use Rattle.std.specs.List.{flat_map, starts_with}
 use Rattle.elmore.specs.Best.{IsGood}
 use Rattle.elmore.specs.Legal.{IsWithin}
@@ -25,11 +25,13 @@ use Rattle.vg_design.specs.declared.time.Timed.{Timed}
 use Rattle.vg_inputs.specs.Designs.{Texts, IsDesign}
 use Rattle.vg_retime.specs.Retimings.{Retimes, IsFirstRefusal as IsFirstOnWay}
 use Rattle.vg_scan.specs.declared.fault.LineFault.{LineFault}
+use Rattle.vg_verdict.specs.Laws.{names_in}
+use Rattle.vg_verdict.specs.Judged.{CountsEntries, IsCertificateOf, IsJudged}
 use Rattle.vg_wire.specs.Nets.{IsRefusalOf}
 use Rattle.vg_wire.specs.Wires.{IsWireOf}
 use Rattle.vg_wire.specs.declared.refusal.Refusal.{Refusal}
 use Rattle.vg_wire.specs.declared.wire.WireNet.{WireNet}
-use Rattle.vginsert_top.specs.Faults.{cons_fault, lib_fault, spef_fault, ver_fault}
+use Rattle.vg_report.specs.Faults.{cons_fault, lib_fault, spef_fault, ver_fault}
 use Rattle.vg_design.specs.Parts.{cells_of}
 use Rattle.vg_design.specs.declared.net_problem.NetProblem.{NetProblem}
 use Rattle.vg_design.specs.declared.net_problem.PosedNet.{PosedNet}
@@ -37,10 +39,10 @@ use Rattle.vg_slack.specs.Bests.{HasNoGood, IsAnswer, IsFound}
 use Rattle.vg_slack.specs.declared.answer.Best.{Best}
 use Rattle.vg_front.specs.Points.{IsFrontierOf}
 use Rattle.vg_front.specs.declared.root.Point.{Point}
-use Rattle.vginsert_top.specs.Reports.{best_report, cell_count, front_report, gen_line, none_line, place_count, wire_report, slack_line, refusal_line}
+use Rattle.vg_report.specs.Reports.{best_report, cell_count, front_report, gen_line, none_line, place_count, wire_report, slack_line, refusal_line}
 use Rattle.vginsert_top.specs.Verdicts.{Verdict, AreSaid, bare_verdict, put_in}
 use Rattle.vginsert_top.specs.declared.answer.AnswerKind.{AnswerKind}
-use Rattle.vginsert_top.specs.declared.answer.AnswerKind.TheVariants.{Report, NoneGood, Refusal as Refused}
+use Rattle.vginsert_top.specs.declared.answer.AnswerKind.TheVariants.{Report, NoneGood, Refusal as Refused, Invalid}
 
 -- the net of this name has wire delays, and the text is their report
 pub record IsDelays (file name text : List ℕ) : Type 0 where
@@ -78,23 +80,29 @@ pub record IsConsFault (cons text : List ℕ) : Type 0 where
   pub found : IsFaultIn (cons_lines cons) fault
   pub text_is : text ≡ cons_fault fault
 
--- What is asked: one net by its name, or all nets of the parasitics; the cap on the cost of placements (thousandths), if there is one; what
--- the names of cells that were put in begin with; and the size of a design that is to be made up.
+-- What is asked: one net by its name, or all nets of the parasitics; whether a certificate is; the cap on the cost of placements (thousandths),
+-- if there is one; what the names of cells that were put in begin with; and the size of a design that is to be made up.
 pub record Asked : Type 0 where
   pub net : Option (List ℕ)
+  pub certified : Bool
   pub cap : Option ℕ
   pub prefix : List ℕ
   pub size : ℕ
 
--- The netlist and the parasitics that are written.
+-- A netlist and parasitics.
 pub record Files : Type 0 where
   pub verilog : List ℕ
   pub spef : List ℕ
 
+-- What is written: a netlist and parasitics, and a certificate, where there is one.
+pub record Written : Type 0 where
+  pub design : Files
+  pub cert : Option (List ℕ)
+
 -- What is said: a text that is printed, and the files that are written, where any are.
 pub record Said : Type 0 where
   pub text : List ℕ
-  pub files : Option Files
+  pub files : Option Written
 
 -- the nets that are asked for, in the order in which they are answered: all of them as the parasitics have them
 abbrev pub nets_for : Design → Option (List ℕ) → List (List ℕ)
@@ -165,12 +173,37 @@ pub record AreFilesOf (read : Files) (design : Design) (prefix : List ℕ) (nets
   pub bare : nets ≡ [] → files ≡ read
   pub changed : (nets ≡ [] → ⊥) → AreChanged read design prefix nets files
 
--- this is said of the nets that are asked for, and the files have the new cells of all of them
+-- what is said of a posed net of which this was found
+abbrev pub found_verdict : Design → List ℕ → PosedNet → Option Best → Verdict
+found_verdict d name net None = bare_verdict NoneGood (none_line name)
+found_verdict d name net (Some best) = best_verdict d name net best
+
+-- a text is a certificate of what was found for the net of this name, of which this is said
+pub record Certifies (d : Design) (name : List ℕ) (kind : AnswerKind) (said text : List ℕ) : Type 0 where
+  pub net : PosedNet
+  pub net_of : IsPosedNet d name net
+  pub found : Option Best
+  pub found_of : IsAnswer net.problem found
+  pub kind_is : kind ≡ (found_verdict d name net found).kind
+  pub said_is : said ≡ (found_verdict d name net found).text
+  pub cert_of : IsCertificateOf net.problem (names_in d name net) found text
+
+-- which certificate is written beside what is said: that of the one net that is asked for, where a certificate is asked for and the net is not
+-- refused; else none
+pub data IsCertFor (d : Design) (asked : Asked) (kind : AnswerKind) (said : List ℕ) (cert : Option (List ℕ)) : Type 0 where
+  not_asked : asked.certified ≡ false → cert ≡ None → IsCertFor d asked kind said cert
+  of_all : asked.net ≡ None → cert ≡ None → IsCertFor d asked kind said cert
+  of_refused : kind ≡ Refused → cert ≡ None → IsCertFor d asked kind said cert
+  of_one : asked.certified ≡ true → (name text : List ℕ) → asked.net ≡ Some name → cert ≡ Some text → Certifies d name kind said text → IsCertFor d asked kind said cert
+
+-- this is said of the nets that are asked for, the files have the new cells of all of them, and a certificate is written where one is asked for
 pub record IsBestOf (read : Files) (design : Design) (asked : Asked) (kind : AnswerKind) (said : Said) : Type 0 where
   pub nets : AreSaid (IsBestSaid design) (nets_for design asked.net) kind said.text
   pub files : Files
   pub files_of : AreFilesOf read design asked.prefix (flat_map put_in nets.verdicts) files
-  pub files_are : said.files ≡ Some files
+  pub cert : Option (List ℕ)
+  pub cert_of : IsCertFor design asked kind said.text cert
+  pub files_are : said.files ≡ Some (record { design = files; cert = cert })
 
 -- so of four texts that are a design, none of whose names begins with the prefix
 pub record IsBestAnswer (texts : Texts) (asked : Asked) (kind : AnswerKind) (said : Said) : Type 0 where
@@ -211,13 +244,34 @@ pub record IsFrontAnswer (texts : Texts) (asked : Asked) (kind : AnswerKind) (sa
   pub nets : AreSaid (IsFrontSaid design asked.cap) (nets_for design asked.net) kind said.text
   pub no_files : said.files ≡ None
 
+-- ---- certificates
+
+-- the kind of what is said of a certificate
+abbrev pub kind_judged : Bool → AnswerKind
+kind_judged true = Report
+kind_judged false = Invalid
+
+-- a text is judged as a certificate of the net of this name; or the net is refused
+pub data IsCheckSaid (d : Design) (name cert : List ℕ) (said : Verdict) : Type 0 where
+  told_judgement : (net : PosedNet) → IsPosedNet d name net → (valid : Bool) (line : List ℕ) → IsJudged net.problem (names_in d name net) cert valid line
+      → said ≡ bare_verdict (kind_judged valid) line → IsCheckSaid d name cert said
+  told_refusal : (refusal : Refusal) → IsFirstRefusal d name refusal → said ≡ bare_verdict Refused (refusal_line name refusal) → IsCheckSaid d name cert said
+
+-- the four texts are a design, and this is said of a certificate of the net that is asked for
+pub record IsCheckAnswer (texts : Texts) (cert name : List ℕ) (kind : AnswerKind) (said : Said) : Type 0 where
+  pub design : Design
+  pub design_of : IsDesign texts design
+  pub says : IsCheckSaid design name cert (bare_verdict kind said.text)
+  pub no_files : said.files ≡ None
+
 -- ---- made-up designs
 
 -- the net of a made-up design
 abbrev pub made_net : List ℕ
 made_net = codes "g"
 
--- four texts are a design whose net has these places, this slack without a cell, and this best placement; the text tells of them
+-- four texts are a design whose net has these places, this slack without a cell, this best placement, and so many undominated pairs at its nodes;
+-- the text tells of them
 pub record IsSummary (texts : Texts) (text : List ℕ) : Type 0 where
   pub design : Design
   pub design_of : IsDesign texts design
@@ -227,7 +281,9 @@ pub record IsSummary (texts : Texts) (text : List ℕ) : Type 0 where
   pub net_of : IsPosedNet design made_net net
   pub found : Option Best
   pub found_of : IsAnswer net.problem found
-  pub text_is : text ≡ gen_line (place_count net.problem.places) timed.slack found
+  pub entries : ℕ
+  pub entries_are : CountsEntries net.problem entries
+  pub text_is : text ≡ gen_line (place_count net.problem.places) timed.slack found entries
 
 -- or its net is refused, and the text says why
 pub record IsMadeRefusal (texts : Texts) (text : List ℕ) : Type 0 where

@@ -1,5 +1,5 @@
 -- What a run of the program promises.
-use Rattle.std.specs.Prelude.{◌≡◌, ◌≢◌, ◌⊎◌, ℕ, ◌<◌, ◌≤◌, List, [], ◌∷◌, ◌++◌, ◌==◌, Bool, codes, Option, Some, None, IfSome, unwrap_or}
+use Rattle.std.specs.Prelude.{◌≡◌, ◌≢◌, ◌⊎◌, ℕ, ◌≤◌, List, [], ◌∷◌, ◌++◌, ◌==◌, Bool, true, codes, Option, Some, None, IfSome, unwrap_or}
 use Rattle.std.specs.List.{All, list_any}
 use Rattle.vg_store.specs.Causes.{Rose}
 use Rattle.vg_store.specs.Reading.{FilesState}
@@ -12,12 +12,12 @@ use Rattle.vg_words.specs.declared.ask.WordFault.{WordFault}
 use Rattle.vg_words.specs.declared.ask.WordFault.TheVariants.{Unread, Missing, Excluded, BadValue, Equal, Memory as NoRoom}
 use Rattle.vginsert_top.specs.Answer.{IsAnswerFor, IsTakenFor}
 use Rattle.vginsert_top.specs.declared.answer.AnswerKind.{AnswerKind}
-use Rattle.vginsert_top.specs.declared.answer.AnswerKind.TheVariants.{Report, NoneGood, Refusal}
-use Rattle.vginsert_top.specs.Inputs.{asked_by, inputs, name_of, told, Change, IsShort, AreRead, IsFaultFor, IsFlawed}
-use Rattle.vginsert_top.specs.Results.{Files, Said}
+use Rattle.vginsert_top.specs.declared.answer.AnswerKind.TheVariants.{Report, NoneGood, Refusal, Invalid}
+use Rattle.vginsert_top.specs.Inputs.{asked_by, inputs, name_of, told, written_cert, Change, IsShort, AreRead, IsFaultFor, IsFlawed}
+use Rattle.vginsert_top.specs.Results.{Said, Written}
 use Rattle.vginsert_top.specs.declared.input.Input.{Input}
 use Rattle.vginsert_top.specs.declared.output.Output.{Output}
-use Rattle.vginsert_top.specs.declared.output.Output.TheVariants.{Netlist, Parasitics}
+use Rattle.vginsert_top.specs.declared.output.Output.TheVariants.{Netlist, Parasitics, Certificate}
 use Rattle.vginsert_top.specs.declared.input.Flaw.{Flaw}
 use Rattle.vginsert_top.specs.declared.input.Flaw.TheVariants.{Failed, TooLong, Faulty}
 
@@ -60,11 +60,13 @@ refused_line NoRoom = codes "vginsert: out of memory\n"
 
 -- the words name this file as one that is written
 abbrev pub IsOutput : Ask → List ℕ → Type 0
-IsOutput ask file = (ask.out_spef ≡ Some file) ⊎ (ask.out_verilog ≡ Some file)
+IsOutput ask file = (ask.out_spef ≡ Some file) ⊎ (ask.out_verilog ≡ Some file) ⊎ (written_cert ask ≡ Some file)
 
 -- no file is written twice
-abbrev pub AreApart : Ask → Type 0
-AreApart ask = (file : List ℕ) → ask.out_verilog ≡ Some file → ask.out_spef ≡ Some file → ⊥
+pub record AreApart (ask : Ask) : Type 0 where
+  pub design : (file : List ℕ) → ask.out_verilog ≡ Some file → ask.out_spef ≡ Some file → ⊥
+  pub netlist : (file : List ℕ) → ask.out_verilog ≡ Some file → written_cert ask ≡ Some file → ⊥
+  pub parasitics : (file : List ℕ) → ask.out_spef ≡ Some file → written_cert ask ≡ Some file → ⊥
 
 -- a design that is to be made up has a size that it can have
 abbrev pub IsSized : Ask → Type 0
@@ -74,16 +76,26 @@ IsSized ask = ask.mode ≡ Gen → (1 ≤ size_of ask) × (size_of ask ≤ 4000)
 abbrev pub HoldsAt : FilesState → Option (List ℕ) → List ℕ → Type 0
 HoldsAt files name text = IfSome name (λ file. IfSome (files.holds file) (λ bytes. bytes ≡ text))
 
+-- where the words name a file, it holds what it held
+abbrev pub StaysAt : Change FilesState → Option (List ℕ) → Type 0
+StaysAt files name = (file : List ℕ) → name ≡ Some file → files.1.holds file ≡ files.0.holds file
+
+-- the certificate is written, where there is one
+abbrev pub IsCertWritten : Change FilesState → Ask → Option (List ℕ) → Type 0
+IsCertWritten files ask None = StaysAt files (written_cert ask)
+IsCertWritten files ask (Some text) = HoldsAt files.1 (written_cert ask) text
+
 -- the files that the words name hold what was said
-abbrev pub AreWritten : FilesState → Ask → Option Files → Type 0
+abbrev pub AreWritten : Change FilesState → Ask → Option Written → Type 0
 AreWritten files ask None = Unit {0}
-AreWritten files ask (Some said) = HoldsAt files ask.out_verilog said.verilog × HoldsAt files ask.out_spef said.spef
+AreWritten files ask (Some said) =
+    HoldsAt files.1 ask.out_verilog said.design.verilog × HoldsAt files.1 ask.out_spef said.design.spef × IsCertWritten files ask said.cert
 
 -- of the texts that were read an output gained an answer of this kind, and its files were written
 abbrev pub Prints : AnswerKind → Change FilesState → (List ℕ → Type 0) → Ask → Type 0
 Prints kind files Gained ask =
     (texts : Input → List ℕ) × AreRead files.0 ask texts
-    × ((said : Said) × IsAnswerFor kind ask.mode texts (asked_by ask) said × Gained said.text × AreWritten files.1 ask said.files)
+    × ((said : Said) × IsAnswerFor kind ask.mode texts (asked_by ask) said × Gained said.text × AreWritten files ask said.files)
 
 abbrev pub PrintsSome : Change FilesState → (List ℕ → Type 0) → Ask → Type 0
 PrintsSome files Gained ask = (kind : AnswerKind) × Prints kind files Gained ask
@@ -98,12 +110,17 @@ StaysOrBegins files name text = IfSome name (λ file. StaysOrPrefix (files.0.hol
 abbrev pub output_name : Ask → Output → Option (List ℕ)
 output_name ask Netlist = ask.out_verilog
 output_name ask Parasitics = ask.out_spef
+output_name ask Certificate = written_cert ask
 
--- what the files hold where writing this one failed: the netlist is written before the parasitics
-abbrev pub HoldAfter : Change FilesState → Ask → Files → Output → Type 0
-HoldAfter files ask said Netlist =
-    StaysOrBegins files ask.out_verilog said.verilog × ((file : List ℕ) → ask.out_spef ≡ Some file → files.1.holds file ≡ files.0.holds file)
-HoldAfter files ask said Parasitics = HoldsAt files.1 ask.out_verilog said.verilog × StaysOrBegins files ask.out_spef said.spef
+-- a certificate that is written stays, or holds a prefix of its text
+abbrev pub BeginsCert : Change FilesState → Ask → Option (List ℕ) → Type 0
+BeginsCert files ask cert = IfSome cert (λ text. StaysOrBegins files (written_cert ask) text)
+
+-- what the files hold where writing this one failed: the netlist is written first, then the parasitics, and the certificate last
+abbrev pub HoldAfter : Change FilesState → Ask → Written → Output → Type 0
+HoldAfter files ask said Netlist = StaysOrBegins files ask.out_verilog said.design.verilog × StaysAt files ask.out_spef × StaysAt files (written_cert ask)
+HoldAfter files ask said Parasitics = HoldsAt files.1 ask.out_verilog said.design.verilog × StaysOrBegins files ask.out_spef said.design.spef × StaysAt files (written_cert ask)
+HoldAfter files ask said Certificate = HoldsAt files.1 ask.out_verilog said.design.verilog × HoldsAt files.1 ask.out_spef said.design.spef × BeginsCert files ask said.cert
 
 -- the files of an answer were to be written, and writing this one failed
 pub record FailsToWrite (ask : Ask) (files : Change FilesState) (output : Output) : Type 0 where
@@ -112,7 +129,7 @@ pub record FailsToWrite (ask : Ask) (files : Change FilesState) (output : Output
   pub kind : AnswerKind
   pub said : Said
   pub is : IsAnswerFor kind ask.mode texts (asked_by ask) said
-  pub written : Files
+  pub written : Written
   pub files_are : said.files ≡ Some written
   pub hold : HoldAfter files ask written output
   pub fault : WriteFaultAt files.0 files.1 (λ blamed. output_name ask output ≡ Some blamed)
@@ -134,6 +151,7 @@ abbrev pub status_for : AnswerKind → ℕ
 status_for Report = 0
 status_for NoneGood = 1
 status_for Refusal = 2
+status_for Invalid = 8
 
 -- an input has the first flaw, its flaw gives this status, and a line tells it
 abbrev pub TellsFlaw : ℕ → Change FilesState → (List ℕ → Type 0) → Ask → Type 0
@@ -189,7 +207,11 @@ IsExact words files status =
 
 -- a run ends with one of these
 abbrev pub is_status : ℕ → Bool
-is_status status = list_any (λ s. s == status) (0 ∷ 1 ∷ 2 ∷ 3 ∷ 4 ∷ 5 ∷ 6 ∷ 7 ∷ [])
+is_status status = list_any (λ s. s == status) (0 ∷ 1 ∷ 2 ∷ 3 ∷ 4 ∷ 5 ∷ 6 ∷ 7 ∷ 8 ∷ [])
+
+-- with these an answer was printed
+abbrev pub is_answer : ℕ → Bool
+is_answer status = list_any (λ s. s == status) (0 ∷ 1 ∷ 2 ∷ 8 ∷ [])
 
 -- after these nothing was printed
 abbrev pub prints_nothing : ℕ → Bool
@@ -197,5 +219,5 @@ prints_nothing status = list_any (λ s. s == status) (3 ∷ 4 ∷ 5 ∷ 7 ∷ []
 
 -- the fixed lines of standard error, and that it stays as it is after a printed answer
 pub record ErrorLine (status : ℕ) (SaysLine : List ℕ → Type 0) (Same : Type 0) : Type 0 where
-  pub printed : status < 3 → Same
+  pub printed : is_answer status ≡ true → Same
   pub memory : status ≡ 7 → SaysLine (codes "vginsert: out of memory\n")

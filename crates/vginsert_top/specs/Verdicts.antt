@@ -3,7 +3,7 @@ use Rattle.std.specs.Prelude.{◌≡◌, ℕ, Bool, true, false, List, [], ◌�
 use Rattle.std.specs.List.{AllZip, flat_map, list_any}
 use Rattle.vg_change.specs.Placed.{PlacedNet}
 use Rattle.vginsert_top.specs.declared.answer.AnswerKind.{AnswerKind}
-use Rattle.vginsert_top.specs.declared.answer.AnswerKind.TheVariants.{Report, NoneGood, Refusal}
+use Rattle.vginsert_top.specs.declared.answer.AnswerKind.TheVariants.{Report, NoneGood, Refusal, Invalid}
 
 -- What is said of one net: the kind of the answer, its lines, and the net with its new cells, where it gets any.
 pub record Verdict : Type 0 where
@@ -28,15 +28,27 @@ abbrev pub is_refusal : AnswerKind → Bool
 is_refusal Report = false
 is_refusal NoneGood = false
 is_refusal Refusal = true
+is_refusal Invalid = false
 
 abbrev pub is_none_good : AnswerKind → Bool
 is_none_good Report = false
 is_none_good NoneGood = true
 is_none_good Refusal = false
+is_none_good Invalid = false
 
--- the kind of all answers together: a refusal where one net is refused, else that no placement is good where one net has none, else a report
+abbrev pub is_invalid : AnswerKind → Bool
+is_invalid Report = false
+is_invalid NoneGood = false
+is_invalid Refusal = false
+is_invalid Invalid = true
+
+-- the kind of all answers together: a refusal where one net is refused, else that a certificate is not valid where one is not, else that no
+-- placement is good where one net has none, else a report
 abbrev pub kind_of : List AnswerKind → AnswerKind
-kind_of kinds = if list_any is_refusal kinds then Refusal else (if list_any is_none_good kinds then NoneGood else Report)
+kind_of kinds =
+    if list_any is_refusal kinds then Refusal
+    else (if list_any is_invalid kinds then Invalid
+    else (if list_any is_none_good kinds then NoneGood else Report))
 
 -- that of two answers
 abbrev pub worse : AnswerKind → AnswerKind → AnswerKind

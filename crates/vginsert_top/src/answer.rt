@@ -7,7 +7,6 @@ ghost use Rattle.vginsert_top.specs.Run.{status_for};
 ghost use Rattle.vginsert_top.specs.Verdicts.{worse};
 ghost use Rattle.vginsert_top.specs.declared.answer.NoAnswer.TheVariants.{Memory as out_of_memory};
 
-use crate::faults::{cons_fault, lib_fault, spef_fault, ver_fault};
 use crate::input::Input;
 use spef_file::{SpefIndex, SpefKind, SpefText, index};
 use std::alloc::Global;
@@ -15,6 +14,7 @@ use vg_design::Design;
 use vg_inputs::{DesignFault, read_design};
 use vg_num::{Memory, Row};
 use vg_patch::Patched;
+use vg_report::{cons_fault, lib_fault, spef_fault, ver_fault};
 use vg_scan::Name;
 
 /// What an answer is.
@@ -26,6 +26,8 @@ pub enum AnswerKind {
     NoneGood,
     /// Why a net is refused.
     Refusal,
+    /// That a certificate is not in its form or not valid.
+    Invalid,
 }
 
 impl AnswerKind {
@@ -37,26 +39,30 @@ impl AnswerKind {
             AnswerKind::Report => 0,
             AnswerKind::NoneGood => 1,
             AnswerKind::Refusal => 2,
+            AnswerKind::Invalid => 8,
         }
     }
 
-    /// The kind of two answers together: a refusal where one is, else that no placement is good where one tells that, else a report.
+    /// The kind of two answers together: a refusal where one is, else that a certificate is not valid or that no placement is good where
+    /// one tells that, else a report.
     pub fn worse(self, other: AnswerKind) -> AnswerKind
         ensures { result ≡ worse self other }
     {
         match (self, other) {
             (AnswerKind::Refusal, _) | (_, AnswerKind::Refusal) => AnswerKind::Refusal,
+            (AnswerKind::Invalid, _) | (_, AnswerKind::Invalid) => AnswerKind::Invalid,
             (AnswerKind::NoneGood, _) | (_, AnswerKind::NoneGood) => AnswerKind::NoneGood,
             _ => AnswerKind::Report,
         }
     }
 }
 
-/// The netlist and the parasitics that are written: those that were read, with what is replaced in them.
+/// What is written: the netlist and the parasitics that were read, with what is replaced in them, and a certificate, where there is one.
 #[derive(Drop)]
 pub struct Written {
     pub verilog: Patched,
     pub spef: Patched,
+    pub cert: Option<Patched>,
 }
 
 /// What is said of the nets that are asked for.

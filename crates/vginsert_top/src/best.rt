@@ -10,13 +10,13 @@ ghost use Rattle.vg_split.specs.Conditions.{IsNamed};
 ghost use Rattle.vg_words.specs.Request.{prefix_of};
 ghost use Rattle.vg_words.specs.declared.ask.Mode.{Mode};
 ghost use Rattle.vginsert_top.specs.Answer.{AnswersFor, said_by, texts_in};
-ghost use Rattle.vginsert_top.specs.Best.{AreFinished, AreJudged, Judges, said_with};
-ghost use Rattle.vginsert_top.specs.Results.{nets_for};
+ghost use Rattle.vginsert_top.specs.Best.{AreCertified, AreFinished, AreFitNames, Judges, said_with};
 ghost use Rattle.vginsert_top.specs.Inputs.{asked_by};
 
 use crate::answer::{Answer, AnswerKind, NoAnswer, Written, design_of};
 use crate::input::Texts;
-use crate::judging::Judging;
+use crate::judging::{Certified, Judging};
+use crate::output::Output;
 use spef_file::SpefText;
 use std::alloc::Global;
 use vg_change::{Changes, Patches};
@@ -28,12 +28,13 @@ use vg_scan::{Comments, Name};
 use vg_slack::Room;
 use vg_words::Ask;
 
-/// What is said in mode `best`, and what is replaced in the texts of the design.
+/// What is said in mode `best`, what is replaced in the texts of the design, and the certificate, where there is one.
 #[derive(Drop)]
 pub struct Judged {
     pub kind: AnswerKind,
     pub text: Vec<u8>,
     pub patches: Patches,
+    pub cert: Option<Patched>,
 }
 
 /// Nothing that is replaced.
@@ -47,11 +48,13 @@ fn no_patches(alloc: Global) -> Patches
     }
 }
 
-/// What was said of nets, and what is to be replaced in the texts of their design, where nothing is unless a net got a cell.
-fn finish(alloc: Global, judging: Judging<'_>) -> Result<Judged, Memory>
-    requires read { (verilog : List ℕ) × DenotesModule verilog judging.changes.design.netlist }
-    ensures { IfOk result (AreFinished judging.entry) }
+/// What was said of nets, with their certificate, and what is to be replaced in the texts of their design, where nothing is unless a net got
+/// a cell.
+fn finish(alloc: Global, all: Certified<'_>) -> Result<Judged, Memory>
+    requires read { (verilog : List ℕ) × DenotesModule verilog all.judging.changes.design.netlist }
+    ensures { IfOk result (AreFinished all.entry) }
 {
+    let Certified { judging, cert } = all;
     let Judging {
         changes,
         changed,
@@ -67,6 +70,7 @@ fn finish(alloc: Global, judging: Judging<'_>) -> Result<Judged, Memory>
         kind,
         text,
         patches,
+        cert,
     })
 }
 
@@ -76,15 +80,26 @@ fn judge_nets<'a>(
     changes: Changes<'a>,
     design: &Design,
     ask: &Ask,
-) -> Result<Judging<'a>, Memory>
+) -> Result<Certified<'a>, Memory>
     requires none { changes ≡ nothing design.now changes.prefix }
-    ensures { IfOk result (AreJudged design.now changes.entry.prefix (nets_for design.now ask.now.net)) }
+    requires names { AreFitNames design.now }
+    ensures { IfOk result (AreCertified design.now changes.entry.prefix (asked_by ask.now)) }
 {
     let mut room = Room::new(alloc);
     let judging = Judging::new(alloc, changes);
     match &ask.net {
-        Some(name) => judging.with_one(alloc, &mut room, design, name.as_str().as_bytes()),
-        None => judging.with_all(alloc, &mut room, design),
+        Some(name) => {
+            let is_certified = Output::Certificate.name(ask).is_some();
+            let name = name.as_str().as_bytes();
+            judging.with_asked(alloc, &mut room, design, name, is_certified)
+        }
+        None => {
+            let judging = judging.with_all(alloc, &mut room, design)?;
+            Ok(Certified {
+                judging,
+                cert: None,
+            })
+        }
     }
 }
 
@@ -92,13 +107,14 @@ fn judge_nets<'a>(
 fn judge(alloc: Global, design: &Design, ask: &Ask) -> Result<Judged, NoAnswer>
     requires prefix { AllPass is_solid (prefix_of ask.now) }
     requires repeaters { All IsNamed design.now.library.repeaters }
+    requires names { AreFitNames design.now }
     requires read { (verilog : List ℕ) × DenotesModule verilog design.now.netlist }
     ensures { Judges design.now (asked_by ask.now) result }
 {
     match Changes::new(alloc, design, ask.prefix().as_bytes()) {
         Ok(changes) => {
-            let judging = judge_nets(alloc, changes, design, ask)?;
-            Ok(finish(alloc, judging)?)
+            let all = judge_nets(alloc, changes, design, ask)?;
+            Ok(finish(alloc, all)?)
         }
         Err(taken) => Err(NoAnswer::Taken(Name::from_bytes(alloc, taken)?)),
     }
@@ -116,10 +132,12 @@ impl Judged {
             kind,
             text,
             patches,
+            cert,
         } = self;
         let written = Written {
             verilog: Patched::new(verilog, patches.verilog),
             spef: Patched::new(spef, patches.spef),
+            cert,
         };
         Answer {
             kind,
@@ -145,6 +163,7 @@ pub fn best_for(alloc: Global, texts: Texts, ask: &Ask) -> Result<Answer, NoAnsw
         lib,
         verilog,
         cons,
+        ..
     } = texts;
     let (clear, comments) = take_comments(alloc, spef, Comments::Spef)?;
     let text = SpefText::from_clear(clear);

@@ -9,15 +9,13 @@ ghost use Rattle.vginsert_top.specs.Verdicts.{AreSaid, SaysOfNet};
 
 use crate::answer::{Answer, AnswerKind, NoAnswer, design_of};
 use crate::input::Texts;
-use crate::placement::report_front;
-use crate::report::print_none;
-use crate::wire::print_refusal;
 use sol_arena::Arena;
 use spef_file::SpefText;
 use std::alloc::Global;
 use vg_design::{Design, NetProblem, posed_net};
 use vg_front::frontier_in;
 use vg_num::Memory;
+use vg_report::{print_none, print_refusal, report_front};
 use vg_scan::Name;
 use vg_wire::Refused;
 use vg_words::Ask;
@@ -124,6 +122,7 @@ pub fn front_for(alloc: Global, texts: Texts, ask: &Ask) -> Result<Answer, NoAns
         lib,
         verilog,
         cons,
+        ..
     } = texts;
     let design = design_of(alloc, SpefText::new(spef), &lib, &verilog, &cons)?;
     Ok(front_nets(alloc, &design, ask)?)

@@ -20,6 +20,8 @@ pub enum Input {
     Verilog,
     /// The constraints.
     Cons,
+    /// The certificate.
+    Cert,
 }
 
 /// What is wrong with an input.
@@ -40,11 +42,20 @@ pub struct Texts {
     pub lib: Vec<u8>,
     pub verilog: Vec<u8>,
     pub cons: Vec<u8>,
+    pub cert: Vec<u8>,
 }
 
 const WIRE_INPUTS: [Input; 1] = [Input::Spef];
 
 const DESIGN_INPUTS: [Input; 4] = [Input::Spef, Input::Lib, Input::Verilog, Input::Cons];
+
+const CHECK_INPUTS: [Input; 5] = [
+    Input::Spef,
+    Input::Lib,
+    Input::Verilog,
+    Input::Cons,
+    Input::Cert,
+];
 
 impl Input {
     /// The option that names the input.
@@ -56,6 +67,7 @@ impl Input {
             Input::Lib => Opt::Lib,
             Input::Verilog => Opt::Verilog,
             Input::Cons => Opt::Cons,
+            Input::Cert => Opt::Cert,
         }
     }
 
@@ -64,8 +76,8 @@ impl Input {
         ensures { result.now ≡ name_of ask.now self }
     {
         match ask.mode {
-            Mode::Wire | Mode::Time | Mode::Best | Mode::Frontier => ask.text(self.option()),
             Mode::Gen => "gen",
+            _ => ask.text(self.option()),
         }
     }
 }
@@ -77,6 +89,7 @@ fn inputs(mode: Mode) -> &'static [Input]
     match mode {
         Mode::Wire => &WIRE_INPUTS,
         Mode::Time | Mode::Best | Mode::Frontier => &DESIGN_INPUTS,
+        Mode::Check => &CHECK_INPUTS,
         Mode::Gen => &[],
     }
 }
@@ -87,12 +100,14 @@ impl Texts {
         ensures lib { result.lib.items ≡ [] }
         ensures verilog { result.verilog.items ≡ [] }
         ensures cons { result.cons.items ≡ [] }
+        ensures cert { result.cert.items ≡ [] }
     {
         Texts {
             spef: Vec::new(alloc),
             lib: Vec::new(alloc),
             verilog: Vec::new(alloc),
             cons: Vec::new(alloc),
+            cert: Vec::new(alloc),
         }
     }
 
@@ -106,6 +121,7 @@ impl Texts {
             Input::Lib => self.lib = text,
             Input::Verilog => self.verilog = text,
             Input::Cons => self.cons = text,
+            Input::Cert => self.cert = text,
         }
     }
 }

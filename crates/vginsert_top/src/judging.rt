@@ -1,29 +1,30 @@
 //! The best placements of nets, one after another.
 
-ghost use Rattle.std.specs.Prelude.{◌≡◌, ℕ, List, ◌∷◌, [], IfOk};
+ghost use Rattle.std.specs.Prelude.{◌≡◌, ℕ, List, ◌∷◌, [], Some, IfOk};
 ghost use Rattle.elmore.specs.Best.{IsGood};
 ghost use Rattle.vg_change.specs.Changes.{IsBehind, IsFresh, nothing};
 ghost use Rattle.vg_change_nets.specs.Order.{IsOpen};
 ghost use Rattle.vg_design.specs.Designs.{net_names};
 ghost use Rattle.vg_design.specs.Nets.{IsPosedNet};
-ghost use Rattle.vg_slack.specs.Bests.{IsFound};
-ghost use Rattle.vginsert_top.specs.Best.{AreJudged, ArePut, IsOneMore, JudgesOne};
-ghost use Rattle.vginsert_top.specs.Reports.{none_line, refusal_line};
-ghost use Rattle.vginsert_top.specs.Results.{best_verdict, put_of};
+ghost use Rattle.vg_slack.specs.Bests.{IsAnswer, IsFound};
+ghost use Rattle.vginsert_top.specs.Best.{AreCertified, AreFitNames, AreJudged, ArePut, CertifiesOne, IsCertifiedNet, IsOneMore, JudgesOne};
+ghost use Rattle.vg_report.specs.Reports.{none_line, refusal_line};
+ghost use Rattle.vginsert_top.specs.Results.{Asked, best_verdict, found_verdict, put_of};
 ghost use Rattle.vginsert_top.specs.Verdicts.{bare_verdict};
 ghost use Rattle.vginsert_top.specs.declared.answer.AnswerKind.{AnswerKind as Kind};
 
 use crate::answer::AnswerKind;
-use crate::placement::{best_of, count_cells, report_best};
-use crate::report::print_none;
-use crate::wire::print_refusal;
+use crate::search::search;
 use elmore::Placement;
 use std::alloc::Global;
 use vg_change::Changes;
 use vg_design::{Design, PosedNet, posed_net};
 use vg_num::Memory;
+use vg_patch::{Patch, Patched};
+use vg_report::{count_cells, print_none, print_refusal, report_best};
 use vg_scan::Name;
 use vg_slack::{Best, Room};
+use vg_verdict::{certified, net_names};
 use vg_wire::{Refusal, Refused};
 
 /// What is said of the best placements of nets, one after another, and what changes in their design when the cells are put in.
@@ -36,6 +37,13 @@ pub struct Judging<'a> {
     pub kind: AnswerKind,
     /// The lines of all nets.
     pub text: Vec<u8>,
+}
+
+/// What is said of nets, and the certificate of the one, where it is asked for and the net is not refused.
+#[derive(Drop)]
+pub struct Certified<'a> {
+    pub judging: Judging<'a>,
+    pub cert: Option<Patched>,
 }
 
 /// Puts the cells of a good placement into a net, and tells whether it has any.
@@ -154,6 +162,28 @@ impl<'a> Judging<'a> {
         })
     }
 
+    /// With what was found for a net.
+    fn with_answer(
+        self,
+        alloc: Global,
+        design: &Design,
+        name: &[u8],
+        net: PosedNet,
+        found: &Option<Best>,
+    ) -> Result<Judging<'a>, Memory>
+        requires design { self.changes.design ≡ design.now }
+        requires posed { IsPosedNet design.now name.now net }
+        requires found { IsAnswer net.problem found.now }
+        requires behind { IsBehind self.changes net.ready.pinned.net.par.name }
+        requires fresh { IsFresh self.changes net.ready.pinned.net.id }
+        ensures { IfOk result (IsOneMore self.entry (found_verdict design.now name.now net found.now)) }
+    {
+        match found {
+            Some(best) => self.with_found(alloc, design, name, net, best),
+            None => self.with_none(name),
+        }
+    }
+
     /// With a net that has a problem.
     fn with_posed(
         self,
@@ -169,10 +199,8 @@ impl<'a> Judging<'a> {
         requires fresh { IsFresh self.changes net.ready.pinned.net.id }
         ensures { IfOk result (JudgesOne design.now name.now self.entry) }
     {
-        match best_of(alloc, room, &net.problem)? {
-            Some(best) => self.with_found(alloc, design, name, net, &best),
-            None => self.with_none(name),
-        }
+        let answer = search(alloc, room, &net.problem, false)?;
+        self.with_answer(alloc, design, name, net, &answer.found)
     }
 
     /// With the net of this name.
@@ -196,7 +224,7 @@ impl<'a> Judging<'a> {
     }
 
     /// With the one net of this name, where nothing was said before.
-    pub fn with_one(
+    fn with_one(
         self,
         alloc: Global,
         room: &mut Room,
@@ -208,6 +236,84 @@ impl<'a> Judging<'a> {
         ensures { IfOk result (AreJudged design.now self.entry.changes.prefix (name.now ∷ [])) }
     {
         self.with_net(alloc, room, design, name)
+    }
+
+    /// With a net that has a problem, where nothing was said before, and with a certificate.
+    fn certify_posed(
+        self,
+        alloc: Global,
+        room: &mut Room,
+        design: &Design,
+        name: &[u8],
+        net: PosedNet,
+    ) -> Result<Certified<'a>, Memory>
+        requires design { self.changes.design ≡ design.now }
+        requires names { AreFitNames design.now }
+        requires posed { IsPosedNet design.now name.now net }
+        requires behind { IsBehind self.changes net.ready.pinned.net.par.name }
+        requires fresh { IsFresh self.changes net.ready.pinned.net.id }
+        ensures { IfOk result (CertifiesOne design.now name.now net self.entry) }
+    {
+        let names = net_names(alloc, name, design.repeaters(), &net)?;
+        let answer = search(alloc, room, &net.problem, true)?;
+        let shown = certified(alloc, &net.problem, &names, answer)?;
+        let judging = self.with_answer(alloc, design, name, net, &shown.found)?;
+        Ok(Certified {
+            judging,
+            cert: Some(Patched::new(shown.text, Patch::new(alloc))),
+        })
+    }
+
+    /// With the net of this name, where nothing was said before, and with a certificate, unless the net is refused.
+    fn certify_one(
+        self,
+        alloc: Global,
+        room: &mut Room,
+        design: &Design,
+        name: &[u8],
+    ) -> Result<Certified<'a>, Memory>
+        requires none { self.changes ≡ nothing design.now self.changes.prefix }
+        requires empty { AreJudged design.now self.changes.prefix [] self }
+        requires names { AreFitNames design.now }
+        ensures { IfOk result (IsCertifiedNet design.now self.entry.changes.prefix name.now) }
+    {
+        let net = Name::from_bytes(alloc, name)?;
+        match posed_net(alloc, design, &net) {
+            Ok(posed) => self.certify_posed(alloc, room, design, name, posed),
+            Err(Refused::Net(refusal)) => {
+                let judging = self.with_refused(alloc, name, &refusal)?;
+                Ok(Certified {
+                    judging,
+                    cert: None,
+                })
+            }
+            Err(Refused::Memory) => Err(Memory),
+        }
+    }
+
+    /// With the one net that is asked for, where nothing was said before, and with a certificate, where that is asked for too.
+    pub fn with_asked(
+        self,
+        alloc: Global,
+        room: &mut Room,
+        design: &Design,
+        name: &[u8],
+        is_certified: bool,
+    ) -> Result<Certified<'a>, Memory>
+        requires none { self.changes ≡ nothing design.now self.changes.prefix }
+        requires empty { AreJudged design.now self.changes.prefix [] self }
+        requires names { AreFitNames design.now }
+        ensures { (asked : Asked) → asked.net ≡ Some name.now → asked.certified ≡ is_certified
+            → IfOk result (AreCertified design.now self.entry.changes.prefix asked) }
+    {
+        if is_certified {
+            return self.certify_one(alloc, room, design, name);
+        }
+        let judging = self.with_one(alloc, room, design, name)?;
+        Ok(Certified {
+            judging,
+            cert: None,
+        })
     }
 
     /// With all nets of the parasitics, in the order of the file, where nothing was said before.

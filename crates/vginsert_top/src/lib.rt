@@ -3,15 +3,14 @@
 
 mod answer;
 mod best;
-mod faults;
+mod check;
 mod front;
 mod input;
 mod judging;
 mod outcome;
 mod output;
-mod placement;
 mod program;
-mod report;
+mod search;
 mod summary;
 mod tell;
 mod time;

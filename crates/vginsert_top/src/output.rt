@@ -3,7 +3,7 @@
 ghost use Rattle.std.specs.Prelude.{◌≡◌, [], option_map, unwrap_or};
 ghost use Rattle.vginsert_top.specs.Run.{output_name};
 
-use vg_words::Ask;
+use vg_words::{Ask, Mode};
 
 /// A file that is written, in the order of writing.
 #[derive(Clone, Copy, Debug, PartialEq, Eq)]
@@ -12,6 +12,8 @@ pub enum Output {
     Netlist,
     /// The changed parasitics.
     Parasitics,
+    /// The certificate of the best placement.
+    Certificate,
 }
 
 impl Output {
@@ -22,6 +24,11 @@ impl Output {
         let name = match self {
             Output::Netlist => &ask.out_verilog,
             Output::Parasitics => &ask.out_spef,
+            Output::Certificate => match ask.mode {
+                Mode::Best => &ask.cert,
+                // (mode `check` reads it)
+                _ => return None,
+            },
         };
         match name {
             None => None,

@@ -1,5 +1,5 @@
 //! The top call: from the words to the bytes that are written.
-ghost use Rattle.std.specs.Prelude.{[], ◌≡◌, ◌≢◌, ◌⊎◌, ◌≤◌, ◌^◌, length, ℕ, List, Some, None, IfErr, OnErr, OnOk, IsTrue};
+ghost use Rattle.std.specs.Prelude.{[], false, ◌≡◌, ◌≢◌, ◌⊎◌, ◌≤◌, ◌^◌, length, ℕ, List, Some, None, IfErr, OnErr, OnOk, IsTrue};
 ghost use Rattle.std.specs.List.{All, AllPass};
 ghost use Rattle.vg_scan.specs.Printed.{is_solid};
 ghost use Rattle.vg_store.specs.Causes.{Rose};
@@ -9,15 +9,16 @@ ghost use Rattle.vg_words.specs.Request.{prefix_of, texts, IsRequest};
 ghost use Rattle.vg_words.specs.declared.ask.Ask.{Ask as Request};
 ghost use Rattle.vg_words.specs.declared.ask.Mode.{Mode as ModeSpec};
 ghost use Rattle.vginsert_top.specs.Answer.{AnswersFor, files_by, texts_in, texts_of};
-ghost use Rattle.vginsert_top.specs.Inputs.{IsShort, asked_by, inputs};
+ghost use Rattle.vginsert_top.specs.Inputs.{IsShort, asked_by, inputs, written_cert};
 ghost use Rattle.vginsert_top.specs.Outcomes.{Ends, IsDelivered, IsPrinted, IsStatusOf, fault_status};
-ghost use Rattle.vginsert_top.specs.Run.{AllStay, Answered, AreApart, IsSized, AreRefused, AreWritten, EndsFlawed, ErrorLine, ForRequest, HoldAfter, HoldsAt, IsExact, IsOutput, Says, StaysOrBegins};
+ghost use Rattle.vginsert_top.specs.Run.{AllStay, Answered, AreApart, BeginsCert, IsCertWritten, IsSized, AreRefused, AreWritten, EndsFlawed, ErrorLine, ForRequest, HoldAfter, HoldsAt, IsExact, IsOutput, Says, StaysOrBegins};
 ghost use Rattle.vginsert_top.specs.Run.{TellsRefusedInput, TellsWriteFault, is_status, output_name, prints_nothing};
 ghost use Rattle.vginsert_top.specs.declared.answer.AnswerKind.{AnswerKind as Kind};
 ghost use Rattle.vginsert_top.specs.declared.input.Input.{Input};
 
 use crate::answer::{Answer, NoAnswer, Written};
 use crate::best::best_for;
+use crate::check::check_for;
 use crate::front::front_for;
 use crate::input::{Flaw, Texts, read_inputs};
 use crate::outcome::Outcome;
@@ -36,8 +37,8 @@ use vg_words::{Ask, Mode, Opt, WordFault, read_words};
 /// What is said of the wire delays of a net of the file of these bytes.
 fn wire_in(alloc: Global, spef: Vec<u8>, net: &[u8]) -> Result<Answer, NoAnswer>
     requires { length spef.items ≤ 2 ^ 28 }
-    ensures { (lib verilog cons : List ℕ)
-        → AnswersFor ModeSpec.Wire (texts_of spef.items lib verilog cons) (record { net = Some net.now; cap = None; prefix = []; size = 0 }) result }
+    ensures { (lib verilog cons cert : List ℕ)
+        → AnswersFor ModeSpec.Wire (texts_of spef.items lib verilog cons cert) (record { net = Some net.now; certified = false; cap = None; prefix = []; size = 0 }) result }
 {
     let text = SpefText::new(spef);
     wire_for(alloc, &text, net)
@@ -55,6 +56,7 @@ fn answer(alloc: Global, texts: Texts, ask: &Ask) -> Result<Answer, NoAnswer>
         Mode::Time => time_for(alloc, texts, ask),
         Mode::Best => best_for(alloc, texts, ask),
         Mode::Frontier => front_for(alloc, texts, ask),
+        Mode::Check => check_for(alloc, texts, ask),
         Mode::Gen => gen_for(alloc, ask.size()),
     }
 }
@@ -89,10 +91,24 @@ fn write_output<F: Files>(
     }
 }
 
+/// Writes a certificate to the file that the words name for it, if there is one.
+fn write_cert<F: Files>(ask: &Ask, cert: &Option<Patched>, files: &mut F) -> Result<(), Failed>
+    ensures whole { OnOk result (IsCertWritten (F.state files.old, F.state files.new) ask.now cert.now) }
+    ensures prefix { OnErr result (BeginsCert (F.state files.old, F.state files.new) ask.now cert.now) }
+    ensures others { (other : List ℕ) → written_cert ask.now ≢ Some other → (F.state files.new).holds other ≡ (F.state files.old).holds other }
+    ensures failed { OnErr result (WriteFaultAt (F.state files.old) (F.state files.new) (λ blamed. written_cert ask.now ≡ Some blamed)) }
+    ensures never_falls { (F.state files.old).write_faults ≤ (F.state files.new).write_faults }
+{
+    match cert {
+        None => Ok(()),
+        Some(text) => write_output(ask, Output::Certificate, text, files),
+    }
+}
+
 /// Writes the files of an answer, the netlist first. An error tells at which of them writing failed.
 fn write_files<F: Files>(ask: &Ask, written: &Written, files: &mut F) -> Result<(), Output>
     requires apart { AreApart ask.now }
-    ensures written { OnOk result (AreWritten (F.state files.new) ask.now (Some (files_by written.now))) }
+    ensures written { OnOk result (AreWritten (F.state files.old, F.state files.new) ask.now (Some (files_by written.now))) }
     ensures failed { IfErr result (λ output. HoldAfter (F.state files.old, F.state files.new) ask.now (files_by written.now) output) }
     ensures cause { IfErr result (λ output. WriteFaultAt (F.state files.old) (F.state files.new) (λ blamed. output_name ask.now output ≡ Some blamed)) }
     ensures others { (file : List ℕ) → (IsOutput ask.now file → ⊥) → (F.state files.new).holds file ≡ (F.state files.old).holds file }
@@ -102,6 +118,9 @@ fn write_files<F: Files>(ask: &Ask, written: &Written, files: &mut F) -> Result<
     };
     let Ok(()) = write_output(ask, Output::Parasitics, &written.spef, files) else {
         return Err(Output::Parasitics);
+    };
+    let Ok(()) = write_cert(ask, &written.cert, files) else {
+        return Err(Output::Certificate);
     };
     Ok(())
 }
@@ -186,9 +205,10 @@ fn run_request<F: Files, O: Out, E: Out>(
 /// | 5 | reading an input failed |
 /// | 6 | writing a file or printing failed |
 /// | 7 | out of memory |
+/// | 8 | mode `check`: it was printed, and tells that the certificate is not in its form or not valid |
 ///
-/// In mode `best` the netlist is written first, then the parasitics, and then the report is printed. A net without a cell keeps its
-/// part of both texts. After 3, 4, 5 and 7 nothing was printed, and no file was created or changed. After 6 the files that were finished before are
+/// In mode `best` the netlist is written first, then the parasitics, then the certificate, where it is asked for and the net is not
+/// refused, and then the report is printed. A net without a cell keeps its part of both texts. After 3, 4, 5 and 7 nothing was printed, and no file was created or changed. After 6 the files that were finished before are
 /// whole, the one whose writing failed is as it was or holds a prefix of its text, and later ones are as they were. A fault of `err`
 /// never changes the status. Files that the words do not name as outputs stay.
 pub fn run<F: Files, O: Out, E: Out>(
@@ -201,6 +221,7 @@ pub fn run<F: Files, O: Out, E: Out>(
     ensures done { result ≡ 0 → Answered Kind.Report (texts words.now) (F.state files.old, F.state files.new) (O.state out.old, O.state out.new) }
     ensures none_good { result ≡ 1 → Answered Kind.NoneGood (texts words.now) (F.state files.old, F.state files.new) (O.state out.old, O.state out.new) }
     ensures refused { result ≡ 2 → Answered Kind.Refusal (texts words.now) (F.state files.old, F.state files.new) (O.state out.old, O.state out.new) }
+    ensures invalid { result ≡ 8 → Answered Kind.Invalid (texts words.now) (F.state files.old, F.state files.new) (O.state out.old, O.state out.new) }
     ensures unread { result ≡ 3 → (request : Request) → IsRequest (texts words.now) request → ⊥ }
     ensures no_request { ((request : Request) → IsRequest (texts words.now) request → ⊥) → (result ≡ 3) ⊎ (result ≡ 7) }
     ensures unread_line { result ≡ 3 → AreRefused (texts words.now) (Says (E.state err.old) (E.state err.new)) }

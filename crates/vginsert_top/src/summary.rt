@@ -7,13 +7,12 @@ ghost use Rattle.vg_words.specs.declared.ask.Mode.{Mode};
 ghost use Rattle.vginsert_top.specs.Answer.{AnswersFor, IsNoDesign, design_texts};
 ghost use Rattle.vginsert_top.specs.Inputs.{made_up};
 ghost use Rattle.vginsert_top.specs.Gen.{IsNetOf, SumsUpNet};
-ghost use Rattle.vginsert_top.specs.Reports.{found_text, gen_line, place_count};
+ghost use Rattle.vg_report.specs.Reports.{entries_text, found_text, gen_line, place_count};
 ghost use Rattle.vginsert_top.specs.Results.{Asked, made_net};
 ghost use Rattle.vginsert_top.specs.declared.input.Input.{Input};
 
 use crate::answer::{Answer, AnswerKind, NoAnswer, design_of};
-use crate::placement::{best_of, count_cells};
-use crate::report::push;
+use crate::search::search;
 use crate::wire::refuse;
 use elmore::Problem;
 use spef_file::SpefText;
@@ -21,8 +20,10 @@ use std::alloc::Global;
 use vg_design::{Design, PosedNet, Timed, posed_net, time_net};
 use vg_gen::{Generated, generate};
 use vg_num::{Memory, print_signed};
+use vg_report::{count_cells, push};
 use vg_scan::Name;
 use vg_slack::{Best, Room};
+use vg_verdict::summed_up;
 use vg_wire::Refused;
 
 /// The name of the net of a made-up design.
@@ -51,14 +52,25 @@ fn print_found(found: &Option<Best>, to: &mut Vec<u8>) -> Result<(), Memory>
     Ok(())
 }
 
-/// Appends `gen places N bare B best S cells M`, with B and S in zeptoseconds.
+/// Appends ` entries E certificate valid` and the line's end.
+fn print_entries(entries: usize, to: &mut Vec<u8>) -> Result<(), Memory>
+    ensures { OnOk result (to.new.items ≡ to.old.items ++ entries_text entries) }
+{
+    push(b" entries ", to)?;
+    print_signed(entries as i128, to)?;
+    push(b" certificate valid\n", to)?;
+    Ok(())
+}
+
+/// Appends `gen places N bare B best S cells M entries E certificate valid`, with B and S in zeptoseconds.
 fn print_summary(
     places: usize,
     bare: i128,
     found: &Option<Best>,
+    entries: usize,
     to: &mut Vec<u8>,
 ) -> Result<(), Memory>
-    ensures { OnOk result (to.new.items ≡ to.old.items ++ gen_line places bare found.now) }
+    ensures { OnOk result (to.new.items ≡ to.old.items ++ gen_line places bare found.now entries) }
 {
     push(b"gen places ", to)?;
     print_signed(places as i128, to)?;
@@ -66,19 +78,26 @@ fn print_summary(
     print_signed(bare, to)?;
     push(b" best ", to)?;
     print_found(found, to)?;
-    push(b"\n", to)?;
+    print_entries(entries, to)?;
     Ok(())
 }
 
-/// The summary of a posed net that has this timing without a cell.
+/// The summary of a posed net that has this timing without a cell: a best placement of it, whose certificate is made and checked.
 fn sum_up(alloc: Global, timed: &Timed, net: &PosedNet) -> Result<Answer, Memory>
     ensures { IfOk result (SumsUpNet timed.now net.now) }
 {
     let mut room = Room::new(alloc);
-    let found = best_of(alloc, &mut room, &net.problem)?;
+    let answer = search(alloc, &mut room, &net.problem, true)?;
+    let summed = summed_up(alloc, &net.problem, answer)?;
     let mut text = Vec::new(alloc);
     let places = count_places(&net.problem);
-    print_summary(places, timed.slack, &found, &mut text)?;
+    print_summary(
+        places,
+        timed.slack,
+        &summed.found,
+        summed.entries,
+        &mut text,
+    )?;
     Ok(Answer {
         kind: AnswerKind::Report,
         text,

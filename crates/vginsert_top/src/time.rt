@@ -1,6 +1,6 @@
 //! The slacks of nets, as text.
 ghost use Rattle.std.specs.Prelude.{◌≡◌, ◌++◌, ◌≤◌, ◌^◌, [], None, length, OnOk, IfOk};
-ghost use Rattle.vginsert_top.specs.Reports.{slack_line};
+ghost use Rattle.vg_report.specs.Reports.{slack_line};
 ghost use Rattle.vginsert_top.specs.Answer.{AnswersFor, TimesNets, texts_in};
 ghost use Rattle.vginsert_top.specs.Results.{IsTimeSaid, nets_to_time};
 ghost use Rattle.vginsert_top.specs.Inputs.{asked_by};
@@ -9,31 +9,15 @@ ghost use Rattle.vg_words.specs.declared.ask.Mode.{Mode};
 
 use crate::answer::{Answer, AnswerKind, NoAnswer, design_of};
 use crate::input::Texts;
-use crate::report::{print_node, print_slack};
-use crate::wire::print_refusal;
 use spef_file::SpefText;
 use std::alloc::Global;
-use vg_design::{Design, Timed};
+use vg_design::Design;
 use vg_num::Memory;
+use vg_report::{print_refusal, report_timed};
 use vg_retime::retime;
 use vg_scan::Name;
 use vg_wire::Refused;
 use vg_words::Ask;
-
-/// Appends the report of a net's slack.
-fn print_timed(alloc: Global, name: &[u8], timed: &Timed, to: &mut Vec<u8>) -> Result<(), Memory>
-    ensures { OnOk result (to.new.items ≡ to.old.items ++ slack_line name.now timed.now) }
-{
-    match &timed.wrong {
-        None => print_slack(name, timed.slack, b"right", b"", to)?,
-        Some(sink) => {
-            let mut node = Vec::new(alloc);
-            print_node(sink, &mut node)?;
-            print_slack(name, timed.slack, b"wrong ", &node, to)?;
-        }
-    }
-    Ok(())
-}
 
 /// Appends what is said of the slack of the net of this name in a design, through the cells that were put in, whose names begin with
 /// the prefix. Answers its kind.
@@ -49,7 +33,7 @@ fn time_net(
     let net = Name::from_bytes(alloc, name)?;
     match retime(alloc, design, &net, prefix) {
         Ok(timed) => {
-            print_timed(alloc, name, &timed, to)?;
+            report_timed(alloc, name, &timed, to)?;
             Ok(AnswerKind::Report)
         }
         Err(Refused::Net(refusal)) => {
@@ -111,6 +95,7 @@ pub fn time_for(alloc: Global, texts: Texts, ask: &Ask) -> Result<Answer, NoAnsw
         lib,
         verilog,
         cons,
+        ..
     } = texts;
     let design = design_of(alloc, SpefText::new(spef), &lib, &verilog, &cons)?;
     Ok(time_nets(alloc, &design, ask)?)

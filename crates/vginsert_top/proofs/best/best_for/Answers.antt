@@ -5,6 +5,7 @@ use Rattle.vg_comments.specs.Kept.{FitIn}
 use Rattle.vg_patch.specs.Edits.{patched}
 use Rattle.vg_scan.specs.declared.comments.Comments.TheVariants.{Spef}
 use Rattle.vg_scan.proofs.PieceLemmas.{length-without}
+use Rattle.vg_verdict.proofs.NameLemmas.{names_fit}
 use Rattle.vg_words.specs.declared.ask.Mode.TheVariants.{Best}
 use Rattle.vginsert_top.specs.Answer.{AnswersFor, design_texts, texts_in}
 use Rattle.vginsert_top.specs.Results.{Asked}
@@ -25,6 +26,15 @@ judge-requires-clause-repeaters c =
     design_of_texts c.from_clear-text.result texts.spef.items c.deref.result.now texts.lib.items c.deref-2.result.now texts.verilog.items c.deref-3.result.now texts.cons.items d
     c.in_ok-design.ensures.design (c.from_clear-text.ensures ∙ c.in_ok-clear.ensures.clear) c.deref.ensures.value c.deref-2.ensures.value c.deref-3.ensures.value in
     repeaters_are_named texts.lib.items d.library of.library
+
+pub judge-requires-clause-names : goal.judge-requires-clause-names
+judge-requires-clause-names c =
+    let d = c.in_ok-design.design in
+    let texts = c.args.texts in
+    let of =
+    design_of_texts c.from_clear-text.result texts.spef.items c.deref.result.now texts.lib.items c.deref-2.result.now texts.verilog.items c.deref-3.result.now texts.cons.items d
+    c.in_ok-design.ensures.design (c.from_clear-text.ensures ∙ c.in_ok-clear.ensures.clear) c.deref.ensures.value c.deref-2.ensures.value c.deref-3.ensures.value in
+    λ name net posed. names_fit (design_texts (texts_in texts)) d name net of posed
 
 pub judge-requires-clause-read : goal.judge-requires-clause-read
 judge-requires-clause-read c =

@@ -2,7 +2,7 @@ use Rattle.std.proofs.Common.{ℕ, List, refl, subst}
 use Rattle.vg_design.specs.Nets.{IsPosedNet}
 use Rattle.vg_design.specs.Refusals.{IsFirstRefusal}
 use Rattle.vg_design.proofs.PartLemmas.{order_within}
-use Rattle.vginsert_top.specs.Reports.{refusal_line}
+use Rattle.vg_report.specs.Reports.{refusal_line}
 use Rattle.vginsert_top.specs.Results.{IsFrontSaid}
 use Rattle.vginsert_top.proofs.front.front_net.Goals as goal
 

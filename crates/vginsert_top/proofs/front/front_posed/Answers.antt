@@ -6,7 +6,7 @@ use Rattle.elmore.specs.Placed.{IsPlacementOf}
 use Rattle.lib_linear.specs.declared.repeater.Repeater.{Repeater}
 use Rattle.vg_design.specs.Parts.{cells_of}
 use Rattle.vg_front.specs.declared.root.Point.{Point}
-use Rattle.vginsert_top.specs.Reports.{front_report}
+use Rattle.vg_report.specs.Reports.{front_report}
 use Rattle.vginsert_top.proofs.FrontLemmas.{points_named, says_none, says_points, some_points}
 use Rattle.vginsert_top.proofs.front.front_posed.Goals as goal
 

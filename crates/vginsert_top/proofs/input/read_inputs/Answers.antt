@@ -2,7 +2,6 @@ use Rattle.std.proofs.Common.{◌<◌, ◌≤◌, ◌^◌, ◌∙◌, List, leng
 use Rattle.std.specs.List.{All}
 use Rattle.std.proofs.Math.ListN.{get_or}
 use Rattle.std.proofs.lemmas.List.{take_all}
-use Rattle.vg_words.specs.Request.{text_for}
 use Rattle.vginsert_top.specs.Answer.{texts_in}
 use Rattle.vginsert_top.specs.Inputs.{told, IsRead}
 use Rattle.vginsert_top.specs.declared.input.Input.{Input}

@@ -1,8 +1,8 @@
 use Rattle.std.proofs.Common.{arith, inl, inr, ◌∙◌}
 use Rattle.vg_words.specs.Request.{texts}
 use Rattle.vginsert_top.proofs.RequestLemmas.{outputs_apart, prefix_is_solid, size_is}
-use Rattle.vginsert_top.proofs.RunLemmas.{run_printed, run_not_three, run_unreadable, run_read_fault, run_write_fault, run_stays, run_status, run_unprinted, run_exact, fault_two, fault_exact}
-use Rattle.vginsert_top.specs.declared.answer.AnswerKind.TheVariants.{Report, NoneGood, Refusal}
+use Rattle.vginsert_top.proofs.RunLemmas.{run_line, run_printed, run_not_three, run_unreadable, run_read_fault, run_write_fault, run_stays, run_status, run_unprinted, run_exact, fault_two, fault_exact}
+use Rattle.vginsert_top.specs.declared.answer.AnswerKind.TheVariants.{Report, NoneGood, Refusal, Invalid}
 use Rattle.vginsert_top.proofs.program.run.Goals as goal
 
 pub returns-in-Ok-clause-done : goal.returns-in-Ok-clause-done
@@ -13,6 +13,9 @@ returns-in-Ok-clause-refused g c = λ e. (c.in-Ok.ask, c.in-Ok.ensures, run_prin
 
 pub returns-in-Ok-clause-none_good : goal.returns-in-Ok-clause-none_good
 returns-in-Ok-clause-none_good g c = λ e. (c.in-Ok.ask, c.in-Ok.ensures, run_printed c.run_request.ensures.ends NoneGood e)
+
+pub returns-in-Ok-clause-invalid : goal.returns-in-Ok-clause-invalid
+returns-in-Ok-clause-invalid g c = λ e. (c.in-Ok.ask, c.in-Ok.ensures, run_printed c.run_request.ensures.ends Invalid e)
 
 pub returns-in-Ok-clause-unread : goal.returns-in-Ok-clause-unread
 returns-in-Ok-clause-unread g c = λ e. absurd (run_not_three c.run_request.ensures.ends e)
@@ -66,3 +69,12 @@ run_request-requires-clause-prefix g c = prefix_is_solid (texts c.args.words.now
 
 pub run_request-requires-clause-size : goal.run_request-requires-clause-size
 run_request-requires-clause-size g c = size_is (texts c.args.words.now) c.in-Ok.ask c.in-Ok.ensures
+
+pub returns-in-Ok-clause-unread_line : goal.returns-in-Ok-clause-unread_line
+returns-in-Ok-clause-unread_line g c = λ e. absurd (run_not_three c.run_request.ensures.ends e)
+
+pub returns-in-Ok-clause-error_line : goal.returns-in-Ok-clause-error_line
+returns-in-Ok-clause-error_line g c = run_line c.run_request.ensures.ends
+
+pub returns-in-Ok-clause-kept : goal.returns-in-Ok-clause-kept
+returns-in-Ok-clause-kept g c = λ file none. c.run_request.ensures.kept file (none c.in-Ok.ask c.in-Ok.ensures)

@@ -1,4 +1,3 @@
-use Rattle.vg_design.specs.Refusals.{IsFirstRefusal}
 use Rattle.vg_words.specs.declared.ask.Mode.TheVariants.{Gen}
 use Rattle.vginsert_top.specs.Answer.{AnswersFor}
 use Rattle.vginsert_top.specs.declared.answer.NoAnswer.TheVariants.{Memory}

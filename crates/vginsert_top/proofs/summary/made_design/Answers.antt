@@ -1,6 +1,5 @@
-use Rattle.std.proofs.Common.{◌≤◌, ◌^◌, ◌∙◌, ℕ, List, ap, length, subst, sym}
+use Rattle.std.proofs.Common.{◌≤◌, ◌^◌, ◌∙◌, ℕ, List, length, subst, sym}
 use Rattle.vg_gen.proofs.SizeLemmas.{short}
-use Rattle.vg_gen.specs.Designs.{IsDesign}
 use Rattle.vginsert_top.proofs.AnswerLemmas.{made_fault, made_ok}
 use Rattle.vginsert_top.proofs.summary.made_design.Goals as goal
 

@@ -1,4 +1,4 @@
-use Rattle.std.proofs.Common.{ℕ, List, ◌==◌, ◌∙◌, ap, not, sym, take}
+use Rattle.std.proofs.Common.{ℕ, List, ◌==◌, ◌∙◌, ap, not, sym}
 use Rattle.std.specs.List.{starts_with}
 use Rattle.vg_design.specs.Designs.{net_names}
 use Rattle.vginsert_top.specs.Results.{IsTimeSaid}

@@ -1,6 +1,6 @@
 use Rattle.std.proofs.Common.{ℕ, List, refl, subst}
 use Rattle.vg_retime.specs.Retimings.{Retimes, IsFirstRefusal}
-use Rattle.vginsert_top.specs.Reports.{refusal_line, slack_line}
+use Rattle.vg_report.specs.Reports.{refusal_line, slack_line}
 use Rattle.vginsert_top.specs.Results.{IsTimeSaid}
 use Rattle.vginsert_top.proofs.time.time_net.Goals as goal
 
@@ -12,7 +12,7 @@ returns-in-Ok c =
     record {
       text = slack_line c.args.name.now timed;
       says = IsTimeSaid.told_slack timed (subst (λ (name : List ℕ). Retimes 17 d prefix name timed) c.in_ok-net.ensures c.in-Ok.ensures.timed) refl;
-      is = c.in_ok-print_timed-in-Ok.ensures;
+      is = c.in_ok-report_timed-in-Ok.ensures;
     }
 
 pub returns-in-Err-Net : goal.returns-in-Err-Net

@@ -1,0 +1,62 @@
+//! Why a net is refused, as text.
+
+ghost use Rattle.std.specs.Prelude.{◌≡◌, ◌++◌, OnOk};
+ghost use Rattle.vg_report.specs.Reports.{refusal_kind, refusal_line};
+
+use crate::faults::print_net_fault;
+use crate::report::{print_node, print_refused, push};
+use std::alloc::Global;
+use vg_num::Memory;
+use vg_wire::Refusal;
+
+/// Appends the kind of a refusal, and what it tells.
+fn print_kind(refusal: &Refusal, to: &mut Vec<u8>) -> Result<(), Memory>
+    ensures { OnOk result (to.new.items ≡ to.old.items ++ refusal_kind refusal.now) }
+{
+    match refusal {
+        Refusal::UnknownNet => push(b"UnknownNet", to)?,
+        Refusal::Section(fault) => {
+            push(b"Section ", to)?;
+            print_net_fault(*fault, to)?;
+        }
+        Refusal::Reduced => push(b"Reduced", to)?,
+        Refusal::Inductive => push(b"Inductive", to)?,
+        Refusal::Bidirectional => push(b"Bidirectional", to)?,
+        Refusal::NoDriver => push(b"NoDriver", to)?,
+        Refusal::ManyDrivers => push(b"ManyDrivers", to)?,
+        Refusal::Mismatch => push(b"Mismatch", to)?,
+        Refusal::Tied => push(b"Tied", to)?,
+        Refusal::NoDrive => push(b"NoDrive", to)?,
+        Refusal::NoLoad(node) => {
+            push(b"NoLoad ", to)?;
+            print_node(node, to)?;
+        }
+        Refusal::Floating(node) => {
+            push(b"Floating ", to)?;
+            print_node(node, to)?;
+        }
+        Refusal::Loop => push(b"Loop", to)?,
+        Refusal::NoSink => push(b"NoSink", to)?,
+        Refusal::Unconstrained(node) => {
+            push(b"Unconstrained ", to)?;
+            print_node(node, to)?;
+        }
+        Refusal::TooLarge => push(b"TooLarge", to)?,
+    }
+    Ok(())
+}
+
+/// Appends the line that tells why a net is refused.
+pub fn print_refusal(
+    alloc: Global,
+    name: &[u8],
+    refusal: &Refusal,
+    to: &mut Vec<u8>,
+) -> Result<(), Memory>
+    ensures { OnOk result (to.new.items ≡ to.old.items ++ refusal_line name.now refusal.now) }
+{
+    let mut kind = Vec::new(alloc);
+    print_kind(refusal, &mut kind)?;
+    print_refused(name, refusal.number(), &kind, to)?;
+    Ok(())
+}

@@ -1,0 +1,4 @@
+pub mod VerdictLemmas
+pub mod TextLemmas
+pub mod NameLemmas
+pub mod MadeLemmas

@@ -1,0 +1,34 @@
+-- What is true of all judgements of certificates.
+use Rattle.std.specs.Prelude.{◌≡◌, ℕ, Bool, true, List, Option, option_map}
+use Rattle.elmore.specs.declared.problem.Problem.{Problem}
+use Rattle.vg_scan.specs.declared.name.NetNames.{NetNames}
+use Rattle.vg_cert.specs.Names.{AreNamesOf}
+use Rattle.vg_check.specs.declared.verdict.Verdict.TheVariants.{Yes}
+use Rattle.vg_design.specs.Designs.{Design}
+use Rattle.vg_design.specs.Nets.{IsPosedNet, names_of}
+use Rattle.vg_design.specs.Parts.{cells_of}
+use Rattle.vg_design.specs.declared.net_problem.PosedNet.{PosedNet}
+use Rattle.vg_inputs.specs.Designs.{Texts, IsDesign}
+use Rattle.vg_slack.specs.declared.answer.Best.{Best}
+use Rattle.vg_verdict.specs.Judged.{IsCertificateOf, IsJudged}
+use Rattle.vg_verdict.specs.Lines.{names_for, verdict_line}
+
+-- the names of a net of a design
+abbrev pub names_in : Design → List ℕ → PosedNet → NetNames
+names_in d name posed = names_for name (cells_of d.library.repeaters) (names_of posed.ready.pinned.net.par posed.ready.order)
+
+-- a certificate of a net of a design can be written with its names
+abbrev pub NamesFit : Type 0
+NamesFit = (texts : Texts) (d : Design) (name : List ℕ) (posed : PosedNet) → IsDesign texts d → IsPosedNet d name posed
+    → AreNamesOf posed.problem (names_in d name posed)
+
+-- what is written of a best placement is found to be valid, with the slack that was found
+abbrev pub WrittenAreValid : Type 0
+WrittenAreValid = (p : Problem) (names : NetNames) (found : Option Best) (text : List ℕ) (valid : Bool) (line : List ℕ) → AreNamesOf p names
+    → IsCertificateOf p names found text → IsJudged p names text valid line
+    → (valid ≡ true) × (line ≡ verdict_line names (option_map (λ best. best.slack) found) Yes)
+
+-- in a text one thing is found
+abbrev pub OneJudgement : Type 0
+OneJudgement = (p : Problem) (names : NetNames) (text : List ℕ) (valid again : Bool) (line told : List ℕ)
+    → IsJudged p names text valid line → IsJudged p names text again told → (valid ≡ again) × (line ≡ told)

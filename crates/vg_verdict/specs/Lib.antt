@@ -1,0 +1,4 @@
+pub mod Lines
+pub mod Judged
+pub mod Steps
+pub mod Laws

@@ -1,0 +1,16 @@
+//! Certificates of the nets of a design, as text: written of what a search finds, and judged, whoever wrote them.
+#![tactic(auto)]
+
+mod certify;
+mod count;
+mod judge;
+mod laws;
+mod lines;
+mod made;
+mod names;
+
+pub use certify::{certified, summed_up};
+pub use judge::judge_text;
+pub use laws::{judgements_are_one, net_names_fit, written_certificates_are_valid};
+pub use made::{Certified, Summed};
+pub use names::net_names;

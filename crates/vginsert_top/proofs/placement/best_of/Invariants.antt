@@ -1,4 +1,0 @@
-use Rattle.vginsert_top.proofs.placement.best_of.Given as goal
-
-abbrev pub ghosts-counted_best : goal.ghosts-counted_best
-ghosts-counted_best a = record { name = a.blank.name; parts = a.blank.parts }
