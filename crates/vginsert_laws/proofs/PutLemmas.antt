@@ -1,5 +1,5 @@
 -- The nets into which cells are put, of those of which something is said.
-use Rattle.std.proofs.Common.{◌≡◌, ◌≢◌, ℕ, zero, suc, ◌+◌, ◌<◌, ◌==◌, Bool, true, false, List, [], ◌∷◌, ◌++◌, length, refl, sym, ap, ◌∙◌, subst, arith, inl, inr, Option, Some, All}
+use Rattle.std.proofs.Common.{◌≡◌, ◌≢◌, ℕ, zero, suc, ◌+◌, ◌==◌, Bool, true, false, List, [], ◌∷◌, ◌++◌, refl, sym, ap, ◌∙◌, subst, arith, Option, Some, All}
 use Rattle.std.specs.Prelude.{if◌then◌else◌}
 use Rattle.std.specs.List.{AllPairs, AllZip, Contains, flat_map, slice_get}
 use Rattle.std.proofs.lemmas.List.{get_or_default}
@@ -18,8 +18,8 @@ use Rattle.vg_design.specs.Nets.{IsPosedNet}
 use Rattle.vg_design.specs.Refusals.{IsJoined}
 use Rattle.vg_design.specs.declared.net_problem.PosedNet.{PosedNet}
 use Rattle.vg_spliced.proofs.ApartLemmas.{contains_in, in_contains, in_left, in_right}
-use Rattle.vginsert_top.specs.Reports.{cell_count}
-use Rattle.vginsert_top.specs.Results.{IsBestSaid, put_of}
+use Rattle.vg_report.specs.Reports.{cell_count}
+use Rattle.vginsert_top.specs.Results.{IsBestSaid}
 use Rattle.vginsert_top.specs.Verdicts.{Verdict, put_in}
 use Rattle.vginsert_top.proofs.BestLemmas.{good_is_placed, put_stays}
 

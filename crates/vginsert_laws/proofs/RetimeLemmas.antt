@@ -11,7 +11,6 @@ use Rattle.vg_change.specs.Steps.{placed_net}
 use Rattle.vg_change.proofs.NameLemmas.{owners_old}
 use Rattle.vg_change.proofs.PairLemmas.{of_all}
 use Rattle.vg_change.proofs.RowLemmas.{name_is}
-use Rattle.vg_change_nets.proofs.KeepsLemmas.{IsUnderWay}
 use Rattle.vg_change_nets.proofs.OrderLemmas.{all_open, net_place}
 use Rattle.vg_design.proofs.AcceptLemmas.{problem_is}
 use Rattle.vg_design.proofs.LawLemmas.{few_refusals}
@@ -35,7 +34,7 @@ use Rattle.vg_words.specs.Request.{IsRequest, prefix_of}
 use Rattle.vg_words.specs.declared.ask.Ask.{Ask}
 use Rattle.vginsert_top.proofs.BestLemmas.{without_cells}
 use Rattle.vginsert_top.proofs.RequestLemmas.{prefix_is}
-use Rattle.vginsert_top.specs.Reports.{cell_count}
+use Rattle.vg_report.specs.Reports.{cell_count}
 use Rattle.vginsert_top.specs.Results.{Files, IsBestAnswer, IsBestSaid, Said, best_verdict, nets_for, problem_in, put_of}
 use Rattle.vginsert_top.specs.Inputs.{asked_by}
 use Rattle.vginsert_top.specs.Verdicts.{Verdict, put_in}

@@ -1,6 +1,6 @@
-//! A law of the program's runs. Its function does nothing: its contract is the law, which a proof may cite.
+//! Laws of the program's runs. Their functions do nothing: each one's contract is the law, which a proof may cite.
 
-ghost use Rattle.vginsert_laws.specs.Laws.{WrittenFilesRetime};
+ghost use Rattle.vginsert_laws.specs.Laws.{CertificatesAreWritten, WrittenCertificatesCheck, WrittenFilesRetime};
 
 /// Let a request in mode `best` be answered by a report of a best placement. Then the written netlist and the written parasitics
 /// are, with the same library and constraints, a design, in which the net that was asked for re-times to exactly the slack that
@@ -8,4 +8,16 @@ ghost use Rattle.vginsert_laws.specs.Laws.{WrittenFilesRetime};
 /// or that a net on the way is too large.
 pub fn written_files_retime()
     ensures { WrittenFilesRetime }
+{}
+
+/// Let a request in mode `best` name a certificate, and let its net not be refused. Then a certificate of the net is written, with the
+/// placement and the slack that are reported, or with none.
+pub fn certificates_are_written()
+    ensures { CertificatesAreWritten }
+{}
+
+/// Let mode `best` have written a certificate of a net. Then mode `check`, with the same four files and this certificate, answers by
+/// a report: that the certificate is valid, with exactly the slack that was reported, or none.
+pub fn written_certificates_check()
+    ensures { WrittenCertificatesCheck }
 {}

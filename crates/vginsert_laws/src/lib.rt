@@ -3,4 +3,4 @@
 
 mod laws;
 
-pub use laws::written_files_retime;
+pub use laws::{certificates_are_written, written_certificates_check, written_files_retime};
