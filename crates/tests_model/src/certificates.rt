@@ -28,7 +28,7 @@ const DRIVER: Driver = Driver {
     limit: None,
 };
 
-const BUF: Rep = Rep {
+pub(crate) const BUF: Rep = Rep {
     inverts: false,
     cin: 1,
     k: 1,
@@ -46,10 +46,10 @@ const INV: Rep = Rep {
     limit: None,
 };
 
-const BOTH: &[Rep] = &[BUF, INV];
+pub(crate) const BOTH: &[Rep] = &[BUF, INV];
 
 /// The problem with these repeaters, whose sink is to be inverted or not.
-fn problem(alloc: Global, inverted: bool, reps: &[Rep]) -> Result<Problem, Fail> {
+pub(crate) fn problem(alloc: Global, inverted: bool, reps: &[Rep]) -> Result<Problem, Fail> {
     let sink = Some(Sink {
         required: 100,
         inverted,
@@ -60,25 +60,25 @@ fn problem(alloc: Global, inverted: bool, reps: &[Rep]) -> Result<Problem, Fail>
     Ok(problem)
 }
 
-const SINK: Pair = Pair { q: 100, c: 5 };
+pub(crate) const SINK: Pair = Pair { q: 100, c: 5 };
 
 /// The place without a cell, and with a buffer and an inverter.
-const BARE: Pair = Pair { q: 80, c: 8 };
+pub(crate) const BARE: Pair = Pair { q: 80, c: 8 };
 
-const BUFFERED: Pair = Pair { q: 71, c: 1 };
+pub(crate) const BUFFERED: Pair = Pair { q: 71, c: 1 };
 
 const INVERTED: Pair = Pair { q: 71, c: 2 };
 
 /// The root with a buffer and an inverter at the place. Without a cell it has less time and more load.
-const ROOT_BUFFERED: Pair = Pair { q: 69, c: 1 };
+pub(crate) const ROOT_BUFFERED: Pair = Pair { q: 69, c: 1 };
 
 const ROOT_INVERTED: Pair = Pair { q: 67, c: 2 };
 
-const AT_SINK: BothLists = (&[SINK], &[]);
+pub(crate) const AT_SINK: BothLists = (&[SINK], &[]);
 
-const AT_PLACE: BothLists = (&[BUFFERED, BARE], &[INVERTED]);
+pub(crate) const AT_PLACE: BothLists = (&[BUFFERED, BARE], &[INVERTED]);
 
-const AT_ROOT: BothLists = (&[ROOT_BUFFERED], &[ROOT_INVERTED]);
+pub(crate) const AT_ROOT: BothLists = (&[ROOT_BUFFERED], &[ROOT_INVERTED]);
 
 const EMPTY: BothLists = (&[], &[]);
 
@@ -92,9 +92,9 @@ type Case = (
     Verdict,
 );
 
-const BARE_CELLS: &[Option<u32>] = &[None; 3];
+pub(crate) const BARE_CELLS: &[Option<u32>] = &[None; 3];
 
-const BUFFER: &[Option<u32>] = &[None, Some(0), None];
+pub(crate) const BUFFER: &[Option<u32>] = &[None, Some(0), None];
 
 static CASES: [Case; 16] = [
     (

@@ -108,7 +108,7 @@ fn fits(p: &Problem, cert: &Certificate) -> bool
 /// The even and the odd list of a node.
 pub(crate) type BothLists = (&'static [Pair], &'static [Pair]);
 
-fn lists_of(alloc: Global, rows: &[BothLists]) -> Result<Vec<NodeLists>, AllocError> {
+pub(crate) fn lists_of(alloc: Global, rows: &[BothLists]) -> Result<Vec<NodeLists>, AllocError> {
     let mut lists = Vec::new(alloc);
     for (even, odd) in rows {
         let even = even.to_vec(alloc)?;
@@ -116,6 +116,29 @@ fn lists_of(alloc: Global, rows: &[BothLists]) -> Result<Vec<NodeLists>, AllocEr
         lists.push(NodeLists { even, odd })?;
     }
     Ok(lists)
+}
+
+/// The certificate of these parts, or none where it does not fit the problem.
+pub(crate) fn certificate_with(
+    alloc: Global,
+    p: &Problem,
+    slack: Option<i128>,
+    cells: &[Option<u32>],
+    lists: Vec<NodeLists>,
+) -> Result<Option<Certificate>, Fail>
+    ensures { IfOk result (λ made. IfSome made (Fits p.now)) }
+{
+    let placement = worked_placement(alloc, p.tree.nodes.len(), p.reps.len(), cells)?;
+    let cert = Certificate {
+        slack,
+        placement,
+        lists,
+    };
+    if fits(p, &cert) {
+        Ok(Some(cert))
+    } else {
+        Ok(None)
+    }
 }
 
 /// The certificate of these parts. Fails where it does not fit the problem.
@@ -128,15 +151,9 @@ pub(crate) fn certificate(
 ) -> Result<Certificate, Fail>
     ensures { IfOk result (Fits p.now) }
 {
-    let placement = worked_placement(alloc, p.tree.nodes.len(), p.reps.len(), cells)?;
     let lists = lists_of(alloc, lists)?;
-    let cert = Certificate {
-        slack,
-        placement,
-        lists,
-    };
-    if !fits(p, &cert) {
-        return Err("does not fit".into());
+    match certificate_with(alloc, p, slack, cells, lists)? {
+        Some(cert) => Ok(cert),
+        None => Err("does not fit".into()),
     }
-    Ok(cert)
 }

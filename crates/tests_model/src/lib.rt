@@ -17,6 +17,8 @@ mod limits;
 #[cfg(test)]
 mod nets;
 #[cfg(test)]
+mod plain;
+#[cfg(test)]
 mod problems;
 #[cfg(test)]
 mod slack;

@@ -6,6 +6,8 @@ mod all;
 #[cfg(test)]
 mod best;
 #[cfg(test)]
+mod certs;
+#[cfg(test)]
 mod changes;
 #[cfg(test)]
 mod design;

@@ -17,22 +17,22 @@ static RUNS: [(&str, u8, &str); 8] = [
     (
         "--mode gen --size 1",
         0,
-        "gen places 1 bare 999969570000000 best 999969570000000 cells 0\n",
+        "gen places 1 bare 999969570000000 best 999969570000000 cells 0 entries 7 certificate valid\n",
     ),
     (
         "--size=50 --mode=gen",
         0,
-        "gen places 50 bare 996807464000000 best 999371604000000 cells 16\n",
+        "gen places 50 bare 996807464000000 best 999371604000000 cells 16 entries 715 certificate valid\n",
     ),
     (
         "--mode gen --size 100",
         0,
-        "gen places 100 bare 987751194000000 best none cells 0\n",
+        "gen places 100 bare 987751194000000 best none cells 0 entries 2 certificate valid\n",
     ),
     (
         "--mode gen --size 250",
         0,
-        "gen places 250 bare 929755796000000 best 996828988000000 cells 78\n",
+        "gen places 250 bare 929755796000000 best 996828988000000 cells 78 entries 3599 certificate valid\n",
     ),
     (
         "--mode gen --size 0",
@@ -65,7 +65,8 @@ fn sums_up_made_designs(rt: HostRuntime) -> Result<(), Fail> {
 }
 
 /// A large design, whose summary is the same each time.
-const LARGE: &str = "gen places 2000 bare -3293202218000000 best 974743329000000 cells 614\n";
+const LARGE: &str =
+    "gen places 2000 bare -3293202218000000 best 974743329000000 cells 614 entries 28914 certificate valid\n";
 
 #[test]
 fn sums_up_a_large_design_twice(rt: HostRuntime) -> Result<(), Fail> {

@@ -15,7 +15,7 @@ type Request = (
     Option<&'static str>,
 );
 
-static REQUESTS: [Request; 6] = [
+static REQUESTS: [Request; 8] = [
     ("--mode wire --spef a --net n", Mode::Wire, None, None, None),
     ("--net=n --spef=a --mode=wire", Mode::Wire, None, None, None),
     (
@@ -45,6 +45,20 @@ static REQUESTS: [Request; 6] = [
         Some("--cons"),
         Some("--lib=l"),
         Some("=c"),
+    ),
+    (
+        "--mode check --spef a --lib l --verilog v --cons c --net n --cert k",
+        Mode::Check,
+        Some("l"),
+        Some("v"),
+        Some("c"),
+    ),
+    (
+        "--cert=k --net=n --cons=-c --verilog=v --lib=l --spef=a --mode=check",
+        Mode::Check,
+        Some("l"),
+        Some("v"),
+        Some("-c"),
     ),
 ];
 
@@ -121,7 +135,7 @@ fn reads_outputs(rt: HostRuntime) -> Result<(), Fail> {
 }
 
 /// What the names of cells that were put in begin with, by the words.
-static PREFIXES: [(&str, &str); 5] = [
+static PREFIXES: [(&str, &str); 7] = [
     (
         "--mode best --spef a --lib l --verilog v --cons c --net n --out-spef o --out-verilog w",
         "vgi_",
@@ -141,6 +155,14 @@ static PREFIXES: [(&str, &str); 5] = [
     (
         "--prefix=_0123456789abcdefABCDEFxyzXYZ_32 --mode time --spef a --lib l --verilog v --cons c --net n",
         "_0123456789abcdefABCDEFxyzXYZ_32",
+    ),
+    (
+        "--mode check --spef a --lib l --verilog v --cons c --net n --cert k",
+        "vgi_",
+    ),
+    (
+        "--mode best --cert k --prefix w_ --spef a --lib l --verilog v --cons c --net n --out-spef o --out-verilog w",
+        "w_",
     ),
 ];
 
@@ -711,6 +733,240 @@ fn refuses_caps(rt: HostRuntime) -> Result<(), Fail> {
     Ok(())
 }
 
+/// Words, and the certificate that they name.
+static CERTS: [(&str, Option<&'static str>); 7] = [
+    (
+        "--mode best --spef a --lib l --verilog v --cons c --net n --out-spef o --out-verilog w --cert k",
+        Some("k"),
+    ),
+    (
+        "--cert=--all --mode best --spef a --lib l --verilog v --cons c --net n --out-spef o --out-verilog w",
+        Some("--all"),
+    ),
+    (
+        "--mode best --spef a --lib l --verilog v --cons c --net n --out-spef o --out-verilog w",
+        None,
+    ),
+    (
+        "--mode best --spef a --lib l --verilog v --cons c --all --out-spef o --out-verilog w",
+        None,
+    ),
+    (
+        "--mode check --spef a --lib l --verilog v --cons c --net n --cert k",
+        Some("k"),
+    ),
+    (
+        "--cert=-k --mode=check --cons=c --verilog=v --lib=l --spef=a --net=k",
+        Some("-k"),
+    ),
+    ("--mode wire --spef a --net n", None),
+];
+
+/// Whether the words name this certificate.
+fn asks_cert(alloc: Global, line: &str, cert: Option<&str>) -> Result<bool, Fail> {
+    let words = words_of(alloc, line)?;
+    let Ok(ask) = read_words(alloc, &words) else {
+        return Ok(false);
+    };
+    Ok(is_value(&ask.cert, cert) && ask.text(Opt::Cert) == cert.unwrap_or(""))
+}
+
+#[test]
+fn reads_certs(rt: HostRuntime) -> Result<(), Fail> {
+    for (line, cert) in &CERTS {
+        assert!(rt; asks_cert(rt.alloc(), line, *cert)?, "{line}");
+    }
+    Ok(())
+}
+
+/// Faults of words that ask for a check, or name a certificate.
+static FAULTY_CERTS: [(&str, WordFault); 44] = [
+    (
+        "--mode check --spef a --lib l --verilog v --cons c --net n",
+        WordFault::Missing(Opt::Cert),
+    ),
+    (
+        "--mode check --spef a --lib l --verilog v --cons c --net n --all",
+        WordFault::Missing(Opt::Cert),
+    ),
+    (
+        "--mode check --spef a --lib l --verilog v --cons c --cert k",
+        WordFault::Missing(Opt::Net),
+    ),
+    (
+        "--mode check --spef a --lib l --verilog v --cons c --all --cert k",
+        WordFault::Missing(Opt::Net),
+    ),
+    (
+        "--mode check --spef a --lib l --verilog v --net n --cert k",
+        WordFault::Missing(Opt::Cons),
+    ),
+    (
+        "--mode check --net n --cert k",
+        WordFault::Missing(Opt::Spef),
+    ),
+    (
+        "--mode check --spef a --lib l --verilog v --cons c --net n --cert k --all",
+        WordFault::Excluded(Opt::All),
+    ),
+    (
+        "--mode check --spef a --lib l --verilog v --cons c --net n --cert k --out-spef o",
+        WordFault::Excluded(Opt::OutSpef),
+    ),
+    (
+        "--mode check --spef a --lib l --verilog v --cons c --net n --cert= --out-verilog w",
+        WordFault::Excluded(Opt::OutVerilog),
+    ),
+    (
+        "--mode check --spef a --lib l --verilog v --cons c --net n --cert k --cap 1",
+        WordFault::Excluded(Opt::Cap),
+    ),
+    (
+        "--mode check --spef a --lib l --verilog v --cons c --net n --cert k --prefix w_",
+        WordFault::Excluded(Opt::Prefix),
+    ),
+    (
+        "--mode check --spef a --lib l --verilog v --cons c --net n --cert k --size 1",
+        WordFault::Excluded(Opt::Size),
+    ),
+    (
+        "--mode best --spef a --lib l --verilog v --cons c --all --out-spef o --out-verilog w --cert k",
+        WordFault::Excluded(Opt::Cert),
+    ),
+    (
+        "--mode best --spef a --lib l --verilog v --cons c --all --out-spef o --out-verilog w --cert= --prefix 9w",
+        WordFault::Excluded(Opt::Cert),
+    ),
+    (
+        "--mode best --spef a --lib l --verilog v --cons c --all --out-spef o --out-verilog w --cert o --cap 1",
+        WordFault::Excluded(Opt::Cert),
+    ),
+    (
+        "--mode best --spef a --lib l --verilog v --cons c --all --net n --out-spef o --out-verilog w --cert k",
+        WordFault::Excluded(Opt::All),
+    ),
+    (
+        "--mode best --spef a --lib l --verilog v --cons c --all --cert k",
+        WordFault::Missing(Opt::OutSpef),
+    ),
+    (
+        "--mode best --spef a --lib l --verilog v --cons c --out-spef o --out-verilog w --cert k",
+        WordFault::Missing(Opt::Net),
+    ),
+    (
+        "--mode time --spef a --lib l --verilog v --cons c --net n --cert k",
+        WordFault::Excluded(Opt::Cert),
+    ),
+    (
+        "--mode time --spef a --lib l --verilog v --cons c --all --cert k",
+        WordFault::Excluded(Opt::Cert),
+    ),
+    (
+        "--mode wire --spef a --net n --cert k --cap 1",
+        WordFault::Excluded(Opt::Cert),
+    ),
+    (
+        "--mode wire --spef a --net n --cert k --out-verilog w",
+        WordFault::Excluded(Opt::OutVerilog),
+    ),
+    (
+        "--mode frontier --spef a --lib l --verilog v --cons c --net n --cap x --cert k",
+        WordFault::Excluded(Opt::Cert),
+    ),
+    (
+        "--mode frontier --spef a --lib l --verilog v --cons c --all --cert k",
+        WordFault::Excluded(Opt::Cert),
+    ),
+    (
+        "--mode gen --size 1 --cert k",
+        WordFault::Excluded(Opt::Cert),
+    ),
+    (
+        "--mode best --spef a --lib l --verilog v --cons c --net n --out-spef o --out-verilog w --cert=",
+        WordFault::BadValue(Opt::Cert),
+    ),
+    (
+        "--mode best --spef a --lib l --verilog v --cons c --net n --out-spef o --out-verilog o --cert ~ --prefix 9w",
+        WordFault::BadValue(Opt::Cert),
+    ),
+    (
+        "--mode best --spef a --lib l --verilog v --cons c --net n --out-spef o --out-verilog= --cert=",
+        WordFault::BadValue(Opt::OutVerilog),
+    ),
+    (
+        "--mode check --spef a --lib l --verilog v --cons c --net n --cert ~",
+        WordFault::BadValue(Opt::Cert),
+    ),
+    (
+        "--mode check --spef a --lib l --verilog v --cons c --net= --cert=",
+        WordFault::BadValue(Opt::Net),
+    ),
+    (
+        "--mode check --spef a --lib l --verilog v --cons c --net n --cert",
+        WordFault::Unread,
+    ),
+    (
+        "--mode check --spef a --lib l --verilog v --cons c --net n --cert -k",
+        WordFault::Unread,
+    ),
+    (
+        "--mode check --spef a --lib l --verilog v --cons c --net n --cert k --cert k",
+        WordFault::Unread,
+    ),
+    (
+        "--mode check --spef a --lib l --verilog v --cons c --net n --cer k",
+        WordFault::Unread,
+    ),
+    (
+        "--mode checks --spef a --lib l --verilog v --cons c --net n --cert k",
+        WordFault::BadValue(Opt::Mode),
+    ),
+    (
+        "--mode check --spef a --lib l --verilog v --cons c --net n --cert a",
+        WordFault::Equal(Opt::Spef, Opt::Cert),
+    ),
+    (
+        "--mode check --spef a --lib l --verilog v --cons c --net n --cert=l",
+        WordFault::Equal(Opt::Lib, Opt::Cert),
+    ),
+    (
+        "--mode check --spef a --lib l --verilog v --cons c --net n --cert v",
+        WordFault::Equal(Opt::Verilog, Opt::Cert),
+    ),
+    (
+        "--mode check --spef a --lib l --verilog v --cons c --net n --cert c",
+        WordFault::Equal(Opt::Cons, Opt::Cert),
+    ),
+    (
+        "--mode check --spef a --lib l --verilog a --cons l --net n --cert a",
+        WordFault::Equal(Opt::Spef, Opt::Verilog),
+    ),
+    (
+        "--mode best --spef a --lib l --verilog v --cons c --net n --out-spef o --out-verilog w --cert a",
+        WordFault::Equal(Opt::Spef, Opt::Cert),
+    ),
+    (
+        "--mode best --spef a --lib l --verilog v --cons c --net n --out-spef o --out-verilog w --cert o",
+        WordFault::Equal(Opt::OutSpef, Opt::Cert),
+    ),
+    (
+        "--mode best --spef a --lib l --verilog v --cons c --net n --out-spef o --out-verilog w --cert=w",
+        WordFault::Equal(Opt::OutVerilog, Opt::Cert),
+    ),
+    (
+        "--mode best --spef a --lib l --verilog v --cons c --net n --out-spef o --out-verilog o --cert o",
+        WordFault::Equal(Opt::OutSpef, Opt::OutVerilog),
+    ),
+];
+
+#[test]
+fn refuses_certs(rt: HostRuntime) -> Result<(), Fail> {
+    for (line, fault) in &FAULTY_CERTS {
+        assert!(rt; fault_of(rt.alloc(), line)? == Some(*fault), "{line}");
+    }
+    Ok(())
+}
+
 #[test]
 fn lists_options_in_order(rt: HostRuntime) -> Result<(), Fail> {
     let names = [
@@ -723,6 +979,7 @@ fn lists_options_in_order(rt: HostRuntime) -> Result<(), Fail> {
         "--all",
         "--out-spef",
         "--out-verilog",
+        "--cert",
         "--cap",
         "--prefix",
         "--size",
