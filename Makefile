@@ -1,7 +1,7 @@
 # `make` proves and builds the program, once. `make demo` places repeaters on all nets of the design in examples/, writes the files to
-# out/, prints the report, and times all nets before and after; `make wire` prints the wire delays of a net. Where the program is not
-# built yet, they run it without a proof. `make test` is the merge gate.
-.PHONY: build demo wire test
+# out/, prints the report, and times all nets before and after; `make wire` prints the wire delays of a net, and `make check`
+# checks a certificate of the design's worst net. Where the program is not built yet, they run it without a proof. `make test` is the merge gate.
+.PHONY: build demo wire check test
 
 OTHERS = --lib examples/soc.lib --cons examples/soc.cons
 DESIGN = --spef examples/soc.spef --verilog examples/soc.v $(OTHERS)
@@ -21,6 +21,9 @@ demo:
 
 wire:
 	@VGINSERT_BUILD=try ./vginsert --mode wire --spef examples/fork.spef --net n1
+
+check:
+	@VGINSERT_BUILD=try ./vginsert --mode check $(DESIGN) --net 'acc[3]' --cert examples/acc3.cert
 
 test:
 	rt ci

@@ -10,12 +10,14 @@
 | `netlist` | `--mode time` | a small net, with netlists of wires, of escaped names, of bits and of undeclared nets |
 | `library` | `--mode time` | a small net, with libraries of mixed cells, of deep and of wide groups, and of tables |
 | `best` | `--mode best` | chains, random trees and fans of 1,024 to 65,536 nodes, with 2, 16, 64 and 256 repeaters |
+| `cert` | `--mode best --cert` and `--mode check` | chains of 1,024 to 65,536 nodes, with 2 and 16 repeaters |
 | `frontier` | `--mode frontier` | chains and random trees with 60 to 480 nodes between driver and sinks, with 2, 8 and 32 repeaters, with a cap and without one |
 | `all` | `--mode time --all` and `--mode best --all` | all nets of designs of four files |
 
-The sizes are the nodes in mode `best`, the nodes but two in mode `frontier`, and those of the SPEF files in modes `design` and `time` (1, 16, 64 and 256 MB if none is given) and `all` (1, 16, 64 and 192 MB),
+The sizes are the nodes in modes `best` and `cert`, the nodes but two in mode `frontier`, and those of the SPEF files in modes `design` and `time` (1, 16, 64 and 256 MB if none is given) and `all` (1, 16, 64 and 192 MB),
 of the netlists (256 MB) and of the libraries (64 MB). With `--beside OTHER` each row but those of `rows` and `library` also tells the seconds
-and the memory of another program with the same arguments, run right after. In mode `best` the changed files are written, too.
+and the memory of another program with the same arguments, run right after. In modes `best` and `cert` the changed files are written, too;
+in mode `cert` each program checks its own certificate, unless this has more than 2^28 bytes.
 Seconds are the least of five runs of the whole process, peak memory is what GNU time tells, 1 MB is 2^20 bytes.
 """
 import argparse
@@ -28,6 +30,7 @@ import time
 HERE = os.path.dirname(os.path.abspath(__file__))
 LIBRARY = os.path.join(HERE, "..", "examples", "cells.lib")
 BEST_FILES = ["--spef", "net.spef", "--lib", "made.lib", "--verilog", "net.v", "--cons", "net.cons"]
+MOST_BYTES = 2**28
 SHAPES = {"chain": "a chain", "star": "a star", "tree": "a binary tree"}
 
 
@@ -190,6 +193,24 @@ def run_best(programs, *sizes):
                 row(shape, f"{int(nodes):,}", repeaters, f"{runs[0][0].count(b'at '):,}", *cells)
 
 
+def run_cert(programs, *sizes):
+    head("net", "nodes", "repeaters", "certificate", "step", *titles(programs))
+    files = [*BEST_FILES, "--net", "n"]
+    written = ["--out-spef", "out.spef", "--out-verilog", "out.v"]
+    for nodes in sizes or ["1024", "8192", "65536"]:
+        make_best_net(nodes, "chain")
+        for repeaters in ["2", "16"]:
+            make("repeaters.py", [repeaters], "made.lib")
+            for step, words in [("written", ["best", *files, *written]), ("checked", ["check", *files])]:
+                if step == "checked" and os.path.getsize("0.cert") > MOST_BYTES:
+                    continue
+                runs = [measure_good([program, "--mode", *words, "--cert", f"{at}.cert"]) for at, program in enumerate(programs)]
+                if any(run[0] != runs[0][0] for run in runs):
+                    print("run.py: the programs print different reports", file=sys.stderr)
+                cells = [cell for _, seconds, peak in runs for cell in (f"{seconds:.3f}", mb(peak))]
+                row("chain", f"{int(nodes):,}", repeaters, mb(os.path.getsize("0.cert")), step, *cells)
+
+
 def make_best_net(nodes, shape):
     """Writes a net on which repeaters are to be placed, with its netlist and its constraints."""
     for part, path in [("spef", "net.spef"), ("netlist", "net.v"), ("constraints", "net.cons")]:
@@ -246,6 +267,7 @@ MODES = {
     "netlist": run_netlist,
     "library": run_library,
     "best": run_best,
+    "cert": run_cert,
     "frontier": run_frontier,
     "all": run_all,
 }

@@ -1,5 +1,5 @@
-//! Whether mode `time` finds in the files that mode `best` writes the slack that it printed, for each net of a design, and whether a run
-//! over all nets prints what the runs over each of them do.
+//! Whether mode `time` finds in the files that mode `best` writes the slack that it printed, for each net of a design, whether a run
+//! over all nets prints what the runs over each of them do, and whether mode `check` finds the certificates of the nets valid.
 
 use crate::report::words_of;
 use std::alloc::Global;
@@ -46,6 +46,10 @@ const BEST: &str =
 /// Those of mode `time` for the files that it writes.
 const TIME: &str =
     "--mode time --spef out.spef --lib examples/soc.lib --verilog out.v --cons examples/soc.cons";
+
+/// Those of mode `check` for a certificate that it writes.
+const CHECK: &str =
+    "--mode check --spef examples/soc.spef --lib examples/soc.lib --verilog examples/soc.v --cons examples/soc.cons";
 
 /// The most bytes that an output takes at once.
 const CHUNK: usize = 1 << 16;
@@ -153,7 +157,41 @@ fn are_as_one_by_one<F: Files>(
     Ok(best == lines.best && retimed)
 }
 
-/// Tells whether the nets of the design re-time to the slacks that were printed, one by one and all at once.
+/// Whether mode `check` finds the certificate valid that mode `best` writes of a net, with the slack that is printed.
+fn certifies<F: Files>(alloc: Global, files: &mut F, net: &str) -> Result<bool, Memory> {
+    let nets = format!(in alloc; "--net {net} --cert out.cert")?;
+    let best = printed(alloc, files, BEST, nets.as_str())?;
+    let check = printed(alloc, files, CHECK, nets.as_str())?;
+    let slack = best.split(' ').nth(3).unwrap_or("");
+    let valid = format!(in alloc; "net {net} certificate valid slack {slack}\n")?;
+    Ok(check == valid)
+}
+
+/// Tells whether the certificates of all nets are found valid, or which are not.
+fn report_certificates<F: Files>(
+    alloc: Global,
+    files: &mut F,
+    report: &mut String,
+) -> Result<bool, Memory> {
+    let mut all = true;
+    for net in &NETS {
+        if !certifies(alloc, files, net)? {
+            writeln!(report, "{net}: a certificate that is not valid")?;
+            all = false;
+        }
+    }
+    if all {
+        writeln!(
+            report,
+            "examples/soc: {} certificates are valid",
+            NETS.len()
+        )?;
+    }
+    Ok(all)
+}
+
+/// Tells whether the nets of the design re-time to the slacks that were printed, one by one and all at once, and whether their certificates
+/// are valid.
 pub(crate) fn report_design<F: Files>(
     alloc: Global,
     files: &mut F,
@@ -167,5 +205,6 @@ pub(crate) fn report_design<F: Files>(
     } else {
         writeln!(report, "examples/soc: all nets at once not as one by one")?;
     }
-    Ok(retimed && same)
+    let certified = report_certificates(alloc, files, report)?;
+    Ok(retimed && same && certified)
 }

@@ -1,5 +1,5 @@
 //! Compares the runs that pages show with what the program prints, the options that the manual page lists with those of the program, and
-//! the slacks of a design with those of the files that are written, and tries outputs that cannot be written.
+//! the slacks of a design with those of the files that are written, checks its certificates, and tries outputs that cannot be written.
 #![tactic(auto)]
 
 mod design;
@@ -16,16 +16,23 @@ use std::process::ExitCode;
 use vg_store::RealFiles;
 
 /// The pages, by their paths.
-const PAGES: [&str; 2] = ["README.md", "examples/README.md"];
+const PAGES: [&str; 3] = ["README.md", "docs/CERTIFICATES.md", "examples/README.md"];
 
 /// The manual page.
 const MANUAL: &str = "docs/vginsert.1";
 
 /// The files that the runs on the pages read.
-const EXAMPLES: [&str; 8] = [
+const EXAMPLES: [&str; 15] = [
+    "examples/acc3.cert",
+    "examples/acc3_broken.cert",
     "examples/cells.lib",
     "examples/extracted.spef",
     "examples/fork.spef",
+    "examples/small.cert",
+    "examples/small.cons",
+    "examples/small.lib",
+    "examples/small.spef",
+    "examples/small.v",
     "examples/soc.cons",
     "examples/soc.lib",
     "examples/soc.spef",
