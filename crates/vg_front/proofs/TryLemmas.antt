@@ -18,7 +18,7 @@ use Rattle.vg_front.specs.declared.tries.Site.{Site}
 use Rattle.vg_front.specs.Offers.{priced, proposed_by, Adds, OfSome}
 use Rattle.vg_front.specs.Driving.{Stand, driven_at, driven_offer, IsReached, IsDrivable, IsDriven, IsTried}
 use Rattle.vg_front.specs.Meeting.{IsRunAt}
-use Rattle.vg_front.specs.Tries.{before, IsLatest, IsTriedBy, AreNumbers, AreBests, DriveAll}
+use Rattle.vg_front.specs.Tries.{before, stand_at, IsLatest, IsTriedBy, AreNumbers, AreBests, DriveAll}
 use Rattle.vg_front.proofs.SeenLemmas.{beaten_over, set_cases, left_in}
 use Rattle.vg_front.proofs.TakenLemmas.{of_between, in_between, between_in, more_taken, between_taken, taken_cases}
 use Rattle.vg_front.proofs.OfferLemmas.{beaten_parts, adds_then}
@@ -124,7 +124,7 @@ module _ (site : Site) (reps : List Rep) (b : ℕ) (xs : List Candidate) (run : 
   pub alone_beats : (d : Candidate) → r ≡ (rep_at reps b).r → (q : Proposal) → IsTriedBy site reps xs b q
       → (z : Proposal) × IsTriedBy site reps (get_or xs i d ∷ []) b z × Beats (priced z.offer) (priced q.offer)
   alone_beats d same =
-      best_beats (record { node = site.node; number = b; rep = rep_at reps b }) site.cap xs (get_or xs i d ∷ [])
+      best_beats (stand_at site b (rep_at reps b)) site.cap xs (get_or xs i d ∷ [])
       (λ y y_in. (
         get_or xs i d,
         (0, omega arith, refl),
@@ -138,10 +138,10 @@ module _ (site : Site) (reps : List Rep) (b : ℕ) (xs : List Candidate) (run : 
           subst (λ (t : Candidate). before r t.offer ≤ℤ before r (get_or xs i d).offer) (any_default xs k d y k_n ∙ y_is) (best.latest k d k_n)
 
   pub one_tried : (d : Candidate) (old new : List Proposal) → r ≡ (rep_at reps b).r
-      → IsTried (record { node = site.node; number = b; rep = rep_at reps b }) site.cap (get_or xs i d) old new → Adds (IsTriedBy site reps xs b) old new
+      → IsTried (stand_at site b (rep_at reps b)) site.cap (get_or xs i d) old new → Adds (IsTriedBy site reps xs b) old new
   one_tried d old new same tried =
       adds_narrowed (IsTriedBy site reps (get_or xs i d ∷ []) b) (IsTriedBy site reps xs b) old new
-      (tried_alone (record { node = site.node; number = b; rep = rep_at reps b }) site.cap (get_or xs i d) old new tried)
+      (tried_alone (stand_at site b (rep_at reps b)) site.cap (get_or xs i d) old new tried)
       (λ q (x, (k, k_n, x_is), may, q_is).
       let first : k ≡ 0 = omega (arith, k_n) in
       let is : get_or xs i d ≡ x = sym (ap (λ (n : ℕ). get_or (get_or xs i d ∷ []) n x) first) ∙ x_is in
@@ -152,7 +152,7 @@ module _ (site : Site) (reps : List Rep) (b : ℕ) (xs : List Candidate) (run : 
   pub later_beats : (rep_at reps b).r ≤ r → (q : Proposal) → IsTriedBy site reps xs b q
       → (z : Proposal) × IsTriedBy site reps (between i (length xs) xs) b z × Beats (priced z.offer) (priced q.offer)
   later_beats low =
-      best_beats (record { node = site.node; number = b; rep = rep_at reps b }) site.cap xs (between i (length xs) xs)
+      best_beats (stand_at site b (rep_at reps b)) site.cap xs (between i (length xs) xs)
       (λ y (k, k_n, y_is). elim (cases_lt k i) [
         | inr late ↦ (
           y,
@@ -176,7 +176,7 @@ module _ (site : Site) (reps : List Rep) (b : ℕ) (xs : List Candidate) (run : 
   pub earlier_beats : r ≤ (rep_at reps b).r → (q : Proposal) → IsTriedBy site reps xs b q
       → (z : Proposal) × IsTriedBy site reps (between 0 (i + 1) xs) b z × Beats (priced z.offer) (priced q.offer)
   earlier_beats high =
-      best_beats (record { node = site.node; number = b; rep = rep_at reps b }) site.cap xs (between 0 (i + 1) xs)
+      best_beats (stand_at site b (rep_at reps b)) site.cap xs (between 0 (i + 1) xs)
       (λ y (k, k_n, y_is). elim (cases_lt i k) [
         | inr early ↦ (
           y,

@@ -6,7 +6,7 @@ use Rattle.elmore.specs.Cells.{rep_at}
 use Rattle.elmore.specs.Legal.{IsWithin}
 use Rattle.elmore.specs.declared.problem.Problem.{Problem}
 use Rattle.elmore.specs.declared.rep.Rep.{Rep}
-use Rattle.vg_front.specs.Driving.{IsReached, IsDriven, stand_of, behind}
+use Rattle.vg_front.specs.Driving.{IsReached, IsDriven, Stand, stand_of, behind}
 use Rattle.vg_front.specs.declared.offer.Candidate.{Candidate}
 use Rattle.vg_front.specs.declared.offer.Offer.{Offer}
 use Rattle.vg_front.specs.declared.offer.Proposal.{Proposal}
@@ -21,9 +21,13 @@ pub record IsLatest (xs : List Candidate) (n r at : ℕ) : Type 0 where
   pub inside : at < n
   pub latest : (k : ℕ) (d : Candidate) → k < n → before r (slice_index_or xs k d).offer ≤ℤ before r (slice_index_or xs at d).offer
 
+-- a repeater of a number at a site
+abbrev pub stand_at : Site → ℕ → Rep → Stand
+stand_at site number rep = record { node = site.node; number = number; rep = rep }
+
 -- a repeater of a list is proposed at a site for one of these candidates
 abbrev pub IsTriedBy : Site → List Rep → List Candidate → ℕ → Proposal → Type 0
-IsTriedBy site reps xs b = IsDriven (record { node = site.node; number = b; rep = rep_at reps b }) site.cap xs
+IsTriedBy site reps xs b = IsDriven (stand_at site b (rep_at reps b)) site.cap xs
 
 -- numbers of repeaters, by rising resistance
 pub record AreNumbers (reps : List Rep) (numbers : List ℕ) : Type 0 where

@@ -13,7 +13,7 @@ ghost use Rattle.vg_front.specs.Driving.{driven_offer, BeatsBy, IsReached, IsDri
 ghost use Rattle.vg_front.specs.Held.{IsBounded, AreBounded};
 ghost use Rattle.vg_front.specs.Meeting.{IsRunAt};
 ghost use Rattle.vg_front.specs.Offers.{Adds, OfSome};
-ghost use Rattle.vg_front.specs.Tries.{before as before_spec, IsLatest, IsTriedBy, AreNumbers, AreBests, DriveAll};
+ghost use Rattle.vg_front.specs.Tries.{before as before_spec, stand_at, IsLatest, IsTriedBy, AreNumbers, AreBests, DriveAll};
 ghost use Rattle.vg_front.specs.declared.offer.Candidate.{Candidate as CandidateSpec};
 
 use crate::offer::{Candidate, Offer, Origin, Proposal, beats, is_within};
@@ -74,7 +74,7 @@ fn drive_one(
     requires rep { IsRepWithin rep.now }
     requires bounded { IsBounded x.offer }
     requires best { IsReached made.old.items best.old }
-    ensures tried { OnOk result (IsTried (record { node = site.node; number = number; rep = rep.now }) site.cap x made.old.items made.new.items) }
+    ensures tried { OnOk result (IsTried (stand_at site number rep.now) site.cap x made.old.items made.new.items) }
     ensures best { OnOk result (IsReached made.new.items best.new) }
 {
     let offer = driven(rep, x.offer);
@@ -107,7 +107,7 @@ fn drive(
     requires rep { IsRepWithin rep.now }
     requires bounded { AreBounded xs.now }
     requires best { IsReached made.old.items best.old }
-    ensures driven { OnOk result (Adds (IsDriven (record { node = site.node; number = number; rep = rep.now }) site.cap xs.now) made.old.items made.new.items) }
+    ensures driven { OnOk result (Adds (IsDriven (stand_at site number rep.now) site.cap xs.now) made.old.items made.new.items) }
     ensures best { OnOk result (IsReached made.new.items best.new) }
 {
     'candidates: for x in xs {
