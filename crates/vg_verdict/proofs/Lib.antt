@@ -1,4 +1,5 @@
 pub mod VerdictLemmas
 pub mod TextLemmas
+pub mod ShownLemmas
 pub mod NameLemmas
 pub mod MadeLemmas

@@ -57,11 +57,11 @@ not_both p names text fault = never_both (fault_at p names text) (length (parts 
 pub one_judgement : OneJudgement
 one_judgement p names text valid again line told (told_fault a a_is v l) (told_fault b b_is w m) =
     (v ∙ sym w, l ∙ ap (fault_line names) (one_fault p names text a b a_is b_is) ∙ sym m)
-one_judgement p names text valid again line told (told_fault a a_is v l) (told_verdict cert writes verdict is w m) =
+one_judgement p names text valid again line told (told_fault a a_is v l) (told_verdict cert writes verdict is shown w m) =
     absurd (not_both p names text a writes.faultless a_is)
-one_judgement p names text valid again line told (told_verdict cert writes verdict is v l) (told_fault b b_is w m) =
+one_judgement p names text valid again line told (told_verdict cert writes verdict is shown v l) (told_fault b b_is w m) =
     absurd (not_both p names text b writes.faultless b_is)
-one_judgement p names text valid again line told (told_verdict a a_is x x_is v l) (told_verdict b b_is y y_is w m) =
+one_judgement p names text valid again line told (told_verdict a a_is x x_is x_shown v l) (told_verdict b b_is y y_is y_shown w m) =
     let alike : AreAlike a b = denoted_alike p names (lines text) a b a_is.denotes b_is.denotes in
     let same : x ≡ y = verdicts_alike p a b alike x y x_is y_is in
     (v ∙ ap is_yes same ∙ sym w, l ∙ (λ i. verdict_line names (alike.slack i) (same i)) ∙ sym m)
@@ -82,7 +82,7 @@ module _ (p : Problem) (names : NetNames) (found : Option Best) (text : List ℕ
   found_valid : (valid : Bool) (line : List ℕ) → IsJudged p names text valid line
       → (valid ≡ true) × (line ≡ verdict_line names (option_map (λ (best : Best). best.slack) found) Yes)
   found_valid valid line (told_fault fault first v l) = absurd (not_both p names text fault written.faultless first)
-  found_valid valid line (told_verdict cert writes verdict of v l) =
+  found_valid valid line (told_verdict cert writes verdict of shown v l) =
       let alike : AreAlike cert is.cert = denoted_alike p names (lines text) cert is.cert writes.denotes written.denotes in
       let yes : verdict ≡ Yes = verdicts_alike p cert is.cert alike verdict Yes of (valid_verdict p is.cert is.valid) in
       let slack = alike.slack ∙ claimed_slack found is.cert is.claims in

@@ -4,7 +4,7 @@ use Rattle.std.specs.List.{range_with_len, sum_by}
 use Rattle.elmore.specs.declared.pair.Pair.{Pair}
 use Rattle.elmore.specs.declared.problem.Problem.{Problem}
 use Rattle.cand_laws.specs.Candidates.{NodeLists}
-use Rattle.cand_laws.specs.Certificates.{IsValid}
+use Rattle.cand_laws.specs.Certificates.{IsShown, IsValid}
 use Rattle.vg_scan.specs.declared.fault.LineFault.{LineFault}
 use Rattle.vg_scan.specs.declared.name.NetNames.{NetNames}
 use Rattle.vg_cert.specs.Denoted.{Denotes}
@@ -33,11 +33,13 @@ pub record Writes (p : Problem) (names : NetNames) (text : List ℕ) (cert : Cer
   pub faultless : IsFaultless p names text
   pub denotes : Denotes p names (lines text) cert
 
--- The line tells the first fault of a text, or the verdict on the certificate that the text is; and whether it is a valid one.
+-- The line tells the first fault of a text, or the verdict on the certificate that the text is; and whether it is a valid one. Whoever made it, a
+-- valid one shows that its placement is best, with its slack, or, where it has none, that no placement is good.
 pub data IsJudged (p : Problem) (names : NetNames) (text : List ℕ) (valid : Bool) (line : List ℕ) : Type 0 where
   told_fault : (fault : LineFault CertKind) → IsFaultIn p names text fault → valid ≡ false → line ≡ fault_line names fault
       → IsJudged p names text valid line
-  told_verdict : (cert : Certificate) → Writes p names text cert → (verdict : Verdict) → IsVerdict p cert verdict → valid ≡ is_yes verdict
+  told_verdict : (cert : Certificate) → Writes p names text cert → (verdict : Verdict) → IsVerdict p cert verdict
+      → (verdict ≡ Yes → IsShown p cert.slack cert.placement.cells) → valid ≡ is_yes verdict
       → line ≡ verdict_line names cert.slack verdict → IsJudged p names text valid line
 
 -- the line of what is found in a text was appended

@@ -1,6 +1,7 @@
 -- What the functions between say; what the crate promises does not rest on it.
 use Rattle.std.specs.Prelude.{◌≡◌, ℕ, ◌<◌, ◌++◌, Bool, List, Option, option_map}
 use Rattle.elmore.specs.declared.problem.Problem.{Problem}
+use Rattle.cand_laws.specs.Certificates.{IsShown}
 use Rattle.vg_scan.specs.declared.name.NetNames.{NetNames}
 use Rattle.vg_cert.specs.declared.certificate.Certificate.{Certificate}
 use Rattle.vg_check.specs.Verdicts.{IsVerdict}
@@ -23,6 +24,7 @@ NamesWithin n (NotBest written bound) = Unit {0}
 pub record TellsVerdict (p : Problem) (names : NetNames) (cert : Certificate) (old new : List ℕ) (valid : Bool) : Type 0 where
   pub verdict : Verdict
   pub is : IsVerdict p cert verdict
+  pub shown : verdict ≡ Yes → IsShown p cert.slack cert.placement.cells
   pub valid_is : valid ≡ is_yes verdict
   pub text : new ≡ old ++ verdict_line names cert.slack verdict
 

@@ -11,6 +11,8 @@ mod names;
 
 pub use certify::{certified, summed_up};
 pub use judge::judge_text;
-pub use laws::{judgements_are_one, net_names_fit, written_certificates_are_valid};
+pub use laws::{
+    judgements_are_one, net_names_fit, valid_ones_are_best, written_certificates_are_valid,
+};
 pub use made::{Certified, Summed};
 pub use names::net_names;

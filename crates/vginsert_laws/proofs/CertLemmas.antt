@@ -1,25 +1,28 @@
--- Certificates that mode `best` has written, and what mode `check` tells of them.
-use Rattle.std.proofs.Common.{◌≡◌, ℕ, List, true, false, sym, ap, ◌∙◌, subst, Option, Some, None}
-use Rattle.std.specs.Prelude.{is_some}
+-- Certificates that mode `best` has written, what mode `check` tells of them, and what those show that it finds valid.
+use Rattle.std.proofs.Common.{◌≡◌, ℕ, Bool, List, [], true, false, refl, sym, ap, ◌∙◌, subst, inl, Option, Some, None}
+use Rattle.std.specs.Prelude.{is_some, unwrap_or}
 use Rattle.elmore.specs.declared.problem.Problem.{Problem}
 use Rattle.vg_design.specs.Designs.{Design}
 use Rattle.vg_inputs.specs.Designs.{Texts, IsDesign}
 use Rattle.vg_inputs.proofs.LawLemmas.{one_is}
 use Rattle.vg_scan.specs.declared.name.NetNames.{NetNames}
 use Rattle.vg_verdict.specs.Judged.{IsJudged}
-use Rattle.vg_verdict.specs.Laws.{names_in}
+use Rattle.vg_verdict.specs.Laws.{names_in, ShowsBest}
 use Rattle.vg_verdict.proofs.NameLemmas.{names_fit}
+use Rattle.vg_verdict.proofs.ShownLemmas.{valid_best}
 use Rattle.vg_verdict.proofs.TextLemmas.{written_valid}
-use Rattle.vg_words.specs.Laws.{AsksForNet}
+use Rattle.vg_words.specs.Laws.{AsksAsIn, AsksForNet}
 use Rattle.vg_words.specs.declared.ask.Mode.{Mode}
-use Rattle.vg_words.proofs.JudgeLemmas.{certs}
+use Rattle.vg_words.proofs.JudgeLemmas.{certs, one_or_all}
+use Rattle.vginsert_top.specs.Answer.{IsAnswerFor, design_texts, one_net}
 use Rattle.vginsert_top.specs.Inputs.{asked_by, cert_in, written_cert}
-use Rattle.vginsert_top.specs.Results.{Certifies, IsCertFor, IsCheckSaid, kind_judged}
+use Rattle.vginsert_top.specs.Results.{Certifies, IsCertFor, IsCheckAnswer, IsCheckSaid, kind_judged}
 use Rattle.vginsert_top.specs.Verdicts.{Verdict, bare_verdict, kind_in, text_in}
 use Rattle.vginsert_top.specs.declared.answer.AnswerKind.{AnswerKind}
-use Rattle.vginsert_top.specs.declared.answer.AnswerKind.TheVariants.{Report}
+use Rattle.vginsert_top.specs.declared.answer.AnswerKind.TheVariants.{Report, Refusal}
+use Rattle.vginsert_top.specs.declared.input.Input.TheVariants.{Cert}
 use Rattle.vginsert_top.proofs.ApartLemmas.{not_refused, one_names, one_posed}
-use Rattle.vginsert_laws.specs.Laws.{CertificatesAreWritten, IsFoundAndValid, WritesCertificate, WrittenCertificatesCheck}
+use Rattle.vginsert_laws.specs.Laws.{CertificatesAreWritten, IsFoundAndValid, ShowsOfNet, ValidCertificatesAreBest, WritesCertificate, WrittenCertificatesCheck}
 
 abbrev Bytes : Type 0
 Bytes = List ℕ
@@ -65,3 +68,41 @@ written_certificates_check texts asked kind also said told answer made checked =
     let same : checked.design ≡ answer.design = one_is texts checked.design answer.design checked.design_of answer.design_of.design_of in
     judged_valid texts answer.design made.name made.text said.text kind (bare_verdict also told.text) answer.design_of.design_of made.certifies
     (subst (λ (d : Design). IsCheckSaid d made.name made.text (bare_verdict also told.text)) same checked.says)
+
+-- ---- what a valid one shows
+
+only_valid : (valid : Bool) → kind_judged valid ≡ Report → valid ≡ true
+only_valid true report = refl
+only_valid false report = absurd cc
+
+valid_shows : (d : Design) (name cert : Bytes) (v : Verdict) → IsCheckSaid d name cert v → v.kind ≡ Report → ShowsOfNet d name cert v.text
+valid_shows d name cert v (IsCheckSaid.told_refusal refusal refused is) report = absurd (let clash : Refusal ≡ Report = sym (ap kind_in is) ∙ report in cc)
+valid_shows d name cert v (IsCheckSaid.told_judgement net of valid line judged is) report =
+    let holds : valid ≡ true = only_valid valid (sym (ap kind_in is) ∙ report) in
+    record {
+      net = net;
+      net_of = of;
+      shows = subst (λ (text : Bytes). ShowsBest net.problem (names_in d name net) cert text) (sym (ap text_in is))
+          (valid_best net.problem (names_in d name net) cert valid line judged (inl holds));
+    }
+
+its_name : (net : Option Bytes) → is_some net ≡ true → net ≡ Some (unwrap_or net [])
+its_name None some = absurd cc
+its_name (Some name) some = refl
+
+pub valid_certificates_are_best : ValidCertificatesAreBest
+valid_certificates_are_best words ask files out request mode (texts, read, (said, says, gained, written)) =
+    let asks : AsksForNet ask = subst (λ (m : Mode). AsksAsIn m ask) mode (one_or_all words ask request) in
+    let answer : IsCheckAnswer (design_texts texts) (texts Cert) (one_net (asked_by ask)) Report said =
+    subst (λ (m : Mode). IsAnswerFor Report m texts (asked_by ask) said) mode says in
+    record {
+      texts = texts;
+      read = read;
+      design = answer.design;
+      design_of = answer.design_of;
+      name = one_net (asked_by ask);
+      named = its_name ask.net asks.0;
+      line = said.text;
+      printed = gained;
+      shows = valid_shows answer.design (one_net (asked_by ask)) (texts Cert) (bare_verdict Report said.text) answer.says refl;
+    }

@@ -1,6 +1,6 @@
 //! Laws of the program's runs. Their functions do nothing: each one's contract is the law, which a proof may cite.
 
-ghost use Rattle.vginsert_laws.specs.Laws.{CertificatesAreWritten, WrittenCertificatesCheck, WrittenFilesRetime};
+ghost use Rattle.vginsert_laws.specs.Laws.{CertificatesAreWritten, ValidCertificatesAreBest, WrittenCertificatesCheck, WrittenFilesRetime};
 
 /// Let a request in mode `best` be answered by a report of a best placement. Then the written netlist and the written parasitics
 /// are, with the same library and constraints, a design, in which the net that was asked for re-times to exactly the slack that
@@ -20,4 +20,12 @@ pub fn certificates_are_written()
 /// a report: that the certificate is valid, with exactly the slack that was reported, or none.
 pub fn written_certificates_check()
     ensures { WrittenCertificatesCheck }
+{}
+
+/// Let a request in mode `check` be answered by a report, as it is in a run that ends with status 0. Then the file that it names as a
+/// certificate is a valid one of the net that it asks for, as the line says. Whoever made it, its placement is good for this net of the
+/// four files and has the slack of the line, and no good placement has more; or the line says that there is none, and no placement is
+/// good.
+pub fn valid_certificates_are_best()
+    ensures { ValidCertificatesAreBest }
 {}

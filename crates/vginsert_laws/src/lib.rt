@@ -3,4 +3,7 @@
 
 mod laws;
 
-pub use laws::{certificates_are_written, written_certificates_check, written_files_retime};
+pub use laws::{
+    certificates_are_written, valid_certificates_are_best, written_certificates_check,
+    written_files_retime,
+};

@@ -10,7 +10,7 @@ returns-in_ok-valid-in-Ok c =
       line = verdict_line c.args.names.now c.in-Ok.cert.slack told.verdict;
       judged =
           told_verdict c.in-Ok.cert (record { faultless = c.in-Ok.ensures.faultless; denotes = c.in-Ok.ensures.denotes }) told.verdict told.is
-          told.valid_is refl;
+          told.shown told.valid_is refl;
       appended = told.text;
     }
 
