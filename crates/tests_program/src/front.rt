@@ -5,12 +5,10 @@ use crate::best::{
     WANTED_INVERTED,
 };
 use crate::changes::{Base, Change, Cons, Lib, Row, Spef, Words, is_so};
-use crate::texts::{CONS, NET, NETLIST, words_of};
+use crate::runs::{made_files, printed};
+use crate::texts::{CONS, NET, NETLIST};
 use std::alloc::Global;
 use std::test::Fail;
-use vg_gen::generate;
-use vg_store::{MemFiles, MemOut};
-use vginsert_top::run;
 
 static BASE: Base = Base {
     words: "--mode frontier --spef a.spef --lib l.lib --verilog v.v --cons c.txt --net n1",
@@ -185,37 +183,21 @@ fn finds_no_point_or_refuses(rt: HostRuntime) -> Result<(), Fail> {
     Ok(())
 }
 
-/// The files of the made-up design of size 60.
-fn made_files(alloc: Global) -> Result<MemFiles, Fail> {
-    let made = generate(alloc, 60)?;
-    let mut files = MemFiles::new(alloc, 4096, &[])?;
-    files.add("a.spef", &made.spef)?;
-    files.add("l.lib", &made.lib)?;
-    files.add("v.v", &made.verilog)?;
-    files.add("c.txt", &made.cons)?;
-    Ok(files)
-}
-
-/// What a run over the files of the made-up design prints, where its status is 0.
-fn printed(alloc: Global, line: &str) -> Result<Option<String>, Fail> {
-    let words = words_of(alloc, line)?;
-    let mut files = made_files(alloc)?;
-    let mut out = MemOut::new(alloc, 4096, &[])?;
-    let mut err = MemOut::new(alloc, 4096, &[])?;
-    if run(alloc, &words, &mut files, &mut out, &mut err) != 0 {
-        return Ok(None);
-    }
-    Ok(Some(String::from_utf8_lossy(alloc, out.as_bytes())?))
+/// What a run over the files of the made-up design of size 60 prints, where its status is 0.
+fn printed_made(alloc: Global, line: &str) -> Result<Option<String>, Fail> {
+    let mut files = made_files(alloc, 60)?;
+    let (status, said) = printed(alloc, line, &mut files)?;
+    Ok(if status == 0 { Some(said) } else { None })
 }
 
 const MADE: &str = "--mode frontier --spef a.spef --lib l.lib --verilog v.v --cons c.txt --net g";
 
 /// Whether the frontier of the made-up net begins with its slack without a cell and ends with that of a best placement, as mode `gen` tells them.
 fn ends_at_best(alloc: Global) -> Result<bool, Fail> {
-    let Some(sums) = printed(alloc, "--mode gen --size 60")? else {
+    let Some(sums) = printed_made(alloc, "--mode gen --size 60")? else {
         return Ok(false);
     };
-    let Some(front) = printed(alloc, MADE)? else {
+    let Some(front) = printed_made(alloc, MADE)? else {
         return Ok(false);
     };
     let (Some(bare), Some(best)) = (sums.split(' ').nth(4), sums.split(' ').nth(6)) else {

@@ -6,6 +6,10 @@ mod all;
 #[cfg(test)]
 mod best;
 #[cfg(test)]
+mod cert_changes;
+#[cfg(test)]
+mod cert_runs;
+#[cfg(test)]
 mod certs;
 #[cfg(test)]
 mod changes;
@@ -15,6 +19,8 @@ mod design;
 mod faults;
 #[cfg(test)]
 mod front;
+#[cfg(test)]
+mod mode_words;
 #[cfg(test)]
 mod program;
 #[cfg(test)]
