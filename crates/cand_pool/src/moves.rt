@@ -94,6 +94,23 @@ impl Pool {
         }
     }
 
+    /// Puts the slot of a list of one after the end of a list.
+    pub(crate) fn put_last(&mut self, list: &mut Ends, slot: u32)
+        requires one { IsNamed self.old list.old.first list.old.last }
+        requires two { IsNamed self.old slot slot }
+        requires some { slot ≢ NONE }
+        requires differ { list.old.first ≢ slot }
+        ensures { IsAppended self.old list.old.first list.old.last slot slot self.new list.new.first list.new.last }
+    {
+        if list.first == NONE {
+            list.first = slot;
+            list.last = slot;
+            return;
+        }
+        self.links[list.last as usize] = slot;
+        list.last = slot;
+    }
+
     /// Takes the first off a list that is not empty, writes it anew, and puts it after another list.
     pub(crate) fn move_formed(&mut self, rest: Ends, to: Ends, q: i128, c: u64, tag: u64) -> Moved
         requires one { IsNamed self.old rest.first rest.last }

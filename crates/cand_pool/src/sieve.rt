@@ -29,15 +29,11 @@ impl Pool {
         let slot = at.rest.first;
         at.rest.first = self.take_first(slot);
         self.rewrite(slot, q, c);
-        let one = Ends {
-            first: slot,
-            last: slot,
-        };
         if q > at.best {
-            at.kept = self.put_after(at.kept, one);
+            self.put_last(&mut at.kept, slot);
             at.best = q;
         } else {
-            at.dropped = self.put_after(at.dropped, one);
+            self.put_last(&mut at.dropped, slot);
         }
     }
 
@@ -50,15 +46,11 @@ impl Pool {
     {
         let slot = at.rest.first;
         at.rest.first = self.take_first(slot);
-        let one = Ends {
-            first: slot,
-            last: slot,
-        };
         if q > at.best {
-            at.kept = self.put_after(at.kept, one);
+            self.put_last(&mut at.kept, slot);
             at.best = q;
         } else {
-            at.dropped = self.put_after(at.dropped, one);
+            self.put_last(&mut at.dropped, slot);
         }
     }
 }

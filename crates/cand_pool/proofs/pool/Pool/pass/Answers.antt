@@ -33,8 +33,8 @@ with_q y x q e f = e ∙ (λ i. record { q = sym f i; c = x.c; tag = x.tag })
 pub take_first-at-requires-clause-live : goal.take_first-at-requires-clause-live
 take_first-at-requires-clause-live c = held_live c.args.self.now c.args.at.now.rest.first c.args.at.now.rest.last _ c.requires.three.more
 
-pub put_after-at-requires-clause-one : goal.put_after-at-requires-clause-one
-put_after-at-requires-clause-one c =
+pub put_last-requires-clause-one : goal.put_last-requires-clause-one
+put_last-requires-clause-one c =
     let (ys, e) = first_held c.args.self.now c.args.at.now.rest.first c.args.at.now.rest.last _ c.requires.some c.requires.three.more in
     let t = c.take_first-at.ensures.taken c.args.at.now.rest.last _ ys
     (subst (λ (l : List Candidate). IsHeld c.args.self.now c.args.at.now.rest.first c.args.at.now.rest.last l) e c.requires.three.more) in
@@ -42,18 +42,18 @@ put_after-at-requires-clause-one c =
     (stays _ _ c.args.at.now.rest.first c.args.at.now.rest.last _ c.args.at.now.kept.first c.args.at.now.kept.last _ ys _ t
     (c.requires.three.rest_one c.requires.some) c.requires.three.one)
 
-pub put_after-at-requires-clause-two : goal.put_after-at-requires-clause-two
-put_after-at-requires-clause-two c =
+pub put_last-requires-clause-two : goal.put_last-requires-clause-two
+put_last-requires-clause-two c =
     let (ys, e) = first_held c.args.self.now c.args.at.now.rest.first c.args.at.now.rest.last _ c.requires.some c.requires.three.more in
     let t = c.take_first-at.ensures.taken c.args.at.now.rest.last _ ys
     (subst (λ (l : List Candidate). IsHeld c.args.self.now c.args.at.now.rest.first c.args.at.now.rest.last l) e c.requires.three.more) in
     held_named _ c.args.at.now.rest.first c.args.at.now.rest.first _ (one_held _ _ _ _ t.one)
 
-pub put_after-at-requires-clause-differ : goal.put_after-at-requires-clause-differ
-put_after-at-requires-clause-differ c = λ e. absurd (c.requires.three.rest_one c.requires.some (sym e))
+pub put_last-requires-clause-differ : goal.put_last-requires-clause-differ
+put_last-requires-clause-differ c = λ e. absurd (c.requires.three.rest_one c.requires.some (sym e))
 
-pub put_after-at-requires-else-q-at-clause-one : goal.put_after-at-requires-else-q-at-clause-one
-put_after-at-requires-else-q-at-clause-one c =
+pub put_last-requires-else-q-at-clause-one : goal.put_last-requires-else-q-at-clause-one
+put_last-requires-else-q-at-clause-one c =
     let (ys, e) = first_held c.args.self.now c.args.at.now.rest.first c.args.at.now.rest.last _ c.requires.some c.requires.three.more in
     let t = c.take_first-at.ensures.taken c.args.at.now.rest.last _ ys
     (subst (λ (l : List Candidate). IsHeld c.args.self.now c.args.at.now.rest.first c.args.at.now.rest.last l) e c.requires.three.more) in
@@ -61,15 +61,15 @@ put_after-at-requires-else-q-at-clause-one c =
     (stays _ _ c.args.at.now.rest.first c.args.at.now.rest.last _ c.args.at.now.dropped.first c.args.at.now.dropped.last _ ys _ t
     (c.requires.three.rest_two c.requires.some) c.requires.three.two)
 
-pub put_after-at-requires-else-q-at-clause-two : goal.put_after-at-requires-else-q-at-clause-two
-put_after-at-requires-else-q-at-clause-two c =
+pub put_last-requires-else-q-at-clause-two : goal.put_last-requires-else-q-at-clause-two
+put_last-requires-else-q-at-clause-two c =
     let (ys, e) = first_held c.args.self.now c.args.at.now.rest.first c.args.at.now.rest.last _ c.requires.some c.requires.three.more in
     let t = c.take_first-at.ensures.taken c.args.at.now.rest.last _ ys
     (subst (λ (l : List Candidate). IsHeld c.args.self.now c.args.at.now.rest.first c.args.at.now.rest.last l) e c.requires.three.more) in
     held_named _ c.args.at.now.rest.first c.args.at.now.rest.first _ (one_held _ _ _ _ t.one)
 
-pub put_after-at-requires-else-q-at-clause-differ : goal.put_after-at-requires-else-q-at-clause-differ
-put_after-at-requires-else-q-at-clause-differ c = λ e. absurd (c.requires.three.rest_two c.requires.some (sym e))
+pub put_last-requires-else-q-at-clause-differ : goal.put_last-requires-else-q-at-clause-differ
+put_last-requires-else-q-at-clause-differ c = λ e. absurd (c.requires.three.rest_two c.requires.some (sym e))
 
 pub returns-then-q-at : goal.returns-then-q-at
 returns-then-q-at c = λ x xs ks ds sieve own.
@@ -81,7 +81,7 @@ returns-then-q-at c = λ x xs ks ds sieve own.
     let sifted = sift _ _ _ _ c.args.at.now.rest.first c.args.at.now.rest.last
     c.args.at.now.kept.first c.args.at.now.kept.last c.args.at.now.dropped.first c.args.at.now.dropped.last c.take_first-at.result _ _ x
     _ xs ks ds sieve c.requires.some t
-    (not_written _ _ _ _ _ x xs t) is_y c.put_after-at.ensures in
+    (not_written _ _ _ _ _ x xs t) is_y c.put_last.ensures in
     rw q_is (turn_kept _ _ c.args.at.now _ _ xs ks ds _ (rw (q_is, best_is) at c.if-q-at.true) sifted)
 
 pub returns-else-q-at : goal.returns-else-q-at
@@ -94,5 +94,5 @@ returns-else-q-at c = λ x xs ks ds sieve own.
     let sifted = sift _ _ _ _ c.args.at.now.rest.first c.args.at.now.rest.last
     c.args.at.now.dropped.first c.args.at.now.dropped.last c.args.at.now.kept.first c.args.at.now.kept.last c.take_first-at.result _ _ x
     _ xs ds ks (turned _ _ _ _ _ _ _ sieve)
-    c.requires.some t (not_written _ _ _ _ _ x xs t) is_y c.put_after-at-else-q-at.ensures in
+    c.requires.some t (not_written _ _ _ _ _ x xs t) is_y c.put_last-else-q-at.ensures in
     turn_dropped _ _ c.args.at.now _ _ xs ks ds _ (rw (q_is, best_is) at c.if-q-at.false) sifted

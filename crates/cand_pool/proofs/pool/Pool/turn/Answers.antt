@@ -29,31 +29,31 @@ rewrite-requires c =
     let t = c.take_first-at.ensures.taken c.args.at.now.rest.last _ ys (subst (λ (l : List Candidate). IsHeld c.args.self.now c.args.at.now.rest.first c.args.at.now.rest.last l) e c.requires.three.more) in
     one_held _ _ _ _ t.one
 
-pub put_after-at-requires-clause-one : goal.put_after-at-requires-clause-one
-put_after-at-requires-clause-one c =
+pub put_last-requires-clause-one : goal.put_last-requires-clause-one
+put_last-requires-clause-one c =
     let (ys, e) = first_held c.args.self.now c.args.at.now.rest.first c.args.at.now.rest.last _ c.requires.some c.requires.three.more in
     let t = c.take_first-at.ensures.taken c.args.at.now.rest.last _ ys (subst (λ (l : List Candidate). IsHeld c.args.self.now c.args.at.now.rest.first c.args.at.now.rest.last l) e c.requires.three.more) in
     held_named _ c.args.at.now.kept.first c.args.at.now.kept.last _
     (two_stays _ _ _ c.args.at.now.rest.first c.args.at.now.rest.last _ c.args.at.now.kept.first c.args.at.now.kept.last _ ys _ t c.rewrite.ensures.written (c.requires.three.rest_one c.requires.some) c.requires.three.one)
 
-pub put_after-at-requires-clause-two : goal.put_after-at-requires-clause-two
-put_after-at-requires-clause-two c = held_named _ c.args.at.now.rest.first c.args.at.now.rest.first _ c.rewrite.ensures.written.one
+pub put_last-requires-clause-two : goal.put_last-requires-clause-two
+put_last-requires-clause-two c = held_named _ c.args.at.now.rest.first c.args.at.now.rest.first _ c.rewrite.ensures.written.one
 
-pub put_after-at-requires-clause-differ : goal.put_after-at-requires-clause-differ
-put_after-at-requires-clause-differ c = λ e. absurd (c.requires.three.rest_one c.requires.some (sym e))
+pub put_last-requires-clause-differ : goal.put_last-requires-clause-differ
+put_last-requires-clause-differ c = λ e. absurd (c.requires.three.rest_one c.requires.some (sym e))
 
-pub put_after-at-requires-else-q-at-clause-one : goal.put_after-at-requires-else-q-at-clause-one
-put_after-at-requires-else-q-at-clause-one c =
+pub put_last-requires-else-q-at-clause-one : goal.put_last-requires-else-q-at-clause-one
+put_last-requires-else-q-at-clause-one c =
     let (ys, e) = first_held c.args.self.now c.args.at.now.rest.first c.args.at.now.rest.last _ c.requires.some c.requires.three.more in
     let t = c.take_first-at.ensures.taken c.args.at.now.rest.last _ ys (subst (λ (l : List Candidate). IsHeld c.args.self.now c.args.at.now.rest.first c.args.at.now.rest.last l) e c.requires.three.more) in
     held_named _ c.args.at.now.dropped.first c.args.at.now.dropped.last _
     (two_stays _ _ _ c.args.at.now.rest.first c.args.at.now.rest.last _ c.args.at.now.dropped.first c.args.at.now.dropped.last _ ys _ t c.rewrite.ensures.written (c.requires.three.rest_two c.requires.some) c.requires.three.two)
 
-pub put_after-at-requires-else-q-at-clause-two : goal.put_after-at-requires-else-q-at-clause-two
-put_after-at-requires-else-q-at-clause-two c = held_named _ c.args.at.now.rest.first c.args.at.now.rest.first _ c.rewrite.ensures.written.one
+pub put_last-requires-else-q-at-clause-two : goal.put_last-requires-else-q-at-clause-two
+put_last-requires-else-q-at-clause-two c = held_named _ c.args.at.now.rest.first c.args.at.now.rest.first _ c.rewrite.ensures.written.one
 
-pub put_after-at-requires-else-q-at-clause-differ : goal.put_after-at-requires-else-q-at-clause-differ
-put_after-at-requires-else-q-at-clause-differ c = λ e. absurd (c.requires.three.rest_two c.requires.some (sym e))
+pub put_last-requires-else-q-at-clause-differ : goal.put_last-requires-else-q-at-clause-differ
+put_last-requires-else-q-at-clause-differ c = λ e. absurd (c.requires.three.rest_two c.requires.some (sym e))
 
 pub returns-then-q-at : goal.returns-then-q-at
 returns-then-q-at c = λ x xs ks ds sieve.
@@ -63,7 +63,7 @@ returns-then-q-at c = λ x xs ks ds sieve.
     let same = (one_slot _ _ _ _ t.one).shows in
     let is_y = y_is _ _ x _ c.args.q c.args.c c.rewrite.ensures.there q_is same in
     let sifted = sift _ _ _ _ c.args.at.now.rest.first c.args.at.now.rest.last c.args.at.now.kept.first c.args.at.now.kept.last c.args.at.now.dropped.first c.args.at.now.dropped.last c.take_first-at.result _ _ x _ xs ks ds sieve c.requires.some t
-    c.rewrite.ensures.written is_y c.put_after-at.ensures in
+    c.rewrite.ensures.written is_y c.put_last.ensures in
     rw q_is (turn_kept _ _ c.args.at.now _ _ xs ks ds _ (rw (q_is, best_is) at c.if-q-at.true) sifted)
 
 pub returns-else-q-at : goal.returns-else-q-at
@@ -74,5 +74,5 @@ returns-else-q-at c = λ x xs ks ds sieve.
     let same = (one_slot _ _ _ _ t.one).shows in
     let is_y = y_is _ _ x _ c.args.q c.args.c c.rewrite.ensures.there q_is same in
     let sifted = sift _ _ _ _ c.args.at.now.rest.first c.args.at.now.rest.last c.args.at.now.dropped.first c.args.at.now.dropped.last c.args.at.now.kept.first c.args.at.now.kept.last c.take_first-at.result _ _ x _ xs ds ks (turned _ _ _ _ _ _ _ sieve)
-    c.requires.some t c.rewrite.ensures.written is_y c.put_after-at-else-q-at.ensures in
+    c.requires.some t c.rewrite.ensures.written is_y c.put_last-else-q-at.ensures in
     turn_dropped _ _ c.args.at.now _ _ xs ks ds _ (rw (q_is, best_is) at c.if-q-at.false) sifted
