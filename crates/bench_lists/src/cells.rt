@@ -15,7 +15,7 @@ use elmore::{Allowed, Rep};
 use sol_arena::Arena;
 use std::alloc::{AllocError, Global};
 use std::sync::ledger::Ledger;
-use vg_convex::{Shelf, Work, add_cells, find_each};
+use vg_convex::{Kept, Shelf, Work, add_cells, find_each};
 use vg_num::Memory;
 
 /// The resistance that no repeater reaches (mΩ).
@@ -56,6 +56,23 @@ impl Library {
         let reps = make_reps(alloc, count)?;
         let shelf = Shelf::new(alloc, &reps)?;
         Ok(Library { reps, shelf })
+    }
+}
+
+/// Room to find what repeaters make of a list.
+#[derive(Drop)]
+pub struct Room {
+    work: Work,
+    kept: Kept,
+}
+
+impl Room {
+    /// Room that takes no memory yet.
+    pub fn new(alloc: Global) -> Room {
+        Room {
+            work: Work::new(alloc),
+            kept: Kept::new(alloc),
+        }
     }
 }
 
@@ -101,7 +118,7 @@ pub fn add_all<L: Ledger>(
     pool: &mut Pool,
     arena: &mut Arena,
     library: &Library,
-    work: &mut Work,
+    room: &mut Room,
     size: u32,
     random: &mut Random,
     steps: &mut Steps<L>,
@@ -115,8 +132,9 @@ pub fn add_all<L: Ledger>(
     let from = bent(pool, size, random);
     let reps = library.reps.as_slice();
     let shelf = &library.shelf;
+    let Room { work, kept } = room;
     find_each(pool, &from, reps, shelf, &Allowed::All, work, steps)?;
-    let made = add_cells(pool, arena, 0, reps, shelf, false, work)?;
+    let made = add_cells(pool, arena, 0, reps, shelf, work, work, kept)?;
     Ok(Added { from, made })
 }
 

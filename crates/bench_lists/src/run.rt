@@ -5,7 +5,7 @@ ghost use Rattle.cand_pool.specs.Pools.{spare};
 ghost use Rattle.bench_lists.specs.Additions.{IsLibrary};
 
 use crate::branches::merge_two;
-use crate::cells::{Library, add_all, end_added};
+use crate::cells::{Library, Room, add_all, end_added};
 use crate::lists::{Sum, show, sum_up};
 use crate::operation::Operation;
 use crate::plan::Plan;
@@ -20,7 +20,6 @@ use std::alloc::Global;
 use std::marker::Brand;
 use std::sync::ledger::{Blank, Ledger};
 use std::time::Instant;
-use vg_convex::Work;
 use vg_num::Memory;
 
 /// Turns in a round. Each moves what was dropped to the other end of the free slots, so that few turns keep them in order.
@@ -106,10 +105,10 @@ fn show_cells<L: Ledger>(
         mut pool,
         mut arena,
         library,
-        mut work,
+        mut room,
     } = make_rooms(alloc, SHOWN_SIZE as usize, SHOWN_REPS)?;
     let added = add_all(
-        &mut pool, &mut arena, &library, &mut work, SHOWN_SIZE, random, steps,
+        &mut pool, &mut arena, &library, &mut room, SHOWN_SIZE, random, steps,
     )?;
     let sum = Sum {
         count: pool.len(&added.made),
@@ -164,7 +163,7 @@ struct Rooms {
     pool: Pool,
     arena: Arena,
     library: Library,
-    work: Work,
+    room: Room,
 }
 
 /// A new pool with so many slots and some for what repeaters make, and so many repeaters. Answers `Memory` when out of memory.
@@ -180,7 +179,7 @@ fn make_rooms(alloc: Global, slots: usize, reps: u32) -> Result<Rooms, Memory>
         pool,
         arena: Arena::new(alloc),
         library: Library::new(alloc, reps)?,
-        work: Work::new(alloc),
+        room: Room::new(alloc),
     })
 }
 
@@ -205,7 +204,7 @@ fn time_round<L: Ledger>(
         mut pool,
         mut arena,
         library,
-        mut work,
+        mut room,
     } = rooms;
     let shuffle = Plan {
         task: Task::Change(Operation::Absorb),
@@ -213,13 +212,13 @@ fn time_round<L: Ledger>(
     };
     let shuffles = if plan.scattered { SHUFFLES } else { 0 };
     let Ok(_) = repeat(
-        &mut pool, &mut arena, &library, &mut work, shuffle, shuffles, random, steps,
+        &mut pool, &mut arena, &library, &mut room, shuffle, shuffles, random, steps,
     ) else {
         return out_of_memory();
     };
     let start = Instant::now(rt)?;
     let Ok(sum) = repeat(
-        &mut pool, &mut arena, &library, &mut work, plan, TURNS, random, steps,
+        &mut pool, &mut arena, &library, &mut room, plan, TURNS, random, steps,
     ) else {
         return out_of_memory();
     };
@@ -234,7 +233,7 @@ fn repeat<L: Ledger>(
     pool: &mut Pool,
     arena: &mut Arena,
     library: &Library,
-    work: &mut Work,
+    room: &mut Room,
     plan: Plan,
     turns: u32,
     random: &mut Random,
@@ -248,7 +247,7 @@ fn repeat<L: Ledger>(
     let mut sum = 0u64;
     'turns: for _ in 0..turns {
         let tags = turn(
-            pool, arena, library, work, plan.task, plan.size, random, steps,
+            pool, arena, library, room, plan.task, plan.size, random, steps,
         )?;
         sum = sum.wrapping_add(tags);
     }

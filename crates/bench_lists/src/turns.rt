@@ -5,14 +5,13 @@ ghost use Rattle.cand_pool.specs.Pools.{spare};
 ghost use Rattle.bench_lists.specs.Additions.{IsLibrary};
 
 use crate::branches::{end_two, merge_and_end};
-use crate::cells::{Library, add_all, end_added, end_one};
+use crate::cells::{Library, Room, add_all, end_added, end_one};
 use crate::lists;
 use crate::random::Random;
 use crate::task::Task;
 use cand_pool::{Pool, Steps};
 use sol_arena::Arena;
 use std::sync::ledger::Ledger;
-use vg_convex::Work;
 use vg_num::Memory;
 
 /// One turn of a task. Answers a sum over the tags that were given up, or `Memory` when out of memory.
@@ -20,7 +19,7 @@ pub fn turn<L: Ledger>(
     pool: &mut Pool,
     arena: &mut Arena,
     library: &Library,
-    work: &mut Work,
+    room: &mut Room,
     task: Task,
     size: u32,
     random: &mut Random,
@@ -37,7 +36,7 @@ pub fn turn<L: Ledger>(
         Task::Merge => merge_and_end(pool, arena, size, random, steps)?,
         Task::Plain => end_one(pool, arena, size, random),
         Task::Cells(_) => {
-            let added = add_all(pool, arena, library, work, size, random, steps)?;
+            let added = add_all(pool, arena, library, room, size, random, steps)?;
             end_added(pool, arena, added);
         }
     }

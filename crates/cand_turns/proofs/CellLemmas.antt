@@ -1,5 +1,5 @@
 -- What repeaters make of the candidates of a node.
-use Rattle.std.proofs.Common.{◌≡◌, ◌⊎◌, ℕ, zero, suc, [], ◌∷◌, ◌+◌, ◌<◌, ◌≤◌, Bool, true, false, not, List, length, get_or, slice_index_or, refl, sym, ap, ◌∙◌, subst, arith, inl, inr, Option, Some, None}
+use Rattle.std.proofs.Common.{◌≡◌, ◌⊎◌, ℕ, zero, suc, [], ◌∷◌, ◌+◌, ◌<◌, ◌≤◌, Bool, true, false, List, length, get_or, slice_index_or, refl, sym, ap, ◌∙◌, subst, arith, inl, inr, Option, Some, None}
 use Rattle.std.proofs.lemmas.List.Elements.{All-contains, Contains-get_or}
 use Rattle.std.proofs.lemmas.List.{get_or_default}
 use Rattle.std.specs.List.{All, AllPairs, Contains}
@@ -22,7 +22,7 @@ use Rattle.sol_arena.specs.declared.arena.Arena.{Arena}
 use Rattle.sol_arena.proofs.OneLemmas.{one_same}
 use Rattle.sol_arena.proofs.ReachLemmas.{held_live}
 use Rattle.cand_laws.specs.Candidates.{with_cell, own_capacitance, fork_of, whole_fork}
-use Rattle.cand_laws.specs.Merging.{fork_from, live_from, Greatest, Owns, IsChoiceAt, IsGreatestBy}
+use Rattle.cand_laws.specs.Merging.{fork_from, live_from, Greatest, Owns, IsChoiceAt}
 use Rattle.cand_laws.specs.Parts.{IsLivePart}
 use Rattle.cand_laws.specs.Solutions.{cells_by, with_own, IsOpenSolutionOf, IsSolutionOf}
 use Rattle.cand_laws.proofs.ChildLemmas.{child_above}
@@ -45,7 +45,7 @@ use Rattle.cand_lists.proofs.KeptLemmas.{kept_length, union_length}
 use Rattle.vg_convex.specs.Lists.{MayStand, IsMade, AreBareAt, IsAttained, IsCell}
 use Rattle.vg_convex.specs.Orders.{AreRising}
 use Rattle.cand_turns.specs.Solved.{AreSolved, IsOpenAt, IsClosedAt}
-use Rattle.cand_turns.specs.Celled.{IsMadeBy, behind, IsMadeOfClasses, IsOpenList, AreBest}
+use Rattle.cand_turns.specs.Celled.{behind, IsMadeOfClasses, IsOpenList, AreBest}
 use Rattle.cand_turns.proofs.WireLemmas.{small_modest}
 
 -- what a node allows rises
@@ -83,7 +83,7 @@ whole_solution p v odd f x v_n is =
     subst (λ (us : List ℕ). IsOpenSolutionOf p odd (fork_of v (own_capacitance p v) us) f x) (live_all p v v_n)
     (subst (λ (own : ℕ). IsOpenSolutionOf p odd (fork_of v own (live_from p v (v + 1))) f x) (own_all p v v_n) is)
 
--- THE REPEATERS OF ONE KIND
+-- THE REPEATERS OF A PLACE
 -- as many as hold a use of their solutions have live ones, without a cell at the node
 uses_of_some : (xs : Candidates) (x : Candidate) → Contains xs x → 0 < uses_by xs x.tag
 uses_of_some [] x (k, low, e) = absurd (omega (arith, low))
@@ -98,48 +98,50 @@ bare_at p v odd arena xs held opens = record {
   bare = λ k d low. open_bare p v odd (made_of arena) xs opens (get_or xs k d) (Contains-get_or xs k d low);
 }
 
-module _ (p : Problem) (v : ℕ) (inverts : Bool) (place : slice_index_or p.places v false ≡ true) where
-  choice_from : (b : ℕ) → MayStand p.reps inverts (allowed_at p.allowed v) b → IsChoiceAt p v b × ((rep_at p.reps b).inverts ≡ inverts)
-  choice_from b (low, kind, allows) = (record { at_place = place; named = low; allows = allows }, kind)
+module _ (p : Problem) (v : ℕ) (odd : Bool) (place : slice_index_or p.places v false ≡ true) (classes : Bool → Candidates) where
+  -- the list behind each kind of repeater
+  abbrev pub lists : Bool → Candidates
+  lists inverts = classes (behind inverts odd)
 
-  made_exact : (xs zs : Candidates) → IsUndominated (IsMade p.reps inverts (allowed_at p.allowed v) xs) (pairs_of zs) → IsUndominated (IsMadeBy p v inverts (pairs_of xs)) (pairs_of zs)
-  made_exact xs zs are =
-      same_exact (IsMade p.reps inverts (allowed_at p.allowed v) xs) (IsMadeBy p v inverts (pairs_of xs)) (pairs_of zs)
-      (λ z (b, may, is). let (choice, kind) = choice_from b may in (b, choice, kind, is))
-      (λ z (b, choice, kind, is). (b, (choice.named, kind, choice.allows), is)) are
+  choice_from : (b : ℕ) → MayStand p.reps (allowed_at p.allowed v) b → IsChoiceAt p v b
+  choice_from b (low, allows) = record { at_place = place; named = low; allows = allows }
+
+  made_exact : (zs : Candidates) → IsUndominated (IsMade p.reps (allowed_at p.allowed v) lists) (pairs_of zs) → IsUndominated (IsMadeOfClasses p v odd classes) (pairs_of zs)
+  made_exact zs are =
+      same_exact (IsMade p.reps (allowed_at p.allowed v) lists) (IsMadeOfClasses p v odd classes) (pairs_of zs)
+      (λ z (b, may, is). (b, choice_from b may, is)) (λ z (b, choice, is). (b, (choice.named, choice.allows), is)) are
 
   -- the solutions of what they make
-  made_solved : (odd : Bool) (old new : List Made) (xs zs : Candidates) → v < length p.tree.nodes
-      → IsOpenList p v (behind inverts odd) old xs
-      → ((z : Candidate) → Contains zs z → (b : ℕ) × (x : Candidate) × MayStand p.reps inverts (allowed_at p.allowed v) b × IsAttained p.reps b xs x z × IsCell old new v b x.tag z.tag)
+  made_solved : (old new : List Made) (zs : Candidates) → v < length p.tree.nodes → ((o : Bool) → IsOpenList p v o old (classes o))
+      → ((z : Candidate) → Contains zs z → (b : ℕ) × (x : Candidate) × MayStand p.reps (allowed_at p.allowed v) b × IsAttained p.reps b lists x z × IsCell old new v b x.tag z.tag)
       → AreSolved (IsSolutionOf p v odd) new zs
-  made_solved odd old new xs zs v_n opens each z found =
+  made_solved old new zs v_n opens each z found =
       let (b, x, may, made, cell) = each z found in
-      let (choice, kind) = choice_from b may in
+      let choice = choice_from b may in
+      let class : Bool = behind (rep_at p.reps b).inverts odd in
       let fit : IsFit (slice_index_or p.places v false) (allowed_at p.allowed v) p.reps b x.c
       = record { at_place = choice.at_place; named = choice.named; allows = choice.allows; limit = made.made.within } in
-      let whole : IsOpenSolutionOf p (behind inverts odd) (whole_fork p v) (cells_of old x.tag) (pair_of x)
-      = whole_solution p v (behind inverts odd) (cells_of old x.tag) (pair_of x) v_n (opens.solved x made.among) in
+      let whole : IsOpenSolutionOf p class (whole_fork p v) (cells_of old x.tag) (pair_of x)
+      = whole_solution p v class (cells_of old x.tag) (pair_of x) v_n ((opens class).solved x made.among) in
       let closed : IsSolutionOf p v odd (with_own v (Some b) (cells_of old x.tag)) (with_cell (Some (rep_at p.reps b)) (pair_of x))
       = solution_closed p v odd (Some b) (cells_of old x.tag) (pair_of x)
-      (λ d e. let same : b ≡ d = cc (e) in subst (λ (k : ℕ). IsFit (slice_index_or p.places v false) (allowed_at p.allowed v) p.reps k x.c) same fit)
-      (subst (λ (i : Bool). IsOpenSolutionOf p (behind i odd) (whole_fork p v) (cells_of old x.tag) (pair_of x)) (sym kind) whole) in
+      (λ d e. let same : b ≡ d = cc (e) in subst (λ (k : ℕ). IsFit (slice_index_or p.places v false) (allowed_at p.allowed v) p.reps k x.c) same fit) whole in
       subst (λ (q : Pair). IsSolutionOf p v odd (cells_of new z.tag) q) (sym made.made.made)
       (subst (λ held. IsSolutionOf p v odd held (with_cell (Some (rep_at p.reps b)) (pair_of x))) (sym cell.means) closed)
 
   -- both, for a list of repeaters
-  pub made_best : (odd : Bool) (old new : List Made) (xs zs : Candidates) (reps : List Rep) → v < length p.tree.nodes
-      → IsOpenList p v (behind inverts odd) old xs → reps ≡ p.reps → IsUndominated (IsMade reps inverts (allowed_at p.allowed v) xs) (pairs_of zs)
-      → All (λ z. (b : ℕ) × (x : Candidate) × MayStand reps inverts (allowed_at p.allowed v) b × IsAttained reps b xs x z × IsCell old new v b x.tag z.tag) zs
-      → AreBest p v odd (IsMadeBy p v inverts (pairs_of xs)) new zs
-  made_best odd old new xs zs reps v_n opens reps_are are all = record {
-    exact = made_exact xs zs (subst (λ (r : List Rep). IsUndominated (IsMade r inverts (allowed_at p.allowed v) xs) (pairs_of zs)) reps_are are);
-    solved = made_solved odd old new xs zs v_n opens (λ z found.
-        let (b, x, may, made, cell) = All-contains (λ z. (b : ℕ) × (x : Candidate) × MayStand reps inverts (allowed_at p.allowed v) b × IsAttained reps b xs x z × IsCell old new v b x.tag z.tag) zs z all found in (
+  pub made_best : (old new : List Made) (zs : Candidates) (reps : List Rep) → v < length p.tree.nodes → ((o : Bool) → IsOpenList p v o old (classes o)) → reps ≡ p.reps
+      → IsUndominated (IsMade reps (allowed_at p.allowed v) lists) (pairs_of zs)
+      → All (λ z. (b : ℕ) × (x : Candidate) × MayStand reps (allowed_at p.allowed v) b × IsAttained reps b lists x z × IsCell old new v b x.tag z.tag) zs
+      → AreBest p v odd (IsMadeOfClasses p v odd classes) new zs
+  made_best old new zs reps v_n opens reps_are are all = record {
+    exact = made_exact zs (subst (λ (r : List Rep). IsUndominated (IsMade r (allowed_at p.allowed v) lists) (pairs_of zs)) reps_are are);
+    solved = made_solved old new zs v_n opens (λ z found.
+        let (b, x, may, made, cell) = All-contains (λ z. (b : ℕ) × (x : Candidate) × MayStand reps (allowed_at p.allowed v) b × IsAttained reps b lists x z × IsCell old new v b x.tag z.tag) zs z all found in (
           b,
           x,
-          subst (λ (r : List Rep). MayStand r inverts (allowed_at p.allowed v) b) reps_are may,
-          subst (λ (r : List Rep). IsAttained r b xs x z) reps_are made,
+          subst (λ (r : List Rep). MayStand r (allowed_at p.allowed v) b) reps_are may,
+          subst (λ (r : List Rep). IsAttained r b lists x z) reps_are made,
           cell,
         ));
   }
@@ -191,36 +193,15 @@ both_best p v odd A B old new xs ys one two same = record {
 pub both_few : (xs ys : Candidates) → length (both xs ys) ≤ length xs + length ys
 both_few xs ys = omega (arith, kept_length lowest (union xs ys), union_length xs ys)
 
--- of both kinds
-pub either_kind : (p : Problem) (v : ℕ) (odd : Bool) (classes : Bool → Candidates) (ms : List Made) (xs : Candidates)
-    → AreBest p v odd (λ z. IsMadeBy p v false (pairs_of (classes odd)) z ⊎ IsMadeBy p v true (pairs_of (classes (not odd))) z) ms xs
-    → AreBest p v odd (IsMadeOfClasses p v odd classes) ms xs
-either_kind p v odd classes ms xs are =
-    best_as p v odd (λ z. IsMadeBy p v false (pairs_of (classes odd)) z ⊎ IsMadeBy p v true (pairs_of (classes (not odd))) z) (IsMadeOfClasses p v odd classes) ms xs
-    (λ z z_in. elim z_in [ inl a ↦ (false, a) | inr b ↦ (true, b) ]) from are where
-      from : (z : Pair) → IsMadeOfClasses p v odd classes z → IsMadeBy p v false (pairs_of (classes odd)) z ⊎ IsMadeBy p v true (pairs_of (classes (not odd))) z
-      from z (true, made) = inr made
-      from z (false, made) = inl made
-
-pub other_kind : (p : Problem) (v : ℕ) (odd : Bool) (classes : Bool → Candidates) (ms : List Made) (xs : Candidates)
-    → AreBest p v odd (λ z. IsMadeBy p v true (pairs_of (classes (not odd))) z ⊎ IsMadeBy p v false (pairs_of (classes odd)) z) ms xs
-    → AreBest p v odd (IsMadeOfClasses p v odd classes) ms xs
-other_kind p v odd classes ms xs are =
-    either_kind p v odd classes ms xs
-    (best_as p v odd (λ z. IsMadeBy p v true (pairs_of (classes (not odd))) z ⊎ IsMadeBy p v false (pairs_of (classes odd)) z)
-    (λ z. IsMadeBy p v false (pairs_of (classes odd)) z ⊎ IsMadeBy p v true (pairs_of (classes (not odd))) z) ms xs
-    (λ z z_in. elim z_in [ inl a ↦ inr a | inr b ↦ inl b ]) (λ z z_in. elim z_in [ inl a ↦ inr a | inr b ↦ inl b ]) are)
-
 -- the candidates with and without a cell are those of the node
 module _ (p : Problem) (v : ℕ) (v_n : v < length p.tree.nodes) (classes : Bool → Candidates) (part : IsLivePart p (IsPairAt p) (v + 1) v (λ odd. pairs_of (classes odd))) where
   to_greatest : (odd : Bool) (z : Pair) → (Contains (pairs_of (classes odd)) z) ⊎ IsMadeOfClasses p v odd classes z → Greatest p v odd (λ o. pairs_of (classes o)) z
   to_greatest odd z (inl a) = inl a
-  to_greatest odd z (inr (inverts, (b, choice, kind, is))) =
-      inr (b, choice, subst (λ (i : Bool). IsGreatestBy (rep_at p.reps b) (pairs_of (classes (behind i odd))) z) (sym kind) is)
+  to_greatest odd z (inr made) = inr made
 
   from_greatest : (odd : Bool) (z : Pair) → Greatest p v odd (λ o. pairs_of (classes o)) z → (Contains (pairs_of (classes odd)) z) ⊎ IsMadeOfClasses p v odd classes z
   from_greatest odd z (inl a) = inl a
-  from_greatest odd z (inr (b, choice, is)) = inr ((rep_at p.reps b).inverts, (b, choice, refl, is))
+  from_greatest odd z (inr made) = inr made
 
   pub all_exact : (kept : Bool → Candidates)
       → ((odd : Bool) → IsUndominated (λ z. (Contains (pairs_of (classes odd)) z) ⊎ IsMadeOfClasses p v odd classes z) (pairs_of (kept odd)))

@@ -1,5 +1,5 @@
 -- What the repeaters that may stand at a node make of the lists of its classes.
-use Rattle.std.specs.Prelude.{◌≡◌, ℕ, ◌+◌, ◌≤◌, Bool, not, cond, List, length}
+use Rattle.std.specs.Prelude.{ℕ, ◌+◌, Bool, not, cond, List}
 use Rattle.elmore.specs.Cells.{rep_at}
 use Rattle.elmore.specs.Pairs.{IsPairAt, IsUndominated}
 use Rattle.elmore.specs.declared.pair.Pair.{Pair}
@@ -10,20 +10,15 @@ use Rattle.cand_laws.specs.Merging.{fork_from, IsChoiceAt, IsGreatestBy}
 use Rattle.cand_laws.specs.Solutions.{IsOpenSolutionOf, IsSolutionOf}
 use Rattle.cand_pool.specs.Candidates.{Candidates}
 use Rattle.cand_uses.specs.Pairs.{pairs_of}
-use Rattle.vg_convex.specs.Orders.{numbers_of}
 use Rattle.cand_turns.specs.Solved.{AreSolved}
-
--- a repeater of this kind that may stand at v makes z of a list, and no pair with more time
-abbrev pub IsMadeBy : Problem → ℕ → Bool → List Pair → Pair → Type 0
-IsMadeBy p v inverts xs z = (b : ℕ) × IsChoiceAt p v b × ((rep_at p.reps b).inverts ≡ inverts) × IsGreatestBy (rep_at p.reps b) xs z
 
 -- the class of the signal behind a repeater that is reached in a class: behind a buffer the same, behind an inverter the other
 abbrev pub behind : Bool → Bool → Bool
 behind inverts odd = cond inverts (not odd) odd
 
--- a repeater of either kind makes z of the list of the class behind it
+-- a repeater that may stand at v makes z of the list of the class behind it, and no pair with more time
 abbrev pub IsMadeOfClasses : Problem → ℕ → Bool → (Bool → Candidates) → Pair → Type 0
-IsMadeOfClasses p v odd classes z = (inverts : Bool) × IsMadeBy p v inverts (pairs_of (classes (behind inverts odd))) z
+IsMadeOfClasses p v odd classes z = (b : ℕ) × IsChoiceAt p v b × IsGreatestBy (rep_at p.reps b) (pairs_of (classes (behind (rep_at p.reps b).inverts odd))) z
 
 -- the candidates of one class of node v, without a cell there
 pub record IsOpenList (p : Problem) (v : ℕ) (odd : Bool) (ms : List Made) (xs : Candidates) : Type 0 where
@@ -34,12 +29,3 @@ pub record IsOpenList (p : Problem) (v : ℕ) (odd : Bool) (ms : List Made) (xs 
 pub record AreBest (p : Problem) (v : ℕ) (odd : Bool) (In : Pair → Type 0) (ms : List Made) (xs : Candidates) : Type 0 where
   pub exact : IsUndominated In (pairs_of xs)
   pub solved : AreSolved (IsSolutionOf p v odd) ms xs
-
--- of the list of one class of node v, the undominated ones that the repeaters of each kind make, for the class that they make
-abbrev pub AreMadeOf : Problem → ℕ → Bool → Candidates → List Made → (Bool → Candidates) → Type 0
-AreMadeOf p v odd xs ms cells =
-    (inverts : Bool) → AreBest p v (behind inverts odd) (IsMadeBy p v inverts (pairs_of xs)) ms (cells (behind inverts odd))
-
--- no more of each kind than the problem has repeaters of it
-abbrev pub AreFew : Problem → Bool → (Bool → Candidates) → Type 0
-AreFew p odd cells = (inverts : Bool) → length (cells (behind inverts odd)) ≤ length (numbers_of p.reps inverts)

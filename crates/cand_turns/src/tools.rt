@@ -5,14 +5,16 @@ ghost use Rattle.cand_turns.specs.Tooled.{AreToolsOf};
 
 use elmore::Problem;
 use std::alloc::Global;
-use vg_convex::{Shelf, Work};
+use vg_convex::{Kept, Shelf, Work};
 use vg_num::Memory;
 
-/// The repeaters of a problem, and room to find for each the candidate that it drives. One serves all nodes.
+/// The repeaters of a problem, and room to find for each the candidate of each class that it drives. One serves all nodes.
 #[derive(Drop)]
 pub struct Tools {
     pub(crate) shelf: Shelf,
-    pub(crate) work: Work,
+    pub(crate) even: Work,
+    pub(crate) odd: Work,
+    pub(crate) kept: Kept,
 }
 
 impl Tools {
@@ -23,7 +25,9 @@ impl Tools {
         let shelf = Shelf::new(alloc, p.reps.as_slice())?;
         Ok(Tools {
             shelf,
-            work: Work::new(alloc),
+            even: Work::new(alloc),
+            odd: Work::new(alloc),
+            kept: Kept::new(alloc),
         })
     }
 }

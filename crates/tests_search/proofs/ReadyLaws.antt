@@ -23,6 +23,7 @@ use Rattle.cand_pool.proofs.CallLaws.{keeps_none, fresh_differs}
 use Rattle.cand_uses.specs.Pairs.{pair_of, pairs_of}
 use Rattle.cand_uses.specs.Uses.{uses_by, HoldsFor, IsExchange}
 use Rattle.cand_uses.proofs.ExchangeLemmas.{uses_of_one, empty_cells}
+use Rattle.vg_convex.specs.Lists.{AreBareAt}
 use Rattle.vg_merge.specs.Merges.{CanMeet}
 use Rattle.tests_search.specs.Ready.{AreBare, IsReady, AreUnder, IsListed}
 
@@ -284,23 +285,16 @@ listed_more s t u list list' floor n q c f over pushed others free =
 pub listed_ready : (s t : Block) (list : NamedList) (floor : Pair) (n : ℕ) → IsListed s t list floor n → IsReady t list
 listed_ready s t list floor n f = ready_of t list f.xs f.held f.modest f.rises f.bare
 
--- a list stays ready where a pool makes room
-pub ready_still : (s t : Block) (list : NamedList) → IsReady s list → KeepsOthers s [] t [] → IsReady t list
-ready_still s t list ready keeps =
-    ready_of t list (items_of s list) (stays s t [] [] list.ends.first list.ends.last (items_of s list) keeps (λ some m. m) ready.live) ready.modest ready.rises ready.bare
-
 all_live : (arena : Arena) (xs : Candidates) → AreBare xs → All (λ x. IsLive (made_of arena) x.tag) xs
 all_live arena [] are_bare k d low = absurd (omega arith)
 all_live arena (x ∷ xs) are_bare zero d low = λ some. absurd (some are_bare.0)
 all_live arena (x ∷ xs) are_bare (suc k) d low = all_live arena xs are_bare.1 k d (omega arith)
-
-pub ready_live : (arena : Arena) (s : Block) (list : NamedList) → IsReady s list → All (λ x. IsLive (made_of arena) x.tag) (items_of s list)
-ready_live arena s list ready = all_live arena (items_of s list) ready.bare
 
 all_uncut : (arena : Arena) (node : ℕ) (xs : Candidates) → AreBare xs → All (λ x. cells_of (made_of arena) x.tag node ≡ None) xs
 all_uncut arena node [] are_bare k d low = absurd (omega arith)
 all_uncut arena node (x ∷ xs) are_bare zero d low = ap (λ (j : ℕ). cells_of (made_of arena) j node) are_bare.0 ∙ ap (λ (f : ℕ → Option ℕ). f node) (empty_cells arena)
 all_uncut arena node (x ∷ xs) are_bare (suc k) d low = all_uncut arena node xs are_bare.1 k d (omega arith)
 
-pub ready_uncut : (arena : Arena) (node : ℕ) (s : Block) (list : NamedList) → IsReady s list → All (λ x. cells_of (made_of arena) x.tag node ≡ None) (items_of s list)
-ready_uncut arena node s list ready = all_uncut arena node (items_of s list) ready.bare
+-- candidates without cells are bare at each node
+pub bare_of : (arena : Arena) (node : ℕ) (xs : Candidates) → AreBare xs → AreBareAt (made_of arena) node xs
+bare_of arena node xs are_bare = record { live = all_live arena xs are_bare; bare = all_uncut arena node xs are_bare }

@@ -2,7 +2,9 @@
 
 ghost use Rattle.std.specs.Prelude.{◌≡◌, ℕ, suc, ◌+◌, ◌^◌, ◌≤◌, ◌<◌, length, IfOk, IsTrue, vec_len, pos, ◌≤ℤ◌};
 ghost use Rattle.cand_pool.specs.Pools.{Block, spare, IsLive};
+ghost use Rattle.vg_convex.specs.Orders.{IsShelf};
 ghost use Rattle.tests_search.specs.Ready.{IsReady, IsListed};
+ghost use Rattle.tests_search.specs.Found.{IsFoundOfBare};
 
 use crate::branches::{BARE, Random, pairs, undominated};
 use cand_pool::{List, Pool, Steps};
@@ -12,7 +14,7 @@ use std::alloc::{AllocError, Global};
 use std::marker::Brand;
 use std::sync::ledger::{Blank, Ledger};
 use std::test::Fail;
-use vg_convex::{Shelf, Work, add_cells, find_each};
+use vg_convex::{Kept, Shelf, Work, add_cells, find_each};
 use vg_num::Memory;
 
 /// Whether a pair rises over the floor, and is small.
@@ -64,34 +66,45 @@ fn listed(pool: &mut Pool, pairs: &[Pair]) -> List
     list
 }
 
-/// The pairs that the buffers make of a list, and those that the inverters make of it.
-#[derive(Drop)]
-struct Kinds {
-    buffers: Vec<Pair>,
-    inverters: Vec<Pair>,
-}
-
-/// The pairs that these repeaters make of this list, at a node that allows all of them.
-fn added<L: Ledger>(
+/// What these repeaters find in a list of these pairs, at a node that allows all of them.
+fn found_in<L: Ledger>(
     alloc: Global,
     from: &[Pair],
     reps: &[Rep],
+    shelf: &Shelf,
     steps: &mut Steps<L>,
-) -> Result<Kinds, Memory>
+) -> Result<Work, Memory>
+    requires shelf { IsShelf reps.now shelf.now }
+    ensures { IfOk result (IsFoundOfBare reps.now) }
+{
+    let mut pool = Pool::new(alloc);
+    let mut work = Work::new(alloc);
+    pool.reserve(from.len())?;
+    let list = listed(&mut pool, from);
+    find_each(&pool, &list, reps, shelf, &Allowed::All, &mut work, steps)?;
+    Ok(work)
+}
+
+/// The pairs that these repeaters make of two lists: buffers of the first one, and inverters of the second one.
+fn added<L: Ledger>(
+    alloc: Global,
+    lists: [&[Pair]; 2],
+    reps: &[Rep],
+    steps: &mut Steps<L>,
+) -> Result<Vec<Pair>, Memory>
     requires { length reps.now < 2 ^ 32 }
 {
     let (mut pool, mut arena) = (Pool::new(alloc), Arena::new(alloc));
     let shelf = Shelf::new(alloc, reps)?;
-    let mut work = Work::new(alloc);
-    pool.reserve(from.len())?;
-    let list = listed(&mut pool, from);
+    let mut kept = Kept::new(alloc);
+    let buffers = found_in(alloc, lists[0], reps, &shelf, steps)?;
+    let inverters = found_in(alloc, lists[1], reps, &shelf, steps)?;
     pool.reserve(reps.len())?;
-    find_each(&pool, &list, reps, &shelf, &Allowed::All, &mut work, steps)?;
-    let made = add_cells(&mut pool, &mut arena, 0, reps, &shelf, false, &mut work)?;
-    let buffers = pairs(alloc, &pool, &made, steps)?;
-    let made = add_cells(&mut pool, &mut arena, 0, reps, &shelf, true, &mut work)?;
-    let inverters = pairs(alloc, &pool, &made, steps)?;
-    Ok(Kinds { buffers, inverters })
+    let made = add_cells(
+        &mut pool, &mut arena, 0, reps, &shelf, &buffers, &inverters, &mut kept,
+    )?;
+    let made = pairs(alloc, &pool, &made, steps)?;
+    Ok(made)
 }
 
 /// What one repeater makes of these pairs, by a plain program: the greatest time of those within its limit.
@@ -113,30 +126,16 @@ fn best(from: &[Pair], rep: &Rep) -> Option<Pair> {
     best
 }
 
-/// What the repeaters of one kind make of these pairs, by a plain program.
-fn all_of_kind(
-    alloc: Global,
-    from: &[Pair],
-    reps: &[Rep],
-    inverts: bool,
-) -> Result<Vec<Pair>, AllocError> {
+/// What repeaters make of two lists, by a plain program: buffers of the first one, and inverters of the second one.
+fn all_added(alloc: Global, lists: [&[Pair]; 2], reps: &[Rep]) -> Result<Vec<Pair>, AllocError> {
     let mut all = Vec::new(alloc);
     for rep in reps {
-        if rep.inverts == inverts
-            && let Some(pair) = best(from, rep)
-        {
+        let from = if rep.inverts { lists[1] } else { lists[0] };
+        if let Some(pair) = best(from, rep) {
             all.push(pair)?;
         }
     }
     undominated(alloc, all.as_slice())
-}
-
-/// What repeaters make of these pairs, by a plain program.
-fn all_added(alloc: Global, from: &[Pair], reps: &[Rep]) -> Result<Kinds, AllocError> {
-    Ok(Kinds {
-        buffers: all_of_kind(alloc, from, reps, false)?,
-        inverters: all_of_kind(alloc, from, reps, true)?,
-    })
 }
 
 const fn rep(r: u64, cin: u64) -> Rep {
@@ -161,7 +160,7 @@ const fn pair(q: i128, c: u64) -> Pair {
     Pair { q, c }
 }
 
-/// Whether these buffers make the wanted pairs of this list.
+/// Whether these buffers make the wanted pairs of this list. An inverter would make none, of an empty list.
 fn gives<L: Ledger>(
     alloc: Global,
     from: &[Pair],
@@ -171,22 +170,22 @@ fn gives<L: Ledger>(
 ) -> Result<bool, Memory>
     requires { length reps.now < 2 ^ 32 }
 {
-    let made = added(alloc, from, reps, steps)?;
-    Ok(made.buffers.as_slice() == want && made.inverters.is_empty())
+    let made = added(alloc, [from, &[]], reps, steps)?;
+    Ok(made.as_slice() == want)
 }
 
-/// Whether these repeaters make of this list what the plain program makes.
+/// Whether these repeaters make of these lists what the plain program makes.
 fn agrees<L: Ledger>(
     alloc: Global,
-    from: &[Pair],
+    lists: [&[Pair]; 2],
     reps: &[Rep],
     steps: &mut Steps<L>,
 ) -> Result<bool, Memory>
     requires { length reps.now < 2 ^ 32 }
 {
-    let made = added(alloc, from, reps, steps)?;
-    let want = all_added(alloc, from, reps)?;
-    Ok(made.buffers == want.buffers && made.inverters == want.inverters)
+    let made = added(alloc, lists, reps, steps)?;
+    let want = all_added(alloc, lists, reps)?;
+    Ok(made == want)
 }
 
 /// Whether buffers make what was worked out by hand.
@@ -254,7 +253,7 @@ fn draw_reps(alloc: Global, random: &mut Random, size: u32) -> Result<Vec<Rep>, 
     Ok(reps)
 }
 
-/// The first of so many lists at random of which repeaters at random make other pairs than the plain program.
+/// The first of so many pairs of lists at random of which repeaters at random make other pairs than the plain program.
 fn first_wrong<L: Ledger>(alloc: Global, blank: Blank, cases: u32) -> Result<Option<u32>, Memory>
     requires name { blank.name ≡ L.name }
     requires parts { blank.parts ≡ L.parts }
@@ -263,10 +262,16 @@ fn first_wrong<L: Ledger>(alloc: Global, blank: Blank, cases: u32) -> Result<Opt
     let mut steps = Steps::<L>::new(blank);
     let mut random = Random::new();
     'cases: for case in 0..cases {
-        let sizes = (random.draw(13) as u32, random.draw(9) as u32);
-        let from = draw_pairs(alloc, &mut random, sizes.0)?;
-        let reps = draw_reps(alloc, &mut random, sizes.1)?;
-        if !agrees(alloc, from.as_slice(), reps.as_slice(), &mut steps)? {
+        let sizes = (
+            random.draw(13) as u32,
+            random.draw(13) as u32,
+            random.draw(9) as u32,
+        );
+        let own = draw_pairs(alloc, &mut random, sizes.0)?;
+        let other = draw_pairs(alloc, &mut random, sizes.1)?;
+        let reps = draw_reps(alloc, &mut random, sizes.2)?;
+        let lists = [own.as_slice(), other.as_slice()];
+        if !agrees(alloc, lists, reps.as_slice(), &mut steps)? {
             return Ok(Some(case));
         }
     }

@@ -10,7 +10,7 @@ use Rattle.elmore.specs.Cells.{rep_at}
 use Rattle.elmore.specs.Pairs.{IsBelow, Dominates, IsUndominated}
 use Rattle.elmore.specs.declared.pair.Pair.{Pair}
 use Rattle.elmore.specs.declared.rep.Rep.{Rep}
-use Rattle.vg_convex.specs.Answers.{found_at, IsResultOf, IsResult, made_pairs, IsKept, IsKeptAfter, AreSwept}
+use Rattle.vg_convex.specs.Answers.{IsResultOf, IsResult, made_pairs, IsKept, IsKeptAfter, AreSwept}
 use Rattle.vg_convex.specs.Orders.{AreByInput}
 use Rattle.vg_convex.specs.declared.work.Found.{Found}
 use Rattle.vg_convex.specs.declared.work.Made.{Made}
@@ -79,11 +79,11 @@ adds_instead S S' xs b m adds u m_b room = record {
     above = front_below xs b m u.rising m_b.time room
 
 -- a result of a longer order
-more_result : (reps : List Rep) (found : List (Option Found)) (order : List ℕ) (b : ℕ) (made : Made) → IsResultOf reps found order made → IsResultOf reps found (order ++ b ∷ []) made
+more_result : (reps : List Rep) (found : ℕ → Option Found) (order : List ℕ) (b : ℕ) (made : Made) → IsResultOf reps found order made → IsResultOf reps found (order ++ b ∷ []) made
 more_result reps found order b made r = record { among = Contains-append_left order (b ∷ []) made.rep r.among; found_is = r.found_is; input = r.input }
 
 -- a result more
-adding : (reps : List Rep) (found : List (Option Found)) (order : List ℕ) (made : Made) → IsResultOf reps found (order ++ made.rep ∷ []) made
+adding : (reps : List Rep) (found : ℕ → Option Found) (order : List ℕ) (made : Made) → IsResultOf reps found (order ++ made.rep ∷ []) made
     → Adds (IsResult reps found order) (IsResult reps found (order ++ made.rep ∷ [])) made.pair
 adding reps found order made is = record {
   more = λ z (m, r, e). (m, more_result reps found order made.rep m r, e);
@@ -92,7 +92,7 @@ adding reps found order made is = record {
     | inl old ↦ inl (m, record { among = old; found_is = r.found_is; input = r.input }, e)
     | inr back ↦
         let same : m.rep ≡ made.rep = sym back in
-        let here : found_at found m.rep ≡ found_at found made.rep = ap (found_at found) same in
+        let here : found m.rep ≡ found made.rep = ap found same in
         let both : Some (record { time = m.pair.q; tag = m.tag }) ≡ Some (record { time = made.pair.q; tag = made.tag }) = sym r.found_is ∙ here ∙ is.found_is in
         let time : m.pair.q ≡ made.pair.q = ap (time_of made.pair.q) both in
         let room : m.pair.c ≡ made.pair.c = r.input ∙ ap (λ k. (rep_at reps k).cin) same ∙ sym is.input in
@@ -105,7 +105,7 @@ adding reps found order made is = record {
     time_of z (Some f) = f.time
 
 -- no result of these repeaters has more input than the one that comes
-inputs_below : (reps : List Rep) (found : List (Option Found)) (order : List ℕ) (made last : Made) → AreByInput reps (order ++ made.rep ∷ [])
+inputs_below : (reps : List Rep) (found : ℕ → Option Found) (order : List ℕ) (made last : Made) → AreByInput reps (order ++ made.rep ∷ [])
     → IsResultOf reps found order last → made.pair.c ≡ (rep_at reps made.rep).cin → last.pair.c ≤ made.pair.c
 inputs_below reps found order made last by_input r input =
     let (k, low, e) = r.among in
@@ -118,7 +118,7 @@ inputs_below reps found order made last by_input r input =
 pairs_push : (front : List Made) (last : Made) → made_pairs (front ++ last ∷ []) ≡ made_pairs front ++ last.pair ∷ []
 pairs_push front last = map-append (λ (m : Made). m.pair) front (last ∷ [])
 
-swept_after : (reps : List Rep) (found : List (Option Found)) (order : List ℕ) (made : Made) (front : List Made) (last : Made) (new : List Made)
+swept_after : (reps : List Rep) (found : ℕ → Option Found) (order : List ℕ) (made : Made) (front : List Made) (last : Made) (new : List Made)
     → AreByInput reps (order ++ made.rep ∷ []) → IsResultOf reps found (order ++ made.rep ∷ []) made
     → AreSwept reps found order (front ++ last ∷ []) → IsKeptAfter (front ++ last ∷ []) front last made new
     → AreSwept reps found (order ++ made.rep ∷ []) new
@@ -176,7 +176,7 @@ swept_after reps found order made front last new by_input is s kept = go kept
         })
 
 -- a result was put after those of an undominated list
-pub swept_kept : (reps : List Rep) (found : List (Option Found)) (order : List ℕ) (made : Made) (old new : List Made)
+pub swept_kept : (reps : List Rep) (found : ℕ → Option Found) (order : List ℕ) (made : Made) (old new : List Made)
     → AreByInput reps (order ++ made.rep ∷ []) → IsResultOf reps found (order ++ made.rep ∷ []) made → AreSwept reps found order old → IsKept old made new
     → AreSwept reps found (order ++ made.rep ∷ []) new
 swept_kept reps found order made old new by_input is s (inl (none, new_is)) =
@@ -194,7 +194,7 @@ swept_kept reps found order made old new by_input is s (inr (front, last, old_is
     (subst (λ (l : List Made). IsKeptAfter l front last made new) old_is kept)
 
 -- a repeater for which nothing was found
-pub swept_none : (reps : List Rep) (found : List (Option Found)) (order : List ℕ) (b : ℕ) (kept : List Made) → found_at found b ≡ None → AreSwept reps found order kept
+pub swept_none : (reps : List Rep) (found : ℕ → Option Found) (order : List ℕ) (b : ℕ) (kept : List Made) → found b ≡ None → AreSwept reps found order kept
     → AreSwept reps found (order ++ b ∷ []) kept
 swept_none reps found order b kept none s = record {
   undominated = record {
@@ -204,7 +204,7 @@ swept_none reps found order b kept none s = record {
       | inl old ↦ s.undominated.covers z (m, record { among = old; found_is = r.found_is; input = r.input }, e)
       | inr back ↦
           let same : m.rep ≡ b = sym back in
-          let both : None ≡ Some (record { time = m.pair.q; tag = m.tag }) = sym none ∙ ap (found_at found) (sym same) ∙ r.found_is in
+          let both : None ≡ Some (record { time = m.pair.q; tag = m.tag }) = sym none ∙ ap found (sym same) ∙ r.found_is in
           absurd (cc)
     ];
   };
@@ -217,7 +217,7 @@ front_inputs reps order n few by_input i j d less low =
     let j_n : j < n = omega (arith, low, length-take-le n order few) in
     rw (get_or-take n order i d (omega (arith, j_n, less)), get_or-take n order j d j_n) (by_input i j d less (omega (arith, j_n, few)))
 
-swept_found : (reps : List Rep) (found : List (Option Found)) (order : List ℕ) (b : ℕ) (kept kept' : List Made) (f : Option Found) → found_at found b ≡ f
+swept_found : (reps : List Rep) (found : ℕ → Option Found) (order : List ℕ) (b : ℕ) (kept kept' : List Made) (f : Option Found) → found b ≡ f
     → AreByInput reps (order ++ b ∷ []) → AreSwept reps found order kept
     → MatchOption f (kept' ≡ kept) (λ best. IsKept kept (record { pair = record { q = best.time; c = (rep_at reps b).cin }; rep = b; tag = best.tag }) kept')
     → AreSwept reps found (order ++ b ∷ []) kept'
@@ -228,13 +228,13 @@ swept_found reps found order b kept kept' (Some best) e by_input s is =
     (record { among = Contains-push order b; found_is = e; input = refl }) s is
 
 -- the results of one repeater more
-pub swept_more : (reps : List Rep) (found : List (Option Found)) (order : List ℕ) (i : ℕ) (kept kept' : List Made) → i < length order → AreByInput reps order
+pub swept_more : (reps : List Rep) (found : ℕ → Option Found) (order : List ℕ) (i : ℕ) (kept kept' : List Made) → i < length order → AreByInput reps order
     → AreSwept reps found (take i order) kept
-    → MatchOption (found_at found (get_or order i 0)) (kept' ≡ kept)
+    → MatchOption (found (get_or order i 0)) (kept' ≡ kept)
     (λ best. IsKept kept (record { pair = record { q = best.time; c = (rep_at reps (get_or order i 0)).cin }; rep = get_or order i 0; tag = best.tag }) kept')
     → AreSwept reps found (take (i + 1) order) kept'
 swept_more reps found order i kept kept' low by_input s is =
     let e : take (i + 1) order ≡ take i order ++ get_or order i 0 ∷ [] = take_more order i 0 low in
     subst (λ (l : List ℕ). AreSwept reps found l kept') (sym e)
-    (swept_found reps found (take i order) (get_or order i 0) kept kept' (found_at found (get_or order i 0)) refl
+    (swept_found reps found (take i order) (get_or order i 0) kept kept' (found (get_or order i 0)) refl
     (subst (AreByInput reps) e (front_inputs reps order (i + 1) (omega (arith, low)) by_input)) s is)

@@ -1,5 +1,5 @@
 -- What a repeater makes of the candidates of a list.
-use Rattle.std.specs.Prelude.{◌≡◌, ◌≢◌, ◌⊎◌, ◌≤◌, ◌<◌, ◌<ℤ◌, ◌≤ℤ◌, ℕ, List, [], ◌∷◌, ◌++◌, length, map, slice_index_or, Option, Some, None, MatchOption}
+use Rattle.std.specs.Prelude.{◌≡◌, ◌≢◌, ◌⊎◌, ◌≤◌, ◌<◌, ◌<ℤ◌, ◌≤ℤ◌, ℕ, Bool, true, false, cond, List, [], ◌∷◌, ◌++◌, length, map, slice_index_or, Option, Some, None, MatchOption}
 use Rattle.std.specs.List.{All, Contains}
 use Rattle.elmore.specs.Allowances.{Allows}
 use Rattle.elmore.specs.Cells.{rep_at}
@@ -60,13 +60,22 @@ pub record HasFound (allowed : Allowed) (reps : List Rep) (xs : Candidates) (wor
   pub room : length reps ≤ length work.found.items
   pub each : AreFound allowed reps xs work.found.items
 
--- a result that stands in the row of its repeater, which is of the order
-pub record IsResultOf (reps : List Rep) (found : List (Option Found)) (order : List ℕ) (made : Made) : Type 0 where
+-- one work has the results for the list that the buffers drive, and the other one those for the list that the inverters drive
+pub record HaveFound (allowed : Allowed) (reps : List Rep) (lists : Bool → Candidates) (buffers inverters : Work) : Type 0 where
+  pub by_buffers : HasFound allowed reps (lists false) buffers
+  pub by_inverters : HasFound allowed reps (lists true) inverters
+
+-- what stands for the repeater b in the row of its kind
+abbrev pub found_by : List Rep → List (Option Found) → List (Option Found) → ℕ → Option Found
+found_by reps buffers inverters b = cond (rep_at reps b).inverts (found_at inverters b) (found_at buffers b)
+
+-- the result of its repeater, which is of the order
+pub record IsResultOf (reps : List Rep) (found : ℕ → Option Found) (order : List ℕ) (made : Made) : Type 0 where
   pub among : Contains order made.rep
-  pub found_is : found_at found made.rep ≡ Some (record { time = made.pair.q; tag = made.tag })
+  pub found_is : found made.rep ≡ Some (record { time = made.pair.q; tag = made.tag })
   pub input : made.pair.c ≡ (rep_at reps made.rep).cin
 
-abbrev pub IsResult : List Rep → List (Option Found) → List ℕ → Pair → Type 0
+abbrev pub IsResult : List Rep → (ℕ → Option Found) → List ℕ → Pair → Type 0
 IsResult reps found order z = (made : Made) × IsResultOf reps found order made × (z ≡ made.pair)
 
 -- the pairs of some results
@@ -87,7 +96,7 @@ IsKept old made new =
     ⊎ ((front : List Made) × (last : Made) × (old ≡ front ++ last ∷ []) × IsKeptAfter old front last made new)
 
 -- the undominated ones of the results of these repeaters
-pub record AreSwept (reps : List Rep) (found : List (Option Found)) (order : List ℕ) (kept : List Made) : Type 0 where
+pub record AreSwept (reps : List Rep) (found : ℕ → Option Found) (order : List ℕ) (kept : List Made) : Type 0 where
   pub undominated : IsUndominated (IsResult reps found order) (made_pairs kept)
   pub results : All (IsResultOf reps found order) kept
   pub few : length kept ≤ length order

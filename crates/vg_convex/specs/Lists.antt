@@ -1,4 +1,4 @@
--- The list of what the repeaters of one kind make of a list of candidates, and the solutions of its candidates.
+-- The list of what repeaters make of two lists of candidates, one for each kind, and the solutions of its candidates.
 use Rattle.std.specs.Prelude.{◌≡◌, ◌≢◌, ℕ, ◌+◌, ◌<◌, Bool, List, [], ◌∷◌, length, Some, None}
 use Rattle.std.specs.List.{All, Contains, AllZip}
 use Rattle.elmore.specs.Allowances.{Allows}
@@ -21,13 +21,17 @@ use Rattle.cand_uses.specs.Uses.{uses_by}
 use Rattle.vg_convex.specs.Answers.{IsMadeOf}
 use Rattle.vg_convex.specs.declared.work.Made.{Made as Result}
 
--- b is a repeater of this kind, and a node allows it
-abbrev pub MayStand : List Rep → Bool → Allowed → ℕ → Type 0
-MayStand reps inverts allowed b = (b < length reps) × ((rep_at reps b).inverts ≡ inverts) × Allows allowed b
+-- b is a repeater, and a node allows it
+abbrev pub MayStand : List Rep → Allowed → ℕ → Type 0
+MayStand reps allowed b = (b < length reps) × Allows allowed b
 
--- a repeater that may stand makes z of a list, and no pair with more time
-abbrev pub IsMade : List Rep → Bool → Allowed → Candidates → Pair → Type 0
-IsMade reps inverts allowed xs z = (b : ℕ) × MayStand reps inverts allowed b × IsGreatestBy (rep_at reps b) (pairs_of xs) z
+-- the list that the repeater b drives: there is one for the buffers and one for the inverters
+abbrev pub driven : List Rep → (Bool → Candidates) → ℕ → Candidates
+driven reps lists b = lists (rep_at reps b).inverts
+
+-- a repeater that may stand makes z of the list that it drives, and no pair with more time
+abbrev pub IsMade : List Rep → Allowed → (Bool → Candidates) → Pair → Type 0
+IsMade reps allowed lists z = (b : ℕ) × MayStand reps allowed b × IsGreatestBy (rep_at reps b) (pairs_of (driven reps lists b)) z
 
 -- the solutions of these candidates are live, and have no cell at a node
 pub record AreBareAt (ms : List Made) (node : ℕ) (xs : Candidates) : Type 0 where
@@ -39,9 +43,9 @@ pub record IsCell (old new : List Made) (node b below s : ℕ) : Type 0 where
   pub made : made_at new s ≡ Cell node b below
   pub means : cells_of new s ≡ with_own node (Some b) (cells_of old below)
 
--- the repeater b makes z of candidate x of the list
-pub record IsAttained (reps : List Rep) (b : ℕ) (xs : Candidates) (x z : Candidate) : Type 0 where
-  pub among : Contains xs x
+-- the repeater b makes z of candidate x of the list that it drives
+pub record IsAttained (reps : List Rep) (b : ℕ) (lists : Bool → Candidates) (x z : Candidate) : Type 0 where
+  pub among : Contains (driven reps lists b) x
   pub made : IsMadeOf (rep_at reps b) x (pair_of z)
 
 -- each solution that was live keeps its meaning and what it was made of

@@ -1,6 +1,6 @@
 //! What repeaters find in a list at a node, and the list of what they make of it.
 
-ghost use Rattle.std.specs.Prelude.{◌≡◌, ℕ, ◌+◌, ◌*◌, ◌^◌, ◌<◌, ◌≤◌, ◌∷◌, [], length, None, IfOk, OnOk, OnErr, MatchResult};
+ghost use Rattle.std.specs.Prelude.{◌≡◌, ℕ, Bool, ◌+◌, ◌*◌, ◌^◌, ◌<◌, ◌≤◌, ◌∷◌, [], length, None, IfOk, OnOk, OnErr, MatchResult};
 ghost use Rattle.std.specs.List.{All, AllPairs};
 ghost use Rattle.elmore.specs.Pairs.{IsBelow, IsUndominated};
 ghost use Rattle.elmore.specs.declared.allowed.Allowed.{Allowed as AllowedSpec};
@@ -12,15 +12,15 @@ ghost use Rattle.cand_pool.specs.Candidates.{Candidate, Candidates, AreModest};
 ghost use Rattle.cand_pool.specs.Pools.{spare, Holds, IsLive, items_of, KeepsOthers, name};
 ghost use Rattle.cand_uses.specs.Pairs.{pairs_of};
 ghost use Rattle.cand_uses.specs.Uses.{IsExchange};
-ghost use Rattle.vg_convex.specs.Answers.{HasFound};
-ghost use Rattle.vg_convex.specs.Orders.{numbers_of, AreRising, IsShelf};
+ghost use Rattle.vg_convex.specs.Answers.{HasFound, HaveFound};
+ghost use Rattle.vg_convex.specs.Orders.{AreRising, IsShelf};
 ghost use Rattle.vg_convex.specs.Lists.{MayStand, IsMade, AreBareAt, IsAttained, IsCell, KeepsSolutions, AreAdded, AreWithCells};
 
 use crate::scan::scan_all;
 use crate::search::find_all;
 use crate::shelf::Shelf;
 use crate::sweep::sweep;
-use crate::work::{Made, Work};
+use crate::work::{Kept, Made, Work};
 use cand_pool::{List, Pool, Steps};
 use cand_uses::give_up;
 use elmore::{Allowed, Rep};
@@ -106,32 +106,36 @@ fn list_of(pool: &mut Pool, arena: &mut Arena, node: u32, results: &[Made]) -> R
     }
 }
 
-/// What the repeaters of one kind make of a list at a node that allows some of them, where the work has what was found for the
-/// list: each drives the candidate within its limit that gives it the most time. The answer has the undominated ones of these
-/// pairs, each with the repeater's cell added to the solution of the candidate that it drives. It is a new list, and the work
-/// keeps what was found. Answers `Memory` where there is no room; then lists, spare slots and solutions are as before.
+/// What repeaters make of two lists at a node that allows some of them, where one work has what was found for the list that the
+/// buffers drive, and the other one for the list that the inverters drive: each repeater drives the candidate within its limit that
+/// gives it the most time. The answer has the undominated ones of these pairs, each with the repeater's cell added to the solution
+/// of the candidate that it drives. It is a new list. Answers `Memory` where there is no room; then lists, spare slots and solutions
+/// are as before.
 pub fn add_cells(
     pool: &mut Pool,
     arena: &mut Arena,
     node: u32,
     reps: &[Rep],
     shelf: &Shelf,
-    inverts: bool,
-    work: &mut Work,
+    buffers: &Work,
+    inverters: &Work,
+    kept: &mut Kept,
 ) -> Result<List, Memory>
-    requires found { (allowed : AllowedSpec) × (xs : Candidates) × HasFound allowed reps.now xs work.old
-        × AreBareAt (made_of arena.old) node xs }
-    requires room { length (numbers_of reps.now inverts) ≤ spare pool.old }
+    requires found { (allowed : AllowedSpec) × (lists : Bool → Candidates) × HaveFound allowed reps.now lists buffers.now inverters.now
+        × ((inverts : Bool) → AreBareAt (made_of arena.old) node (lists inverts)) }
+    requires room { length reps.now ≤ spare pool.old }
     requires shelf { IsShelf reps.now shelf.now }
     ensures list { IfOk result (λ list. IsLive pool.new list) }
-    ensures undominated { IfOk result (λ list. (allowed : AllowedSpec) (xs : Candidates) → HasFound allowed reps.now xs work.old
-        → IsUndominated (IsMade reps.now inverts allowed xs) (pairs_of (items_of pool.new list))) }
-    ensures attained { IfOk result (λ list. (allowed : AllowedSpec) (xs : Candidates) → HasFound allowed reps.now xs work.old
-        → All (λ z. (b : ℕ) × (x : Candidate) × MayStand reps.now inverts allowed b × IsAttained reps.now b xs x z
+    ensures undominated { IfOk result (λ list. (allowed : AllowedSpec) (lists : Bool → Candidates)
+        → HaveFound allowed reps.now lists buffers.now inverters.now
+        → IsUndominated (IsMade reps.now allowed lists) (pairs_of (items_of pool.new list))) }
+    ensures attained { IfOk result (λ list. (allowed : AllowedSpec) (lists : Bool → Candidates)
+        → HaveFound allowed reps.now lists buffers.now inverters.now
+        → All (λ z. (b : ℕ) × (x : Candidate) × MayStand reps.now allowed b × IsAttained reps.now b lists x z
         × IsCell (made_of arena.old) (made_of arena.new) node b x.tag z.tag) (items_of pool.new list)) }
-    ensures empty { (allowed : AllowedSpec) → HasFound allowed reps.now [] work.old
+    ensures empty { (allowed : AllowedSpec) → HaveFound allowed reps.now (λ _. []) buffers.now inverters.now
         → IfOk result (λ list. items_of pool.new list ≡ []) }
-    ensures few { IfOk result (λ list. length (items_of pool.new list) ≤ length (numbers_of reps.now inverts)) }
+    ensures few { IfOk result (λ list. length (items_of pool.new list) ≤ length reps.now) }
     ensures uses { IfOk result (λ list. IsExchange (slots_of arena.old) [] (slots_of arena.new) (items_of pool.new list)) }
     ensures solutions { KeepsSolutions (made_of arena.old) (made_of arena.new) }
     ensures restored { OnErr result (IsRestored (slots_of arena.old) (slots_of arena.new)) }
@@ -139,9 +143,15 @@ pub fn add_cells(
         (λ _. KeepsOthers pool.old [] pool.new []) }
     ensures spare { MatchResult result (λ list. spare pool.old ≡ spare pool.new + length (items_of pool.new list))
         (λ _. spare pool.new ≡ spare pool.old) }
-    ensures kept { work.new.found ≡ work.old.found }
 {
-    sweep(reps, shelf.kind(inverts), &work.found, &mut work.kept)?;
-    let list = list_of(pool, arena, node, &work.kept)?;
+    let results = &mut kept.results;
+    sweep(
+        reps,
+        &shelf.inputs,
+        &buffers.found,
+        &inverters.found,
+        results,
+    )?;
+    let list = list_of(pool, arena, node, results)?;
     Ok(list)
 }

@@ -18,4 +18,4 @@ pub use laws::{
     greatest_turns, hull_serves, pair_comes_off, pair_goes_on, peak_is_greatest, values_fall,
 };
 pub use shelf::Shelf;
-pub use work::Work;
+pub use work::{Kept, Work};

@@ -1,8 +1,8 @@
 //! The undominated ones of some results.
 
-ghost use Rattle.std.specs.Prelude.{◌≡◌, ◌<◌, ◌≤◌, length, OnOk, MatchOption};
+ghost use Rattle.std.specs.Prelude.{◌≡◌, ◌<◌, ◌≤◌, cond, length, OnOk, MatchOption};
 ghost use Rattle.std.specs.List.{All};
-ghost use Rattle.vg_convex.specs.Answers.{IsKept, AreSwept};
+ghost use Rattle.vg_convex.specs.Answers.{found_at, found_by, IsKept, AreSwept};
 ghost use Rattle.vg_convex.specs.Orders.{AreByInput};
 
 use crate::work::{Found, Made};
@@ -57,25 +57,50 @@ fn keep_found(
     Ok(())
 }
 
-/// The undominated ones of the results that stand in the rows of these repeaters, which are in the order of their input
-/// capacitances. Answers `Memory` where there is no room.
+/// What was found for a repeater of this number, in the row of its kind.
+fn found_for(
+    rep: &Rep,
+    number: u32,
+    buffers: &[Option<Found>],
+    inverters: &[Option<Found>],
+) -> Option<Found>
+    requires buffers { number < length buffers.now }
+    requires inverters { number < length inverters.now }
+    ensures { result ≡ cond rep.now.inverts (found_at inverters.now number) (found_at buffers.now number) }
+{
+    if rep.inverts {
+        inverters[number as usize]
+    } else {
+        buffers[number as usize]
+    }
+}
+
+/// The undominated ones of the results of these repeaters, which are in the order of their input capacitances: those of buffers
+/// stand in one row, and those of inverters in the other. Answers `Memory` where there is no room.
 // Inlined, it would keep less in registers.
 #[inline(never)]
 pub(crate) fn sweep(
     reps: &[Rep],
     order: &[u32],
-    found: &[Option<Found>],
+    buffers: &[Option<Found>],
+    inverters: &[Option<Found>],
     kept: &mut Vec<Made>,
 ) -> Result<(), Memory>
     requires named { All (λ b. b < length reps.now) order.now }
-    requires rows { length reps.now ≤ length found.now }
+    requires buffers { length reps.now ≤ length buffers.now }
+    requires inverters { length reps.now ≤ length inverters.now }
     requires by_input { AreByInput reps.now order.now }
-    ensures { OnOk result (AreSwept reps.now found.now order.now kept.new.items) }
+    ensures { OnOk result (AreSwept reps.now (found_by reps.now buffers.now inverters.now) order.now kept.new.items) }
 {
     kept.clear();
     'reps: for number in order {
-        let at = *number as usize;
-        keep_found(kept, &reps[at], *number, found[at])?;
+        let rep = &reps[*number as usize];
+        keep_found(
+            kept,
+            rep,
+            *number,
+            found_for(rep, *number, buffers, inverters),
+        )?;
     }
     Ok(())
 }

@@ -30,13 +30,27 @@ pub(crate) struct Made {
     pub(crate) tag: u64,
 }
 
-/// A stack of points, and rows of results. One serves all nodes; what stands in it before a call does not
-/// matter.
+/// A stack of points, and a row of what was found for each repeater. One serves all nodes; what stands in it before a call does
+/// not matter.
 #[derive(Drop)]
 pub struct Work {
     pub(crate) stack: Vec<Point>,
     pub(crate) found: Vec<Option<Found>>,
-    pub(crate) kept: Vec<Made>,
+}
+
+/// The undominated ones of some results. One serves all nodes; what stands in it before a call does not matter.
+#[derive(Drop)]
+pub struct Kept {
+    pub(crate) results: Vec<Made>,
+}
+
+impl Kept {
+    /// Room that is empty at first, takes no memory yet, and grows as it is used.
+    pub fn new(alloc: Global) -> Kept {
+        Kept {
+            results: Vec::new(alloc),
+        }
+    }
 }
 
 impl Work {
@@ -45,7 +59,6 @@ impl Work {
         Work {
             stack: Vec::new(alloc),
             found: Vec::new(alloc),
-            kept: Vec::new(alloc),
         }
     }
 

@@ -1,7 +1,6 @@
-use Rattle.std.proofs.Common.{[], ap, arith, false, length}
+use Rattle.std.proofs.Common.{[], ap, arith, length}
 use Rattle.elmore.specs.declared.allowed.Allowed.TheVariants.{All as AllOf}
 use Rattle.cand_pool.specs.Pools.{items_of}
-use Rattle.vg_convex.proofs.Numberings.{few_of_kind}
 use Rattle.bench_lists.proofs.Lengths.{small_modest}
 use Rattle.bench_lists.proofs.BranchLaws.{stays_beside, all_live, all_uncut, made_held}
 use Rattle.bench_lists.proofs.cells.add_all.Goals as goal
@@ -12,21 +11,14 @@ find_each-requires-clause-modest g c = small_modest _ c.bent-from.ensures.ready.
 pub add_cells-requires-clause-found : goal.add_cells-requires-clause-found
 add_cells-requires-clause-found g c = (
   AllOf,
-  items_of c.bent-from.new.pool c.bent-from.result,
-  c.in_ok-find_each.ensures.found,
-  record { live = all_live c.args.arena.now _ c.bent-from.ensures.ready.bare; bare = all_uncut c.args.arena.now 0 _ c.bent-from.ensures.ready.bare },
+  λ _. items_of c.bent-from.new.pool c.bent-from.result,
+  record { by_buffers = c.in_ok-find_each.ensures.found; by_inverters = c.in_ok-find_each.ensures.found },
+  λ _. record { live = all_live c.args.arena.now _ c.bent-from.ensures.ready.bare; bare = all_uncut c.args.arena.now 0 _ c.bent-from.ensures.ready.bare },
 )
 
 pub add_cells-requires-clause-room : goal.add_cells-requires-clause-room
 add_cells-requires-clause-room g c =
-    omega (
-      arith,
-      few_of_kind c.as_slice-reps.result.now false,
-      ap length c.as_slice-reps.ensures.value,
-      c.requires.library.few,
-      c.requires.room,
-      c.bent-from.ensures.spare,
-    )
+    omega (arith, ap length c.as_slice-reps.ensures.value, c.requires.library.few, c.requires.room, c.bent-from.ensures.spare)
 
 pub returns-clause-added : goal.returns-clause-added
 returns-clause-added g c =
