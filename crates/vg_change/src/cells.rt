@@ -15,6 +15,9 @@ use vg_num::Memory;
 use vg_scan::Name;
 use vg_split::{Split, push_cell_name, push_net_name};
 
+/// So many bytes are enough for most new names.
+const NAME: usize = 32;
+
 /// How the net of a stage is named in the text of the netlist.
 fn text_in(
     alloc: Global,
@@ -30,7 +33,7 @@ fn text_in(
     if stage == x.keeper as usize {
         return net_text(alloc, netlist, id);
     }
-    let mut text = Vec::new(alloc);
+    let mut text = Vec::with_capacity(alloc, NAME)?;
     x.push_net(stage, &mut text)?;
     Name::from_bytes(alloc, &text)
 }
@@ -52,7 +55,7 @@ fn name_of(alloc: Global, x: &Split<'_>, stage: usize) -> Result<Name, Memory>
     requires stage { stage < length (heads (forest x.now)) }
     ensures { IfOk result (λ name. name ≡ cell_name x.now.prefix (number_of x.now stage)) }
 {
-    let mut name = Vec::new(alloc);
+    let mut name = Vec::with_capacity(alloc, NAME)?;
     push_cell_name(x.prefix, x.first + (stage - 1) as u64, &mut name)?;
     Name::from_bytes(alloc, &name)
 }
@@ -63,7 +66,7 @@ fn wire_of(alloc: Global, x: &Split<'_>, stage: usize) -> Result<Name, Memory>
     requires stage { stage < length (heads (forest x.now)) }
     ensures { IfOk result (λ name. name ≡ net_name x.now.prefix (number_of x.now stage)) }
 {
-    let mut name = Vec::new(alloc);
+    let mut name = Vec::with_capacity(alloc, NAME)?;
     push_net_name(x.prefix, x.first + (stage - 1) as u64, &mut name)?;
     Name::from_bytes(alloc, &name)
 }

@@ -242,8 +242,9 @@ fn caps_of(
     ensures { IfOk result (λ caps. caps.items
         ≡ map (cap_row x.now stage) (filter (is_own x.now stage) (members (forest x.now) (head x.now stage)))) }
 {
-    let mut caps = Vec::new(alloc);
-    'node: for node in x.members(stage) {
+    let nodes = x.members(stage);
+    let mut caps = Vec::with_capacity(alloc, nodes.len())?;
+    'node: for node in nodes {
         let at = *node as usize;
         if is_own(x, stage, at) {
             caps.push((places[at], x.charge(at)))?;
@@ -298,15 +299,15 @@ fn parts_of(
     ensures places { length scratch.new.places.items ≡ length x.now.problem.tree.nodes }
 {
     let mut nodes = NodeList::new(alloc);
-    let mut conns = Vec::new(alloc);
+    let mut conns = Vec::with_capacity(alloc, x.members(stage).len())?;
     push_ends(x, stage, chars, &mut nodes, &mut conns, scratch)?;
     push_inners(x, stage, &mut nodes, scratch)?;
     let caps = caps_of(alloc, x, stage, &scratch.places)?;
     let ress = ress_of(alloc, x, stage, &scratch.places)?;
-    let mut name = Vec::new(alloc);
-    x.push_net(stage, &mut name)?;
+    scratch.name.clear();
+    x.push_net(stage, &mut scratch.name)?;
     Ok(Parts {
-        name: Name::from_bytes(alloc, &name)?,
+        name: Name::from_bytes(alloc, &scratch.name)?,
         nodes: nodes.into_nodes(),
         conns: Row::from_vec(conns),
         caps: Row::from_vec(caps),

@@ -102,13 +102,28 @@ fn print_ress(net: &ParNet, header: &Header, to: &mut Vec<u8>) -> Result<(), Mem
     Ok(())
 }
 
+/// Some bytes for each line of a section, which are enough for most nets.
+const LINE: usize = 40;
+
+/// Room for the section of a net with so many capacitors to the ground.
+fn room_for(net: &ParNet, caps: usize) -> usize {
+    let rows = net
+        .conns
+        .as_slice()
+        .len()
+        .saturating_add(net.ress.as_slice().len());
+    rows.saturating_add(caps)
+        .saturating_add(6)
+        .saturating_mul(LINE)
+}
+
 /// The section of a net. Answers `Memory` where there is no room.
 fn section(alloc: Global, net: &ParNet, header: &Header) -> Result<Vec<u8>, Memory>
     requires { total net.now.caps ≤ 10 ^ 15 }
     ensures { IfOk result (λ text. text.items ≡ section_text header.now net.now) }
 {
     let rows = charged(alloc, net)?;
-    let mut text = Vec::new(alloc);
+    let mut text = Vec::with_capacity(alloc, room_for(net, rows.len()))?;
     print_head(net, charge_of(net.caps.as_slice()), header, &mut text)?;
     text.extend_from_slice(b"*CONN\n")?;
     print_conns(net, &header.chars, &mut text)?;

@@ -14,11 +14,11 @@ node-preserved c =
     let k = c.args.stage in
     let i = c.node.node-index in
     let ws = members (forest x) (head x k) in
-    let w = slice_index c.members-node-items.result.now i in
+    let w = slice_index c.members-nodes.result.now i in
     let own = is_own x k in
     let kept = kept_to own x k in
-    let low : i < length ws = subst (λ (l : List ℕ). i < length l) c.members-node-items.ensures.are c.node-test.true in
-    let at : slice_index ws i ≡ w = ap (λ (l : List ℕ). slice_index l i) (sym c.members-node-items.ensures.are) in
+    let low : i < length ws = subst (λ (l : List ℕ). i < length l) c.members-nodes.ensures.are c.node-test.true in
+    let at : slice_index ws i ≡ w = ap (λ (l : List ℕ). slice_index l i) (sym c.members-nodes.ensures.are) in
     let items = λ (v : Vec (ℕ × ℕ) Global). v.items in
     elim c.if-is_own.branch [
       | then-is_own+in_ok-push t ↦

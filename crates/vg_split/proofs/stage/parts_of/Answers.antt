@@ -13,7 +13,7 @@ returns-clause-parts c =
       places = c.push_inners.new.scratch.places.items;
       numbered = c.in_ok-push_inners.ensures.numbered;
       name_is =
-          c.in_ok-from_bytes.ensures ∙ c.deref-3.ensures.value ∙ c.in_ok-push_net.ensures.pushed ∙ ap (λ (l : List ℕ). l ++ net_of x k) c.new-name.ensures.items;
+          c.in_ok-from_bytes.ensures ∙ c.deref-3.ensures.value ∙ c.in_ok-push_net.ensures.pushed ∙ ap (λ (l : List ℕ). l ++ net_of x k) c.clear.ensures.items;
       nodes_are =
           c.into_nodes.ensures
           ∙ all_nodes c.args.chars.now x k c.push_ends.new.nodes c.push_inners.new.nodes c.in_ok-push_ends.ensures.nodes c.in_ok-push_inners.ensures.nodes;

@@ -23,6 +23,6 @@ returns c =
     ∙ ap (λ xs. xs ++ lined stars)
     (c.in_ok-print_conns.ensures
     ∙ ap (λ xs. xs ++ lined conns)
-    (c.in_ok-extend_from_slice.ensures.items ∙ ap (λ xs. xs ++ ended (codes "*CONN")) (c.in_ok-print_head.ensures ∙ ap (λ xs. xs ++ ended (head_line header net)) c.new-text.ensures.items)))))
+    (c.in_ok-extend_from_slice.ensures.items ∙ ap (λ xs. xs ++ ended (codes "*CONN")) (c.in_ok-print_head.ensures ∙ ap (λ xs. xs ++ ended (head_line header net)) c.in_ok-text.ensures.items)))))
     ∙ parts_printed (ended (head_line header net)) (ended (codes "*CONN")) (lined conns) (lined stars) (lined (caps (charged net))) (lined ress)
     ∙ section_lined (head_line header net) (codes "*CONN") conns stars (caps (charged net)) ress)
