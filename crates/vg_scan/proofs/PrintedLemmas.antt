@@ -179,3 +179,14 @@ canonical_long chars (x ∷ xs) ys h = refl
 pub reads_again : (chars : Chars) (name : List ℕ) → 0 < length name → canonical chars (printed chars name) ≡ Some name
 reads_again chars [] h = absurd (omega arith)
 reads_again chars (b ∷ bs) h = canonical_long chars (printed_byte chars b) (printed chars bs) (byte_length chars b) ∙ reads_bytes chars (b ∷ bs)
+
+own_as_is : (chars : Chars) (b : ℕ) → is_own b ≡ true → printed_byte chars b ≡ b ∷ []
+own_as_is chars b e = rw e refl
+
+-- a name of bytes that stand for themselves is printed as it is
+pub all_own_as_is : (chars : Chars) (name : List ℕ) → list_all is_own name ≡ true → printed chars name ≡ name
+all_own_as_is chars [] e = refl
+all_own_as_is chars (b ∷ bs) e =
+    let own : is_own b ≡ true = grind (arith, nat_tests) in
+    let rest : list_all is_own bs ≡ true = grind (arith, nat_tests) in
+    rw own (ap (λ r. b ∷ r) (all_own_as_is chars bs rest))

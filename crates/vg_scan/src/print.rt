@@ -1,6 +1,7 @@
 //! Names of SPEF, printed.
 
 ghost use Rattle.std.specs.Prelude.{◌≡◌, ◌++◌, length, take, OnOk, OnErr};
+ghost use Rattle.std.specs.List.{list_all};
 ghost use Rattle.vg_scan.specs.Printed.{is_own, printed, printed_byte, IsPrintable};
 
 use crate::chars::Chars;
@@ -40,6 +41,13 @@ fn print_bytes(name: &[u8], chars: &Chars, to: &mut Vec<u8>) -> Result<(), Memor
     Ok(())
 }
 
+/// Whether all bytes of a name stand for themselves, as in most names.
+fn are_own(name: &[u8]) -> bool
+    ensures { result ≡ list_all is_own name.now }
+{
+    name.iter().all(|byte| is_own(*byte))
+}
+
 /// Prints a text whose canonical name is this name (IEEE Std 1481).
 ///
 /// Answers `Memory` where there is no room, and then `to` is as before.
@@ -48,6 +56,10 @@ pub fn print_spef_name(name: &[u8], chars: &Chars, to: &mut Vec<u8>) -> Result<(
     ensures printed { OnOk result (to.new.items ≡ to.old.items ++ printed chars.now name.now) }
     ensures unchanged { OnErr result (to.new.items ≡ to.old.items) }
 {
+    if are_own(name) {
+        to.extend_from_slice(name)?;
+        return Ok(());
+    }
     let before = to.len();
     let done = print_bytes(name, chars, to);
     if done.is_err() {
