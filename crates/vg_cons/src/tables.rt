@@ -85,7 +85,8 @@ impl NodeSet {
     pub fn contains(&self, node: NodeRef<'_>) -> bool
         ensures { result ≡ has_node self.now (named node.entry) }
     {
-        self.nodes.contains(node)
+        // No hash is made where no row is there to be found.
+        !self.nodes.is_empty() && self.nodes.contains(node)
     }
 }
 
@@ -123,6 +124,10 @@ impl NodeCells {
     pub fn get(&self, node: NodeRef<'_>) -> Option<&[Name]>
         ensures { option_copied result ≡ node_value self.now (named node.entry) }
     {
+        // No hash is made where no row is there to be found.
+        if self.cells.is_empty() {
+            return None;
+        }
         match self.cells.get(node) {
             Some(cells) => Some(cells.as_slice()),
             None => None,
