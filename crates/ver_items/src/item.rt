@@ -1,6 +1,9 @@
 //! The items of a module, one after another.
 
-ghost use Rattle.std.specs.Prelude.{◌≡◌, ◌<◌, ◌++◌, [], List, nat_lt, length, true, false, IfOk, OnOk};
+ghost use Rattle.std.specs.List.{list_any};
+ghost use Rattle.std.specs.Prelude.{◌≡◌, ◌<◌, ◌++◌, [], List, nat_lt, length, take, true, false, IfOk, OnOk};
+ghost use Rattle.ver_syntax.specs.Grammar.{is};
+ghost use Rattle.ver_text.specs.declared.kind.Kind.TheVariants.{Semicolon};
 ghost use Rattle.ver_text.specs.declared.kind.Kind.{Kind as KindSpec};
 ghost use Rattle.ver_syntax.specs.Reading.{HasKinds};
 ghost use Rattle.ver_syntax.specs.Rows.{kinds_in};
@@ -14,6 +17,9 @@ use std::marker::Model;
 use ver_syntax::{Machine, Row, Rows};
 use ver_text::Kind;
 use vg_num::Memory;
+
+/// The most tokens that are read before a machine reads them.
+const MOST: usize = 1024;
 
 /// Puts the tokens up to the next `;`, or all that are left, in place of what the list held. Answers `Memory` where there is no
 /// room.
@@ -31,6 +37,28 @@ fn read_item(rows: &mut Rows<'_>, item: &mut Vec<Row>) -> Result<(), Memory>
     Ok(())
 }
 
+/// Puts the next tokens last, up to the next `;`, but no more than a part has. Whether an item ends with them. Answers `Memory`
+/// where there is no room.
+fn read_part(rows: &mut Rows<'_>, item: &mut Vec<Row>) -> Result<bool, Memory>
+    requires { list_any (λ r. is Semicolon r.kind) item.old.items ≡ false }
+    ensures cut { OnOk result (item.old.items ++ rows.old ≡ item.new.items ++ rows.new) }
+    ensures begun { OnOk result (take (length item.old.items) item.new.items ≡ item.old.items) }
+    ensures ends { IfOk result (λ ended. ended ≡ true → IsItem item.new.items rows.new) }
+    ensures none { IfOk result (λ ended. ended ≡ false → list_any (λ r. is Semicolon r.kind) item.new.items ≡ false) }
+    ensures fewer { IfOk result (λ ended. ended ≡ false → length rows.new < length rows.old) }
+{
+    'row: for _turn in 0..MOST {
+        let Some(row) = rows.next() else {
+            return Ok(true);
+        };
+        item.push(row)?;
+        if is(Kind::Semicolon, row.kind) {
+            return Ok(true);
+        }
+    }
+    Ok(false)
+}
+
 /// The same, where a machine reads the tokens too, and no further than a module can begin so. Whether one can.
 fn read_item_by(
     machine: &mut Machine,
@@ -43,16 +71,16 @@ fn read_item_by(
     ensures refused { (kinds : List KindSpec) → HasKinds kinds machine.old → IfOk result (λ can. can ≡ false → BeginNoModule (kinds ++ kinds_in item.new.items)) }
 {
     item.clear();
-    'row: while let Some(row) = rows.next() {
-        item.push(row)?;
-        if !machine.read(row.kind)? {
+    'part: loop {
+        let before = item.len();
+        let ended = read_part(rows, item)?;
+        if !machine.read_rows(&item[before..])? {
             return Ok(false);
         }
-        if is(Kind::Semicolon, row.kind) {
+        if ended {
             return Ok(true);
         }
     }
-    Ok(true)
 }
 
 /// What is found where an item of a module may stand.

@@ -6,3 +6,4 @@ pub mod RowLemmas
 pub mod LawLemmas
 pub mod PlaceLemmas
 pub mod KindLemmas
+mod PhraseLemmas

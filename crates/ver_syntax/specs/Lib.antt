@@ -4,3 +4,4 @@ pub mod Moves
 pub mod Reading
 pub mod Rows
 pub mod Laws
+pub mod Phrases

@@ -1,5 +1,5 @@
 -- A text that is read up to a token, as the code does it: for the functions between.
-use Rattle.std.specs.Prelude.{◌≡◌, ℕ, ◌-◌, true, false, List, [], length, take, drop, find, Option, None, Some, is_some}
+use Rattle.std.specs.Prelude.{◌≡◌, ℕ, ◌-◌, true, false, List, [], ◌++◌, length, take, drop, find, Option, None, Some, is_some}
 use Rattle.std.specs.List.{list_any}
 use Rattle.vg_grammar.specs.Ways.{IsLeft}
 use Rattle.ver_text.specs.declared.kind.Kind.{Kind}
@@ -38,3 +38,9 @@ ways_on (Some at) bs = ways_at at bs
 pub record HasKinds (kinds : List Kind) (machine : Machine) : Type 0 where
   pub ways : IsLeft rules module_declaration kinds (ways_on machine.at machine.braces)
   pub tokens : is_some machine.at ≡ true → list_any (is Stray) kinds ≡ false
+
+-- the same of tokens of these kinds but for the last ones, which are left
+pub record HasKindsBefore (left kinds : List Kind) (machine : Machine) : Type 0 where
+  pub before : List Kind
+  pub read : HasKinds before machine
+  pub whole : before ++ left ≡ kinds

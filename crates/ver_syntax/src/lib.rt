@@ -8,6 +8,7 @@ mod check;
 mod fault;
 mod laws;
 mod machine;
+mod phrase;
 mod row;
 mod rows;
 mod state;

@@ -7,12 +7,12 @@ use Rattle.ver_syntax.specs.Reading.{HasKinds}
 use Rattle.ver_syntax.specs.Rows.{kinds_in}
 use Rattle.ver_items.proofs.item.read_item_by.Given as goal
 
-abbrev pub invariant-row : goal.invariant-row
-invariant-row l = record {
+abbrev pub invariant-part : goal.invariant-part
+invariant-part l = record {
   cut : l.initial.rows ≡ l.item.items ++ l.rows;
   none : list_any (λ r. is Semicolon r.kind) l.item.items ≡ false;
   kinds : (kinds : List Kind) → HasKinds kinds l.initial.machine → HasKinds (kinds ++ kinds_in l.item.items) l.machine;
 }
 
-abbrev pub decreases-row : goal.decreases-row
-decreases-row l = length l.rows
+abbrev pub decreases-part : goal.decreases-part
+decreases-part l = length l.rows
