@@ -4,8 +4,7 @@ ghost use Rattle.std.specs.Prelude.{◌≡◌, drop};
 ghost use Rattle.std.specs.List.{list_any};
 ghost use Rattle.ver_items.specs.Others.{HasOthers, is_of_others};
 
-use crate::section::begins_declaration;
-use crate::token::{is, is_name_in};
+use crate::token::stands_in;
 use ver_syntax::{Place, Row};
 use ver_text::Kind;
 
@@ -14,10 +13,12 @@ use ver_text::Kind;
 fn is_of_others(row: Row) -> bool
     ensures { result ≡ is_of_others row }
 {
-    begins_declaration(row)
-        || is(Kind::EndModule, row.kind)
-        || is_name_in(Place::Ports, row)
-        || is_name_in(Place::Assignment, row)
+    match row.kind {
+        Kind::Direction | Kind::EndModule => true,
+        Kind::Wire | Kind::NetType => stands_in(Place::Start, row),
+        Kind::Identifier => stands_in(Place::Ports, row) || stands_in(Place::Assignment, row),
+        _ => false,
+    }
 }
 
 /// Whether any of some tokens is such a one.

@@ -8,7 +8,7 @@ ghost use Rattle.ver_items.specs.Declarations.{begins_declaration};
 ghost use Rattle.ver_items.specs.Sections.{section_before, sections};
 ghost use Rattle.ver_items.specs.SectionSteps.{IsFirstSection, section_in};
 
-use crate::token::{is, is_identifier, is_name_in, is_net, stands_in};
+use crate::token::{is_identifier, is_name_in, stands_in};
 use std::marker::Model;
 use ver_syntax::{Place, Row};
 use ver_text::Kind;
@@ -60,7 +60,11 @@ pub enum Begin {
 pub fn begins_declaration(row: Row) -> bool
     ensures { result ≡ begins_declaration row }
 {
-    is(Kind::Direction, row.kind) || stands_in(Place::Start, row) && is_net(row.kind)
+    match row.kind {
+        Kind::Direction => true,
+        Kind::Wire | Kind::NetType => stands_in(Place::Start, row),
+        _ => false,
+    }
 }
 
 impl Begin {

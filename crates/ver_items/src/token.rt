@@ -1,7 +1,7 @@
 //! Tokens with what they stand in, and what they give.
 
 ghost use Rattle.std.specs.Prelude.{◌≡◌};
-ghost use Rattle.ver_syntax.specs.Grammar.{is, is_digits, is_net};
+ghost use Rattle.ver_syntax.specs.Grammar.{is, is_digits};
 ghost use Rattle.ver_items.specs.Sections.{bytes_at, is_identifier, is_name_in, is_net_name, is_net_place, is_place, name_at, number_at, stands_in};
 
 use ver_syntax::{Place, Row};
@@ -26,16 +26,6 @@ pub fn stands_in(place: Place, row: Row) -> bool
     ensures { result ≡ stands_in place row }
 {
     is_place(place, row.place)
-}
-
-/// Whether a kind is `wire` or another type of nets.
-pub fn is_net(kind: Kind) -> bool
-    ensures { result ≡ is_net kind }
-{
-    match kind {
-        Kind::Wire | Kind::NetType => true,
-        _ => false,
-    }
 }
 
 /// Whether a kind is that of decimal digits alone.
