@@ -19,7 +19,7 @@ use vg_names::Names;
 use vg_num::Memory;
 
 /// How many bytes of a text there are for each net and for each instance, about: room is made for so many names.
-pub(crate) const BYTES_A_NAME: usize = 128;
+pub(crate) const BYTES_A_NAME: usize = 32;
 
 /// The greatest place that is kept.
 const MOST: usize = 0xFFFF_FFFF;
