@@ -1,10 +1,10 @@
 -- The capacitances of nodes, summed up one after another.
-use Rattle.std.proofs.Common.{◌≡◌, ◌≢◌, ℕ, ◌+◌, ◌<◌, ◌≤◌, ◌^◌, ◌==◌, Bool, true, false, cond, List, [], ◌∷◌, ◌++◌, filter, refl, sym, ap, ◌∙◌, arith, length, take, set, replicate, get_or, inl, inr}
+use Rattle.std.proofs.Common.{◌≡◌, ◌≢◌, ℕ, ◌+◌, ◌<◌, ◌≤◌, ◌^◌, ◌==◌, Bool, true, false, cond, List, [], ◌∷◌, filter, refl, sym, ap, ◌∙◌, arith, length, take, set, replicate, get_or, inl, inr}
 use Rattle.std.proofs.lemmas.Bool.{cases_eq, eq-eqb}
 use Rattle.std.proofs.lemmas.Bool.Decides.{nat_tests}
 use Rattle.std.proofs.lemmas.List.{length-set, length-replicate, get_or-replicate, get_or-set_same, get_or-set_other}
 use Rattle.std.proofs.lemmas.List.Elements.{All-from_get_or, All-filter, filter_more}
-use Rattle.std.proofs.lemmas.List.FromFn.{filter_of_map_range_with_len_more, get_or-map-range_with_len, length-map-range_with_len}
+use Rattle.std.proofs.lemmas.List.FromFn.{get_or-map-range_with_len, length-map-range_with_len}
 use Rattle.std.proofs.lemmas.List.Sums.{sum_by-cons, sum_by-append, sum_by_more_le}
 use Rattle.std.specs.List.{All, sum_by}
 use Rattle.vg_written.specs.Sections.{total, total_at, is_charged, sums}
@@ -75,11 +75,6 @@ one_summed count caps sums i d l in_range is = record {
         get_or-set_other sums cap.0 k (get_or sums cap.0 0 + cap.1) 0 other
         ∙ is.each k h
         ∙ sym (total_at_more caps i k d l ∙ ap (λ t. total_at (take i caps) k + cond t cap.1 0) none ∙ (let z : total_at (take i caps) k + 0 ≡ total_at (take i caps) k = omega arith in z))
-
--- one node more
-pub rows_more : (caps : List (ℕ × ℕ)) (n : ℕ)
-    → filter is_charged (sums (n + 1) caps) ≡ filter is_charged (sums n caps) ++ cond (is_charged (n, total_at caps n)) ((n, total_at caps n) ∷ []) []
-rows_more caps n = filter_of_map_range_with_len_more is_charged (λ k. (k, total_at caps k)) 0 n n (omega arith)
 
 -- each row is of a node, and has what is there
 pub record IsRowOf (caps : List (ℕ × ℕ)) (count : ℕ) (row : ℕ × ℕ) : Type 0 where

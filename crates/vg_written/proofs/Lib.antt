@@ -15,3 +15,5 @@ pub mod SaidLemmas
 pub mod ShapeLemmas
 pub mod ClearLemmas
 pub mod AgainLemmas
+pub mod PlaceLemmas
+pub mod PartLemmas

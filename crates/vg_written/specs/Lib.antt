@@ -4,3 +4,6 @@ pub mod Splices
 pub mod Sections
 pub mod Charges
 pub mod SectionLaws
+pub mod Printed
+pub mod Places
+pub mod Made

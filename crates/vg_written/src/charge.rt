@@ -1,9 +1,9 @@
 //! The capacitances of a net's nodes.
 
-ghost use Rattle.std.specs.Prelude.{◌≡◌, ◌++◌, ◌∷◌, [], ◌≤◌, ◌^◌, filter, nat_le, IfOk, OnOk};
+ghost use Rattle.std.specs.Prelude.{◌≡◌, ◌≤◌, ◌^◌, nat_le, IfOk};
 ghost use Rattle.std.specs.List.{All};
 ghost use Rattle.spef_net.specs.Nets.{IsCapOf};
-ghost use Rattle.vg_written.specs.Sections.{charged, is_charged, total};
+ghost use Rattle.vg_written.specs.Sections.{total};
 ghost use Rattle.vg_written.specs.Charges.{AreSums};
 
 use spef_net::ParNet;
@@ -50,27 +50,4 @@ pub fn sums(alloc: Global, count: usize, caps: &[(u32, u64)]) -> Result<Vec<u64>
         sums[cap.0 as usize] += cap.1;
     }
     Ok(sums)
-}
-
-/// Puts a node last that has this capacitance, if it is not 0. Answers `Memory` where there is no room.
-fn push_charge(at: usize, charge: u64, rows: &mut Vec<(usize, u64)>) -> Result<(), Memory>
-    ensures { OnOk result (rows.new.items ≡ rows.old.items ++ filter is_charged ((at, charge) ∷ [])) }
-{
-    if charge != 0 {
-        rows.push((at, charge))?;
-    }
-    Ok(())
-}
-
-/// The nodes with a capacitance, each with its own. Answers `Memory` where there is no room.
-pub(crate) fn charged(alloc: Global, net: &ParNet) -> Result<Vec<(usize, u64)>, Memory>
-    requires { total net.now.caps ≤ 10 ^ 15 }
-    ensures { IfOk result (λ rows. rows.items ≡ charged net.now) }
-{
-    let sums = sums(alloc, net.nodes.len(), net.caps.as_slice())?;
-    let mut rows = Vec::new(alloc);
-    'node: for at in 0..sums.len() {
-        push_charge(at, sums[at], &mut rows)?;
-    }
-    Ok(rows)
 }

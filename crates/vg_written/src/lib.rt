@@ -6,6 +6,8 @@
 mod charge;
 mod laws;
 mod line;
+mod printed;
+mod section;
 mod write;
 
 pub use charge::{has_small_charge, sums};
@@ -15,4 +17,6 @@ pub use laws::{
     ress_again, said_nets_are_faultless, sections_are_lines, sections_are_quiet, sections_splice,
     stars_again, words_again, written_nets_again,
 };
-pub use write::write_net;
+pub use printed::{NodeText, Printed};
+pub use section::Section;
+pub use write::{write_net, write_section};

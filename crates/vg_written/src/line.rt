@@ -2,11 +2,14 @@
 
 ghost use Rattle.std.specs.Prelude.{◌≡◌, ◌++◌, ◌<◌, ◌≤◌, length, unsigned_abs, OnOk};
 ghost use Rattle.std.specs.Fmt.{decimal};
-ghost use Rattle.vg_written.specs.Sections.{cap_text, conn_line_of, head_line, node_at, res_text, star_line_of, total};
-ghost use Rattle.vg_written.specs.Texts.{conn_tag, direction_word, ended, noted, printed_node};
+ghost use Rattle.std.specs.List.{AllPass};
+ghost use Rattle.vg_scan.specs.Printed.{is_solid, IsPrintable};
+ghost use Rattle.vg_written.specs.Printed.{cap_row, conn_row, head_row, printed_at, res_row, star_row};
+ghost use Rattle.vg_written.specs.Texts.{conn_tag, direction_word, ended, noted, printed_node_with};
 
+use crate::printed::Printed;
 use spef_file::Header;
-use spef_net::{ConnKind, Direction, ParConn, ParNet};
+use spef_net::{ConnKind, Direction, ParConn};
 use vg_num::{Memory, print_scaled, print_signed};
 use vg_scan::{Chars, print_spef_name};
 
@@ -55,13 +58,19 @@ fn print_id(id: usize, to: &mut Vec<u8>) -> Result<(), Memory>
     Ok(())
 }
 
-/// Prints the name of the node of this number.
-fn print_node(net: &ParNet, at: usize, chars: &Chars, to: &mut Vec<u8>) -> Result<(), Memory>
-    requires { at < length net.now.nodes }
-    ensures { OnOk result (to.new.items ≡ to.old.items ++ printed_node chars.now (node_at net.now.nodes at).name) }
+/// Prints the name of the node of an owner and a leaf.
+pub(crate) fn print_node(
+    owner: &[u8],
+    leaf: &[u8],
+    chars: &Chars,
+    to: &mut Vec<u8>,
+) -> Result<(), Memory>
+    requires owner { IsPrintable owner.now }
+    requires leaf { AllPass is_solid leaf.now }
+    ensures printed { OnOk result (to.new.items ≡ to.old.items ++ printed_node_with chars.now owner.now leaf.now) }
+    ensures longer { length to.old.items ≤ length to.new.items }
 {
-    print_spef_name(net.nodes.owner(at), chars, to)?;
-    let leaf = net.nodes.leaf(at);
+    print_spef_name(owner, chars, to)?;
     if leaf.is_empty() {
         return Ok(());
     }
@@ -82,18 +91,18 @@ fn end_line(note: &[u8], to: &mut Vec<u8>) -> Result<(), Memory>
     Ok(())
 }
 
-/// Prints the first line of a section, where the capacitances come to this.
+/// Prints the first line of the section of a net of this name, where the capacitances come to this.
 pub(crate) fn print_head(
-    net: &ParNet,
+    name: &[u8],
     charge: u64,
     header: &Header,
     to: &mut Vec<u8>,
 ) -> Result<(), Memory>
-    requires { charge ≡ total net.now.caps }
-    ensures { OnOk result (to.new.items ≡ to.old.items ++ ended (head_line header.now net.now)) }
+    requires { IsPrintable name.now }
+    ensures { OnOk result (to.new.items ≡ to.old.items ++ ended (head_row header.now name.now charge)) }
 {
     to.extend_from_slice(b"*D_NET ")?;
-    print_spef_name(net.name.as_bytes(), &header.chars, to)?;
+    print_spef_name(name, &header.chars, to)?;
     to.push(b' ')?;
     print_scaled(charge, c_places(header), to)?;
     to.push(b'\n')?;
@@ -101,78 +110,68 @@ pub(crate) fn print_head(
 }
 
 /// Prints the line of a connection.
-pub(crate) fn print_conn(
-    net: &ParNet,
-    conn: &ParConn,
-    chars: &Chars,
-    to: &mut Vec<u8>,
-) -> Result<(), Memory>
-    requires { conn.now.node < length net.now.nodes }
-    ensures { OnOk result (to.new.items ≡ to.old.items ++ ended (conn_line_of chars.now net.now.nodes conn.now)) }
+pub(crate) fn print_conn(nodes: &Printed, conn: &ParConn, to: &mut Vec<u8>) -> Result<(), Memory>
+    requires { conn.now.node < length nodes.now }
+    ensures { OnOk result (to.new.items ≡ to.old.items ++ ended (conn_row nodes.now conn.now)) }
 {
     let at = conn.node as usize;
     to.extend_from_slice(conn_tag(conn.kind))?;
     to.push(b' ')?;
-    print_node(net, at, chars, to)?;
+    to.extend_from_slice(nodes.name(at))?;
     to.push(b' ')?;
     to.extend_from_slice(direction_word(conn.direction))?;
-    end_line(net.nodes.note(at), to)?;
+    end_line(nodes.note(at), to)?;
     Ok(())
 }
 
 /// Prints the line of the inner node of this number, with its note.
-pub(crate) fn print_star(
-    net: &ParNet,
-    at: usize,
-    chars: &Chars,
-    to: &mut Vec<u8>,
-) -> Result<(), Memory>
-    requires { at < length net.now.nodes }
-    ensures { OnOk result (to.new.items ≡ to.old.items ++ ended (star_line_of chars.now (node_at net.now.nodes at))) }
+pub(crate) fn print_star(nodes: &Printed, at: usize, to: &mut Vec<u8>) -> Result<(), Memory>
+    requires { at < length nodes.now }
+    ensures { OnOk result (to.new.items ≡ to.old.items ++ ended (star_row (printed_at nodes.now at))) }
 {
     to.extend_from_slice(b"*N ")?;
-    print_node(net, at, chars, to)?;
-    end_line(net.nodes.note(at), to)?;
+    to.extend_from_slice(nodes.name(at))?;
+    end_line(nodes.note(at), to)?;
     Ok(())
 }
 
-/// Prints the line of a capacitor to the ground.
+/// Prints the line of the capacitor between the node of this number and the ground.
 pub(crate) fn print_cap(
-    net: &ParNet,
+    nodes: &Printed,
+    at: usize,
     id: usize,
-    cap: (usize, u64),
     header: &Header,
     to: &mut Vec<u8>,
 ) -> Result<(), Memory>
-    requires { cap.0 < length net.now.nodes }
-    ensures { OnOk result (to.new.items ≡ to.old.items ++ ended (cap_text header.now net.now.nodes id cap)) }
+    requires { at < length nodes.now }
+    ensures { OnOk result (to.new.items ≡ to.old.items ++ ended (cap_row header.now id (printed_at nodes.now at))) }
 {
     print_id(id, to)?;
     to.push(b' ')?;
-    print_node(net, cap.0, &header.chars, to)?;
+    to.extend_from_slice(nodes.name(at))?;
     to.push(b' ')?;
-    print_scaled(cap.1, c_places(header), to)?;
+    print_scaled(nodes.charge(at), c_places(header), to)?;
     to.push(b'\n')?;
     Ok(())
 }
 
 /// Prints the line of a resistor.
 pub(crate) fn print_res(
-    net: &ParNet,
+    nodes: &Printed,
     id: usize,
     res: (u32, u32, u64),
     header: &Header,
     to: &mut Vec<u8>,
 ) -> Result<(), Memory>
-    requires from { res.0 < length net.now.nodes }
-    requires to { res.1 < length net.now.nodes }
-    ensures { OnOk result (to.new.items ≡ to.old.items ++ ended (res_text header.now net.now.nodes id res)) }
+    requires from { res.0 < length nodes.now }
+    requires to { res.1 < length nodes.now }
+    ensures { OnOk result (to.new.items ≡ to.old.items ++ ended (res_row header.now nodes.now id res)) }
 {
     print_id(id, to)?;
     to.push(b' ')?;
-    print_node(net, res.0 as usize, &header.chars, to)?;
+    to.extend_from_slice(nodes.name(res.0 as usize))?;
     to.push(b' ')?;
-    print_node(net, res.1 as usize, &header.chars, to)?;
+    to.extend_from_slice(nodes.name(res.1 as usize))?;
     to.push(b' ')?;
     print_scaled(res.2, r_places(header), to)?;
     to.push(b'\n')?;

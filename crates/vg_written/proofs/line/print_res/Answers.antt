@@ -2,8 +2,8 @@ use Rattle.std.proofs.Common.{◌++◌, ◌∷◌, [], ap, ◌∙◌}
 use Rattle.std.specs.Prelude.{unsigned_abs}
 use Rattle.std.specs.Fmt.{decimal}
 use Rattle.vg_num.specs.Printed.{scaled_text}
-use Rattle.vg_written.specs.Sections.{node_at}
-use Rattle.vg_written.specs.Texts.{spaced, printed_node}
+use Rattle.vg_written.specs.Printed.{printed_at}
+use Rattle.vg_written.specs.Texts.{spaced}
 use Rattle.vg_written.proofs.PrintLemmas.{four_words, newline_after}
 use Rattle.vg_written.proofs.line.print_res.Goals as goal
 
@@ -11,9 +11,10 @@ pub returns : goal.returns
 returns c =
     let old = c.args.to.now.items in
     let header = c.args.header.now in
+    let nodes = c.args.nodes.now in
     let id = decimal c.args.id in
-    let a = printed_node header.chars (node_at c.args.net.now.nodes c.args.res.0).name in
-    let b = printed_node header.chars (node_at c.args.net.now.nodes c.args.res.1).name in
+    let a = (printed_at nodes c.args.res.0).name in
+    let b = (printed_at nodes c.args.res.1).name in
     let value = scaled_text c.args.res.2 (unsigned_abs header.r_places) in
     c.in_ok-push-4.ensures.items
     ∙ ap (λ xs. xs ++ 10 ∷ [])
@@ -22,10 +23,13 @@ returns c =
     ∙ ap (λ xs. xs ++ value)
     (c.in_ok-push-3.ensures.items
     ∙ ap (λ xs. xs ++ 32 ∷ [])
-    (c.in_ok-print_node-2.ensures
+    (c.in_ok-extend_from_slice-2.ensures.items
+    ∙ ap (λ xs. c.push-2.new.self.items ++ xs) c.name-2.ensures
     ∙ ap (λ xs. xs ++ b)
     (c.in_ok-push-2.ensures.items
     ∙ ap (λ xs. xs ++ 32 ∷ [])
-    (c.in_ok-print_node.ensures ∙ ap (λ xs. xs ++ a) (c.in_ok-push.ensures.items ∙ ap (λ xs. xs ++ 32 ∷ []) c.in_ok-print_id.ensures)))))
+    (c.in_ok-extend_from_slice.ensures.items
+    ∙ ap (λ xs. c.push.new.self.items ++ xs) c.name.ensures
+    ∙ ap (λ xs. xs ++ a) (c.in_ok-push.ensures.items ∙ ap (λ xs. xs ++ 32 ∷ []) c.in_ok-print_id.ensures)))))
     ∙ four_words old id a b value)
     ∙ newline_after old (spaced (id ∷ a ∷ b ∷ value ∷ []))

@@ -1,7 +1,7 @@
-use Rattle.std.proofs.Common.{◌≡◌, ◌++◌, take}
-use Rattle.vg_written.specs.Sections.{conn_lines}
+use Rattle.std.proofs.Common.{◌≡◌, ◌++◌, map, take}
+use Rattle.vg_written.specs.Printed.{conn_row}
 use Rattle.vg_written.specs.Texts.{lined}
 use Rattle.vg_written.proofs.write.print_conns.Given as goal
 
 abbrev pub invariant-conn : goal.invariant-conn
-invariant-conn l = l.to.items ≡ l.initial.to.items ++ lined (conn_lines l.chars l.net.nodes (take l.conn-index l.net.conns))
+invariant-conn l = l.to.items ≡ l.initial.to.items ++ lined (map (conn_row l.nodes) (take l.conn-index l.conns))

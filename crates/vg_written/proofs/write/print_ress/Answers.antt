@@ -1,15 +1,16 @@
 use Rattle.std.proofs.Common.{◌<◌, ◌++◌, length, ap, ◌∙◌, codes, arith}
 use Rattle.std.proofs.lemmas.Bool.Decides.{nat_tests}
-use Rattle.vg_written.specs.Sections.{numbered, res_text}
+use Rattle.vg_written.specs.Printed.{res_row}
+use Rattle.vg_written.specs.Sections.{numbered}
 use Rattle.vg_written.specs.Texts.{lined}
 use Rattle.vg_written.proofs.PrintLemmas.{part_printed}
 use Rattle.vg_written.proofs.write.print_ress.Goals as goal
 
 pub returns : goal.returns
 returns c =
-    let net = c.args.net.now in
-    let line = res_text c.args.header.now net.nodes in
-    let some : 0 < length net.ress = grind (arith, nat_tests) in
+    let line = res_row c.args.header.now c.args.nodes.now in
+    let ress = c.args.ress.now in
+    let some : 0 < length ress = grind (arith, nat_tests) in
     c.in_ok-print_res_lines.ensures
-    ∙ ap (λ xs. xs ++ lined (numbered line 1 net.ress)) c.in_ok-extend_from_slice.ensures.items
-    ∙ part_printed line c.args.to.now.items (codes "*RES") net.ress some
+    ∙ ap (λ xs. xs ++ lined (numbered line 1 ress)) c.in_ok-extend_from_slice.ensures.items
+    ∙ part_printed line c.args.to.now.items (codes "*RES") ress some

@@ -1,13 +1,13 @@
 use Rattle.std.proofs.Common.{◌<◌, ◌++◌, ◌∷◌, [], length, ap, ◌∙◌, arith}
-use Rattle.vg_written.specs.Sections.{NO_NODE, node_at, star_lines}
+use Rattle.vg_written.specs.Printed.{NO_PRINTED, printed_at, star_rows}
 use Rattle.vg_written.specs.Texts.{lined}
 use Rattle.vg_written.proofs.PrintLemmas.{stars_more}
 use Rattle.vg_written.proofs.write.print_stars.Goals as goal
 
 pub node-preserved : goal.node-preserved
 node-preserved c =
-    let nodes = c.args.net.now.nodes in
+    let nodes = c.args.nodes.now in
     let within : c.node.at < length nodes = omega (arith, c.node-test.true, c.len-at-end.ensures) in
     c.in_ok-print_if_star.ensures
-    ∙ ap (λ xs. xs ++ lined (star_lines c.args.chars.now (node_at nodes c.node.at ∷ []))) c.node.invariant
-    ∙ stars_more c.args.chars.now c.args.to.now.items nodes c.node.at NO_NODE within
+    ∙ ap (λ xs. xs ++ lined (star_rows (printed_at nodes c.node.at ∷ []))) c.node.invariant
+    ∙ stars_more c.args.to.now.items nodes c.node.at NO_PRINTED within
