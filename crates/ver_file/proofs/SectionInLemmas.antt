@@ -1,5 +1,5 @@
 -- The one section that an item is.
-use Rattle.std.proofs.Common.{◌≡◌, ℕ, List, [], ◌∷◌, ◌++◌, flat_map, refl, sym, ap, ◌∙◌, append_assoc}
+use Rattle.std.proofs.Common.{◌≡◌, ℕ, List, [], ◌∷◌, ◌++◌, Option, None, Some, IfSome, flat_map, refl, sym, ap, ◌∙◌, append_assoc}
 use Rattle.std.proofs.lemmas.List.{append-nil}
 use Rattle.ver_syntax.specs.declared.row.Row.{Row}
 use Rattle.ver_items.specs.Declarations.{declared_by}
@@ -23,3 +23,13 @@ item_more f done all left after rows e g =
 
 pub items_done : {X : Type 0} (f : Section → List X) (done all : List X) (left : List Section) → all ≡ done ++ flat_map f left → left ≡ [] → done ≡ all
 items_done f done all left e g = sym (e ∙ ap (λ s. done ++ flat_map f s) g ∙ append-nil done)
+
+-- ---- items that are kept, if they are
+
+pub kept_begun : (kept : Option (List Section)) (all left : List Section) → IfSome kept (λ k. k ≡ []) → left ≡ all → IfSome kept (λ k. all ≡ k ++ left)
+kept_begun None all left e f = tt
+kept_begun (Some k) all left e f = sym f ∙ ap (λ ks. ks ++ left) (sym e)
+
+pub kept_next : (kept : Option (List Section)) (all left after : List Section) → IfSome kept (λ k. all ≡ k ++ left) → left ≡ after → IfSome kept (λ k. all ≡ k ++ after)
+kept_next None all left after e f = tt
+kept_next (Some k) all left after e f = e ∙ ap (λ ss. k ++ ss) f

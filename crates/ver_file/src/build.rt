@@ -1,11 +1,11 @@
 //! The instances and the assignments of a module without a flaw.
 
-ghost use Rattle.std.specs.Prelude.{◌≡◌, ◌++◌, ◌∷◌, [], flat_map, fold, map, find, IfOk, OnOk};
+ghost use Rattle.std.specs.Prelude.{◌≡◌, ◌++◌, ◌∷◌, [], flat_map, fold, map, find, IfOk, IfSome, OnOk};
 ghost use Rattle.ver_module.specs.Netlists.{with_pin};
 ghost use Rattle.ver_syntax.specs.declared.row.Place.TheVariants.{Assignment, Head};
 ghost use Rattle.ver_syntax.specs.Grammar.{is};
 ghost use Rattle.ver_syntax.specs.Rows.{rows_of};
-ghost use Rattle.ver_items.specs.Sections.{is_name_in, pins_in, sections};
+ghost use Rattle.ver_items.specs.Sections.{is_name_in, items, pins_in, sections};
 ghost use Rattle.ver_file.specs.Netlists.{head_end, instance_of, instances_by, module_name, nets_named, pin_of};
 ghost use Rattle.ver_file.specs.Bodies.{IsBody, end_in};
 ghost use Rattle.ver_file.specs.Scopes.{HasClash, IsScope};
@@ -15,8 +15,8 @@ use crate::first::Firsts;
 use crate::scope::Scope;
 use std::alloc::Global;
 use ver_items::{
-    Begin, Items, Section, Sections, after_first, connection_of, expression_in, is, is_name_in,
-    name_at, others_in, span_of,
+    Begin, ItemsAgain, KeptItems, Section, Sections, after_first, connection_of, expression_in, is,
+    is_name_in, name_at, others_in, span_of,
 };
 use ver_module::Instances;
 use ver_syntax::{Place, Row, Rows};
@@ -130,14 +130,16 @@ pub(crate) struct Body {
     pub end: Option<usize>,
 }
 
-/// What the items of a text hold, and what is wrong with it, where this is the first place at which two nets have one name.
-/// Nothing more is built once something is wrong. Answers `Memory` where there is no room.
+/// What the items of a text hold, and what is wrong with it, where this is the first place at which two nets have one name and
+/// its items may be kept. Nothing more is built once something is wrong. Answers `Memory` where there is no room.
 pub(crate) fn read_body(
     alloc: Global,
     scope: &Scope<'_>,
+    kept: Option<&KeptItems>,
     clash: Option<usize>,
 ) -> Result<Body, Memory>
-    requires { HasClash scope.now clash }
+    requires clash { HasClash scope.now clash }
+    requires kept { IfSome kept (λ k. k.now ≡ items scope.now.text.now) }
     ensures { IfOk result (IsBody scope.now.text.now) }
 {
     let mut firsts = Firsts {
@@ -149,7 +151,7 @@ pub(crate) fn read_body(
     let mut instances = Instances::new(alloc);
     let mut assigned = Vec::new(alloc);
     let mut end = None;
-    let mut items = Items::new(scope.text);
+    let mut items = ItemsAgain::new(scope.text, kept);
     let mut item = Vec::new(alloc);
     'item: while items.read(&mut item)? {
         let rows: &[Row] = &item;

@@ -1,18 +1,21 @@
 //! The identifiers of nets, and what is declared of them.
 
-ghost use Rattle.std.specs.Prelude.{[], ◌≡◌, ℕ, List, ◌∷◌, ◌<◌, length, slice_get, slice_index_or, IfNone, IfOk, IfSome, IsTrue, OnOk, Some, true, ◌↔◌};
+ghost use Rattle.std.specs.Prelude.{[], ◌≡◌, ℕ, List, ◌∷◌, ◌++◌, ◌<◌, length, slice_get, slice_index_or, IfNone, IfOk, IfSome, IsTrue, OnOk, Some, true, ◌↔◌};
 ghost use Rattle.vg_names.specs.Distinct.{number_in, number_of};
 ghost use Rattle.ver_syntax.specs.declared.row.Row.{Row as RowSpec};
 ghost use Rattle.ver_syntax.specs.Rows.{rows_of};
 ghost use Rattle.ver_syntax.specs.Syntax.{HasTokens, IsModule};
 ghost use Rattle.ver_items.specs.Declarations.{Declared, declared_of, direction_in, range_in};
-ghost use Rattle.ver_items.specs.Sections.{is_net_name, name_at};
+ghost use Rattle.ver_items.specs.Sections.{Section, is_net_name, items, name_at};
+ghost use Rattle.ver_items.specs.SectionSteps.{section_in};
 ghost use Rattle.ver_file.specs.Firsts.{declared_among, declared_under};
 ghost use Rattle.ver_file.specs.Said.{direction_said, is_supply_said, or_else, range_said, said_of, with_heading};
 ghost use Rattle.ver_file.specs.Tables.{AreIdentifiers, AreRead, Reads, ReadsOne};
 
 use std::alloc::Global;
-use ver_items::{Begin, Found, Heading, Items, Range, begins_declaration, is_net_name, name_at};
+use ver_items::{
+    Begin, Found, Heading, Items, KeptItems, Range, begins_declaration, is_net_name, name_at,
+};
 use ver_module::{PortDir, name_number};
 use ver_syntax::{Machine, Row};
 use vg_names::Names;
@@ -20,6 +23,10 @@ use vg_num::Memory;
 
 /// How many bytes of a text there are for each net and for each instance, about: room is made for so many names.
 pub(crate) const BYTES_A_NAME: usize = 32;
+
+/// The most bytes of a text whose items are kept, so that its tokens are cut once. A kept token takes 24 bytes, and is some three
+/// bytes of a text.
+const MOST_KEPT: usize = 1 << 21;
 
 /// The greatest place that is kept.
 const MOST: usize = 0xFFFF_FFFF;
@@ -108,6 +115,31 @@ impl Use {
     }
 }
 
+/// No items, where those of a text of this length are kept.
+fn room_for_items(alloc: Global, text_len: usize) -> Option<KeptItems>
+    ensures { IfSome result (λ kept. kept ≡ []) }
+{
+    if text_len <= MOST_KEPT {
+        Some(KeptItems::new(alloc))
+    } else {
+        None
+    }
+}
+
+/// With an item last, where items are kept. Answers `Memory` where there is no room.
+fn with_item(kept: Option<KeptItems>, item: &[Row]) -> Result<Option<KeptItems>, Memory>
+    requires { 0 < length item.now }
+    ensures { (all left : List Section) → IfSome kept (λ k. all ≡ k ++ (section_in item.now ++ left)) → IfOk result (λ new. IfSome new (λ k. all ≡ k ++ left)) }
+{
+    match kept {
+        None => Ok(None),
+        Some(mut kept) => {
+            kept.push(item)?;
+            Ok(Some(kept))
+        }
+    }
+}
+
 /// The identifiers of nets in the order in which they come first, each with its first token and what is declared of it; and
 /// where they stand, in the order of the text.
 #[derive(Drop)]
@@ -191,19 +223,28 @@ impl Identifiers {
         Ok(())
     }
 
-    /// Those of a text that is a module. `None`: it is none. Answers `Memory` where there is no room.
-    pub fn of(alloc: Global, text: &[u8]) -> Result<Option<Identifiers>, Memory>
-        ensures module { IfOk result (λ found. IfSome found (λ all. HasTokens text.now × IsModule text.now × AreIdentifiers text.now all)) }
+    /// Those of a text that is a module, and its items, if they are kept. `None`: it is none. Answers `Memory` where there is no
+    /// room.
+    pub fn of(
+        alloc: Global,
+        text: &[u8],
+    ) -> Result<Option<(Identifiers, Option<KeptItems>)>, Memory>
+        ensures module { IfOk result (λ found. IfSome found (λ all. HasTokens text.now × IsModule text.now × AreIdentifiers text.now all.0)) }
+        ensures kept { IfOk result (λ found. IfSome found (λ all. IfSome all.1 (λ kept. kept ≡ items text.now))) }
         ensures none { IfOk result (λ found. IfNone found (IsModule text.now → ⊥)) }
     {
         let mut found = Identifiers::new(alloc, text.len())?;
+        let mut kept = room_for_items(alloc, text.len());
         let mut machine = Machine::new(alloc);
         let mut items = Items::new(text);
         let mut item = Vec::new(alloc);
         'item: loop {
             match items.read_by(&mut machine, &mut item)? {
-                Found::Item => found.read_item(text, &item)?,
-                Found::End if machine.is_module() => return Ok(Some(found)),
+                Found::Item => {
+                    found.read_item(text, &item)?;
+                    kept = with_item(kept, &item)?;
+                }
+                Found::End if machine.is_module() => return Ok(Some((found, kept))),
                 Found::End | Found::Refused => return Ok(None),
             }
         }

@@ -1,7 +1,8 @@
 //! From the text of a netlist to the module that it denotes.
 
-ghost use Rattle.std.specs.Prelude.{◌≡◌, ◌⊎◌, ◌≤◌, ◌^◌, [], length, IfOk, IfErr, OnOk};
+ghost use Rattle.std.specs.Prelude.{◌≡◌, ◌⊎◌, ◌≤◌, ◌^◌, [], length, IfOk, IfErr, IfSome, OnOk};
 ghost use Rattle.ver_syntax.specs.Syntax.{IsFirstFault as IsFirstSyntaxFault, IsModule, IsOutOfMemory};
+ghost use Rattle.ver_items.specs.Sections.{items};
 ghost use Rattle.ver_file.specs.Flaws.{IsFirst, flaws_of};
 ghost use Rattle.ver_file.specs.Modules.{Denotes, IsFirstFault};
 ghost use Rattle.ver_file.specs.Netlists.{netlist_of};
@@ -15,6 +16,7 @@ use crate::nets::{nets_of, numbers_of};
 use crate::scope::Scope;
 use std::alloc::Global;
 use std::cell::Cell;
+use ver_items::KeptItems;
 use ver_module::{Module, Nets};
 use ver_syntax::{VerFault, VerKind, check_module};
 use vg_num::{Memory, Row};
@@ -25,14 +27,16 @@ const OUT_OF_MEMORY: VerFault = VerFault {
     line: 1,
 };
 
-/// The module of a text that has the grammar of one, with these identifiers, or the first of its flaws. Answers `Memory` where
+/// The module of a text that has the grammar of one, with these identifiers, or the first of its flaws. Its items may be kept. Answers `Memory` where
 /// there is no room.
 fn build(
     alloc: Global,
     text: &[u8],
     identifiers: &Identifiers,
+    kept: Option<&KeptItems>,
 ) -> Result<Result<Module, VerFault>, Memory>
-    requires { AreIdentifiers text.now identifiers.now }
+    requires table { AreIdentifiers text.now identifiers.now }
+    requires kept { IfSome kept (λ k. k.now ≡ items text.now) }
     ensures flawless { IfOk result (λ built. OnOk built (flaws_of text.now ≡ [])) }
     ensures module { IfOk result (λ built. IfOk built (λ found. found ≡ netlist_of text.now)) }
     ensures fault { IfOk result (λ built. IfErr built (IsFirst text.now (flaws_of text.now))) }
@@ -46,7 +50,7 @@ fn build(
         numbers: &numbers,
         next: Cell::new(0),
     };
-    let body = read_body(alloc, &scope, clash)?;
+    let body = read_body(alloc, &scope, kept, clash)?;
     match body.firsts.fault(text) {
         Some(fault) => Ok(Err(fault)),
         None => {
@@ -99,10 +103,10 @@ pub fn read_module(alloc: Global, bytes: &[u8]) -> Result<Module, VerFault>
     let Ok(found) = Identifiers::of(alloc, bytes) else {
         return Err(OUT_OF_MEMORY);
     };
-    let Some(identifiers) = found else {
+    let Some((identifiers, kept)) = found else {
         return Err(syntax_fault(alloc, bytes));
     };
-    match build(alloc, bytes, &identifiers) {
+    match build(alloc, bytes, &identifiers, kept.as_ref()) {
         Ok(built) => built,
         Err(_) => Err(OUT_OF_MEMORY),
     }

@@ -5,3 +5,4 @@ pub mod Bits
 pub mod Declarations
 pub mod Connections
 pub mod Others
+pub mod Kept

@@ -22,7 +22,7 @@ item-init c =
     let text = c.args.scope.now.text.now in
     record {
       clash =
-          (λ i. first_of (c.requires.first i) (range_flaws_in text (c.new-items.ensures i)))
+          (λ i. first_of (c.requires.clash.first i) (range_flaws_in text (c.new-items.ensures i)))
           ∙ sym (first_append None (name_flaws text) (flat_map (range_flaws (declared_of text)) (declared_of text)));
       twice = λ i. first_of None (twice_in text (c.in_ok-seen.ensures i) (c.new-items.ensures i));
       grammar = ap (λ ss. first_of None (flat_map (syntax_flaws text) ss)) c.new-items.ensures;
@@ -38,7 +38,7 @@ push_instances-requires c =
     let h : IsFlawless c.in_ok-firsts.firsts = c.are_none.ensures.none c.if-are_none.true in
     let b : IsFlawless c.item.firsts = flawless_before c.item.firsts c.in_ok-firsts.firsts (range_flaws_in text (section_in c.deref-rows.result.now)) (twice_in text c.item.seen.instances (section_in c.deref-rows.result.now))
     (flat_map (syntax_flaws text) (section_in c.deref-rows.result.now)) c.in_ok-firsts.ensures.clash c.in_ok-firsts.ensures.twice c.in_ok-firsts.ensures.grammar h in
-    c.requires.without (c.item.invariant.first b.clash)
+    c.requires.clash.without (c.item.invariant.first b.clash)
 
 pub push_assigned-requires : goal.push_assigned-requires
 push_assigned-requires c =
@@ -46,7 +46,7 @@ push_assigned-requires c =
     let h : IsFlawless c.in_ok-firsts.firsts = c.are_none.ensures.none c.if-are_none.true in
     let b : IsFlawless c.item.firsts = flawless_before c.item.firsts c.in_ok-firsts.firsts (range_flaws_in text (section_in c.deref-rows.result.now)) (twice_in text c.item.seen.instances (section_in c.deref-rows.result.now))
     (flat_map (syntax_flaws text) (section_in c.deref-rows.result.now)) c.in_ok-firsts.ensures.clash c.in_ok-firsts.ensures.twice c.in_ok-firsts.ensures.grammar h in
-    c.requires.without (c.item.invariant.first b.clash)
+    c.requires.clash.without (c.item.invariant.first b.clash)
 
 pub item-preserved-in-Continue-branch-5 : goal.item-preserved-in-Continue-branch-5
 item-preserved-in-Continue-branch-5 c =

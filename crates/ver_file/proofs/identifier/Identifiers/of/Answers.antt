@@ -5,12 +5,13 @@ use Rattle.ver_syntax.specs.Reading.{HasKinds}
 use Rattle.ver_syntax.specs.Rows.{kinds_in}
 use Rattle.ver_syntax.proofs.RowLemmas.{kinds_kept}
 use Rattle.ver_items.specs.Declarations.{declared_by, declared_of}
-use Rattle.ver_items.specs.SectionSteps.{rows_in}
+use Rattle.ver_items.specs.Sections.{items}
+use Rattle.ver_items.specs.SectionSteps.{rows_in, section_in}
 use Rattle.ver_items.proofs.RowLemmas.{items_hold, kinds_append, next_rows}
 use Rattle.ver_file.specs.Firsts.{declared_among}
 use Rattle.ver_file.specs.Tables.{AreRead}
 use Rattle.ver_file.proofs.ReadLemmas.{all_read, kinds_end}
-use Rattle.ver_file.proofs.SectionInLemmas.{declared_item, item_more, items_done}
+use Rattle.ver_file.proofs.SectionInLemmas.{declared_item, item_more, items_done, kept_begun, kept_next}
 use Rattle.ver_file.proofs.identifier.Identifiers.of.Goals as goal
 
 pub item-init : goal.item-init
@@ -23,6 +24,7 @@ item-init c =
         subst (λ (rows : List Row). AreRead text rows [] c.in_ok-found.found) (sym (ap rows_in c.new-items.ensures ∙ items_hold text)) (c.in_ok-found.ensures.read text),
         ap (flat_map (declared_by text)) (sym c.new-items.ensures),
       );
+      kept = kept_begun c.room_for_items-kept.result (items text) c.new-items.result c.room_for_items-kept.ensures c.new-items.ensures;
       kinds = ([], c.new-machine.ensures, sym (ap (λ its. kinds_in (rows_in its)) c.new-items.ensures ∙ ap kinds_in (items_hold text) ∙ kinds_kept text));
     }
 
@@ -45,6 +47,9 @@ item-preserved c =
         item_more (declared_by text) done (declared_of text) c.item.items left rows all next
             ∙ ap (λ ds. (done ++ ds) ++ flat_map (declared_by text) left) (declared_item text rows),
       );
+      kept = c.in_ok-kept-in-Item.ensures (items text) left
+          (kept_next c.item.kept (items text) c.item.items (section_in c.deref-in-Item.result.now ++ left) c.item.invariant.kept
+          (next ∙ ap (λ (its : List Row). section_in its ++ left) (sym c.deref-in-Item.ensures.value)));
       kinds = (
         kinds ++ kinds_in rows,
         c.in_ok-read_by.ensures.kinds kinds has,
