@@ -17,7 +17,7 @@ ghost use Rattle.ver_items.specs.SectionSteps.{section_in};
 ghost use Rattle.ver_file.specs.Scopes.{HasIdentifiers};
 
 use crate::first::{Firsts, unless};
-use crate::identifier::{BYTES_A_NAME, direction_said, range_said};
+use crate::identifier::{direction_said, range_said, room_for_names};
 use crate::scope::Scope;
 use std::alloc::Global;
 use ver_items::{
@@ -275,7 +275,7 @@ impl Seen {
     pub fn new(alloc: Global, text_len: usize) -> Result<Seen, Memory>
         ensures { IfOk result (λ seen. seen.instances ≡ []) }
     {
-        let instances = Names::with_room(alloc, text_len / BYTES_A_NAME)?;
+        let instances = Names::with_room(alloc, room_for_names(text_len))?;
         Ok(Seen {
             instances,
             pins: Vec::new(alloc),

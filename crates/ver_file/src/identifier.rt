@@ -1,6 +1,6 @@
 //! The identifiers of nets, and what is declared of them.
 
-ghost use Rattle.std.specs.Prelude.{[], ◌≡◌, ℕ, List, ◌∷◌, ◌++◌, ◌<◌, length, slice_get, slice_index_or, IfNone, IfOk, IfSome, IsTrue, OnOk, Some, true, ◌↔◌};
+ghost use Rattle.std.specs.Prelude.{[], ◌≡◌, ℕ, List, ◌∷◌, ◌++◌, ◌<◌, length, max, min, ◌/◌, ◌^◌, slice_get, slice_index_or, IfNone, IfOk, IfSome, IsTrue, OnOk, Some, true, ◌↔◌};
 ghost use Rattle.vg_names.specs.Distinct.{number_in, number_of};
 ghost use Rattle.ver_syntax.specs.declared.row.Row.{Row as RowSpec};
 ghost use Rattle.ver_syntax.specs.Rows.{rows_of};
@@ -21,8 +21,23 @@ use ver_syntax::{Machine, Row};
 use vg_names::Names;
 use vg_num::Memory;
 
-/// How many bytes of a text there are for each net and for each instance, about: room is made for so many names.
-pub(crate) const BYTES_A_NAME: usize = 32;
+/// How many bytes a text has for each of its nets and for each of its instances, about, where its names are long.
+const BYTES_A_NAME: usize = 128;
+
+/// The same where its names are short.
+const BYTES_A_SHORT_NAME: usize = 32;
+
+/// The most names for which room is made as if names were short.
+const MOST_SHORT: usize = 1 << 16;
+
+/// For how many names room is made, where a text has this length. A table that grows chains all its names again; one that is
+/// too large takes memory for nothing, which counts where texts are long.
+pub(crate) fn room_for_names(text_len: usize) -> usize
+    ensures { result ≡ max (text_len / 128) (min (text_len / 32) (2 ^ 16)) }
+{
+    let few = (text_len / BYTES_A_SHORT_NAME).min(MOST_SHORT);
+    (text_len / BYTES_A_NAME).max(few)
+}
 
 /// The most bytes of a text whose items are kept, so that its tokens are cut once. A kept token takes 24 bytes, and is some three
 /// bytes of a text.
@@ -156,7 +171,7 @@ impl Identifiers {
         ensures count { IfOk result (λ new. length new.said.items ≡ length new.names) }
         ensures read { (text : List ℕ) → IfOk result (AreRead text (rows_of text) []) }
     {
-        let names = Names::with_room(alloc, text_len / BYTES_A_NAME)?;
+        let names = Names::with_room(alloc, room_for_names(text_len))?;
         Ok(Identifiers {
             names,
             tokens: Vec::new(alloc),
