@@ -8,29 +8,26 @@ ghost use Rattle.vg_stages.specs.Stages.{heads};
 use spef_file::Header;
 use std::alloc::Global;
 use vg_num::Memory;
-use vg_split::{Scratch, Split, stage_net};
-use vg_written::write_net;
+use vg_split::{Room, Split, write_stage};
 
 /// Puts the section of a stage behind a text, behind a line's end where it is not the first.
 fn push_section(
-    alloc: Global,
     x: &Split<'_>,
     stage: usize,
     header: &Header,
-    scratch: &mut Scratch,
+    room: &mut Room,
     to: &mut Vec<u8>,
 ) -> Result<(), Memory>
     requires stage { stage < length (heads (forest x.now)) }
-    requires places { length scratch.old.places.items ≡ length x.now.problem.tree.nodes }
+    requires places { length room.old.scratch.places.items ≡ length x.now.problem.tree.nodes }
     requires said { SaysStages header.now x.now stage to.old.items }
-    ensures places { length scratch.new.places.items ≡ length x.now.problem.tree.nodes }
+    ensures places { length room.new.scratch.places.items ≡ length x.now.problem.tree.nodes }
     ensures said { OnOk result (SaysStages header.now x.now (stage + 1) to.new.items) }
 {
     if stage > 0 {
         to.push(b'\n')?;
     }
-    let net = stage_net(alloc, x, stage, &header.chars, scratch)?;
-    write_net(alloc, &net, header, to)?;
+    write_stage(x, stage, header, room, to)?;
     Ok(())
 }
 
@@ -43,10 +40,10 @@ pub(crate) fn sections_text(
     ensures { IfOk result (λ text. SaysStages header.now x.now (length (heads (forest x.now))) text.items) }
 {
     let count = x.count();
-    let mut scratch = Scratch::new(alloc, x.order.len())?;
+    let mut room = Room::new(alloc, x.order.len())?;
     let mut text = Vec::new(alloc);
     'stage: for stage in 0..count {
-        push_section(alloc, x, stage, header, &mut scratch, &mut text)?;
+        push_section(x, stage, header, &mut room, &mut text)?;
     }
     Ok(text)
 }

@@ -1,13 +1,14 @@
 -- The capacitances of a stage are no more than those of the net.
-use Rattle.std.proofs.Common.{◌≡◌, ◌≢◌, ℕ, zero, suc, ◌+◌, ◌<◌, ◌≤◌, ◌==◌, Bool, true, false, cond, List, [], ◌∷◌, length, map, slice_index, refl, sym, ap, ◌∙◌, arith}
-use Rattle.std.specs.List.{filter, AllPairs, Contains}
+use Rattle.std.proofs.Common.{◌≡◌, ◌≢◌, ℕ, suc, ◌+◌, ◌<◌, ◌≤◌, ◌^◌, ◌==◌, ◌&&◌, ◌||◌, not, Bool, true, false, cond, List, [], ◌∷◌, length, map, slice_index, take, refl, sym, ap, ◌∙◌, arith}
+use Rattle.std.specs.List.{filter, sum_by, AllPairs, Contains}
 use Rattle.std.proofs.lemmas.Bool.{ne_eqb}
 use Rattle.std.proofs.lemmas.Bool.Decides.{nat_tests}
-use Rattle.std.proofs.lemmas.List.Sums.{sum_by-cons}
+use Rattle.std.proofs.lemmas.List.{take_more}
+use Rattle.std.proofs.lemmas.List.Sums.{sum_by-append, sum_by-cons, sum_by_more_le}
 use Rattle.vg_stages.specs.Stages.{members}
 use Rattle.vg_written.specs.Sections.{total, total_at}
 use Rattle.vg_split.specs.Conditions.{IsSplit}
-use Rattle.vg_split.specs.Splits.{Split, forest, head}
+use Rattle.vg_split.specs.Splits.{Split, cap_in, forest, head, is_celled}
 use Rattle.vg_split.specs.Steps.{cap_row, is_own}
 use Rattle.vg_split.proofs.MemberLemmas.{members_low, members_rise}
 use Rattle.vg_split.proofs.PlaceLemmas.{later}
@@ -95,3 +96,29 @@ small_charge x k is =
   where
     apart : AllPairs (λ a b. slice_index x.order a ≢ slice_index x.order b) (members (forest x) (head x k))
     apart i j d less low = is.order.once _ _ (members_rise x k i j d less low) (omega (arith, members_low x k j d low, is.tree))
+
+-- a stage has the capacitances that are its own
+pub own_sum : (x : Split) (k : ℕ) (ws : List ℕ) → sum_by (cap_in x k) ws ≡ total (map (cap_row x k) (filter (is_own x k) ws))
+own_sum x k [] = refl
+own_sum x k (w ∷ ws) = sum_by-cons (cap_in x k) w ws ∙ either (is_celled x w) (w == head x k) (own_sum x k ws)
+  where
+    either : (a b : Bool) → sum_by (cap_in x k) ws ≡ total (map (cap_row x k) (filter (is_own x k) ws))
+        → cond (a && not b) 0 (total_at x.par.caps (slice_index x.order w)) + sum_by (cap_in x k) ws
+        ≡ total (map (cap_row x k) (cond (not a || b) (w ∷ filter (is_own x k) ws) (filter (is_own x k) ws)))
+    either true true e = omega (arith, e, sum_by-cons (λ (c : ℕ × ℕ). c.1) (cap_row x k w) (map (cap_row x k) (filter (is_own x k) ws)))
+    either true false e = omega (arith, e)
+    either false b e = omega (arith, e, sum_by-cons (λ (c : ℕ × ℕ). c.1) (cap_row x k w) (map (cap_row x k) (filter (is_own x k) ws)))
+
+-- those of the stage's first nodes, with one more, come to few
+pub few_summed : (x : Split) (k i : ℕ) → IsSplit x → i < length (members (forest x) (head x k))
+    → sum_by (cap_in x k) (take i (members (forest x) (head x k))) + cap_in x k (slice_index (members (forest x) (head x k)) i) ≤ 10 ^ 15
+few_summed x k i is low =
+    let ws = members (forest x) (head x k) in
+    omega (arith, sum_by_more_le (cap_in x k) ws i 0 low, own_sum x k ws, small_charge x k is, is.charge)
+
+-- one more
+pub one_summed : (f : ℕ → ℕ) (ws : List ℕ) (i : ℕ) → i < length ws → sum_by f (take i ws) + f (slice_index ws i) ≡ sum_by f (take (i + 1) ws)
+one_summed f ws i low =
+    let w = slice_index ws i in
+    let one : sum_by f (w ∷ []) ≡ f w = omega (arith, sum_by-cons f w []) in
+    sym (ap (sum_by f) (take_more ws i 0 low) ∙ sum_by-append f (take i ws) (w ∷ []) ∙ ap (λ n. sum_by f (take i ws) + n) one)

@@ -1,4 +1,3 @@
-pub mod NodeListLemmas
 pub mod StageNumberLemmas
 pub mod SplitLemmas
 pub mod MemberLemmas

@@ -60,10 +60,10 @@ named_net x is k low = by (net_named x is k low)
     by (same net) = subst IsPrintable (sym net) x.par.sound.named
     by (new m fits net) = subst IsPrintable (sym net) (net_word x.prefix m is.new.prefix fits)
 
-abbrev IsName : NodeName → Type 0
+abbrev pub IsName : NodeName → Type 0
 IsName name = IsPrintable name.owner × AllPass is_solid name.leaf
 
-named_node : (x : Split) → IsSplit x → (k : ℕ) → k < length (heads (forest x)) → (w : ℕ) → w < length x.problem.tree.nodes → IsName (name_in x k w)
+pub named_node : (x : Split) → IsSplit x → (k : ℕ) → k < length (heads (forest x)) → (w : ℕ) → w < length x.problem.tree.nodes → IsName (name_in x k w)
 named_node x is k low w w_low = by (kind x k w)
   where
     by : Kind x k w → IsName (name_in x k w)

@@ -1,5 +1,5 @@
 -- The net of a stage, of its parts.
-use Rattle.std.proofs.Common.{◌≡◌, ℕ, ◌<◌, Bool, true, false, not, cond, List, [], ◌∷◌, ◌++◌, length, map, refl, sym, ap, ◌∙◌, subst}
+use Rattle.std.proofs.Common.{◌≡◌, ℕ, ◌+◌, ◌<◌, ◌==◌, ◌&&◌, Bool, true, false, not, cond, List, [], ◌∷◌, ◌++◌, drop, length, map, slice_index, refl, sym, ap, ◌∙◌, subst, arith}
 use Rattle.std.specs.List.{filter, All}
 use Rattle.std.proofs.lemmas.Bool.{false≢true}
 use Rattle.std.proofs.lemmas.List.{length-map, map-append}
@@ -9,10 +9,14 @@ use Rattle.spef_net.specs.declared.net.ParNet.{ParNet}
 use Rattle.spef_net.specs.Nets.{IsCapOf, IsResOf, IsSound}
 use Rattle.spef_nodes.specs.Nodes.{ParNode}
 use Rattle.vg_stages.specs.Stages.{heads, members}
-use Rattle.vg_written.specs.Sections.{total_at}
+use Rattle.vg_written.specs.Made.{IsSectionOf}
+use Rattle.vg_written.specs.Printed.{PrintedNode, printed_of}
+use Rattle.vg_written.specs.Sections.{total, total_at}
+use Rattle.vg_written.specs.declared.section.Section.{Section}
+use Rattle.vg_written.proofs.PartLemmas.{printed_each}
 use Rattle.vg_split.specs.Conditions.{IsSplit}
-use Rattle.vg_split.specs.Splits.{IsStageNet, Split, ends_in, forest, head, inner_in, is_end, net_of, node_in, nodes_in, old_node, repeater_at, with_cell}
-use Rattle.vg_split.specs.Steps.{AreParts, inner_node}
+use Rattle.vg_split.specs.Splits.{IsStageNet, Split, cap_in, ends_in, forest, head, inner_in, is_end, net_of, node_in, nodes_in, old_node, repeater_at, res_in, with_cell}
+use Rattle.vg_split.specs.Steps.{AreParts, ArePrintedParts, cap_row, inner_node, inner_row, is_own, row_in}
 use Rattle.vg_split.proofs.CapLemmas.{caps_are}
 use Rattle.vg_split.proofs.ConnLemmas.{all_conns, joined}
 use Rattle.vg_split.proofs.KindLemmas.{Kind, inner, kept, pin, kind}
@@ -20,13 +24,13 @@ use Rattle.vg_split.proofs.SoundLemmas.{all_named, distinct, inside, named_net, 
 use Rattle.vg_split.proofs.ValueLemmas.{caps_at, ress_at}
 
 -- the inner nodes are put behind the connections
-map_agree : (p : ℕ → Bool) (f g : ℕ → ParNode) → ((w : ℕ) → p w ≡ true → f w ≡ g w) → (ws : List ℕ) → map f (filter p ws) ≡ map g (filter p ws)
+map_agree : (p : ℕ → Bool) (f g : ℕ → PrintedNode) → ((w : ℕ) → p w ≡ true → f w ≡ g w) → (ws : List ℕ) → map f (filter p ws) ≡ map g (filter p ws)
 map_agree p f g same [] = refl
 map_agree p f g same (w ∷ ws) = by (p w) refl (map_agree p f g same ws)
   where
     by : (b : Bool) → p w ≡ b → map f (filter p ws) ≡ map g (filter p ws)
         → map f (cond b (w ∷ filter p ws) (filter p ws)) ≡ map g (cond b (w ∷ filter p ws) (filter p ws))
-    by true pass rest = ap (λ (n : ParNode). n ∷ map f (filter p ws)) (same w pass) ∙ ap (λ (ns : List ParNode). g w ∷ ns) rest
+    by true pass rest = ap (λ (n : PrintedNode). n ∷ map f (filter p ws)) (same w pass) ∙ ap (λ (ns : List PrintedNode). g w ∷ ns) rest
     by false fail rest = rest
 
 inner_is : (chars : Chars) (x : Split) (k w : ℕ) → not (is_end x w) ≡ true → inner_node x (net_of x k) w ≡ node_in chars x k w
@@ -41,14 +45,28 @@ inner_is chars x k w none = by (kind x k w)
         λ i. record { name = name i; inner = own i; note = note i }
     by (kept a) = absurd (false≢true (sym (ap not a.end) ∙ none))
 
-pub all_nodes : (chars : Chars) (x : Split) (k : ℕ) (old new : List ParNode) → old ≡ map (node_in chars x k) (ends_in x k)
-    → new ≡ old ++ map (inner_node x (net_of x k)) (inner_in x k) → new ≡ map (node_in chars x k) (nodes_in x k)
-all_nodes chars x k old new old_is new_is =
-    let node = node_in chars x k in
-    new_is ∙ ap (λ (ns : List ParNode). ns ++ map (inner_node x (net_of x k)) (inner_in x k)) old_is
-    ∙ ap (λ (ns : List ParNode). map node (ends_in x k) ++ ns)
-    (map_agree (λ w. not (is_end x w)) (inner_node x (net_of x k)) node (inner_is chars x k) (members (forest x) (head x k)))
-    ∙ sym (map-append node (ends_in x k) (inner_in x k))
+charge_is : (x : Split) (k w : ℕ) → not (is_end x w) ≡ true → total_at x.par.caps (slice_index x.order w) ≡ cap_in x k w
+charge_is x k w none = by (kind x k w)
+  where
+    by : Kind x k w → total_at x.par.caps (slice_index x.order w) ≡ cap_in x k w
+    by (pin a) = absurd (false≢true (sym (ap not a.end) ∙ none))
+    by (inner a) = sym (ap (λ b. cond (b && not (w == head x k)) 0 (total_at x.par.caps (slice_index x.order w))) a.bare)
+    by (kept a) = absurd (false≢true (sym (ap not a.end) ∙ none))
+
+row_is : (chars : Chars) (x : Split) (k w : ℕ) → not (is_end x w) ≡ true → inner_row chars x (net_of x k) w ≡ row_in chars x k w
+row_is chars x k w none =
+    let node = inner_is chars x k w none in
+    let charge = charge_is x k w none in
+    λ i. printed_of chars (node i) (charge i)
+
+pub all_rows : (chars : Chars) (x : Split) (k : ℕ) (old new : List PrintedNode) → old ≡ map (row_in chars x k) (ends_in x k)
+    → new ≡ old ++ map (inner_row chars x (net_of x k)) (inner_in x k) → new ≡ map (row_in chars x k) (nodes_in x k)
+all_rows chars x k old new old_is new_is =
+    let row = row_in chars x k in
+    new_is ∙ ap (λ (ns : List PrintedNode). ns ++ map (inner_row chars x (net_of x k)) (inner_in x k)) old_is
+    ∙ ap (λ (ns : List PrintedNode). map row (ends_in x k) ++ ns)
+    (map_agree (λ w. not (is_end x w)) (inner_row chars x (net_of x k)) row (row_is chars x k) (members (forest x) (head x k)))
+    ∙ sym (map-append row (ends_in x k) (inner_in x k))
 
 -- they are sound
 pub sound : (chars : Chars) (x : Split) (k : ℕ) (name : List ℕ) (nodes : List ParNode) (conns : List ParConn) (caps : List (ℕ × ℕ)) (ress : List (ℕ × ℕ × ℕ))
@@ -82,3 +100,55 @@ stage_net chars x k net are whole plain = record {
   whole = whole;
   plain = plain;
 }
+
+-- ---- of printed parts
+
+module _ (chars : Chars) (x : Split) (k : ℕ) (places name : List ℕ) (nodes : List PrintedNode) (conns : List ParConn) (ress : List (ℕ × ℕ × ℕ)) where
+  abbrev caps : List (ℕ × ℕ)
+  caps = map (cap_row x k) (filter (is_own x k) (members (forest x) (head x k)))
+
+  abbrev rows : List (ℕ × ℕ × ℕ)
+  rows = map (res_in x k) (drop 1 (members (forest x) (head x k)))
+
+  pub parts : ArePrintedParts chars x k places name nodes conns ress → AreParts chars x k (net_of x k) (map (node_in chars x k) (nodes_in x k)) conns caps rows
+  parts are = record {
+    places = places;
+    numbered = are.numbered;
+    name_is = refl;
+    nodes_are = refl;
+    conns_are = are.conns_are;
+    caps_are = refl;
+    ress_are = refl;
+  }
+
+  -- the net that is made of them
+  abbrev pub printed_net : IsSplit x → k < length (heads (forest x)) → ArePrintedParts chars x k places name nodes conns ress → ParNet
+  printed_net is low are = record {
+    name = net_of x k;
+    nodes = map (node_in chars x k) (nodes_in x k);
+    conns = conns;
+    caps = caps;
+    ress = rows;
+    reduced = false;
+    inductive = false;
+    sound = sound chars x k (net_of x k) (map (node_in chars x k) (nodes_in x k)) conns caps rows is low (parts are);
+  }
+
+  pub printed_stage : (is : IsSplit x) (low : k < length (heads (forest x))) (are : ArePrintedParts chars x k places name nodes conns ress)
+      → IsStageNet chars x k (printed_net is low are)
+  printed_stage is low are = stage_net chars x k (printed_net is low are) (parts are) refl refl
+
+  pub printed_section : (is : IsSplit x) (low : k < length (heads (forest x))) (are : ArePrintedParts chars x k places name nodes conns ress) (section : Section)
+      → section.name.now ≡ name → section.charge ≡ total caps → section.nodes.now ≡ nodes → section.conns.now ≡ conns → section.ress.now ≡ ress
+      → IsSectionOf chars (printed_net is low are) section
+  printed_section is low are section name_is charge_is nodes_are conns_are ress_are = record {
+    name = name_is ∙ are.name_is;
+    charge = charge_is;
+    nodes =
+        nodes_are ∙ are.nodes_are
+        ∙ sym (printed_each chars caps (node_in chars x k) (cap_in x k) 0 (nodes_in x k) (λ i i_low.
+        let at : 0 + i ≡ i = omega arith in
+        ap (total_at caps) at ∙ caps_are x k i places are.numbered i_low));
+    conns = conns_are;
+    ress = ress_are ∙ are.ress_are;
+  }

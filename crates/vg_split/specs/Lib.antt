@@ -1,5 +1,4 @@
 pub mod NewNames
 pub mod Splits
 pub mod Conditions
-pub mod NodeLists
 pub mod Steps

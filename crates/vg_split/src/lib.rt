@@ -4,12 +4,11 @@
 #![tactic(auto)]
 
 mod names;
-mod nodes;
 mod scratch;
 mod split;
 mod stage;
 
 pub use names::{push_cell_name, push_net_name};
-pub use scratch::Scratch;
+pub use scratch::Room;
 pub use split::Split;
-pub use stage::stage_net;
+pub use stage::write_stage;

@@ -7,15 +7,15 @@ use Rattle.vg_change.proofs.sections.push_section.Goals.{then-stage-gt0+in_ok-pu
 pub returns-clause-said : goal.returns-clause-said
 returns-clause-said c =
     let header = c.args.header.now in
-    let text = section_text header c.in_ok-net.net in
-    let more = stages_more header c.args.x.now c.args.stage c.args.to.now.items c.write_net.new.to.items c.in_ok-net.net c.requires.said c.in_ok-net.ensures.net in
-    let written = c.in_ok-write_net.ensures.written in
+    let stage = c.in_ok-write_stage.ensures.said in
+    let text = section_text header stage.net in
+    let more = stages_more header c.args.x.now c.args.stage c.args.to.now.items c.write_stage.new.to.items stage.net c.requires.said stage.is_stage in
     elim c.if-stage-gt0.branch [
       | then-stage-gt0+in_ok-push w ↦
           let later = w.if-stage-gt0.true in
           more (λ zero. absurd (omega (arith, zero, later)))
-          (λ some. written ∙ ap (λ (v : Vec ℕ Global). v.items ++ text) w.to-is ∙ ap (λ (xs : List ℕ). xs ++ text) w.in_ok-push.ensures.items)
+          (λ some. stage.is ∙ ap (λ (v : Vec ℕ Global). v.items ++ text) w.to-is ∙ ap (λ (xs : List ℕ). xs ++ text) w.in_ok-push.ensures.items)
       | else-stage-gt0 w ↦
           let first = w.if-stage-gt0.false in
-          more (λ zero. written ∙ ap (λ (v : Vec ℕ Global). v.items ++ text) w.to-is) (λ some. absurd (omega (arith, some, first)))
+          more (λ zero. stage.is ∙ ap (λ (v : Vec ℕ Global). v.items ++ text) w.to-is) (λ some. absurd (omega (arith, some, first)))
     ]

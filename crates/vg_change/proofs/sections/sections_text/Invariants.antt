@@ -4,6 +4,6 @@ use Rattle.vg_change.proofs.sections.sections_text.Given as goal
 
 abbrev pub invariant-stage : goal.invariant-stage
 invariant-stage l = record {
-  places : length l.scratch.places.items ≡ length l.x.problem.tree.nodes;
+  places : length l.room.scratch.places.items ≡ length l.x.problem.tree.nodes;
   said : SaysStages l.header l.x l.stage l.text.items;
 }

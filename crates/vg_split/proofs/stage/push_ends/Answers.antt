@@ -1,11 +1,11 @@
 use Rattle.std.proofs.Common.{◌≡◌, ℕ, ◌+◌, ◌<◌, List, [], ◌∷◌, ◌++◌, length, map, set, slice_index, Vec, Global, sym, ap, ◌∙◌, subst, arith}
 use Rattle.std.proofs.lemmas.List.{length-map, length-set, map-append}
 use Rattle.spef_net.specs.declared.net.ParConn.{ParConn}
-use Rattle.spef_nodes.specs.Nodes.{ParNode}
-use Rattle.vg_split.specs.Splits.{forest, head, is_end, node_in}
-use Rattle.vg_split.specs.Steps.{AreConns, AreNumbered, ends_to}
+use Rattle.vg_split.specs.Splits.{forest, head, is_end}
+use Rattle.vg_split.specs.Steps.{AreConns, AreNumbered, ends_to, row_in}
 use Rattle.vg_split.specs.declared.scratch.Scratch.{Scratch}
 use Rattle.vg_stages.specs.Stages.{members}
+use Rattle.vg_written.specs.Printed.{PrintedNode}
 use Rattle.vg_split.proofs.ConnLemmas.{conns_more}
 use Rattle.vg_split.proofs.MemberLemmas.{few_members, members_rise}
 use Rattle.vg_split.proofs.NumberedLemmas.{before_differ, kept_few, kept_more, kept_same, numbered_more}
@@ -20,7 +20,7 @@ join-requires-clause-few c =
     omega (
       arith,
       ap length c.node.invariant.nodes_are,
-      length-map (ends_to x c.args.stage c.node.node-index) (node_in c.args.chars.now x c.args.stage),
+      length-map (ends_to x c.args.stage c.node.node-index) (row_in c.args.chars.now x c.args.stage),
       kept_few (is_end x) ws c.node.node-index (omega (arith, low)),
       low,
       few_members x c.args.stage,
@@ -37,7 +37,7 @@ node-preserved c =
     let was = c.node.invariant in
     let low : i < length ws = subst (λ (l : List ℕ). i < length l) c.members-node-items.ensures.are c.node-test.true in
     let at : slice_index ws i ≡ w = ap (λ (l : List ℕ). slice_index l i) (sym c.members-node-items.ensures.are) in
-    let node = node_in c.args.chars.now x k in
+    let node = row_in c.args.chars.now x k in
     elim c.if-is_end.branch [
       | then-is_end+in_ok-join t ↦
           let more : ends_to x k (i + 1) ≡ ends_to x k i ++ w ∷ [] = kept_more (is_end x) ws i w low at (sym c.is_end.ensures ∙ t.if-is_end.true) in
@@ -47,7 +47,7 @@ node-preserved c =
           record {
             many = ap length places ∙ length-set c.node.scratch.places.items w (length c.node.nodes) ∙ was.many;
             nodes_are =
-                t.nodes-is ∙ t.in_ok-join.ensures.nodes ∙ ap (λ (l : List ParNode). l ++ node w ∷ []) was.nodes_are
+                t.nodes-is ∙ t.in_ok-join.ensures.nodes ∙ ap (λ (l : List PrintedNode). l ++ node w ∷ []) was.nodes_are
                 ∙ sym (map-append node (ends_to x k i) (w ∷ [])) ∙ ap (map node) (sym more);
             conns_are = subst (λ (l : List ℕ). AreConns x k l c.if-is_end.conns.items) (sym more)
                 (conns_more x k (ends_to x k i) c.node.conns.items c.if-is_end.conns.items w (length c.node.nodes) was.conns_are last

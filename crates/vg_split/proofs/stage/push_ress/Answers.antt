@@ -4,7 +4,7 @@ use Rattle.elmore.specs.Trees.{parent_of}
 use Rattle.vg_split.specs.Splits.{forest, head, res_in}
 use Rattle.vg_stages.specs.Stages.{members}
 use Rattle.vg_split.proofs.PlaceLemmas.{member_at, parent_member, placed}
-use Rattle.vg_split.proofs.stage.ress_of.Goals as goal
+use Rattle.vg_split.proofs.stage.push_ress.Goals as goal
 
 pub node-preserved : goal.node-preserved
 node-preserved c =
@@ -14,10 +14,10 @@ node-preserved c =
     let places = c.args.places.now in
     let ws = members (forest x) (head x k) in
     let below = drop 1 ws in
-    let w = slice_index c.below-below.result.now i in
+    let w = slice_index c.below-node-items.result.now i in
     let row = res_in x k in
-    let low : i < length below = subst (λ (l : List ℕ). i < length l) c.below-below.ensures.are c.node-test.true in
-    let at : slice_index below i ≡ w = ap (λ (l : List ℕ). slice_index l i) (sym c.below-below.ensures.are) in
+    let low : i < length below = subst (λ (l : List ℕ). i < length l) c.below-node-items.ensures.are c.node-test.true in
+    let at : slice_index below i ≡ w = ap (λ (l : List ℕ). slice_index l i) (sym c.below-node-items.ensures.are) in
     let i_low : 1 + i < length ws = omega (arith, low, length-drop 1 ws) in
     let i_at : slice_index ws (1 + i) ≡ w = sym (get_or-drop 1 ws i 0) ∙ at in
     let above_place = ap (slice_index places) c.above-above.ensures.parent ∙ placed x k (parent_of x.problem.tree.nodes w) places c.requires.numbered
