@@ -15,27 +15,25 @@ use vg_num::Memory;
 use vg_scan::Name;
 use vg_split::{Split, push_cell_name, push_net_name};
 
-/// So many bytes are enough for most new names.
-const NAME: usize = 32;
-
-/// How the net of a stage is named in the text of the netlist.
+/// How the net of a stage is named in the text of the netlist. What stands in `text` before does not matter.
 fn text_in(
     alloc: Global,
     netlist: &Module,
     id: u32,
     x: &Split<'_>,
     stage: usize,
+    text: &mut Vec<u8>,
 ) -> Result<Name, Memory>
     requires id { id < length netlist.now.nets }
     requires stage { stage < length (heads (forest x.now)) }
-    ensures { IfOk result (λ text. text ≡ text_in netlist.now id x.now stage) }
+    ensures { IfOk result (λ made. made ≡ text_in netlist.now id x.now stage) }
 {
     if stage == x.keeper as usize {
         return net_text(alloc, netlist, id);
     }
-    let mut text = Vec::with_capacity(alloc, NAME)?;
-    x.push_net(stage, &mut text)?;
-    Name::from_bytes(alloc, &text)
+    text.clear();
+    x.push_net(stage, text)?;
+    Name::from_bytes(alloc, text)
 }
 
 /// The stage that the cell ends at which a stage begins.
@@ -49,35 +47,36 @@ fn above(x: &Split<'_>, stage: usize) -> usize
     x.stage_of(parent)
 }
 
-/// The name of the cell at which a stage begins.
-fn name_of(alloc: Global, x: &Split<'_>, stage: usize) -> Result<Name, Memory>
+/// The name of the cell at which a stage begins. What stands in `name` before does not matter.
+fn name_of(alloc: Global, x: &Split<'_>, stage: usize, name: &mut Vec<u8>) -> Result<Name, Memory>
     requires some { 0 < stage }
     requires stage { stage < length (heads (forest x.now)) }
-    ensures { IfOk result (λ name. name ≡ cell_name x.now.prefix (number_of x.now stage)) }
+    ensures { IfOk result (λ made. made ≡ cell_name x.now.prefix (number_of x.now stage)) }
 {
-    let mut name = Vec::with_capacity(alloc, NAME)?;
-    push_cell_name(x.prefix, x.first + (stage - 1) as u64, &mut name)?;
-    Name::from_bytes(alloc, &name)
+    name.clear();
+    push_cell_name(x.prefix, x.first + (stage - 1) as u64, name)?;
+    Name::from_bytes(alloc, name)
 }
 
-/// The new net of the cell at which a stage begins.
-fn wire_of(alloc: Global, x: &Split<'_>, stage: usize) -> Result<Name, Memory>
+/// The new net of the cell at which a stage begins. What stands in `name` before does not matter.
+fn wire_of(alloc: Global, x: &Split<'_>, stage: usize, name: &mut Vec<u8>) -> Result<Name, Memory>
     requires some { 0 < stage }
     requires stage { stage < length (heads (forest x.now)) }
-    ensures { IfOk result (λ name. name ≡ net_name x.now.prefix (number_of x.now stage)) }
+    ensures { IfOk result (λ made. made ≡ net_name x.now.prefix (number_of x.now stage)) }
 {
-    let mut name = Vec::with_capacity(alloc, NAME)?;
-    push_net_name(x.prefix, x.first + (stage - 1) as u64, &mut name)?;
-    Name::from_bytes(alloc, &name)
+    name.clear();
+    push_net_name(x.prefix, x.first + (stage - 1) as u64, name)?;
+    Name::from_bytes(alloc, name)
 }
 
-/// The cell at which a stage begins.
+/// The cell at which a stage begins. What stands in `text` before does not matter.
 fn new_cell(
     alloc: Global,
     netlist: &Module,
     id: u32,
     x: &Split<'_>,
     stage: usize,
+    text: &mut Vec<u8>,
 ) -> Result<NewCell, Memory>
     requires id { id < length netlist.now.nets }
     requires some { 0 < stage }
@@ -87,11 +86,11 @@ fn new_cell(
     let repeater = x.repeater_of(stage);
     Ok(NewCell {
         cell: repeater.cell.copy(alloc)?,
-        name: name_of(alloc, x, stage)?,
+        name: name_of(alloc, x, stage, text)?,
         input: repeater.input.copy(alloc)?,
         output: repeater.output.copy(alloc)?,
-        from: text_in(alloc, netlist, id, x, above(x, stage))?,
-        to: text_in(alloc, netlist, id, x, stage)?,
+        from: text_in(alloc, netlist, id, x, above(x, stage), text)?,
+        to: text_in(alloc, netlist, id, x, stage, text)?,
     })
 }
 
@@ -106,8 +105,9 @@ pub(crate) fn push_cells(
     requires id { id < length netlist.now.nets }
     ensures { OnOk result (to.new.items ≡ to.old.items ++ cells_of netlist.now id x.now) }
 {
+    let mut text = Vec::new(alloc);
     'stage: for stage in 1..x.count() {
-        to.push(new_cell(alloc, netlist, id, x, stage)?)?;
+        to.push(new_cell(alloc, netlist, id, x, stage, &mut text)?)?;
     }
     Ok(())
 }
@@ -116,8 +116,9 @@ pub(crate) fn push_cells(
 pub(crate) fn push_wires(alloc: Global, x: &Split<'_>, to: &mut Vec<Name>) -> Result<(), Memory>
     ensures { OnOk result (to.new.items ≡ to.old.items ++ wires_of x.now) }
 {
+    let mut name = Vec::new(alloc);
     'stage: for stage in 1..x.count() {
-        to.push(wire_of(alloc, x, stage)?)?;
+        to.push(wire_of(alloc, x, stage, &mut name)?)?;
     }
     Ok(())
 }

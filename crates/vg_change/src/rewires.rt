@@ -48,13 +48,14 @@ fn push_rewire(
     Ok(())
 }
 
-/// Puts the net's pins in a stage last, if it has a new net.
+/// Puts the net's pins in a stage last, if it has a new net. What stands in `net` before does not matter.
 fn push_rewires_in(
     alloc: Global,
     design: &Design,
     pinned: &PinnedNet,
     x: &Split<'_>,
     stage: usize,
+    net: &mut Vec<u8>,
     to: &mut Vec<Rewire>,
 ) -> Result<(), Memory>
     requires pins { ArePins design.now pinned.now.net pinned.now.pins }
@@ -65,10 +66,10 @@ fn push_rewires_in(
     if stage == x.keeper as usize {
         return Ok(());
     }
-    let mut net = Vec::new(alloc);
-    x.push_net(stage, &mut net)?;
+    net.clear();
+    x.push_net(stage, net)?;
     'node: for node in x.members(stage) {
-        push_rewire(alloc, design, pinned, x, *node as usize, &net, to)?;
+        push_rewire(alloc, design, pinned, x, *node as usize, net, to)?;
     }
     Ok(())
 }
@@ -85,8 +86,9 @@ pub(crate) fn push_rewires(
     requires par { x.now.par ≡ pinned.now.net.par }
     ensures { OnOk result (to.new.items ≡ to.old.items ++ rewires_of design.now.netlist (placed_by pinned.now.net x.now) x.now) }
 {
+    let mut net = Vec::new(alloc);
     'stage: for stage in 0..x.count() {
-        push_rewires_in(alloc, design, pinned, x, stage, to)?;
+        push_rewires_in(alloc, design, pinned, x, stage, &mut net, to)?;
     }
     Ok(())
 }
