@@ -1,24 +1,27 @@
 -- The greatest time of a repeater, from the worth of the candidates within its limit.
-use Rattle.std.proofs.Common.{◌≡◌, ℕ, ◌+◌, ◌*◌, ◌<◌, ◌≤◌, pos, ◌≤ℤ◌, List, length, slice_index, set, refl, sym, ap, ◌∙◌, subst, arith, inl, inr, Option, Some, None}
+use Rattle.std.proofs.Common.{◌≡◌, ℕ, ◌+◌, ◌*◌, ◌<◌, ◌≤◌, pos, ◌≤ℤ◌, List, length, slice_index, get_or, set, refl, sym, ap, ◌∙◌, subst, arith, inl, inr, Option, Some, None}
 use Rattle.std.specs.Prelude.{◌-ℤ◌}
 use Rattle.std.specs.List.{Contains}
 use Rattle.std.proofs.lemmas.Bool.{cases_lt, cases_eq}
 use Rattle.std.proofs.lemmas.Int.{ints}
-use Rattle.std.proofs.lemmas.List.{get_or-map, length-map, length-set, get_or-set_same, get_or-set_other}
+use Rattle.std.proofs.lemmas.List.{get_or-map, length-map, length-set, get_or_default, get_or-set_same, get_or-set_other}
 use Rattle.std.proofs.lemmas.List.Elements.{Contains-get_or}
 use Rattle.elmore.specs.Legal.{IsWithin}
 use Rattle.elmore.specs.declared.pair.Pair.{Pair}
 use Rattle.elmore.specs.declared.rep.Rep.{Rep}
 use Rattle.cand_laws.specs.Candidates.{with_cell}
 use Rattle.cand_laws.specs.Merging.{NoneFits}
-use Rattle.cand_pool.specs.Candidates.{Candidates}
+use Rattle.cand_pool.specs.Candidates.{Candidate, Candidates}
+use Rattle.vg_convex.specs.declared.shelf.Driver.{Driver}
 use Rattle.vg_convex.specs.declared.work.Point.{Point}
 use Rattle.cand_uses.specs.Pairs.{pair_of, pairs_of}
 use Rattle.vg_convex.specs.Hulls.{value, Rise, IsGreatest}
-use Rattle.vg_convex.specs.Places.{candidate_at, row, IsHullOf, AreWithin}
+use Rattle.vg_convex.specs.Places.{candidate_at, row, IsPointOf, IsHullOf, AreWithin}
 use Rattle.elmore.specs.Allowances.{Allows}
 use Rattle.elmore.specs.declared.allowed.Allowed.{Allowed}
-use Rattle.vg_convex.specs.Answers.{IsBestOf, IsAnswer, found_at, IsRow}
+use Rattle.vg_convex.specs.Answers.{IsBestOf, IsAnswer, found_at, IsRow, AreServed}
+use Rattle.vg_convex.specs.Orders.{IsDriverOf}
+use Rattle.elmore.specs.Cells.{rep_at}
 use Rattle.vg_convex.specs.declared.work.Found.{Found}
 use Rattle.vg_convex.proofs.Stacks.{hull_size}
 
@@ -56,9 +59,6 @@ none_found xs n stack rep h cut empty =
     ] in
     none_from xs rep h.rise (subst (AreWithin rep.limit xs) none cut)
 
-pub none_fits : (xs : Candidates) (rep : Rep) → length xs ≡ 0 → NoneFits rep (pairs_of xs)
-none_fits xs rep empty y y_in within = let (i, low, e) = numbered xs y y_in in absurd (omega (arith, low, empty))
-
 -- where there is no limit, each candidate is within it
 pub all_within : (xs : Candidates) (rep : Rep) → rep.limit ≡ None → AreWithin rep.limit xs (length xs)
 all_within xs rep free = record {
@@ -94,6 +94,22 @@ best_found xs n rep i found rise cut i_low best tag time = record {
     among : Contains (pairs_of xs) (row xs i)
     among = (i, omega (arith, i_low, length-map xs pair_of), get_or-map pair_of xs i (record { q = pos 0; c = 0; tag = 0 }) (row xs i) i_low)
 
+-- the same where a point tells of the candidate
+pub point_found : (xs : Candidates) (n : ℕ) (rep : Rep) (i : ℕ) (point : Point) (found : Found) → Rise (row xs) (length xs) → AreWithin rep.limit xs n → IsPointOf xs point i
+    → IsGreatest (row xs) n rep.r i → found.tag ≡ point.tag → found.time ≡ point.q -ℤ pos (rep.k + rep.r * point.c) → IsBestOf rep xs found
+point_found xs n rep i point found rise cut at best tag time =
+    best_found xs n rep i found rise cut at.inside best (tag ∙ ap (λ (x : Candidate). x.tag) at.told)
+    (time ∙ ap (λ (x : Candidate). x.q -ℤ pos (rep.k + rep.r * x.c)) at.told)
+
+-- the same for a driver
+pub driver_found : (xs : Candidates) (reps : List Rep) (driver : Driver) (i : ℕ) (point : Point) (found : Found) → IsDriverOf reps driver → Rise (row xs) (length xs)
+    → IsPointOf xs point i → IsGreatest (row xs) (length xs) driver.r i → found.tag ≡ point.tag → found.time ≡ point.q -ℤ pos (driver.k + driver.r * point.c)
+    → IsBestOf (rep_at reps driver.rep) xs found
+driver_found xs reps driver i point found is rise at best tag time =
+    point_found xs (length xs) (rep_at reps driver.rep) i point found rise (all_within xs (rep_at reps driver.rep) is.free) at
+    (subst (λ r. IsGreatest (row xs) (length xs) r i) is.resistance best) tag
+    (time ∙ ap (λ k. point.q -ℤ pos (k + driver.r * point.c)) is.delay ∙ ap (λ r. point.q -ℤ pos ((rep_at reps driver.rep).k + r * point.c)) is.resistance)
+
 -- a hull has no more points than the list has candidates
 pub stack_size : (xs : Candidates) (n : ℕ) (stack : List Point) → IsHullOf xs n stack → length stack ≤ length xs
 stack_size xs n stack h = omega (arith, hull_size (row xs) n h.numbers (length stack) h.hull, h.few)
@@ -108,7 +124,7 @@ pub none_allowed : (allowed : Allowed) (reps : List Rep) (xs : Candidates) (foun
     → IsAnswer allowed reps xs b (found_at found b)
 none_allowed allowed reps xs found b row not_so = subst (IsAnswer allowed reps xs b) (sym (row.none b not_so)) (λ may. absurd (not_so may))
 
-written_same : (old new : List (Option Found)) (b : ℕ) (found : Option Found) → new ≡ set old b found → b < length old → found_at new b ≡ found
+pub written_same : (old new : List (Option Found)) (b : ℕ) (found : Option Found) → new ≡ set old b found → b < length old → found_at new b ≡ found
 written_same old new b found e low = ap (λ l. found_at l b) e ∙ get_or-set_same old b found None low
 
 written_other : (old new : List (Option Found)) (b : ℕ) (found : Option Found) → new ≡ set old b found → (k : ℕ) → (k ≡ b → ⊥) → found_at new k ≡ found_at old k
@@ -151,3 +167,25 @@ written_answer allowed reps xs order i found old new is e low before j j_low = e
       subst (λ m. IsAnswer allowed reps xs (slice_index order m) (found_at new (slice_index order m))) (sym at)
       (subst (IsAnswer allowed reps xs (slice_index order i)) (sym (written_same old new (slice_index order i) found e low)) is)
 ]
+
+-- the result of one driver more
+pub served_more : (allowed : Allowed) (reps : List Rep) (xs : Candidates) (drivers : List Driver) (from at : ℕ) (driver : Driver) (answer : Option Found)
+    (old mid new : List (Option Found)) → at < length drivers → driver ≡ get_or drivers at driver → driver.rep < length reps
+    → IsAnswer allowed reps xs driver.rep answer → new ≡ set mid driver.rep answer → AreServed allowed reps xs drivers from at old mid
+    → AreServed allowed reps xs drivers from (at + 1) old new
+served_more allowed reps xs drivers from at driver answer old mid new low read named is e s = record {
+  row = written_row allowed reps xs driver.rep answer mid new is e room s.row;
+  each = λ i d later i_low. elim (cases_lt i at) [
+    | inl before ↦ kept_answer allowed reps xs driver.rep answer mid new is e room (get_or drivers i d).rep (s.each i d later before)
+    | inr back ↦
+        let here : i ≡ at = omega (arith, back, i_low) in
+        let same : driver.rep ≡ (get_or drivers i d).rep =
+        ap (λ (x : Driver). x.rep) read ∙ ap (λ (x : Driver). x.rep) (get_or_default drivers at driver d low) ∙ ap (λ m. (get_or drivers m d).rep) (sym here) in
+        subst (λ b. IsAnswer allowed reps xs b (found_at new b)) same
+        (subst (IsAnswer allowed reps xs driver.rep) (sym (written_same mid new driver.rep answer e room)) is)
+  ];
+  others = λ b before. kept_answer allowed reps xs driver.rep answer mid new is e room b (s.others b before);
+}
+  where
+    room : driver.rep < length mid
+    room = omega (arith, named, s.row.room)

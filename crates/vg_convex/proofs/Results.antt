@@ -16,6 +16,8 @@ use Rattle.cand_pool.specs.Candidates.{Candidate, Candidates}
 use Rattle.cand_uses.specs.Pairs.{pair_of, pairs_of}
 use Rattle.vg_convex.specs.Answers.{IsBestOf, IsAnswer, found_at, HaveFound, found_by, IsResultOf, IsResult, made_pairs, AreSwept}
 use Rattle.vg_convex.specs.Lists.{driven, MayStand, IsMade, IsAttained, IsCell, IsWithCell, AreWithCells}
+use Rattle.vg_convex.specs.Orders.{reps_of_pins}
+use Rattle.vg_convex.specs.declared.shelf.Pin.{Pin}
 use Rattle.vg_convex.specs.declared.work.Found.{Found}
 use Rattle.vg_convex.specs.declared.work.Made.{Made as Result}
 use Rattle.vg_convex.specs.declared.work.Work.{Work}
@@ -139,10 +141,11 @@ none_attained reps allowed old new node (z ∷ zs) all =
     absurd (omega (arith, low))
 
 -- the same of rows and orders that are equal
-pub swept_as : (reps : List Rep) (buffers buffers' inverters inverters' : List (Option Found)) (order order' : List ℕ) (kept kept' : List Result)
-    → buffers ≡ buffers' → inverters ≡ inverters' → order ≡ order' → kept' ≡ kept
-    → AreSwept reps (found_by reps buffers inverters) order kept → AreSwept reps (found_by reps buffers' inverters') order' kept'
-swept_as reps buffers buffers' inverters inverters' order order' kept kept' buffers_are inverters_are order_is kept_is swept =
-    subst (λ l. AreSwept reps (found_by reps buffers' inverters') order' l) (sym kept_is)
-    (subst (λ l. AreSwept reps (found_by reps buffers' inverters') l kept) order_is
-    (subst (λ l. AreSwept reps (found_by reps buffers' l) order kept) inverters_are (subst (λ l. AreSwept reps (found_by reps l inverters) order kept) buffers_are swept)))
+pub swept_as : (reps : List Rep) (buffers buffers' inverters inverters' : List (Option Found)) (pins pins' : List Pin) (kept kept' : List Result)
+    → buffers ≡ buffers' → inverters ≡ inverters' → pins ≡ pins' → kept' ≡ kept
+    → AreSwept reps (found_by reps buffers inverters) (reps_of_pins pins) kept → AreSwept reps (found_by reps buffers' inverters') (reps_of_pins pins') kept'
+swept_as reps buffers buffers' inverters inverters' pins pins' kept kept' buffers_are inverters_are pins_are kept_is swept =
+    subst (λ l. AreSwept reps (found_by reps buffers' inverters') (reps_of_pins pins') l) (sym kept_is)
+    (subst (λ l. AreSwept reps (found_by reps buffers' inverters') (reps_of_pins l) kept) pins_are
+    (subst (λ l. AreSwept reps (found_by reps buffers' l) (reps_of_pins pins) kept) inverters_are
+    (subst (λ l. AreSwept reps (found_by reps l inverters) (reps_of_pins pins) kept) buffers_are swept)))

@@ -1,8 +1,8 @@
 -- A result more for an undominated list.
-use Rattle.std.proofs.Common.{◌≡◌, ℕ, ◌+◌, ◌<◌, ◌≤◌, ◌⊎◌, List, [], ◌∷◌, ◌++◌, length, get_or, take, Option, Some, None, ◌≤ℤ◌, refl, sym, ap, ◌∙◌, subst, arith, inl, inr, ℤ}
+use Rattle.std.proofs.Common.{◌≡◌, ℕ, suc, ◌+◌, ◌-◌, ◌<◌, ◌≤◌, ◌<ℤ◌, ◌⊎◌, List, [], ◌∷◌, ◌++◌, length, get_or, set, take, cond, Option, Some, None, ◌≤ℤ◌, refl, sym, ap, ◌∙◌, subst, arith, inl, inr, ℤ}
 use Rattle.std.specs.Prelude.{MatchOption}
 use Rattle.std.proofs.lemmas.Int.{ints}
-use Rattle.std.proofs.lemmas.List.{get_or_append_left, get_or_push, length_push, length-take-le, take_more, get_or-take, get_or_default, map-append}
+use Rattle.std.proofs.lemmas.List.{get_or_append_left, get_or_push, length_push, length-take-le, take_more, get_or-take, get_or_default, get_or-map, length-map, map-append, take_all, set_split, drop_all}
 use Rattle.std.proofs.lemmas.List.Elements.{Contains-push_cases, Contains-push, Contains-append_left, All-push, All-weaker, All-contains}
 use Rattle.std.proofs.lemmas.List.Quantifiers.{all_pairs_push}
 use Rattle.std.specs.List.{All, AllPairs, Contains}
@@ -10,8 +10,9 @@ use Rattle.elmore.specs.Cells.{rep_at}
 use Rattle.elmore.specs.Pairs.{IsBelow, Dominates, IsUndominated}
 use Rattle.elmore.specs.declared.pair.Pair.{Pair}
 use Rattle.elmore.specs.declared.rep.Rep.{Rep}
-use Rattle.vg_convex.specs.Answers.{IsResultOf, IsResult, made_pairs, IsKept, IsKeptAfter, AreSwept}
-use Rattle.vg_convex.specs.Orders.{AreByInput}
+use Rattle.vg_convex.specs.Answers.{IsResultOf, IsResult, made_pairs, IsKept, IsKeptAfter, IsLast, AreSwept, found_at, found_by, found_for}
+use Rattle.vg_convex.specs.Orders.{AreByInput, IsPinOf, reps_of_pins}
+use Rattle.vg_convex.specs.declared.shelf.Pin.{Pin}
 use Rattle.vg_convex.specs.declared.work.Found.{Found}
 use Rattle.vg_convex.specs.declared.work.Made.{Made}
 
@@ -227,14 +228,51 @@ swept_found reps found order b kept kept' (Some best) e by_input s is =
     swept_kept reps found order (record { pair = record { q = best.time; c = (rep_at reps b).cin }; rep = b; tag = best.tag }) kept kept' by_input
     (record { among = Contains-push order b; found_is = e; input = refl }) s is
 
--- the results of one repeater more
-pub swept_more : (reps : List Rep) (found : ℕ → Option Found) (order : List ℕ) (i : ℕ) (kept kept' : List Made) → i < length order → AreByInput reps order
-    → AreSwept reps found (take i order) kept
-    → MatchOption (found (get_or order i 0)) (kept' ≡ kept)
-    (λ best. IsKept kept (record { pair = record { q = best.time; c = (rep_at reps (get_or order i 0)).cin }; rep = get_or order i 0; tag = best.tag }) kept')
-    → AreSwept reps found (take (i + 1) order) kept'
-swept_more reps found order i kept kept' low by_input s is =
-    let e : take (i + 1) order ≡ take i order ++ get_or order i 0 ∷ [] = take_more order i 0 low in
-    subst (λ (l : List ℕ). AreSwept reps found l kept') (sym e)
-    (swept_found reps found (take i order) (get_or order i 0) kept kept' (found (get_or order i 0)) refl
-    (subst (AreByInput reps) e (front_inputs reps order (i + 1) (omega (arith, low)) by_input)) s is)
+-- what was found for a pin's repeater
+found_is : (reps : List Rep) (buffers inverters : List (Option Found)) (pin : Pin) → IsPinOf reps pin → found_by reps buffers inverters pin.rep ≡ found_for buffers inverters pin
+found_is reps buffers inverters pin is = ap (λ inverts. cond inverts (found_at inverters pin.rep) (found_at buffers pin.rep)) (sym is.kind)
+
+-- the results of one pin more
+pub swept_more : (reps : List Rep) (buffers inverters : List (Option Found)) (pins : List Pin) (i : ℕ) (pin : Pin) (f : Option Found) (kept kept' : List Made)
+    → All (IsPinOf reps) pins → AreByInput reps (reps_of_pins pins) → i < length pins → pin ≡ get_or pins i pin → f ≡ found_for buffers inverters pin
+    → MatchOption f (kept' ≡ kept) (λ best. IsKept kept (record { pair = record { q = best.time; c = pin.cin }; rep = pin.rep; tag = best.tag }) kept')
+    → AreSwept reps (found_by reps buffers inverters) (take i (reps_of_pins pins)) kept → AreSwept reps (found_by reps buffers inverters) (take (i + 1) (reps_of_pins pins)) kept'
+swept_more reps buffers inverters pins i pin f kept kept' are by_input low read f_is kept_is s =
+    let is : IsPinOf reps pin = subst (IsPinOf reps) (sym read) (are i pin low) in
+    let order_low : i < length (reps_of_pins pins) = omega (arith, low, length-map pins (λ (x : Pin). x.rep)) in
+    let at : get_or (reps_of_pins pins) i 0 ≡ pin.rep = get_or-map (λ (x : Pin). x.rep) pins i pin 0 low ∙ ap (λ (x : Pin). x.rep) (sym read) in
+    let t : take (i + 1) (reps_of_pins pins) ≡ take i (reps_of_pins pins) ++ pin.rep ∷ []
+    = take_more (reps_of_pins pins) i 0 order_low ∙ ap (λ m. take i (reps_of_pins pins) ++ m ∷ []) at in
+    subst (λ (l : List ℕ). AreSwept reps (found_by reps buffers inverters) l kept') (sym t)
+    (swept_found reps (found_by reps buffers inverters) (take i (reps_of_pins pins)) pin.rep kept kept' f
+    (found_is reps buffers inverters pin is ∙ sym f_is)
+    (subst (AreByInput reps) t (front_inputs reps (reps_of_pins pins) (i + 1) (omega (arith, order_low)) by_input)) s
+    (subst (λ c. MatchOption f (kept' ≡ kept) (λ best. IsKept kept (record { pair = record { q = best.time; c = c }; rep = pin.rep; tag = best.tag }) kept')) is.capacitance kept_is))
+
+-- the last of some results
+pub last_pushed : (xs : List Made) (made : Made) (new : List Made) → new ≡ xs ++ made ∷ [] → IsLast new made.pair
+last_pushed xs made new e =
+    subst (λ (l : List Made). IsLast l made.pair) (sym e)
+    (made, omega (arith, length_push xs made), sym (get_or_push xs made made (length (xs ++ made ∷ []) - 1) (omega (arith, length_push xs made))), refl)
+
+-- a list is its front and its last
+with_last : (xs : List Made) (n : ℕ) (last : Made) → n + 1 ≡ length xs → last ≡ get_or xs n last → xs ≡ take n xs ++ last ∷ []
+with_last xs n last e is =
+    sym (take_all (n + 1) xs (omega (arith, e))) ∙ take_more xs n last (omega (arith, e)) ∙ ap (λ (m : Made). take n xs ++ m ∷ []) (sym is)
+
+with_new : (xs : List Made) (n : ℕ) (made : Made) → n + 1 ≡ length xs → set xs n made ≡ take n xs ++ made ∷ []
+with_new xs n made e =
+    set_split xs n made (omega (arith, e)) ∙ ap (λ (l : List Made). take n xs ++ made ∷ l) (drop_all (suc n) xs (omega (arith, e)))
+
+pub kept_instead : (xs : List Made) (last : Pair) (made : Made) (new : List Made) → IsLast xs last → last.q <ℤ made.pair.q → made.pair.c ≡ last.c
+    → new ≡ set xs (length xs - 1) made → IsKept xs made new
+kept_instead xs last made new (m, some, read, e) more same new_is =
+    inr (
+      take (length xs - 1) xs,
+      m,
+      with_last xs (length xs - 1) m (omega (arith, some)) read,
+      inr (
+        subst (λ (p : Pair). p.q <ℤ made.pair.q) (sym e) more,
+        inl (same ∙ sym (ap (λ (p : Pair). p.c) e), new_is ∙ with_new xs (length xs - 1) made (omega (arith, some))),
+      ),
+    )

@@ -1,5 +1,5 @@
 -- What a repeater makes of the candidates of a list.
-use Rattle.std.specs.Prelude.{◌≡◌, ◌≢◌, ◌⊎◌, ◌≤◌, ◌<◌, ◌<ℤ◌, ◌≤ℤ◌, ℕ, Bool, true, false, cond, List, [], ◌∷◌, ◌++◌, length, map, slice_index_or, Option, Some, None, MatchOption}
+use Rattle.std.specs.Prelude.{◌≡◌, ◌≢◌, ◌⊎◌, ◌≤◌, ◌<◌, ◌<ℤ◌, ◌≤ℤ◌, ℕ, Bool, true, false, cond, List, [], ◌∷◌, ◌++◌, ◌-◌, length, map, slice_index_or, Option, Some, None, MatchOption}
 use Rattle.std.specs.List.{All, Contains}
 use Rattle.elmore.specs.Allowances.{Allows}
 use Rattle.elmore.specs.Cells.{rep_at}
@@ -12,6 +12,8 @@ use Rattle.cand_laws.specs.Candidates.{with_cell}
 use Rattle.cand_laws.specs.Merging.{NoneFits, IsGreatestBy}
 use Rattle.cand_pool.specs.Candidates.{Candidate, Candidates}
 use Rattle.cand_uses.specs.Pairs.{pair_of, pairs_of}
+use Rattle.vg_convex.specs.declared.shelf.Driver.{Driver}
+use Rattle.vg_convex.specs.declared.shelf.Pin.{Pin}
 use Rattle.vg_convex.specs.declared.work.Found.{Found}
 use Rattle.vg_convex.specs.declared.work.Made.{Made}
 use Rattle.vg_convex.specs.declared.work.Work.{Work}
@@ -55,6 +57,13 @@ AreAnswered allowed reps xs order found = (b : ℕ) → Contains order b → IsA
 abbrev pub AreFound : Allowed → List Rep → Candidates → List (Option Found) → Type 0
 AreFound allowed reps xs found = (b : ℕ) → b < length reps → IsAnswer allowed reps xs b (found_at found b)
 
+-- the drivers of an order from one place up to another have their results in a row; other results that stood in it stay
+pub record AreServed (allowed : Allowed) (reps : List Rep) (xs : Candidates) (drivers : List Driver) (from to : ℕ)
+    (old new : List (Option Found)) : Type 0 where
+  pub row : IsRow allowed reps new
+  pub each : (i : ℕ) (d : Driver) → from ≤ i → i < to → let b = (slice_index_or drivers i d).rep in IsAnswer allowed reps xs b (found_at new b)
+  pub others : (b : ℕ) → IsAnswer allowed reps xs b (found_at old b) → IsAnswer allowed reps xs b (found_at new b)
+
 -- the work has the result of each repeater for a list, at a node that allows some of them
 pub record HasFound (allowed : Allowed) (reps : List Rep) (xs : Candidates) (work : Work) : Type 0 where
   pub room : length reps ≤ length work.found.items
@@ -68,6 +77,10 @@ pub record HaveFound (allowed : Allowed) (reps : List Rep) (lists : Bool → Can
 -- what stands for the repeater b in the row of its kind
 abbrev pub found_by : List Rep → List (Option Found) → List (Option Found) → ℕ → Option Found
 found_by reps buffers inverters b = cond (rep_at reps b).inverts (found_at inverters b) (found_at buffers b)
+
+-- what stands for a pin's repeater in the row of its kind
+abbrev pub found_for : List (Option Found) → List (Option Found) → Pin → Option Found
+found_for buffers inverters pin = cond pin.inverts (found_at inverters pin.rep) (found_at buffers pin.rep)
 
 -- the result of its repeater, which is of the order
 pub record IsResultOf (reps : List Rep) (found : ℕ → Option Found) (order : List ℕ) (made : Made) : Type 0 where
@@ -94,6 +107,10 @@ abbrev pub IsKept : List Made → Made → List Made → Type 0
 IsKept old made new =
     ((old ≡ []) × (new ≡ made ∷ []))
     ⊎ ((front : List Made) × (last : Made) × (old ≡ front ++ last ∷ []) × IsKeptAfter old front last made new)
+
+-- the last of some results has this pair
+abbrev pub IsLast : List Made → Pair → Type 0
+IsLast kept last = (made : Made) × (0 < length kept) × (made ≡ slice_index_or kept (length kept - 1) made) × (made.pair ≡ last)
 
 -- the undominated ones of the results of these repeaters
 pub record AreSwept (reps : List Rep) (found : ℕ → Option Found) (order : List ℕ) (kept : List Made) : Type 0 where

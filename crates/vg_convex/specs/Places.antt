@@ -7,6 +7,7 @@ use Rattle.cand_pool.specs.declared.ends.Cand.{Cand}
 use Rattle.elmore.specs.declared.pair.Pair.{Pair}
 use Rattle.cand_uses.specs.Pairs.{pair_of}
 use Rattle.vg_convex.specs.Hulls.{value, Rise, IsHullSoFar}
+use Rattle.vg_convex.specs.declared.shelf.Driver.{Driver}
 use Rattle.vg_convex.specs.declared.work.Point.{Point}
 
 -- the candidate with a number, and the pairs of a list by their numbers
@@ -67,13 +68,14 @@ pub record AreWithin (limit : Option ℕ) (xs : Candidates) (n : ℕ) : Type 0 w
   pub within : (i : ℕ) → i < n → IsWithin limit (row xs i).c
   pub past : IsOver limit xs n
 
--- the stack has the first points of the hull of all candidates; above a resistance the point that came after them is worth
--- no more than the last of them
-pub record IsFrontOf (xs : Candidates) (r : ℕ) (stack : List Point) : Type 0 where
-  pub whole : List Point
-  pub hull : IsHullOf xs (length xs) whole
-  pub some : 0 < length whole → 0 < length stack
-  pub few : length stack ≤ length whole
-  pub front : (j : ℕ) (d : Point) → j < length stack → slice_index_or stack j d ≡ slice_index_or whole j d
-  pub falls : length stack < length whole
-      → value r (row xs (hull.numbers (length stack))) ≤ℤ value r (row xs (hull.numbers (length stack - 1)))
+-- so many points are left of the hull of all candidates; above a resistance the one that came after them is worth no more than the
+-- last of them
+pub record IsFrontOf (xs : Candidates) (stack : List Point) (left r : ℕ) : Type 0 where
+  pub hull : IsHullOf xs (length xs) stack
+  pub some : 0 < left
+  pub inside : left ≤ length stack
+  pub falls : left < length stack → value r (row xs (hull.numbers left)) ≤ℤ value r (row xs (hull.numbers (left - 1)))
+
+-- the same above the resistances of the drivers from one place of an order on
+abbrev pub AreFrontOf : Candidates → List Point → ℕ → List Driver → ℕ → Type 0
+AreFrontOf xs stack left drivers from = (i : ℕ) (d : Driver) → from ≤ i → i < length drivers → IsFrontOf xs stack left (slice_index_or drivers i d).r

@@ -52,7 +52,7 @@ pub fn find_each<L: Ledger>(
     ensures steps { (d : ℕ) → length (items_of pool.now from.now) < 2 ^ d
         → steps.new ≤ steps.old + 3 * length (items_of pool.now from.now) + length reps.now * (d + 2) }
 {
-    work.clear(reps.len())?;
+    work.clear(reps.len(), allowed)?;
     if reps.len() > FEW {
         return find_all(pool, from, reps, shelf, allowed, work, steps);
     }

@@ -5,8 +5,10 @@ ghost use Rattle.std.specs.List.{All, Contains};
 ghost use Rattle.elmore.specs.Allowances.{Allows};
 ghost use Rattle.elmore.specs.Legal.{IsWithin};
 ghost use Rattle.vg_convex.specs.Orders.{AreRising};
+ghost use Rattle.vg_convex.specs.declared.shelf.Driver.{Driver as DriverSpec};
 
-use elmore::{Allowed, Rep};
+use crate::shelf::Driver;
+use elmore::Allowed;
 
 /// Whether a load is within a limit, if there is one.
 pub(crate) fn is_within(limit: Option<u64>, load: u64) -> bool
@@ -29,35 +31,35 @@ pub(crate) fn is_allowed(allowed: &Allowed, rep: u32) -> bool
     }
 }
 
-/// Whether a node allows some repeater of an order.
-pub(crate) fn allows_any(allowed: &Allowed, order: &[u32]) -> bool
+/// Whether a node allows the repeater of some driver.
+pub(crate) fn allows_any(allowed: &Allowed, drivers: &[Driver]) -> bool
     requires rising { AreRising allowed.now }
-    ensures { MatchBool result ((b : ℕ) × Contains order.now b × Allows allowed.now b)
-        (All (λ b. Allows allowed.now b → ⊥) order.now) }
+    ensures { MatchBool result ((driver : DriverSpec) × Contains drivers.now driver × Allows allowed.now driver.rep)
+        (All (λ driver. Allows allowed.now driver.rep → ⊥) drivers.now) }
 {
-    'order: for rep in order {
-        if is_allowed(allowed, *rep) {
+    'drivers: for driver in drivers {
+        if is_allowed(allowed, driver.rep) {
             return true;
         }
     }
     false
 }
 
-/// The delay of a repeater into a load.
-fn delay_into(rep: &Rep, load: u64) -> i128
+/// The delay into a load of a repeater with this resistance, and this delay without a load.
+fn delay_into(r: u64, k: u64, load: u64) -> i128
     requires { load ≤ 10 ^ 11 }
-    ensures value { result ≡ pos (rep.now.k + rep.now.r * load) }
-    ensures small { rep.now.k + rep.now.r * load ≤ 2 ^ 64 + 2 ^ 64 * 10 ^ 11 }
+    ensures value { result ≡ pos (k + r * load) }
+    ensures small { k + r * load ≤ 2 ^ 64 + 2 ^ 64 * 10 ^ 11 }
 {
-    i128::from(rep.k) + i128::from(rep.r) * i128::from(load)
+    i128::from(k) + i128::from(r) * i128::from(load)
 }
 
-/// The time before a repeater that drives a load.
-pub(crate) fn time_before(rep: &Rep, q: i128, load: u64) -> i128
+/// The time before such a repeater, which drives a load.
+pub(crate) fn time_before(r: u64, k: u64, q: i128, load: u64) -> i128
     requires low { negsuc (10 ^ 25) ≤ℤ q }
     requires high { q ≤ℤ pos (10 ^ 25) }
     requires load { load ≤ 10 ^ 11 }
-    ensures { result ≡ q -ℤ pos (rep.now.k + rep.now.r * load) }
+    ensures { result ≡ q -ℤ pos (k + r * load) }
 {
-    q - delay_into(rep, load)
+    q - delay_into(r, k, load)
 }

@@ -73,7 +73,7 @@ fn loss(r: u64, load: u64) -> i128
 
 /// Whether the first of two points, which rise, is worth less above a resistance: the further load of the second loses less than
 /// its further time.
-fn is_less<L: Ledger>(a: Point, b: Point, r: u64, steps: &mut Steps<L>) -> bool
+pub(crate) fn is_less<L: Ledger>(a: Point, b: Point, r: u64, steps: &mut Steps<L>) -> bool
     requires a { IsModest (told_by a) }
     requires b { IsModest (told_by b) }
     requires a_b { IsBelow (pair_in a) (pair_in b) }
@@ -103,30 +103,4 @@ pub(crate) fn greatest_on<L: Ledger>(stack: &[Point], r: u64, steps: &mut Steps<
         }
     }
     stack[low]
-}
-
-/// The point of a whole list's hull that is worth the most above a resistance, found from the end: the last ones that are worth
-/// no more than the one before them come off. They serve no greater resistance either, since the less a candidate's load is,
-/// the less worth it loses there.
-pub(crate) fn greatest_at_end<L: Ledger>(
-    stack: &mut Vec<Point>,
-    r: u64,
-    steps: &mut Steps<L>,
-) -> Point
-    ghost xs: { Candidates }
-    requires front { (least : ℕ) × (least ≤ r) × IsFrontOf xs least stack.old.items }
-    requires some { 0 < length stack.old.items }
-    ensures front { IsFrontOf xs r stack.new.items }
-    ensures greatest { (i : ℕ) × IsPointOf xs result i × IsGreatest (row xs) (length xs) r i }
-    ensures cost { steps.new + length stack.new.items ≤ steps.old + length stack.old.items + 1 }
-{
-    let mut left = stack.len();
-    'pops: while left >= 2 {
-        if is_less(stack[left - 2], stack[left - 1], r, steps) {
-            break;
-        }
-        left -= 1;
-    }
-    stack.truncate(left);
-    stack[left - 1]
 }

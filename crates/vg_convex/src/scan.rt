@@ -42,7 +42,7 @@ fn scan<L: Ledger>(pool: &Pool, from: &List, rep: &Rep, steps: &mut Steps<L>) ->
         if !is_within(rep.limit, c) {
             break;
         }
-        let time = time_before(rep, q, c);
+        let time = time_before(rep.r, rep.k, q, c);
         found = Some(better(found, Found { time, tag }));
         next = pool.next(place);
     }

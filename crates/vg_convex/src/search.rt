@@ -1,21 +1,21 @@
 //! The greatest time of each repeater, on the upper convex hull of the candidates (Li and Shi 2005).
 
-ghost use Rattle.std.specs.Prelude.{◌≡◌, ℕ, ◌+◌, ◌*◌, ◌^◌, ◌<◌, ◌≤◌, [], set, length, false, IfOk, OnOk, OnErr, Option, None};
+ghost use Rattle.std.specs.Prelude.{◌≡◌, ℕ, ◌+◌, ◌-◌, ◌*◌, ◌^◌, ◌<◌, ◌≤◌, ◌-ℤ◌, pos, [], set, length, IfOk, OnOk, OnErr, Option, None};
 ghost use Rattle.std.specs.List.{All};
 ghost use Rattle.elmore.specs.Allowances.{Allows};
 ghost use Rattle.elmore.specs.Cells.{rep_at};
 ghost use Rattle.elmore.specs.Legal.{IsWithin};
-ghost use Rattle.cand_pool.specs.Candidates.{Candidates, AreModest};
+ghost use Rattle.cand_pool.specs.Candidates.{Candidates, IsModest, AreModest};
 ghost use Rattle.cand_pool.specs.Pools.{Holds};
 ghost use Rattle.vg_convex.specs.Hulls.{Rise, IsGreatest};
-ghost use Rattle.vg_convex.specs.Places.{row, IsPointOf, IsHullOf, IsWalk, IsFurther, IsOver, AreWithin, IsFrontOf};
-ghost use Rattle.vg_convex.specs.Answers.{IsBestOf, IsFoundFor, IsAnswer, found_at, IsRow, AreAnswered, AreFound};
-ghost use Rattle.vg_convex.specs.Orders.{has_limit, AreByLimit, AreByResistance, AreRising, IsShelf};
+ghost use Rattle.vg_convex.specs.Places.{row, told_by, IsPointOf, IsHullOf, IsWalk, IsFurther, IsOver, AreWithin, AreFrontOf};
+ghost use Rattle.vg_convex.specs.Answers.{IsFoundFor, IsAnswer, found_at, IsRow, AreAnswered, AreServed, AreFound};
+ghost use Rattle.vg_convex.specs.Orders.{AreByLimit, RiseInResistance, AreRising, IsDriverOf, IsShelf};
 ghost use Rattle.vg_convex.specs.declared.work.Found.{Found as FoundSpec};
 
 use crate::drive::{allows_any, is_allowed, is_within, time_before};
-use crate::hull::{greatest_at_end, greatest_on, put_on};
-use crate::shelf::Shelf;
+use crate::hull::{greatest_on, is_less, put_on};
+use crate::shelf::{Driver, Shelf};
 use crate::work::{Found, Point, Work};
 use cand_pool::{Cand, List, Pool, Steps};
 use elmore::{Allowed, Rep};
@@ -51,16 +51,13 @@ fn grow<L: Ledger>(
     Ok(next)
 }
 
-/// What a repeater makes of the point that gives it the most time.
-fn best_of(rep: &Rep, point: Point) -> Found
-    ghost xs: { Candidates }
-    requires rise { Rise (row xs) (length xs) }
-    requires modest { AreModest xs }
-    requires best { (n : ℕ) × (i : ℕ) × AreWithin rep.now.limit xs n × IsPointOf xs point i
-        × IsGreatest (row xs) n rep.now.r i }
-    ensures { IsBestOf rep.now xs result }
+/// What a repeater with this resistance, and this delay without a load, makes of a point.
+fn made_of(r: u64, k: u64, point: Point) -> Found
+    requires { IsModest (told_by point) }
+    ensures time { result.time ≡ point.q -ℤ pos (k + r * point.c) }
+    ensures tag { result.tag ≡ point.tag }
 {
-    let time = time_before(rep, point.q, point.c);
+    let time = time_before(r, k, point.q, point.c);
     Found {
         time,
         tag: point.tag,
@@ -78,7 +75,7 @@ fn find<L: Ledger>(rep: &Rep, stack: &[Point], steps: &mut Steps<L>) -> Option<F
         return None;
     }
     let point = greatest_on(stack, rep.r, steps);
-    Some(best_of(rep, point))
+    Some(made_of(rep.r, rep.k, point))
 }
 
 /// Goes on along a list as far as a repeater's limit allows, and puts its greatest time into the row of results; nothing is
@@ -149,75 +146,127 @@ fn find_limited<L: Ledger>(
     Ok(next)
 }
 
-/// The greatest time of one repeater without a limit, where the hull is that of all candidates, less those at its end that
-/// serve no repeater with so much resistance.
-fn find_at_end<L: Ledger>(rep: &Rep, stack: &mut Vec<Point>, steps: &mut Steps<L>) -> Option<Found>
-    ghost xs: { Candidates }
-    requires front { (least : ℕ) × (least ≤ rep.now.r) × IsFrontOf xs least stack.old.items }
-    requires free { rep.now.limit ≡ None }
-    ensures found { IsFoundFor rep.now xs result }
-    ensures front { IsFrontOf xs rep.now.r stack.new.items }
-    ensures cost { steps.new + length stack.new.items ≤ steps.old + length stack.old.items + 1 }
-{
-    if stack.is_empty() {
-        return None;
-    }
-    let point = greatest_at_end(stack, rep.r, steps);
-    Some(best_of(rep, point))
-}
-
-/// Puts the greatest time of a repeater without a limit into the row of results; nothing is done for a repeater that is not
-/// allowed.
-fn find_free<L: Ledger>(
+/// Puts the greatest time of a repeater without a limit into the row of results, where it makes that of this point; nothing is done
+/// for a repeater that is not allowed.
+fn put_free(
     reps: &[Rep],
-    number: u32,
+    driver: Driver,
+    point: Point,
     allowed: &Allowed,
-    work: &mut Work,
-    steps: &mut Steps<L>,
+    found: &mut [Option<Found>],
 )
     ghost xs: { Candidates }
-    requires front { (least : ℕ) × (least ≤ (rep_at reps.now number).r) × IsFrontOf xs least work.old.stack.items }
-    requires free { has_limit reps.now number ≡ false }
-    requires named { number < length reps.now }
-    requires row { IsRow allowed.now reps.now work.old.found.items }
+    requires driver { IsDriverOf reps.now driver }
+    requires rise { Rise (row xs) (length xs) }
+    requires modest { AreModest xs }
+    requires best { (i : ℕ) × IsPointOf xs point i × IsGreatest (row xs) (length xs) driver.r i }
+    requires row { IsRow allowed.now reps.now found.old }
     requires rising { AreRising allowed.now }
-    ensures front { IsFrontOf xs (rep_at reps.now number).r work.new.stack.items }
-    ensures found { (found : Option FoundSpec) × IsAnswer allowed.now reps.now xs number found
-        × (work.new.found.items ≡ set work.old.found.items number found) }
-    ensures cost { steps.new + length work.new.stack.items ≤ steps.old + length work.old.stack.items + 1 }
+    ensures { (answer : Option FoundSpec) × IsAnswer allowed.now reps.now xs driver.rep answer
+        × (found.new ≡ set found.old driver.rep answer) }
 {
-    if is_allowed(allowed, number) {
-        let rep = &reps[number as usize];
-        work.found[number as usize] = find_at_end(rep, &mut work.stack, steps);
+    let _ = reps;
+    if is_allowed(allowed, driver.rep) {
+        found[driver.rep as usize] = Some(made_of(driver.r, driver.k, point));
+    }
+}
+
+/// Puts the greatest times of the next repeaters of an order by resistance into the row of results: of those to which the last
+/// point that is left of the hull is worth more than the one before it. Answers the first one to which it is worth no more.
+fn put_served<L: Ledger>(
+    reps: &[Rep],
+    drivers: &[Driver],
+    from: usize,
+    stack: &[Point],
+    left: usize,
+    allowed: &Allowed,
+    found: &mut [Option<Found>],
+    steps: &mut Steps<L>,
+) -> usize
+    ghost xs: { Candidates }
+    requires drivers { All (IsDriverOf reps.now) drivers.now }
+    requires from { from ≤ length drivers.now }
+    requires front { AreFrontOf xs stack.now left drivers.now from }
+    requires left { (2 ≤ left) × (left ≤ length stack.now) }
+    requires row { IsRow allowed.now reps.now found.old }
+    requires rising { AreRising allowed.now }
+    requires by_resistance { RiseInResistance drivers.now }
+    ensures inside { (from ≤ result) × (result ≤ length drivers.now) }
+    ensures served { AreServed allowed.now reps.now xs drivers.now from result found.old found.new }
+    ensures front { AreFrontOf xs stack.now (left - 1) drivers.now result }
+    ensures cost { steps.new + from ≤ steps.old + result + 1 }
+{
+    let before = stack[left - 2];
+    let last = stack[left - 1];
+    let mut at = from;
+    'drivers: while at < drivers.len() {
+        let driver = drivers[at];
+        if !is_less(before, last, driver.r, steps) {
+            break;
+        }
+        put_free(reps, driver, last, allowed, found);
+        at += 1;
+    }
+    at
+}
+
+/// Puts the greatest times of the other repeaters of an order by resistance into the row of results, where the first point of the
+/// hull is left alone.
+fn put_others(
+    reps: &[Rep],
+    drivers: &[Driver],
+    from: usize,
+    stack: &[Point],
+    allowed: &Allowed,
+    found: &mut [Option<Found>],
+)
+    ghost xs: { Candidates }
+    requires drivers { All (IsDriverOf reps.now) drivers.now }
+    requires from { from ≤ length drivers.now }
+    requires front { AreFrontOf xs stack.now 1 drivers.now from }
+    requires some { 0 < length stack.now }
+    requires row { IsRow allowed.now reps.now found.old }
+    requires rising { AreRising allowed.now }
+    ensures { AreServed allowed.now reps.now xs drivers.now from (length drivers.now) found.old found.new }
+{
+    let first = stack[0];
+    'drivers: for at in from..drivers.len() {
+        put_free(reps, drivers[at], first, allowed, found);
     }
 }
 
 /// The greatest time of each repeater of an order by resistance that is allowed, in its place of the row, where the hull is
-/// that of all candidates. None of these repeaters has a limit.
+/// that of all candidates. None of these repeaters has a limit. From the end of the hull those points come off that are worth no more
+/// than the one before them: they serve no greater resistance either, since the less a candidate's load is, the less worth it loses
+/// there.
 // Inlined, it would keep less in registers.
 #[inline(never)]
 fn find_each_free<L: Ledger>(
     reps: &[Rep],
-    order: &[u32],
+    drivers: &[Driver],
+    stack: &[Point],
     allowed: &Allowed,
-    work: &mut Work,
+    found: &mut [Option<Found>],
     steps: &mut Steps<L>,
 )
     ghost xs: { Candidates }
-    requires hull { IsHullOf xs (length xs) work.old.stack.items }
-    requires row { IsRow allowed.now reps.now work.old.found.items }
-    requires named { All (λ b. b < length reps.now) order.now }
-    requires free { All (λ b. has_limit reps.now b ≡ false) order.now }
-    requires by_resistance { AreByResistance reps.now order.now }
+    requires drivers { All (IsDriverOf reps.now) drivers.now }
+    requires hull { IsHullOf xs (length xs) stack.now }
+    requires some { 0 < length stack.now }
+    requires row { IsRow allowed.now reps.now found.old }
     requires rising { AreRising allowed.now }
-    ensures row { IsRow allowed.now reps.now work.new.found.items }
-    ensures found { AreAnswered allowed.now reps.now xs order.now work.new.found.items }
-    ensures others { (b : ℕ) → IsAnswer allowed.now reps.now xs b (found_at work.old.found.items b)
-        → IsAnswer allowed.now reps.now xs b (found_at work.new.found.items b) }
-    ensures cost { steps.new ≤ steps.old + length work.old.stack.items + length order.now }
+    requires by_resistance { RiseInResistance drivers.now }
+    ensures served { AreServed allowed.now reps.now xs drivers.now 0 (length drivers.now) found.old found.new }
+    ensures cost { steps.new ≤ steps.old + length stack.now + length drivers.now }
 {
-    'reps: for number in order {
-        find_free(reps, *number, allowed, work, steps);
+    let mut at = 0;
+    let mut left = stack.len();
+    'points: while left >= 2 && at < drivers.len() {
+        at = put_served(reps, drivers, at, stack, left, allowed, found, steps);
+        left -= 1;
+    }
+    if at < drivers.len() {
+        put_others(reps, drivers, at, stack, allowed, found);
     }
 }
 
@@ -251,6 +300,17 @@ pub(crate) fn find_all<L: Ledger>(
         return Ok(());
     }
     grow(pool, None, &mut work.stack, next, steps)?;
-    find_each_free(reps, &shelf.free, allowed, work, steps);
+    if work.stack.is_empty() {
+        work.forget();
+        return Ok(());
+    }
+    find_each_free(
+        reps,
+        &shelf.free,
+        &work.stack,
+        allowed,
+        &mut work.found,
+        steps,
+    );
     Ok(())
 }

@@ -1,78 +1,91 @@
 //! The undominated ones of some results.
 
-ghost use Rattle.std.specs.Prelude.{◌≡◌, ◌<◌, ◌≤◌, cond, length, OnOk, MatchOption};
+ghost use Rattle.std.specs.Prelude.{◌≡◌, ◌<◌, ◌≤◌, length, take, IfOk, OnOk};
 ghost use Rattle.std.specs.List.{All};
-ghost use Rattle.vg_convex.specs.Answers.{found_at, found_by, IsKept, AreSwept};
-ghost use Rattle.vg_convex.specs.Orders.{AreByInput};
+ghost use Rattle.vg_convex.specs.Answers.{found_by, found_for, IsKept, IsLast, AreSwept};
+ghost use Rattle.vg_convex.specs.Orders.{AreByInput, IsPinOf, reps_of_pins};
 
+use crate::shelf::Pin;
 use crate::work::{Found, Made};
 use elmore::{Pair, Rep};
 use vg_num::Memory;
 
-/// Puts a result after those of an undominated list, none of which has more input capacitance. Answers `Memory` where
-/// there is no room.
-fn keep(kept: &mut Vec<Made>, made: Made) -> Result<(), Memory>
-    ensures { OnOk result (IsKept kept.old.items made kept.new.items) }
+/// Puts a result after those of an undominated list, none of which has more input capacitance, and answers the pair of the last
+/// one. Answers `Memory` where there is no room.
+fn keep(kept: &mut Vec<Made>, last: Pair, made: Made) -> Result<Pair, Memory>
+    requires { IsLast kept.old.items last }
+    ensures kept { OnOk result (IsKept kept.old.items made kept.new.items) }
+    ensures last { IfOk result (IsLast kept.new.items) }
 {
-    let len = kept.len();
-    if len == 0 {
-        kept.push(made)?;
-        return Ok(());
+    if made.pair.q <= last.q {
+        return Ok(last);
     }
-    let last = kept[len - 1];
-    if made.pair.q <= last.pair.q {
-        return Ok(());
-    }
-    if made.pair.c == last.pair.c {
-        kept[len - 1] = made;
-        return Ok(());
+    if made.pair.c == last.c {
+        let end = kept.len() - 1;
+        kept[end] = made;
+        return Ok(made.pair);
     }
     kept.push(made)?;
-    Ok(())
+    Ok(made.pair)
 }
 
-/// Puts what was found for a repeater, if anything, after the results of an undominated list.
-fn keep_found(
-    kept: &mut Vec<Made>,
-    rep: &Rep,
-    number: u32,
-    found: Option<Found>,
-) -> Result<(), Memory>
-    ensures { OnOk result (MatchOption found (kept.new.items ≡ kept.old.items)
-        (λ best. IsKept kept.old.items
-        (record { pair = record { q = best.time; c = rep.now.cin }; rep = number; tag = best.tag }) kept.new.items)) }
+/// What was found for a repeater, in the row of its kind.
+fn found_for(pin: Pin, buffers: &[Option<Found>], inverters: &[Option<Found>]) -> Option<Found>
+    requires buffers { pin.rep < length buffers.now }
+    requires inverters { pin.rep < length inverters.now }
+    ensures { result ≡ found_for buffers.now inverters.now pin }
 {
-    if let Some(best) = found {
-        let pair = Pair {
-            q: best.time,
-            c: rep.cin,
-        };
-        let made = Made {
-            pair,
-            rep: number,
-            tag: best.tag,
-        };
-        keep(kept, made)?;
+    if pin.inverts {
+        inverters[pin.rep as usize]
+    } else {
+        buffers[pin.rep as usize]
     }
-    Ok(())
 }
 
-/// What was found for a repeater of this number, in the row of its kind.
-fn found_for(
-    rep: &Rep,
-    number: u32,
+/// What a repeater makes where this was found for it.
+fn made_of(pin: Pin, best: Found) -> Made
+    ensures { result ≡ record { pair = record { q = best.time; c = pin.cin }; rep = pin.rep; tag = best.tag } }
+{
+    let pair = Pair {
+        q: best.time,
+        c: pin.cin,
+    };
+    Made {
+        pair,
+        rep: pin.rep,
+        tag: best.tag,
+    }
+}
+
+/// Puts the results of the repeaters of an order from a place on after those of an undominated list, whose last pair this is. Answers
+/// `Memory` where there is no room.
+fn keep_all(
+    reps: &[Rep],
+    pins: &[Pin],
+    from: usize,
     buffers: &[Option<Found>],
     inverters: &[Option<Found>],
-) -> Option<Found>
-    requires buffers { number < length buffers.now }
-    requires inverters { number < length inverters.now }
-    ensures { result ≡ cond rep.now.inverts (found_at inverters.now number) (found_at buffers.now number) }
+    first: Pair,
+    kept: &mut Vec<Made>,
+) -> Result<(), Memory>
+    requires pins { All (IsPinOf reps.now) pins.now }
+    requires from { from ≤ length pins.now }
+    requires buffers { length reps.now ≤ length buffers.now }
+    requires inverters { length reps.now ≤ length inverters.now }
+    requires by_input { AreByInput reps.now (reps_of_pins pins.now) }
+    requires swept { AreSwept reps.now (found_by reps.now buffers.now inverters.now) (take from (reps_of_pins pins.now)) kept.old.items }
+    requires first { IsLast kept.old.items first }
+    ensures { OnOk result (AreSwept reps.now (found_by reps.now buffers.now inverters.now) (reps_of_pins pins.now) kept.new.items) }
 {
-    if rep.inverts {
-        inverters[number as usize]
-    } else {
-        buffers[number as usize]
+    let _ = reps;
+    let mut last = first;
+    'pins: for at in from..pins.len() {
+        let pin = pins[at];
+        if let Some(best) = found_for(pin, buffers, inverters) {
+            last = keep(kept, last, made_of(pin, best))?;
+        }
     }
+    Ok(())
 }
 
 /// The undominated ones of the results of these repeaters, which are in the order of their input capacitances: those of buffers
@@ -81,26 +94,26 @@ fn found_for(
 #[inline(never)]
 pub(crate) fn sweep(
     reps: &[Rep],
-    order: &[u32],
+    pins: &[Pin],
     buffers: &[Option<Found>],
     inverters: &[Option<Found>],
     kept: &mut Vec<Made>,
 ) -> Result<(), Memory>
-    requires named { All (λ b. b < length reps.now) order.now }
+    requires pins { All (IsPinOf reps.now) pins.now }
     requires buffers { length reps.now ≤ length buffers.now }
     requires inverters { length reps.now ≤ length inverters.now }
-    requires by_input { AreByInput reps.now order.now }
-    ensures { OnOk result (AreSwept reps.now (found_by reps.now buffers.now inverters.now) order.now kept.new.items) }
+    requires by_input { AreByInput reps.now (reps_of_pins pins.now) }
+    ensures { OnOk result (AreSwept reps.now (found_by reps.now buffers.now inverters.now) (reps_of_pins pins.now) kept.new.items) }
 {
     kept.clear();
-    'reps: for number in order {
-        let rep = &reps[*number as usize];
-        keep_found(
-            kept,
-            rep,
-            *number,
-            found_for(rep, *number, buffers, inverters),
-        )?;
+    'pins: for at in 0..pins.len() {
+        let pin = pins[at];
+        if let Some(best) = found_for(pin, buffers, inverters) {
+            let made = made_of(pin, best);
+            kept.push(made)?;
+            keep_all(reps, pins, at + 1, buffers, inverters, made.pair, kept)?;
+            return Ok(());
+        }
     }
     Ok(())
 }

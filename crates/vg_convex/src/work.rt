@@ -1,9 +1,10 @@
 //! Room to work in.
 
 ghost use Rattle.std.specs.Prelude.{◌≡◌, ◌≤◌, ℕ, OnOk, [], length, None};
+ghost use Rattle.elmore.specs.Allowances.{Allows};
 ghost use Rattle.vg_convex.specs.Answers.{found_at};
 
-use elmore::Pair;
+use elmore::{Allowed, Pair};
 use std::alloc::Global;
 use vg_num::Memory;
 
@@ -63,7 +64,7 @@ impl Work {
     }
 
     /// Takes all results away. Their places stay.
-    fn forget(&mut self)
+    pub(crate) fn forget(&mut self)
         ensures stack { self.new.stack.items ≡ self.old.stack.items }
         ensures rows { length self.new.found.items ≡ length self.old.found.items }
         ensures found { (b : ℕ) → found_at self.new.found.items b ≡ None }
@@ -73,14 +74,18 @@ impl Work {
         }
     }
 
-    /// Empties the stack, and makes a row with places for so many results, which have found nothing.
-    pub(crate) fn clear(&mut self, results: usize) -> Result<(), Memory>
+    /// Empties the stack, and makes a row with places for so many results, in which nothing is found for a repeater that is not
+    /// allowed.
+    pub(crate) fn clear(&mut self, results: usize, allowed: &Allowed) -> Result<(), Memory>
         ensures stack { OnOk result (self.new.stack.items ≡ []) }
         ensures rows { OnOk result (results ≤ length self.new.found.items) }
-        ensures found { OnOk result ((b : ℕ) → found_at self.new.found.items b ≡ None) }
+        ensures none { OnOk result ((b : ℕ) → (Allows allowed.now b → ⊥) → found_at self.new.found.items b ≡ None) }
     {
         self.stack.clear();
-        self.forget();
+        // Where all are allowed, each place is written again.
+        if let Allowed::Only(_) = allowed {
+            self.forget();
+        }
         'results: for _ in self.found.len()..results {
             self.found.push(None)?;
         }

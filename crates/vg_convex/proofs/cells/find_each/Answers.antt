@@ -15,7 +15,7 @@ find_all-requires g c κs within = (
         (
           c.in_ok-clear.ensures.stack,
           (
-            record { room = omega (arith, c.in_ok-clear.ensures.rows); none = λ b _. c.in_ok-clear.ensures.found b },
+            record { room = omega (arith, c.in_ok-clear.ensures.rows); none = c.in_ok-clear.ensures.none },
             (c.requires.shelf, c.requires.allowed),
           ),
         ),
@@ -34,7 +34,7 @@ scan_all-requires g c κs within = (
       (
         c.requires.modest,
         (
-          record { room = omega (arith, c.in_ok-clear.ensures.rows); none = λ b _. c.in_ok-clear.ensures.found b },
+          record { room = omega (arith, c.in_ok-clear.ensures.rows); none = c.in_ok-clear.ensures.none },
           (c.requires.shelf.few, c.requires.allowed),
         ),
       ),

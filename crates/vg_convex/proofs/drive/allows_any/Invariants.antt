@@ -1,6 +1,7 @@
-use Rattle.std.proofs.Common.{ℕ, ◌<◌, slice_index}
+use Rattle.std.proofs.Common.{ℕ, ◌<◌, get_or}
 use Rattle.elmore.specs.Allowances.{Allows}
+use Rattle.vg_convex.specs.declared.shelf.Driver.{Driver}
 use Rattle.vg_convex.proofs.drive.allows_any.Given as goal
 
-abbrev pub invariant-order : goal.invariant-order
-invariant-order l = (i : ℕ) → i < l.rep-index → Allows l.allowed (slice_index l.order i) → ⊥
+abbrev pub invariant-drivers : goal.invariant-drivers
+invariant-drivers l = (i : ℕ) (d : Driver) → i < l.driver-index → Allows l.allowed (get_or l.drivers i d).rep → ⊥

@@ -1,18 +1,23 @@
-use Rattle.std.proofs.Common.{ℕ, ◌+◌, ◌<◌, ◌≤◌, length, slice_index}
-use Rattle.elmore.specs.Cells.{rep_at}
-use Rattle.vg_convex.specs.Answers.{IsAnswer, found_at, IsRow}
-use Rattle.vg_convex.specs.Places.{IsFrontOf}
+use Rattle.std.proofs.Common.{◌+◌, ◌<◌, ◌≤◌, length}
+use Rattle.vg_convex.specs.Answers.{AreServed}
+use Rattle.vg_convex.specs.Places.{AreFrontOf}
 use Rattle.vg_convex.proofs.search.find_each_free.Given as goal
 
-abbrev pub ghost-find_free : goal.ghost-find_free
-ghost-find_free g a = g.xs
+abbrev pub ghost-put_served : goal.ghost-put_served
+ghost-put_served g a = g.xs
 
-abbrev pub invariant-reps : goal.invariant-reps
-invariant-reps g l = record {
-  front : (least : ℕ) × ((j : ℕ) → l.number-index ≤ j → j < length l.order → least ≤ (rep_at l.reps (slice_index l.order j)).r)
-      × IsFrontOf g.xs least l.work.stack.items;
-  row : IsRow l.allowed l.reps l.work.found.items;
-  answers : (i : ℕ) → i < l.number-index → IsAnswer l.allowed l.reps g.xs (slice_index l.order i) (found_at l.work.found.items (slice_index l.order i));
-  others : (b : ℕ) → IsAnswer l.allowed l.reps g.xs b (found_at l.fn.work.found.items b) → IsAnswer l.allowed l.reps g.xs b (found_at l.work.found.items b);
-  cost : l.steps + length l.work.stack.items ≤ l.fn.steps + length l.fn.work.stack.items + l.number-index;
+abbrev pub ghost-put_others : goal.ghost-put_others
+ghost-put_others g a = g.xs
+
+abbrev pub invariant-points : goal.invariant-points
+invariant-points g l = record {
+  some : 0 < l.left;
+  left : l.left ≤ length l.stack;
+  inside : l.at ≤ length l.drivers;
+  front : AreFrontOf g.xs l.stack l.left l.drivers l.at;
+  served : AreServed l.allowed l.reps g.xs l.drivers 0 l.at l.fn.found l.found;
+  cost : l.steps + l.left ≤ l.fn.steps + length l.stack + l.at;
 }
+
+abbrev pub decreases-points : goal.decreases-points
+decreases-points g l = l.left
