@@ -1,4 +1,4 @@
-use Rattle.std.proofs.Common.{◌≡◌, ◌++◌, length, rules, subst, sym, ◌∙◌}
+use Rattle.std.proofs.Common.{◌≡◌, ◌++◌, length, rules, subst, ◌∙◌}
 use Rattle.ver_syntax.specs.Reading.{HasKinds}
 use Rattle.ver_syntax.specs.Rows.{kinds_in}
 use Rattle.ver_syntax.specs.Syntax.{BeginNoModule}

@@ -1,6 +1,5 @@
-use Rattle.std.proofs.Common.{◌≡◌, ◌<◌, ◌∷◌, [], length, sym, ap, subst, ◌∙◌, rules}
+use Rattle.std.proofs.Common.{◌≡◌, ◌<◌, ◌∷◌, length, sym, subst, ◌∙◌, rules}
 use Rattle.ver_items.specs.Kept.{AreCounts}
-use Rattle.ver_items.specs.SectionSteps.{section_in}
 use Rattle.ver_items.proofs.KeptLemmas.{first_kept, next_kept, next_left, others_left, some_kept}
 use Rattle.ver_items.proofs.kept.ItemsAgain.read.Goals as goal
 
