@@ -1,5 +1,5 @@
 -- The nets of stages can be written, with notes that stay where comments are made blank.
-use Rattle.std.proofs.Common.{◌≡◌, ℕ, suc, ◌+◌, ◌<◌, ◌≤◌, ◌^◌, ◌==◌, ◌&&◌, ◌||◌, not, Bool, true, false, cond, List, [], ◌∷◌, length, drop, map, slice_index, refl, sym, ap, ◌∙◌, subst, arith, inl, inr, All}
+use Rattle.std.proofs.Common.{◌≡◌, ℕ, suc, ◌+◌, ◌<◌, ◌≤◌, ◌^◌, ◌==◌, not, Bool, true, false, cond, List, [], ◌∷◌, length, drop, slice_index, refl, sym, ap, ◌∙◌, subst, arith, inl, inr, All}
 use Rattle.std.specs.List.{filter, sum_by}
 use Rattle.std.proofs.lemmas.Bool.{cases_eq, eq-eqb}
 use Rattle.std.proofs.lemmas.List.{length-append, length-drop, length-map}
@@ -11,8 +11,7 @@ use Rattle.spef_nodes.specs.Nodes.{ParNode}
 use Rattle.vg_scan.specs.declared.chars.Chars.{Chars}
 use Rattle.vg_split.specs.Conditions.{IsSplit}
 use Rattle.vg_split.specs.Splits.{Split, IsStageNet, cap_in, ends_in, forest, head, inner_in, is_celled, is_end, node_in, nodes_in, note_in, old_node, repeater_at, res_in, with_cell}
-use Rattle.vg_split.specs.Steps.{cap_row, is_own}
-use Rattle.vg_split.proofs.ChargeLemmas.{small_charge}
+use Rattle.vg_split.proofs.ChargeLemmas.{own_sum, small_charge}
 use Rattle.vg_split.proofs.MemberLemmas.{few_members, members_low}
 use Rattle.vg_split.proofs.NumberedLemmas.{filter_few}
 use Rattle.vg_spliced.specs.Replacements.{HasQuietNotes, IsQuietNet}
@@ -88,18 +87,6 @@ module _ (x : Split) (k : ℕ) where
   abbrev ws : List ℕ
   ws = members (forest x) (head x k)
 
-  -- a stage has the capacitances that are its own
-  own_sum : (us : List ℕ) → sum_by (cap_in x k) us ≡ total (map (cap_row x k) (filter (is_own x k) us))
-  own_sum [] = refl
-  own_sum (u ∷ us) = sum_by-cons (cap_in x k) u us ∙ either (is_celled x u) (u == head x k) (own_sum us)
-    where
-      either : (a b : Bool) → sum_by (cap_in x k) us ≡ total (map (cap_row x k) (filter (is_own x k) us))
-          → cond (a && not b) 0 (total_at x.par.caps (slice_index x.order u)) + sum_by (cap_in x k) us
-          ≡ total (map (cap_row x k) (cond (not a || b) (u ∷ filter (is_own x k) us) (filter (is_own x k) us)))
-      either true true e = omega (arith, e, sum_by-cons (λ (c : ℕ × ℕ). c.1) (cap_row x k u) (map (cap_row x k) (filter (is_own x k) us)))
-      either true false e = omega (arith, e)
-      either false b e = omega (arith, e, sum_by-cons (λ (c : ℕ × ℕ). c.1) (cap_row x k u) (map (cap_row x k) (filter (is_own x k) us)))
-
   few_nodes : length (nodes_in x k) ≤ length x.problem.tree.nodes + length x.problem.tree.nodes
   few_nodes =
       omega (
@@ -131,7 +118,7 @@ module _ (x : Split) (k : ℕ) where
           same,
           sum_by-append (cap_in x k) (ends_in x k) (inner_in x k),
           parts_sum (is_end x) (cap_in x k) ws,
-          own_sum ws,
+          own_sum x k ws,
           small_charge x k is,
           is.charge,
         )
