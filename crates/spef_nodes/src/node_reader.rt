@@ -13,6 +13,7 @@ use crate::node_table::NodeTable;
 use spef_file::SpefIndex;
 use std::alloc::Global;
 use std::marker::Model;
+use vg_names::is_same;
 use vg_num::Memory;
 use vg_scan::NameFault;
 
@@ -143,7 +144,7 @@ impl<'a> NodeReader<'a> {
         if text.len() <= start {
             return None;
         }
-        if &text[..start] != self.prefix {
+        if !is_same(&text[..start], self.prefix) {
             return None;
         }
         let leaf = &text[start..];
@@ -253,7 +254,7 @@ impl<'a> NodeReader<'a> {
         match self.known[slot] {
             None => None,
             Some(known) => {
-                if known.text == text {
+                if is_same(known.text, text) {
                     Some(known.id)
                 } else {
                     None

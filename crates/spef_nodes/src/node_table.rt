@@ -9,7 +9,7 @@ ghost use Rattle.spef_nodes.specs.NodeTables.{node_at, hash_with, bucket_of, nod
 use crate::members::is_inner;
 use std::alloc::Global;
 use std::marker::Model;
-use vg_names::{Chains, Texts};
+use vg_names::{Chains, Texts, is_same};
 use vg_num::Memory;
 
 /// The names of nodes, and chains of those that are in one bucket.
@@ -84,7 +84,7 @@ impl Table {
         requires leaf { at < length self.now.leaves }
         ensures { result ≡ same_node (node_named owner.now leaf.now) (node_at self.now.owners self.now.leaves at) }
     {
-        owner == self.owners.get(at) && leaf == self.leaves.get(at)
+        is_same(owner, self.owners.get(at)) && is_same(leaf, self.leaves.get(at))
     }
 
     /// The number of a node whose bucket is this one. `None`: it is not there.

@@ -3,7 +3,7 @@
 ghost use Rattle.std.specs.Prelude.{◌≡◌, ◌<◌, ◌-◌, ◌^◌, ◌↔◌, Some, length, slice_get, IfOk, IsTrue, OnErr, OnOk};
 ghost use Rattle.vg_names.specs.Distinct.{number_in, with_name};
 
-use vg_names::Names;
+use vg_names::{Names, is_same};
 use vg_num::Memory;
 
 /// The most names that a table takes.
@@ -28,7 +28,7 @@ pub fn name_number(names: &mut Names, name: &[u8]) -> Result<u32, Memory>
 fn is_number(names: &Names, id: u32, name: &[u8]) -> bool
     ensures { IsTrue result ↔ (slice_get names.now id ≡ Some name.now) }
 {
-    (id as usize) < names.len() && names.name(id) == name
+    (id as usize) < names.len() && is_same(names.name(id), name)
 }
 
 /// The number of a name, which is put last where it is new. The names of numbers that it may have are compared with it first: a

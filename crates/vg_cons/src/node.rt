@@ -7,6 +7,7 @@ ghost use Rattle.std.specs.Cmp.Rules.{hashing};
 ghost use Rattle.std.proofs.Common.{rules};
 
 use indexmap::Equivalent;
+use vg_names::is_same;
 use vg_scan::NodeName;
 
 /// A node by the texts of its name, which stand elsewhere: its rows are found without a copy of the name. A port has an empty leaf.
@@ -36,6 +37,6 @@ impl Equivalent<NodeName> for NodeRef<'_> {
     ghost respects_eq = { Prim.search (hashing, rules) };
 
     fn equivalent(&self, key: &NodeName) -> bool {
-        self.owner == key.owner.as_bytes() && self.leaf == key.leaf.as_bytes()
+        is_same(self.owner, key.owner.as_bytes()) && is_same(self.leaf, key.leaf.as_bytes())
     }
 }

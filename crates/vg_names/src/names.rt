@@ -9,6 +9,7 @@ ghost use Rattle.vg_names.specs.NameTables.{AreDistinct, hashes_of, IsTable};
 
 use crate::hash::hash_of;
 use crate::hash_chains::{HashChains, Link};
+use crate::same::is_same;
 use crate::texts::Texts;
 use std::alloc::Global;
 use std::marker::Model;
@@ -47,7 +48,7 @@ fn is_named(texts: &Texts, link: Link, name: &[u8], hash: u32) -> bool
     requires hash { hash ≡ hash_of name.now }
     ensures { IsTrue result ↔ (slice_index_or texts.now (link.next - 1) [] ≡ name.now) }
 {
-    link.hash == hash && texts.get(link.next as usize - 1) == name
+    link.hash == hash && is_same(texts.get(link.next as usize - 1), name)
 }
 
 /// The number of a name of this hash. `None`: it is not there.

@@ -8,8 +8,8 @@ pub returns-then-id-len : goal.returns-then-id-len
 returns-then-id-len c =
     let low : c.args.id < length c.args.names.now = omega (arith, c.len.ensures, c.if-id-len.true) in
     let (same, equal) = bytes_eq-Decides c.name.result.now c.args.name.now in (
-      λ yes. slice_get-get_or c.args.names.now c.args.id [] low ∙ ap Some (sym c.name.ensures ∙ same (sym c.eq.ensures ∙ yes)),
-      λ found. c.eq.ensures ∙ equal (c.name.ensures ∙ get_or_from_slice_get c.args.names.now c.args.id c.args.name.now [] found),
+      λ yes. slice_get-get_or c.args.names.now c.args.id [] low ∙ ap Some (sym c.name.ensures ∙ same (sym c.is_same.ensures ∙ yes)),
+      λ found. c.is_same.ensures ∙ equal (c.name.ensures ∙ get_or_from_slice_get c.args.names.now c.args.id c.args.name.now [] found),
     )
 
 pub returns-else-id-len : goal.returns-else-id-len
