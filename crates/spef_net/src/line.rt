@@ -1,6 +1,6 @@
 //! Heads of parts, and notes.
 
-ghost use Rattle.std.specs.Prelude.{◌≡◌, ◌≤◌, ◌∷◌, length, drop};
+ghost use Rattle.std.specs.Prelude.{◌≡◌, ◌≤◌, ◌∷◌, false, length, drop, None};
 ghost use Rattle.std.specs.List.{position, position_or_len};
 ghost use Rattle.vg_scan.specs.Lines.{is_blank, is_ink};
 ghost use Rattle.spef_net.specs.Lines.{part_named, head_of, is_solid, after_word, without_end, trimmed, note_after};
@@ -25,10 +25,20 @@ fn part_named(word: &[u8]) -> Option<Part>
     }
 }
 
+/// Whether a word begins with a `*`, as the heads of parts do.
+fn may_be_head(word: &[u8]) -> bool
+    ensures { result ≡ false → part_named word.now ≡ None }
+{
+    !word.is_empty() && word[0] == b'*'
+}
+
 /// The part that a line opens, by its first word and the others.
 pub(crate) fn head_of(first: &[u8], others: &Words) -> Option<Part>
     ensures { result ≡ head_of (first.now ∷ others.now) }
 {
+    if !may_be_head(first) {
+        return None;
+    }
     let part = part_named(first)?;
     if others.is_empty() { Some(part) } else { None }
 }
