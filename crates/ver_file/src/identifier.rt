@@ -39,9 +39,12 @@ pub(crate) fn room_for_names(text_len: usize) -> usize
     (text_len / BYTES_A_NAME).max(few)
 }
 
-/// The most bytes of a text whose items are kept, so that its tokens are cut once. A kept token takes 24 bytes, and is some three
+/// The most bytes of a text whose items are kept, so that its tokens are cut once. A kept token takes 12 bytes, and is some three
 /// bytes of a text.
 const MOST_KEPT: usize = 1 << 21;
+
+/// How many bytes a token has, or more: what room is taken for.
+const BYTES_A_TOKEN: usize = 2;
 
 /// The greatest place that is kept.
 const MOST: usize = 0xFFFF_FFFF;
@@ -130,15 +133,15 @@ impl Use {
     }
 }
 
-/// No items, where those of a text of this length are kept.
-fn room_for_items(alloc: Global, text_len: usize) -> Option<KeptItems>
-    ensures { IfSome result (λ kept. kept ≡ []) }
+/// No items, where those of a text of this length are kept. Answers `Memory` where there is no room.
+fn room_for_items(alloc: Global, text_len: usize) -> Result<Option<KeptItems>, Memory>
+    ensures { IfOk result (λ room. IfSome room (λ kept. kept ≡ [])) }
 {
-    if text_len <= MOST_KEPT {
-        Some(KeptItems::new(alloc))
-    } else {
-        None
+    if text_len > MOST_KEPT {
+        return Ok(None);
     }
+    let kept = KeptItems::with_room(alloc, text_len / BYTES_A_TOKEN)?;
+    Ok(Some(kept))
 }
 
 /// With an item last, where items are kept. Answers `Memory` where there is no room.
@@ -249,7 +252,7 @@ impl Identifiers {
         ensures none { IfOk result (λ found. IfNone found (IsModule text.now → ⊥)) }
     {
         let mut found = Identifiers::new(alloc, text.len())?;
-        let mut kept = room_for_items(alloc, text.len());
+        let mut kept = room_for_items(alloc, text.len())?;
         let mut machine = Machine::new(alloc);
         let mut items = Items::new(text);
         let mut item = Vec::new(alloc);

@@ -24,7 +24,7 @@ item-init c =
         subst (λ (rows : List Row). AreRead text rows [] c.in_ok-found.found) (sym (ap rows_in c.new-items.ensures ∙ items_hold text)) (c.in_ok-found.ensures.read text),
         ap (flat_map (declared_by text)) (sym c.new-items.ensures),
       );
-      kept = kept_begun c.room_for_items-kept.result (items text) c.new-items.result c.room_for_items-kept.ensures c.new-items.ensures;
+      kept = kept_begun c.in_ok-kept.kept (items text) c.new-items.result c.in_ok-kept.ensures c.new-items.ensures;
       kinds = ([], c.new-machine.ensures, sym (ap (λ its. kinds_in (rows_in its)) c.new-items.ensures ∙ ap kinds_in (items_hold text) ∙ kinds_kept text));
     }
 
