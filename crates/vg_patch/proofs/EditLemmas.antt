@@ -1,41 +1,59 @@
 -- Texts of which parts are replaced.
-use Rattle.std.proofs.Common.{◌≡◌, ℕ, zero, suc, ◌+◌, ◌-◌, ◌<◌, ◌≤◌, List, [], ◌∷◌, ◌++◌, length, take, drop, map, get_or, arith, refl, sym, subst, ap, ◌∙◌}
-use Rattle.std.proofs.lemmas.List.{take-append-drop, drop-drop, drop-take, take-take, append_assoc}
-use Rattle.vg_scan.specs.declared.lines.Span.{Span}
+use Rattle.std.proofs.Common.{◌≡◌, ℕ, zero, suc, ◌+◌, ◌-◌, ◌<◌, ◌≤◌, List, [], ◌∷◌, ◌++◌, length, take, drop, map, get_or, arith, refl, sym, ap, ◌∙◌, length-append, length-drop}
+use Rattle.std.specs.List.{All}
+use Rattle.std.proofs.Math.Seq.{drop-append_seam, take-length}
+use Rattle.std.proofs.lemmas.List.{take-append-drop, take-append-le, drop-append-le, drop-drop, drop-take, take-take, append_assoc, length-map, map-append}
+use Rattle.std.proofs.lemmas.List.Elements.{All-append, All-cons, All-nil, All-weaker}
 use Rattle.vg_scan.specs.Lines.{part}
-use Rattle.vg_patch.specs.Edits.{Edit, Rise, end_of, patched_from}
-use Rattle.vg_patch.specs.Rows.{edits_of, AreRows}
+use Rattle.vg_patch.specs.Edits.{Edit, Rise, edit_of, end_of, patched_from}
+use Rattle.vg_patch.specs.Rows.{edit_in, IsRow}
 use Rattle.vg_patch.specs.Laws.{kept}
+use Rattle.vg_patch.specs.declared.patch.Row.{Row}
 
 -- ---- rows
 
-pub length-edits_of : (parts : List Span) (texts : List (List ℕ)) → length texts ≡ length parts → length (edits_of parts texts) ≡ length parts
-unfolding edits_of
-length-edits_of [] texts e = refl
-length-edits_of (p ∷ parts) [] e = absurd (omega (arith, e))
-length-edits_of (p ∷ parts) (t ∷ texts) e = ap suc (length-edits_of parts texts (omega (arith, e)))
+-- a part stays where bytes are appended
+pub part_stays : (text more : List ℕ) (from to : ℕ) → from ≤ to → to ≤ length text → part (text ++ more) from to ≡ part text from to
+part_stays text more from to low high =
+    ap (take (to - from)) (drop-append-le from text more (omega (arith, low, high)))
+    ∙ take-append-le (to - from) (drop from text) more (omega (arith, high, length-drop from text))
 
--- a part and a text more
-pub edits_more : (parts : List Span) (texts : List (List ℕ)) (p : Span) (t : List ℕ) → length texts ≡ length parts
-    → edits_of (parts ++ p ∷ []) (texts ++ t ∷ []) ≡ edits_of parts texts ++ record { from = p.from; to = p.to; text = t } ∷ []
-unfolding edits_of
-edits_more [] [] p t e = refl
-edits_more [] (u ∷ texts) p t e = absurd (omega (arith, e))
-edits_more (q ∷ parts) [] p t e = absurd (omega (arith, e))
-edits_more (q ∷ parts) (u ∷ texts) p t e = ap (λ es. record { from = q.from; to = q.to; text = u } ∷ es) (edits_more parts texts p t (omega (arith, e)))
+-- the bytes that are appended
+pub part_last : (text more : List ℕ) → part (text ++ more) (length text) (length (text ++ more)) ≡ more
+part_last text more =
+    let count : length (text ++ more) - length text ≡ length more = omega (arith, length-append text more) in
+    ap (λ n. take n (drop (length text) (text ++ more))) count ∙ ap (take (length more)) (drop-append_seam text more) ∙ take-length more
 
-pub no_edits : (texts : List (List ℕ)) → edits_of [] texts ≡ []
-unfolding edits_of
-no_edits texts = refl
+edits_stay : (text more : List ℕ) (rows : List Row) → All (IsRow (length text)) rows → map (edit_in (text ++ more)) rows ≡ map (edit_in text) rows
+edits_stay text more [] all = refl
+edits_stay text more (r ∷ rows) all =
+    let is = all 0 r (omega arith) in
+    ap (λ (bytes : List ℕ). edit_of r.part bytes ∷ map (edit_in (text ++ more)) rows) (part_stays text more r.from r.to is.rise is.within)
+    ∙ ap (λ (edits : List Edit). edit_in text r ∷ edits) (edits_stay text more rows (λ i d low. all (suc i) d (omega (arith, low))))
+
+-- a part and its text more
+pub edits_more : (text more : List ℕ) (rows : List Row) (r : Row) → All (IsRow (length text)) rows → r.from ≡ length text → r.to ≡ length (text ++ more)
+    → map (edit_in (text ++ more)) (rows ++ r ∷ []) ≡ map (edit_in text) rows ++ edit_of r.part more ∷ []
+edits_more text more rows r all from to =
+    let own : part (text ++ more) r.from r.to ≡ more = ap (λ n. part (text ++ more) n r.to) from ∙ ap (part (text ++ more) (length text)) to ∙ part_last text more in
+    map-append (edit_in (text ++ more)) rows (r ∷ [])
+    ∙ ap (λ (edits : List Edit). edits ++ edit_in (text ++ more) r ∷ []) (edits_stay text more rows all)
+    ∙ ap (λ (bytes : List ℕ). map (edit_in text) rows ++ edit_of r.part bytes ∷ []) own
+
+-- rows stand in a longer text, and one more
+pub stand_more : (text more : List ℕ) (rows : List Row) (r : Row) → All (IsRow (length text)) rows → r.from ≡ length text → r.to ≡ length (text ++ more)
+    → All (IsRow (length (text ++ more))) (rows ++ r ∷ [])
+stand_more text more rows r all from to =
+    let longer = length-append text more in
+    All-append (IsRow (length (text ++ more))) rows (r ∷ [])
+    (All-weaker (IsRow (length text)) (IsRow (length (text ++ more))) (λ row is. record { rise = is.rise; within = omega (arith, longer, is.within) }) rows all)
+    (All-cons (IsRow (length (text ++ more))) r [] (record { rise = omega (arith, from, to, longer); within = omega (arith, to) }) (All-nil (IsRow (length (text ++ more)))))
 
 -- from a part on
-pub drop-edits_of : (parts : List Span) (texts : List (List ℕ)) (n : ℕ) (none : Span) → length texts ≡ length parts → n < length parts
-    → drop n (edits_of parts texts) ≡ record { from = (get_or parts n none).from; to = (get_or parts n none).to; text = get_or texts n [] } ∷ drop (suc n) (edits_of parts texts)
-unfolding edits_of
-drop-edits_of [] texts n none e l = absurd (omega (arith, l))
-drop-edits_of (p ∷ parts) [] n none e l = absurd (omega (arith, e))
-drop-edits_of (p ∷ parts) (t ∷ texts) zero none e l = refl
-drop-edits_of (p ∷ parts) (t ∷ texts) (suc n) none e l = drop-edits_of parts texts n none (omega (arith, e)) (omega (arith, l))
+drop-map : (f : Row → Edit) (rows : List Row) (n : ℕ) (none : Row) → n < length rows → drop n (map f rows) ≡ f (get_or rows n none) ∷ drop (suc n) (map f rows)
+drop-map f [] n none l = absurd (omega (arith, l))
+drop-map f (r ∷ rows) zero none l = refl
+drop-map f (r ∷ rows) (suc n) none l = drop-map f rows n none (omega (arith, l))
 
 -- ---- parts one after another
 
@@ -101,15 +119,15 @@ split text at (f ∷ edits) later e h =
 -- ---- one part after another
 
 -- the edits from a number on
-pub next_edit : (parts : List Span) (texts : List (List ℕ)) (edits : List Edit) (n : ℕ) (p : Span) → AreRows parts texts → edits_of parts texts ≡ edits → n < length edits
-    → p ≡ get_or parts n p → drop n edits ≡ record { from = p.from; to = p.to; text = get_or texts n [] } ∷ drop (n + 1) edits
-next_edit parts texts edits n p h v l is =
-    let within : n < length parts = omega (arith, l, ap length v, length-edits_of parts texts h.count) in
+pub next_edit : (text : List ℕ) (rows : List Row) (edits : List Edit) (n : ℕ) (r : Row) → map (edit_in text) rows ≡ edits → n < length edits → r ≡ get_or rows n r
+    → drop n edits ≡ edit_in text r ∷ drop (n + 1) edits
+next_edit text rows edits n r v l is =
+    let within : n < length rows = omega (arith, l, ap length v, length-map rows (edit_in text)) in
     let more : suc n ≡ n + 1 = omega arith in
-    ap (drop n) (sym v) ∙ drop-edits_of parts texts n p h.count within
-    ∙ ap (λ (q : Span). record { from = q.from; to = q.to; text = get_or texts n [] } ∷ drop (suc n) (edits_of parts texts)) (sym is)
-    ∙ ap (λ k. record { from = p.from; to = p.to; text = get_or texts n [] } ∷ drop k (edits_of parts texts)) more
-    ∙ ap (λ es. record { from = p.from; to = p.to; text = get_or texts n [] } ∷ drop (n + 1) es) v
+    ap (drop n) (sym v) ∙ drop-map (edit_in text) rows n r within
+    ∙ ap (λ (q : Row). edit_in text q ∷ drop (suc n) (map (edit_in text) rows)) (sym is)
+    ∙ ap (λ k. edit_in text r ∷ drop k (map (edit_in text) rows)) more
+    ∙ ap (λ es. edit_in text r ∷ drop (n + 1) es) v
 
 -- no part is left behind the last
 pub all_dropped : (edits : List Edit) (n : ℕ) → length edits ≤ n → drop n edits ≡ []

@@ -1,15 +1,20 @@
 -- Parts and texts, as a patch keeps them: for the functions between.
-use Rattle.std.specs.Prelude.{◌≡◌, ℕ, List, [], ◌∷◌, length}
-use Rattle.vg_scan.specs.declared.lines.Span.{Span}
+use Rattle.std.specs.Prelude.{ℕ, ◌≤◌, List, length, map}
+use Rattle.std.specs.List.{All}
+use Rattle.vg_scan.specs.Lines.{part}
 use Rattle.vg_patch.specs.Edits.{Edit, Rise, end_of}
+use Rattle.vg_patch.specs.declared.patch.Row.{Row}
 
--- each part with what is to stand in its place
-unfoldable pub edits_of : List Span → List (List ℕ) → List Edit
-edits_of [] texts = []
-edits_of (p ∷ parts) [] = []
-edits_of (p ∷ parts) (t ∷ texts) = record { from = p.from; to = p.to; text = t } ∷ edits_of parts texts
+-- a part with what is to stand in its place, which stands in a text
+abbrev pub edit_in : List ℕ → Row → Edit
+edit_in text r = record { from = r.part.from; to = r.part.to; text = part text r.from r.to }
 
--- there are as many texts as parts, and the parts stand one after another
-pub record AreRows (parts : List Span) (texts : List (List ℕ)) : Type 0 where
-  pub count : length texts ≡ length parts
-  pub rise : Rise 0 (end_of (edits_of parts texts)) (edits_of parts texts)
+-- it stands in a text of this length
+pub record IsRow (end : ℕ) (r : Row) : Type 0 where
+  pub rise : r.from ≤ r.to
+  pub within : r.to ≤ end
+
+-- all stand in a text, and the parts stand one after another
+pub record AreRows (text : List ℕ) (rows : List Row) : Type 0 where
+  pub stand : All (IsRow (length text)) rows
+  pub rise : Rise 0 (end_of (map (edit_in text) rows)) (map (edit_in text) rows)
