@@ -21,7 +21,7 @@ use Rattle.ver_syntax.proofs.FaultLemmas.{no_stray}
 use Rattle.ver_syntax.proofs.ReadLemmas.{stray}
 use Rattle.ver_syntax.proofs.PlaceLemmas.{start, stopped}
 use Rattle.ver_module.specs.Netlists.{Net}
-use Rattle.ver_patch.specs.declared.text.NewCell.{NewCell}
+use Rattle.ver_patch.specs.NewCells.{NewCell}
 use Rattle.ver_words.specs.NewWords.{cell_words, net_words, pin_words, select_words, wire_words, word}
 use Rattle.ver_words.specs.Texts.{IsNetText, IsNewCell}
 use Rattle.ver_words.specs.Words.{Word, WordEdit, word_in, words_of, words_with}

@@ -20,8 +20,8 @@ use Rattle.ver_net.specs.declared.pin_ref.PinRef.{PinRef}
 use Rattle.ver_patch.specs.Patches.{inserted, rewired}
 use Rattle.ver_patch.specs.Pins.{IsOnOneNet, span_at}
 use Rattle.ver_patch.specs.Texts.{cell_texts, wire_texts}
-use Rattle.ver_patch.specs.declared.text.NewCell.{NewCell}
-use Rattle.ver_patch.specs.declared.text.Rewire.{Rewire}
+use Rattle.ver_patch.specs.NewCells.{NewCell}
+use Rattle.ver_patch.specs.Rewires.{Rewire}
 use Rattle.ver_patch.proofs.LawLemmas.{heads_end_first, span_is, spans_rise, spans_stand}
 use Rattle.ver_again.specs.Laws.{ModulesStay, WordsArePatched}
 use Rattle.ver_words.specs.NewWords.{cell_words, inserted_words, rewired_words, wire_words}

@@ -6,8 +6,8 @@ use Rattle.ver_module.specs.Netlists.{Netlist}
 use Rattle.ver_file.specs.Modules.{Denotes}
 use Rattle.ver_patch.specs.Patches.{IsPatched}
 use Rattle.ver_patch.specs.Pins.{AreRewirable}
-use Rattle.ver_patch.specs.declared.text.NewCell.{NewCell}
-use Rattle.ver_patch.specs.declared.text.Rewire.{Rewire}
+use Rattle.ver_patch.specs.NewCells.{NewCell}
+use Rattle.ver_patch.specs.Rewires.{Rewire}
 use Rattle.ver_words.specs.NewWords.{changes_of}
 use Rattle.ver_words.specs.Texts.{AreWritten}
 use Rattle.ver_words.specs.Words.{words_of, words_with}

@@ -12,7 +12,7 @@ use Rattle.ver_syntax.specs.Laws.{place_after_all}
 use Rattle.ver_syntax.specs.Rows.{place_after}
 use Rattle.ver_items.specs.Sections.{Section, instances_in, is_name_in, is_place, pins_in, sections, stands_in}
 use Rattle.ver_patch.proofs.StandLemmas.{no_sections}
-use Rattle.ver_patch.specs.declared.text.NewCell.{NewCell}
+use Rattle.ver_patch.specs.NewCells.{NewCell}
 use Rattle.ver_words.specs.NewWords.{cell_words, pin_words, word}
 use Rattle.ver_words.specs.Texts.{IsNetText, IsNewCell}
 use Rattle.ver_words.specs.Words.{Word, words_of}

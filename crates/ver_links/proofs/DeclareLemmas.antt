@@ -21,8 +21,8 @@ use Rattle.ver_items.specs.Declarations.{Declared, begins_declaration, declarati
 use Rattle.ver_items.specs.Sections.{Section, items, is_net_name, is_net_place, is_place, number_at, sections, stands_in}
 use Rattle.ver_patch.proofs.FrameLemmas.{Follow}
 use Rattle.ver_patch.proofs.StandLemmas.{before_others, no_sections, sections_by}
-use Rattle.ver_patch.specs.declared.text.NewCell.{NewCell}
-use Rattle.ver_patch.specs.declared.text.Rewire.{Rewire}
+use Rattle.ver_patch.specs.NewCells.{NewCell}
+use Rattle.ver_patch.specs.Rewires.{Rewire}
 use Rattle.ver_module.specs.Netlists.{Netlist}
 use Rattle.ver_file.proofs.ListLemmas.{flat_map-append}
 use Rattle.ver_words.specs.NewWords.{wire_words, word}

@@ -16,8 +16,8 @@ use Rattle.ver_syntax.proofs.PlaceLemmas.{items_stand}
 use Rattle.ver_items.specs.Sections.{Section, is_place, items, sections, stands_in}
 use Rattle.ver_module.specs.Netlists.{Netlist}
 use Rattle.ver_patch.specs.Pins.{IsOnOneNet, span_at}
-use Rattle.ver_patch.specs.declared.text.NewCell.{NewCell}
-use Rattle.ver_patch.specs.declared.text.Rewire.{Rewire}
+use Rattle.ver_patch.specs.NewCells.{NewCell}
+use Rattle.ver_patch.specs.Rewires.{Rewire}
 use Rattle.ver_patch.proofs.LawLemmas.{heads_end_first}
 use Rattle.ver_patch.proofs.StandLemmas.{no_sections}
 use Rattle.ver_words.specs.NewWords.{cell_words, inserted_words, rewired_words, wire_words}

@@ -19,8 +19,8 @@ use Rattle.ver_file.proofs.ListLemmas.{flat_map-append}
 use Rattle.ver_file.proofs.NetLemmas.{no_mapped}
 use Rattle.ver_net.specs.declared.pin_ref.PinRef.{PinRef}
 use Rattle.ver_patch.specs.Pins.{IsOnOneNet}
-use Rattle.ver_patch.specs.declared.text.NewCell.{NewCell}
-use Rattle.ver_patch.specs.declared.text.Rewire.{Rewire}
+use Rattle.ver_patch.specs.NewCells.{NewCell}
+use Rattle.ver_patch.specs.Rewires.{Rewire}
 use Rattle.ver_patch.proofs.StandLemmas.{no_sections}
 use Rattle.ver_words.specs.Texts.{IsNewCell}
 use Rattle.ver_words.specs.Words.{words_of}

@@ -16,7 +16,7 @@ use Rattle.ver_file.specs.Netlists.{link_of}
 use Rattle.ver_net.specs.Laws.{IsBefore}
 use Rattle.ver_net.specs.declared.pin_ref.PinRef.{PinRef}
 use Rattle.ver_patch.specs.Pins.{IsOnOneNet, span_at}
-use Rattle.ver_patch.specs.declared.text.Rewire.{Rewire}
+use Rattle.ver_patch.specs.Rewires.{Rewire}
 use Rattle.ver_patch.proofs.LawLemmas.{span_is, spans_rise, spans_stand}
 use Rattle.ver_words.specs.Words.{words_of}
 use Rattle.ver_words.proofs.TextLemmas.{Each}

@@ -24,8 +24,8 @@ use Rattle.ver_file.specs.Modules.{Denotes}
 use Rattle.ver_net.specs.Laws.{IsBefore}
 use Rattle.ver_net.specs.declared.pin_ref.PinRef.{PinRef}
 use Rattle.ver_patch.specs.Pins.{IsOnOneNet, span_at}
-use Rattle.ver_patch.specs.declared.text.NewCell.{NewCell}
-use Rattle.ver_patch.specs.declared.text.Rewire.{Rewire}
+use Rattle.ver_patch.specs.NewCells.{NewCell}
+use Rattle.ver_patch.specs.Rewires.{Rewire}
 use Rattle.ver_patch.proofs.LawLemmas.{spans_stand}
 use Rattle.ver_words.specs.NewWords.{cell_words, inserted_words, rewired_words}
 use Rattle.ver_words.specs.Texts.{IsNetText}

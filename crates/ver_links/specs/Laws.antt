@@ -4,8 +4,8 @@ use Rattle.std.specs.List.{All, Contains}
 use Rattle.ver_items.specs.Declarations.{declared_of, range_in}
 use Rattle.ver_module.specs.Netlists.{Netlist}
 use Rattle.ver_net.specs.declared.pin_ref.PinRef.{PinRef}
-use Rattle.ver_patch.specs.declared.text.NewCell.{NewCell}
-use Rattle.ver_patch.specs.declared.text.Rewire.{Rewire}
+use Rattle.ver_patch.specs.NewCells.{NewCell}
+use Rattle.ver_patch.specs.Rewires.{Rewire}
 use Rattle.ver_words.specs.Texts.{IsNetText}
 use Rattle.ver_again.specs.Laws.{IsChanged}
 use Rattle.ver_links.specs.Declared.{AreDeclared}

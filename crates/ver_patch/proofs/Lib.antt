@@ -6,3 +6,4 @@ pub mod HeadLemmas
 pub mod LawLemmas
 pub mod OrderLemmas
 pub mod RiseLemmas
+pub mod PlaceLemmas

@@ -1,7 +1,7 @@
 -- Edits of a netlist's text stand one after another.
 use Rattle.std.proofs.Common.{◌≡◌, ℕ, suc, ◌<◌, ◌≤◌, List, [], ◌∷◌, ◌++◌, map, length, get_or, take, drop, sym, ap, ◌∙◌, subst, arith}
 use Rattle.std.specs.List.{All, AllPairs}
-use Rattle.std.proofs.lemmas.List.{append_assoc, get_or_read, map-append, take-append-drop}
+use Rattle.std.proofs.lemmas.List.{append_assoc, map-append, take-append-drop}
 use Rattle.std.proofs.lemmas.List.Elements.{All-head, All-tail}
 use Rattle.std.proofs.lemmas.List.Sorted.{All-permutation}
 use Rattle.std.proofs.Math.Seq.{drop-cons}
@@ -10,15 +10,15 @@ use Rattle.vg_scan.specs.declared.lines.Span.{Span}
 use Rattle.ver_module.specs.Netlists.{IsSound, Netlist}
 use Rattle.ver_net.specs.Laws.{IsBefore}
 use Rattle.ver_net.specs.declared.pin_ref.PinRef.{PinRef}
-use Rattle.ver_patch.specs.declared.text.NewCell.{NewCell}
-use Rattle.ver_patch.specs.declared.text.Rewire.{Rewire}
+use Rattle.ver_patch.specs.NewCells.{NewCell}
+use Rattle.ver_patch.specs.Rewires.{Rewire}
 use Rattle.ver_patch.specs.Laws.{HeadsEndFirst, SpansRise, SpansStand, StandsBetween}
 use Rattle.ver_file.specs.Modules.{Denotes}
 use Rattle.ver_patch.specs.Orders.{InOrder, rewire_at, rewires_at}
 use Rattle.ver_patch.specs.Patches.{edits_of, inserted, rewired}
 use Rattle.ver_patch.specs.Pins.{AreRewirable, IsOnOneNet, span_at}
 use Rattle.ver_patch.specs.Texts.{cell_texts, wire_texts}
-use Rattle.ver_patch.proofs.OrderLemmas.{none, pins_rise}
+use Rattle.ver_patch.proofs.OrderLemmas.{pins_rise}
 
 -- ---- edits
 
@@ -67,13 +67,12 @@ next_rewire netlist rewires order old k end low h =
     ∙ sym (append_assoc old before (e ∷ later)) in
     next_edit (old ++ before) e later 0 end (subst (Rise 0 end) parts h)
 
-pub next_span : (netlist : Netlist) (rewires : List Rewire) (order : List ℕ) (old now : List Edit) (k end : ℕ) (x : Rewire) (span : Span) → k < length order
-    → get_or order k 0 < length rewires → x ≡ get_or rewires (get_or order k 0) x → Rise 0 end (old ++ made netlist rewires order)
-    → now ≡ old ++ made netlist rewires (take k order) → span ≡ span_at netlist x.at → (end_of now ≤ span.from) × (span.from ≤ span.to)
-next_span netlist rewires order old now k end x span low within is h now_is span_is =
+pub next_span : (netlist : Netlist) (rewires : List Rewire) (order : List ℕ) (old now : List Edit) (k end : ℕ) (at : PinRef) (span : Span) → k < length order
+    → Rise 0 end (old ++ made netlist rewires order) → now ≡ old ++ made netlist rewires (take k order) → at ≡ (rewire_at rewires (get_or order k 0)).at
+    → span ≡ span_at netlist at → (end_of now ≤ span.from) × (span.from ≤ span.to)
+next_span netlist rewires order old now k end at span low h now_is at_is span_is =
     let next = next_rewire netlist rewires order old k end low h in
-    let same : span ≡ span_at netlist (rewire_at rewires (get_or order k 0)).at
-    = span_is ∙ ap (λ (r : Rewire). span_at netlist r.at) (get_or_read rewires (get_or order k 0) x within is none) in
+    let same : span ≡ span_at netlist (rewire_at rewires (get_or order k 0)).at = span_is ∙ ap (span_at netlist) at_is in
     let behind = next.behind in
     let own = next.own in
     (omega (arith, ap end_of now_is, ap (λ (s : Span). s.from) same, behind), omega (arith, ap (λ (s : Span). s.from) same, ap (λ (s : Span). s.to) same, own))

@@ -1,3 +1,7 @@
+pub mod Rewires
+pub mod NewCells
+pub mod RewirePlaces
+pub mod CellPlaces
 pub mod Texts
 pub mod Pins
 pub mod Patches

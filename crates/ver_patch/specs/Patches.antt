@@ -7,8 +7,8 @@ use Rattle.ver_module.specs.Netlists.{Netlist}
 use Rattle.ver_net.specs.Laws.{IsBefore}
 use Rattle.ver_patch.specs.Pins.{span_at}
 use Rattle.ver_patch.specs.Texts.{wire_texts, cell_texts}
-use Rattle.ver_patch.specs.declared.text.Rewire.{Rewire}
-use Rattle.ver_patch.specs.declared.text.NewCell.{NewCell}
+use Rattle.ver_patch.specs.Rewires.{Rewire}
+use Rattle.ver_patch.specs.NewCells.{NewCell}
 
 -- its connection is the new net
 abbrev pub rewired : Netlist → Rewire → Edit

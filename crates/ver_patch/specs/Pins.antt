@@ -6,7 +6,7 @@ use Rattle.ver_module.specs.declared.link.Link.TheVariants.{One}
 use Rattle.ver_module.specs.Netlists.{Netlist, Pin}
 use Rattle.ver_net.specs.Laws.{HasLink}
 use Rattle.ver_net.specs.declared.pin_ref.PinRef.{PinRef}
-use Rattle.ver_patch.specs.declared.text.Rewire.{Rewire}
+use Rattle.ver_patch.specs.Rewires.{Rewire}
 
 -- a pin is linked to one net
 abbrev pub IsOnOneNet : Netlist → PinRef → Type 0

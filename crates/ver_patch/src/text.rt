@@ -9,33 +9,18 @@ ghost use Rattle.ver_patch.specs.Patches.{AreEditsFor, inserted, rewired};
 ghost use Rattle.ver_patch.specs.Pins.{AreRewirable, IsOnOneNet, span_at};
 ghost use Rattle.ver_patch.specs.Texts.{cell_texts, wire_texts};
 
+use crate::cells::NewCells;
 use crate::laws::spans_rise;
 use crate::order::in_order;
 use crate::print::{print_cells, print_wires};
+use crate::rewires::Rewires;
 use std::alloc::Global;
 use ver_module::Module;
 use ver_net::PinRef;
+use vg_names::Texts;
 use vg_num::Memory;
 use vg_patch::Patch;
-use vg_scan::{Name, Span};
-
-/// A pin that is linked to one net, and the text of the net that it is to be linked to.
-#[derive(Drop)]
-pub struct Rewire {
-    pub at: PinRef,
-    pub net: Name,
-}
-
-/// An instance that is put in: its cell, its own name, the cell's input and output pin, and the texts of the nets at them.
-#[derive(Drop)]
-pub struct NewCell {
-    pub cell: Name,
-    pub name: Name,
-    pub input: Name,
-    pub output: Name,
-    pub from: Name,
-    pub to: Name,
-}
+use vg_scan::Span;
 
 /// Where the connection of a pin stands.
 fn span_of(netlist: &Module, at: PinRef) -> Span
@@ -48,11 +33,11 @@ fn span_of(netlist: &Module, at: PinRef) -> Span
 }
 
 /// Puts a text in at a place behind all other edits.
-fn insert(edits: &mut Patch, at: usize, text: &[u8]) -> Result<(), Memory>
+fn insert(edits: &mut Patch, at: usize, text: Vec<u8>) -> Result<(), Memory>
     requires { end_of edits.old ≤ at }
-    ensures { OnOk result (edits.new ≡ edits.old ++ inserted at text.now ∷ []) }
+    ensures { OnOk result (edits.new ≡ edits.old ++ inserted at text.items ∷ []) }
 {
-    edits.replace(Span { from: at, to: at }, text)?;
+    edits.replace_by(Span { from: at, to: at }, text)?;
     Ok(())
 }
 
@@ -60,7 +45,7 @@ fn insert(edits: &mut Patch, at: usize, text: &[u8]) -> Result<(), Memory>
 fn put_wires(
     alloc: Global,
     netlist: &Module,
-    wires: &[Name],
+    wires: &Texts,
     edits: &mut Patch,
 ) -> Result<(), Memory>
     requires { end_of edits.old ≤ netlist.now.head_end }
@@ -68,14 +53,14 @@ fn put_wires(
 {
     let mut text = Vec::new(alloc);
     print_wires(wires, &mut text)?;
-    insert(edits, netlist.head_end(), &text)?;
+    insert(edits, netlist.head_end(), text)?;
     Ok(())
 }
 
 /// Makes the connections anew, in this order.
 fn put_rewires(
     netlist: &Module,
-    rewires: &[Rewire],
+    rewires: &Rewires,
     order: &[usize],
     edits: &mut Patch,
 ) -> Result<(), Memory>
@@ -86,8 +71,7 @@ fn put_rewires(
     ensures rise { OnOk result (Rise 0 netlist.now.end_at edits.new) }
 {
     'order: for number in order {
-        let rewire = &rewires[*number];
-        edits.replace(span_of(netlist, rewire.at), rewire.net.as_bytes())?;
+        edits.replace(span_of(netlist, rewires.pin(*number)), rewires.net(*number))?;
     }
     Ok(())
 }
@@ -96,7 +80,7 @@ fn put_rewires(
 fn put_cells(
     alloc: Global,
     netlist: &Module,
-    cells: &[NewCell],
+    cells: &NewCells,
     edits: &mut Patch,
 ) -> Result<(), Memory>
     requires { end_of edits.old ≤ netlist.now.end_at }
@@ -104,7 +88,7 @@ fn put_cells(
 {
     let mut text = Vec::new(alloc);
     print_cells(cells, &mut text)?;
-    insert(edits, netlist.end_at(), &text)?;
+    insert(edits, netlist.end_at(), text)?;
     Ok(())
 }
 
@@ -115,9 +99,9 @@ fn put_cells(
 pub fn patch(
     alloc: Global,
     netlist: &Module,
-    rewires: &[Rewire],
-    cells: &[NewCell],
-    wires: &[Name],
+    rewires: &Rewires,
+    cells: &NewCells,
+    wires: &Texts,
 ) -> Result<Patch, Memory>
     requires read { (text : List ℕ) × Denotes text netlist.now }
     requires rewires { AreRewirable netlist.now rewires.now }

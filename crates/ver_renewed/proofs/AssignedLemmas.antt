@@ -13,8 +13,8 @@ use Rattle.ver_items.specs.Sections.{Section, is_identifier, is_name_in, is_plac
 use Rattle.ver_module.specs.Netlists.{Netlist}
 use Rattle.ver_patch.proofs.FrameLemmas.{Follow}
 use Rattle.ver_patch.proofs.StandLemmas.{no_sections}
-use Rattle.ver_patch.specs.declared.text.NewCell.{NewCell}
-use Rattle.ver_patch.specs.declared.text.Rewire.{Rewire}
+use Rattle.ver_patch.specs.NewCells.{NewCell}
+use Rattle.ver_patch.specs.Rewires.{Rewire}
 use Rattle.ver_again.proofs.RunLemmas.{EachRow}
 use Rattle.ver_rows.proofs.ChangedLemmas.{InOne}
 use Rattle.ver_rows.proofs.SectionLemmas.{sections_skip}

@@ -16,7 +16,7 @@ use Rattle.ver_syntax.specs.Rows.{place_after, rows_of}
 use Rattle.ver_items.specs.Sections.{is_identifier, is_name_in, is_net_name, is_net_place, is_place, name_at, stands_in}
 use Rattle.ver_module.specs.Netlists.{Net}
 use Rattle.ver_file.specs.Said.{identifiers_of}
-use Rattle.ver_patch.specs.declared.text.NewCell.{NewCell}
+use Rattle.ver_patch.specs.NewCells.{NewCell}
 use Rattle.ver_words.specs.NewWords.{cell_words, identifier_bytes, pin_words, printed_word, select_words, wire_words, word}
 use Rattle.ver_words.specs.Texts.{IsNetText}
 use Rattle.ver_words.specs.Words.{Word, words_of}

@@ -10,8 +10,8 @@ use Rattle.ver_file.specs.Flaws.{assignment_flaws, select_flaws}
 use Rattle.ver_file.specs.Modules.{Denotes}
 use Rattle.ver_file.specs.Netlists.{assigned_by, assigned_of, netlist_of}
 use Rattle.ver_patch.proofs.StandLemmas.{no_sections}
-use Rattle.ver_patch.specs.declared.text.NewCell.{NewCell}
-use Rattle.ver_patch.specs.declared.text.Rewire.{Rewire}
+use Rattle.ver_patch.specs.NewCells.{NewCell}
+use Rattle.ver_patch.specs.Rewires.{Rewire}
 use Rattle.ver_words.proofs.TextLemmas.{Each}
 use Rattle.ver_again.specs.Laws.{IsChanged}
 use Rattle.ver_again.proofs.LawLemmas.{each_of, modules_stay}

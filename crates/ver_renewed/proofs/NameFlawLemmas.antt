@@ -16,8 +16,8 @@ use Rattle.ver_file.specs.Netlists.{netlist_of}
 use Rattle.ver_file.specs.Said.{identifiers_of}
 use Rattle.ver_file.proofs.NetLemmas.{names_given}
 use Rattle.ver_file.proofs.TableLemmas.{first_is_new, new_token, no_token, old_token}
-use Rattle.ver_patch.specs.declared.text.NewCell.{NewCell}
-use Rattle.ver_patch.specs.declared.text.Rewire.{Rewire}
+use Rattle.ver_patch.specs.NewCells.{NewCell}
+use Rattle.ver_patch.specs.Rewires.{Rewire}
 use Rattle.ver_words.proofs.TextLemmas.{Each}
 use Rattle.ver_again.specs.Laws.{IsChanged}
 use Rattle.ver_links.specs.Links.{NetName, name_of_net}

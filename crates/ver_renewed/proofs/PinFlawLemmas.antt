@@ -15,8 +15,8 @@ use Rattle.ver_file.specs.Netlists.{identifiers_in, instance_of, instances_by, i
 use Rattle.ver_file.proofs.ListLemmas.{flat_map-flat_map}
 use Rattle.ver_file.proofs.NetLemmas.{no_left}
 use Rattle.ver_net.specs.declared.pin_ref.PinRef.{PinRef}
-use Rattle.ver_patch.specs.declared.text.NewCell.{NewCell}
-use Rattle.ver_patch.specs.declared.text.Rewire.{Rewire}
+use Rattle.ver_patch.specs.NewCells.{NewCell}
+use Rattle.ver_patch.specs.Rewires.{Rewire}
 use Rattle.ver_rows.specs.Shapes.{Shape, new_shape, shape_of}
 use Rattle.ver_rows.proofs.LawLemmas.{instances_stay}
 use Rattle.ver_words.proofs.TextLemmas.{Each}

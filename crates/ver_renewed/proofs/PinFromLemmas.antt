@@ -10,8 +10,8 @@ use Rattle.ver_module.specs.Netlists.{Instance, Netlist}
 use Rattle.ver_file.specs.Netlists.{pin_of, netlist_of, instances_of}
 use Rattle.ver_net.specs.declared.pin_ref.PinRef.{PinRef}
 use Rattle.ver_patch.specs.Pins.{IsOnOneNet, span_at}
-use Rattle.ver_patch.specs.declared.text.NewCell.{NewCell}
-use Rattle.ver_patch.specs.declared.text.Rewire.{Rewire}
+use Rattle.ver_patch.specs.NewCells.{NewCell}
+use Rattle.ver_patch.specs.Rewires.{Rewire}
 use Rattle.ver_words.specs.Texts.{IsNewCell}
 use Rattle.ver_words.specs.Words.{words_of}
 use Rattle.ver_words.proofs.TextLemmas.{Each}

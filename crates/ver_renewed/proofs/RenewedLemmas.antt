@@ -47,8 +47,8 @@ use Rattle.ver_module.specs.Netlists.{Instance, Netlist, Pin}
 use Rattle.ver_file.specs.Flaws.{flaws_at, flaws_of}
 use Rattle.ver_file.specs.Modules.{Denotes}
 use Rattle.ver_file.specs.Netlists.{instances_of, netlist_of, pin_of}
-use Rattle.ver_patch.specs.declared.text.NewCell.{NewCell}
-use Rattle.ver_patch.specs.declared.text.Rewire.{Rewire}
+use Rattle.ver_patch.specs.NewCells.{NewCell}
+use Rattle.ver_patch.specs.Rewires.{Rewire}
 use Rattle.ver_again.specs.Laws.{IsChanged}
 use Rattle.ver_again.proofs.LawLemmas.{each_of, modules_stay}
 use Rattle.ver_rows.proofs.NameLemmas.{instances_differ}

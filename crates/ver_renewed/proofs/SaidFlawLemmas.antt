@@ -17,8 +17,8 @@ use Rattle.ver_module.specs.declared.direction.PortDir.TheVariants.{Input, Outpu
 use Rattle.ver_file.specs.Flaws.{agrees, clashes, direction_flaws, flaws_at, flaws_of, is_range, name_flaws, port_flaws, ports_in, range_flaws}
 use Rattle.ver_file.specs.Netlists.{netlist_of}
 use Rattle.ver_file.proofs.NetLemmas.{no_left, no_mapped, no_right, passes}
-use Rattle.ver_patch.specs.declared.text.NewCell.{NewCell}
-use Rattle.ver_patch.specs.declared.text.Rewire.{Rewire}
+use Rattle.ver_patch.specs.NewCells.{NewCell}
+use Rattle.ver_patch.specs.Rewires.{Rewire}
 use Rattle.ver_words.proofs.TextLemmas.{Each}
 use Rattle.ver_again.specs.Laws.{IsChanged}
 use Rattle.ver_links.specs.Declared.{AreDeclared}

@@ -13,7 +13,7 @@ use Rattle.ver_file.specs.Modules.{Denotes}
 use Rattle.ver_file.specs.Netlists.{instance_of, instances_by, instances_of, netlist_of}
 use Rattle.ver_file.proofs.NetLemmas.{no_left, no_mapped, no_right}
 use Rattle.ver_net.specs.declared.pin_ref.PinRef.{PinRef}
-use Rattle.ver_patch.specs.declared.text.NewCell.{NewCell}
+use Rattle.ver_patch.specs.NewCells.{NewCell}
 use Rattle.ver_rows.specs.Shapes.{Shape, new_shape, shape_of}
 use Rattle.ver_again.proofs.SectionLemmas.{get_map}
 use Rattle.ver_links.proofs.PinLemmas.{get_mapped}

@@ -13,8 +13,8 @@ use Rattle.ver_items.specs.Sections.{Section, is_identifier, is_net_name, is_net
 use Rattle.ver_module.specs.Netlists.{Netlist}
 use Rattle.ver_file.specs.Netlists.{netlist_of}
 use Rattle.ver_file.specs.Said.{identifiers_of}
-use Rattle.ver_patch.specs.declared.text.NewCell.{NewCell}
-use Rattle.ver_patch.specs.declared.text.Rewire.{Rewire}
+use Rattle.ver_patch.specs.NewCells.{NewCell}
+use Rattle.ver_patch.specs.Rewires.{Rewire}
 use Rattle.ver_words.specs.Texts.{IsNetText}
 use Rattle.ver_words.proofs.TextLemmas.{Each}
 use Rattle.ver_again.specs.Laws.{IsChanged}

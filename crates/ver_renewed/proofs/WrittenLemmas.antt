@@ -16,8 +16,8 @@ use Rattle.ver_items.specs.Sections.{is_identifier, section_before, sections}
 use Rattle.ver_file.specs.Flaws.{select_flaws}
 use Rattle.ver_file.specs.Netlists.{bit_in, is_one, netlist_of, range_at}
 use Rattle.ver_patch.proofs.StandLemmas.{no_sections, sections_by}
-use Rattle.ver_patch.specs.declared.text.NewCell.{NewCell}
-use Rattle.ver_patch.specs.declared.text.Rewire.{Rewire}
+use Rattle.ver_patch.specs.NewCells.{NewCell}
+use Rattle.ver_patch.specs.Rewires.{Rewire}
 use Rattle.ver_words.specs.NewWords.{identifier_bytes, net_words, select_words, word}
 use Rattle.ver_words.specs.Texts.{IsNetText}
 use Rattle.ver_words.specs.Words.{Word, words_of}

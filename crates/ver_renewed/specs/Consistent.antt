@@ -3,8 +3,8 @@ use Rattle.std.specs.Prelude.{◌≡◌, ◌≢◌, ◌⊎◌, ℕ, List, ◌++�
 use Rattle.std.specs.List.{All, Contains}
 use Rattle.vg_names.specs.Distinct.{AreNew}
 use Rattle.ver_module.specs.Netlists.{Netlist}
-use Rattle.ver_patch.specs.declared.text.NewCell.{NewCell}
-use Rattle.ver_patch.specs.declared.text.Rewire.{Rewire}
+use Rattle.ver_patch.specs.NewCells.{NewCell}
+use Rattle.ver_patch.specs.Rewires.{Rewire}
 use Rattle.ver_words.specs.Texts.{IsNetText}
 use Rattle.ver_rows.specs.Names.{HaveNewNames}
 use Rattle.ver_links.specs.Links.{NetName, name_of_net}

@@ -11,8 +11,8 @@ use Rattle.ver_net.specs.Connections.{is_tied}
 use Rattle.ver_net.specs.Laws.{HasLink}
 use Rattle.ver_net.specs.declared.pin_ref.PinRef.{PinRef}
 use Rattle.ver_net.specs.Texts.{net_text}
-use Rattle.ver_patch.specs.declared.text.NewCell.{NewCell}
-use Rattle.ver_patch.specs.declared.text.Rewire.{Rewire}
+use Rattle.ver_patch.specs.NewCells.{NewCell}
+use Rattle.ver_patch.specs.Rewires.{Rewire}
 use Rattle.ver_again.specs.Laws.{IsChanged}
 use Rattle.ver_links.specs.Links.{IsLinked, NamedLink, NetName}
 use Rattle.ver_links.specs.Links.NamedLink.{one}

@@ -4,8 +4,8 @@ use Rattle.std.specs.List.{All, Contains}
 use Rattle.ver_module.specs.declared.direction.PortDir.{PortDir}
 use Rattle.ver_module.specs.Netlists.{Netlist}
 use Rattle.ver_net.specs.declared.pin_ref.PinRef.{PinRef}
-use Rattle.ver_patch.specs.declared.text.NewCell.{NewCell}
-use Rattle.ver_patch.specs.declared.text.Rewire.{Rewire}
+use Rattle.ver_patch.specs.NewCells.{NewCell}
+use Rattle.ver_patch.specs.Rewires.{Rewire}
 use Rattle.ver_rows.specs.Shapes.{new_shape, shape_of}
 use Rattle.ver_links.specs.Links.{NamedLink, NetName}
 use Rattle.ver_links.specs.Links.NamedLink.{one}

@@ -22,7 +22,7 @@ use Rattle.ver_syntax.specs.Rows.{place_after, row, rows_from}
 use Rattle.ver_syntax.proofs.PlaceLemmas.{ran_places, start}
 use Rattle.ver_items.specs.Sections.{bytes_at, is_place, stands_in}
 use Rattle.ver_module.specs.Netlists.{Net}
-use Rattle.ver_patch.specs.declared.text.NewCell.{NewCell}
+use Rattle.ver_patch.specs.NewCells.{NewCell}
 use Rattle.ver_words.specs.NewWords.{cell_words, net_words, select_words}
 use Rattle.ver_words.specs.Texts.{IsNetText}
 use Rattle.ver_words.specs.Words.{Word, WordEdit, word_in, words_of, words_with}

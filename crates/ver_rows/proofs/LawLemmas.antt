@@ -20,8 +20,8 @@ use Rattle.ver_file.specs.Netlists.{instance_of, instances_by}
 use Rattle.ver_file.proofs.ListLemmas.{flat_map-append}
 use Rattle.ver_net.specs.Laws.{IsBefore}
 use Rattle.ver_patch.specs.Pins.{IsOnOneNet, span_at}
-use Rattle.ver_patch.specs.declared.text.NewCell.{NewCell}
-use Rattle.ver_patch.specs.declared.text.Rewire.{Rewire}
+use Rattle.ver_patch.specs.NewCells.{NewCell}
+use Rattle.ver_patch.specs.Rewires.{Rewire}
 use Rattle.ver_patch.proofs.LawLemmas.{heads_end_first, spans_stand}
 use Rattle.ver_patch.proofs.StandLemmas.{no_sections}
 use Rattle.ver_words.specs.NewWords.{cell_words, inserted_words, rewired_words, wire_words}

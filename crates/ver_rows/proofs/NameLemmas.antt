@@ -8,7 +8,7 @@ use Rattle.vg_names.specs.Distinct.{with_name}
 use Rattle.ver_syntax.specs.declared.row.Row.{Row}
 use Rattle.ver_items.specs.Sections.{Section, instances_in, items}
 use Rattle.ver_module.specs.Netlists.{Instance, Netlist}
-use Rattle.ver_patch.specs.declared.text.NewCell.{NewCell}
+use Rattle.ver_patch.specs.NewCells.{NewCell}
 use Rattle.ver_file.specs.Flaws.{Named, clashes, flaws_at, grammar_flaws, instance_flaws, named, repeated, unless}
 use Rattle.ver_file.specs.Netlists.{instance_of, instances_by, instances_of}
 use Rattle.ver_rows.specs.Laws.{InstancesDiffer}

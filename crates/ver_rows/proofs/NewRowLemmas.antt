@@ -20,7 +20,7 @@ use Rattle.ver_items.specs.Sections.{bytes_at, is_name_in, is_place, name_at, se
 use Rattle.ver_module.specs.Netlists.{Pin}
 use Rattle.ver_file.specs.Netlists.{instance_of, instances_by, pin_of}
 use Rattle.ver_patch.proofs.StandLemmas.{before_others, no_sections, sections_by}
-use Rattle.ver_patch.specs.declared.text.NewCell.{NewCell}
+use Rattle.ver_patch.specs.NewCells.{NewCell}
 use Rattle.ver_words.specs.NewWords.{cell_words, identifier_bytes, pin_words, wire_words, word}
 use Rattle.ver_words.specs.Texts.{IsNetText, IsNewCell}
 use Rattle.ver_words.specs.Words.{Word, word_in, words_of}

@@ -3,8 +3,8 @@ use Rattle.std.specs.Prelude.{◌≡◌, ℕ, List, [], ◌++◌, map}
 use Rattle.ver_module.specs.Netlists.{Netlist}
 use Rattle.ver_file.specs.Flaws.{instance_flaws}
 use Rattle.ver_file.specs.Netlists.{instances_of}
-use Rattle.ver_patch.specs.declared.text.NewCell.{NewCell}
-use Rattle.ver_patch.specs.declared.text.Rewire.{Rewire}
+use Rattle.ver_patch.specs.NewCells.{NewCell}
+use Rattle.ver_patch.specs.Rewires.{Rewire}
 use Rattle.ver_again.specs.Laws.{IsChanged}
 use Rattle.ver_rows.specs.Names.{HaveNewNames}
 use Rattle.ver_rows.specs.Shapes.{new_shape, shape_of}

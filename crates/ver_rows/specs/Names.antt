@@ -2,7 +2,7 @@
 use Rattle.std.specs.Prelude.{List, map}
 use Rattle.vg_names.specs.Distinct.{AreNew}
 use Rattle.ver_module.specs.Netlists.{Netlist}
-use Rattle.ver_patch.specs.declared.text.NewCell.{NewCell}
+use Rattle.ver_patch.specs.NewCells.{NewCell}
 
 -- no new instance has the name of another, or of one that the netlist has
 abbrev pub HaveNewNames : Netlist → List NewCell → Type 0

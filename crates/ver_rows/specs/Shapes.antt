@@ -1,7 +1,7 @@
 -- The instances of a netlist by names, without what their pins are linked to.
 use Rattle.std.specs.Prelude.{ℕ, List, [], ◌∷◌, map}
 use Rattle.ver_module.specs.Netlists.{Instance}
-use Rattle.ver_patch.specs.declared.text.NewCell.{NewCell}
+use Rattle.ver_patch.specs.NewCells.{NewCell}
 
 -- An instance by its name, its cell and the names of its pins.
 pub record Shape : Type 0 where

@@ -22,7 +22,7 @@ use Rattle.ver_module.specs.Netlists.{Net}
 use Rattle.ver_net.specs.ReadAgain.{IsWritable}
 use Rattle.ver_net.specs.Texts.{identifier_text, select_text, text_of}
 use Rattle.ver_patch.specs.Texts.{cell_text, cell_texts, pin_text, wire_text, wire_texts}
-use Rattle.ver_patch.specs.declared.text.NewCell.{NewCell}
+use Rattle.ver_patch.specs.NewCells.{NewCell}
 use Rattle.ver_words.specs.Texts.{IsNetText, IsNewCell, IsPrinted}
 use Rattle.ver_words.specs.NewWords.{cell_words, identifier_bytes, net_words, pin_words, printed_word, select_words, wire_words, word}
 use Rattle.ver_words.specs.Words.{Word, word_in, words_of}

@@ -8,8 +8,8 @@ use Rattle.ver_text.specs.Kinds.{digits_kind}
 use Rattle.ver_text.specs.Names.{is_simple}
 use Rattle.ver_module.specs.Netlists.{Net, Netlist}
 use Rattle.ver_patch.specs.Pins.{span_at}
-use Rattle.ver_patch.specs.declared.text.NewCell.{NewCell}
-use Rattle.ver_patch.specs.declared.text.Rewire.{Rewire}
+use Rattle.ver_patch.specs.NewCells.{NewCell}
+use Rattle.ver_patch.specs.Rewires.{Rewire}
 use Rattle.ver_words.specs.Words.{Word, WordEdit, words_of}
 
 abbrev pub word : Kind → List ℕ → Word

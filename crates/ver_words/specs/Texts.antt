@@ -7,8 +7,8 @@ use Rattle.ver_text.specs.Names.{is_simple}
 use Rattle.ver_module.specs.Netlists.{Net}
 use Rattle.ver_net.specs.ReadAgain.{IsWritable}
 use Rattle.ver_net.specs.Texts.{text_of}
-use Rattle.ver_patch.specs.declared.text.NewCell.{NewCell}
-use Rattle.ver_patch.specs.declared.text.Rewire.{Rewire}
+use Rattle.ver_patch.specs.NewCells.{NewCell}
+use Rattle.ver_patch.specs.Rewires.{Rewire}
 
 -- a name of bytes that are printed, so that it may stand as an escaped identifier
 pub record IsPrinted (name : List ℕ) : Type 0 where

@@ -1,7 +1,7 @@
 -- What comes of a change when a net is put.
 use Rattle.std.proofs.Common.{◌≡◌, ℕ, ◌≤◌, List, [], ◌∷◌, ◌++◌, ap, ◌∙◌, subst, arith}
-use Rattle.ver_patch.specs.declared.text.NewCell.{NewCell}
-use Rattle.ver_patch.specs.declared.text.Rewire.{Rewire}
+use Rattle.ver_patch.specs.NewCells.{NewCell}
+use Rattle.ver_patch.specs.Rewires.{Rewire}
 use Rattle.vg_design.specs.Designs.{Design, Joined}
 use Rattle.vg_patch.specs.Edits.{Edit, Rise, end_of}
 use Rattle.vg_split.specs.Splits.{Split}

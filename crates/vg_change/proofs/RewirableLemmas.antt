@@ -17,7 +17,7 @@ use Rattle.ver_net.specs.Laws.{HasLink}
 use Rattle.ver_net.specs.declared.pin_ref.PinRef.{PinRef}
 use Rattle.ver_net.proofs.LawLemmas.{pins_are_linked}
 use Rattle.ver_patch.specs.Pins.{AreRewirable, IsOnOneNet}
-use Rattle.ver_patch.specs.declared.text.Rewire.{Rewire}
+use Rattle.ver_patch.specs.Rewires.{Rewire}
 use Rattle.vg_cut.proofs.PieceLemmas.{piece_cases}
 use Rattle.vg_design.specs.Designs.{Joined, NO_NODE, name_of, pin_name, pin_on}
 use Rattle.vg_scan.specs.Nodes.{same_node}

@@ -9,8 +9,8 @@ use Rattle.ver_module.specs.declared.link.Link.TheVariants.{One}
 use Rattle.ver_net.specs.Laws.{HasLink}
 use Rattle.ver_patch.specs.Patches.{IsPatched}
 use Rattle.ver_patch.specs.Pins.{AreRewirable}
-use Rattle.ver_patch.specs.declared.text.NewCell.{NewCell}
-use Rattle.ver_patch.specs.declared.text.Rewire.{Rewire}
+use Rattle.ver_patch.specs.NewCells.{NewCell}
+use Rattle.ver_patch.specs.Rewires.{Rewire}
 use Rattle.vg_design.specs.Designs.{Design}
 use Rattle.vg_patch.specs.Edits.{Edit, Rise, end_of, patched}
 use Rattle.vg_scan.specs.Printed.{is_solid}

@@ -8,8 +8,8 @@ use Rattle.elmore.specs.declared.problem.Problem.{Problem}
 use Rattle.ver_module.specs.Netlists.{Netlist}
 use Rattle.ver_net.specs.Texts.{net_text}
 use Rattle.ver_net.specs.declared.pin_ref.PinRef.{PinRef}
-use Rattle.ver_patch.specs.declared.text.NewCell.{NewCell}
-use Rattle.ver_patch.specs.declared.text.Rewire.{Rewire}
+use Rattle.ver_patch.specs.NewCells.{NewCell}
+use Rattle.ver_patch.specs.Rewires.{Rewire}
 use Rattle.vg_cut.specs.CutNets.{forest_of}
 use Rattle.vg_cut.specs.Pieces.{Forest}
 use Rattle.vg_design.specs.Designs.{Design, Joined, is_port, name_of, pin_on}

@@ -1,6 +1,6 @@
 //! The cells that are put into a net, and the new nets that they bring.
 
-ghost use Rattle.std.specs.Prelude.{◌≡◌, ◌++◌, ◌<◌, length, map, IfOk, OnOk};
+ghost use Rattle.std.specs.Prelude.{◌≡◌, ◌++◌, ◌<◌, ◌∷◌, [], length, map, OnOk};
 ghost use Rattle.ver_net.specs.Texts.{net_text};
 ghost use Rattle.vg_change.specs.Placed.{above, cells_of, new_cell, text_in, wires_of};
 ghost use Rattle.vg_split.specs.NewNames.{cell_name, net_name};
@@ -10,30 +10,32 @@ ghost use Rattle.vg_stages.specs.Stages.{heads};
 use std::alloc::Global;
 use ver_module::Module;
 use ver_net::net_text;
-use ver_patch::NewCell;
+use ver_patch::{CellTexts, NewCells};
+use vg_names::Texts;
 use vg_num::Memory;
-use vg_scan::Name;
 use vg_split::{Split, push_cell_name, push_net_name};
 
-/// How the net of a stage is named in the text of the netlist. What stands in `text` before does not matter.
-fn text_in(
+/// Puts the name of the net of a stage, as it stands in the text of the netlist, in place of what a text held.
+fn put_net(
     alloc: Global,
     netlist: &Module,
     id: u32,
     x: &Split<'_>,
     stage: usize,
     text: &mut Vec<u8>,
-) -> Result<Name, Memory>
+) -> Result<(), Memory>
     requires id { id < length netlist.now.nets }
     requires stage { stage < length (heads (forest x.now)) }
-    ensures { IfOk result (λ made. made ≡ text_in netlist.now id x.now stage) }
+    ensures { OnOk result (text.new.items ≡ text_in netlist.now id x.now stage) }
 {
-    if stage == x.keeper as usize {
-        return net_text(alloc, netlist, id);
-    }
     text.clear();
+    if stage == x.keeper as usize {
+        let net = net_text(alloc, netlist, id)?;
+        text.extend_from_slice(net.as_bytes())?;
+        return Ok(());
+    }
     x.push_net(stage, text)?;
-    Name::from_bytes(alloc, text)
+    Ok(())
 }
 
 /// The stage that the cell ends at which a stage begins.
@@ -47,51 +49,64 @@ fn above(x: &Split<'_>, stage: usize) -> usize
     x.stage_of(parent)
 }
 
-/// The name of the cell at which a stage begins. What stands in `name` before does not matter.
-fn name_of(alloc: Global, x: &Split<'_>, stage: usize, name: &mut Vec<u8>) -> Result<Name, Memory>
+/// Puts the name of the cell at which a stage begins in place of what a text held.
+fn put_name(x: &Split<'_>, stage: usize, name: &mut Vec<u8>) -> Result<(), Memory>
     requires some { 0 < stage }
     requires stage { stage < length (heads (forest x.now)) }
-    ensures { IfOk result (λ made. made ≡ cell_name x.now.prefix (number_of x.now stage)) }
+    ensures { OnOk result (name.new.items ≡ cell_name x.now.prefix (number_of x.now stage)) }
 {
     name.clear();
     push_cell_name(x.prefix, x.first + (stage - 1) as u64, name)?;
-    Name::from_bytes(alloc, name)
+    Ok(())
 }
 
-/// The new net of the cell at which a stage begins. What stands in `name` before does not matter.
-fn wire_of(alloc: Global, x: &Split<'_>, stage: usize, name: &mut Vec<u8>) -> Result<Name, Memory>
+/// Puts the new net of the cell at which a stage begins in place of what a text held.
+fn put_wire(x: &Split<'_>, stage: usize, name: &mut Vec<u8>) -> Result<(), Memory>
     requires some { 0 < stage }
     requires stage { stage < length (heads (forest x.now)) }
-    ensures { IfOk result (λ made. made ≡ net_name x.now.prefix (number_of x.now stage)) }
+    ensures { OnOk result (name.new.items ≡ net_name x.now.prefix (number_of x.now stage)) }
 {
     name.clear();
     push_net_name(x.prefix, x.first + (stage - 1) as u64, name)?;
-    Name::from_bytes(alloc, name)
+    Ok(())
 }
 
-/// The cell at which a stage begins. What stands in `text` before does not matter.
-fn new_cell(
+/// Texts that are written anew for each cell.
+#[derive(Drop)]
+struct Scratch {
+    name: Vec<u8>,
+    from: Vec<u8>,
+    to: Vec<u8>,
+}
+
+/// Puts the cell last at which a stage begins.
+fn push_cell(
     alloc: Global,
     netlist: &Module,
     id: u32,
     x: &Split<'_>,
     stage: usize,
-    text: &mut Vec<u8>,
-) -> Result<NewCell, Memory>
+    scratch: &mut Scratch,
+    to: &mut NewCells,
+) -> Result<(), Memory>
     requires id { id < length netlist.now.nets }
     requires some { 0 < stage }
     requires stage { stage < length (heads (forest x.now)) }
-    ensures { IfOk result (λ cell. cell ≡ new_cell netlist.now id x.now stage) }
+    ensures { OnOk result (to.new ≡ to.old ++ new_cell netlist.now id x.now stage ∷ []) }
 {
+    put_name(x, stage, &mut scratch.name)?;
+    put_net(alloc, netlist, id, x, above(x, stage), &mut scratch.from)?;
+    put_net(alloc, netlist, id, x, stage, &mut scratch.to)?;
     let repeater = x.repeater_of(stage);
-    Ok(NewCell {
-        cell: repeater.cell.copy(alloc)?,
-        name: name_of(alloc, x, stage, text)?,
-        input: repeater.input.copy(alloc)?,
-        output: repeater.output.copy(alloc)?,
-        from: text_in(alloc, netlist, id, x, above(x, stage), text)?,
-        to: text_in(alloc, netlist, id, x, stage, text)?,
-    })
+    to.push(&CellTexts {
+        cell: repeater.cell.as_bytes(),
+        name: &scratch.name,
+        input: repeater.input.as_bytes(),
+        output: repeater.output.as_bytes(),
+        from: &scratch.from,
+        to: &scratch.to,
+    })?;
+    Ok(())
 }
 
 /// Puts the cells of a net last.
@@ -100,25 +115,30 @@ pub(crate) fn push_cells(
     netlist: &Module,
     id: u32,
     x: &Split<'_>,
-    to: &mut Vec<NewCell>,
+    to: &mut NewCells,
 ) -> Result<(), Memory>
     requires id { id < length netlist.now.nets }
-    ensures { OnOk result (to.new.items ≡ to.old.items ++ cells_of netlist.now id x.now) }
+    ensures { OnOk result (to.new ≡ to.old ++ cells_of netlist.now id x.now) }
 {
-    let mut text = Vec::new(alloc);
+    let mut scratch = Scratch {
+        name: Vec::new(alloc),
+        from: Vec::new(alloc),
+        to: Vec::new(alloc),
+    };
     'stage: for stage in 1..x.count() {
-        to.push(new_cell(alloc, netlist, id, x, stage, &mut text)?)?;
+        push_cell(alloc, netlist, id, x, stage, &mut scratch, to)?;
     }
     Ok(())
 }
 
 /// Puts the new nets of a net's cells last.
-pub(crate) fn push_wires(alloc: Global, x: &Split<'_>, to: &mut Vec<Name>) -> Result<(), Memory>
-    ensures { OnOk result (to.new.items ≡ to.old.items ++ wires_of x.now) }
+pub(crate) fn push_wires(alloc: Global, x: &Split<'_>, to: &mut Texts) -> Result<(), Memory>
+    ensures { OnOk result (to.new ≡ to.old ++ wires_of x.now) }
 {
     let mut name = Vec::new(alloc);
     'stage: for stage in 1..x.count() {
-        to.push(wire_of(alloc, x, stage, &mut name)?)?;
+        put_wire(x, stage, &mut name)?;
+        to.push(&name)?;
     }
     Ok(())
 }

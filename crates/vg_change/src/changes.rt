@@ -27,11 +27,12 @@ use spef_file::SpefIndex;
 use spef_net::ParNet;
 use std::alloc::Global;
 use std::marker::Model;
-use ver_patch::{NewCell, Rewire, patch};
+use ver_patch::{NewCells, Rewires, patch};
 use vg_design::{Design, PinnedNet, PosedNet};
+use vg_names::Texts;
 use vg_num::Memory;
 use vg_patch::Patch;
-use vg_scan::{Name, Span};
+use vg_scan::Span;
 use vg_split::Split;
 use vg_stages::Stages;
 use vg_written::sums;
@@ -43,9 +44,9 @@ pub struct Changes<'a> {
     design: &'a Design,
     prefix: &'a [u8],
     sections: Patch,
-    rewires: Vec<Rewire>,
-    cells: Vec<NewCell>,
-    wires: Vec<Name>,
+    rewires: Rewires,
+    cells: NewCells,
+    wires: Texts,
 }
 
 /// What is replaced in the texts of a design.
@@ -66,18 +67,18 @@ impl<'a> Model for Changes<'a> {
       design = c.design.now;
       prefix = c.prefix.now;
       sections = c.sections;
-      rewires = c.rewires.items;
-      cells = c.cells.items;
-      wires = c.wires.items;
+      rewires = c.rewires;
+      cells = c.cells;
+      wires = c.wires;
     } };
 
     ghost invariant = { λ c. IsChange (record {
       design = c.design.now;
       prefix = c.prefix.now;
       sections = c.sections;
-      rewires = c.rewires.items;
-      cells = c.cells.items;
-      wires = c.wires.items;
+      rewires = c.rewires;
+      cells = c.cells;
+      wires = c.wires;
     }) };
 }
 
@@ -122,9 +123,9 @@ impl<'a> Changes<'a> {
             design,
             prefix,
             sections: Patch::new(alloc),
-            rewires: Vec::new(alloc),
-            cells: Vec::new(alloc),
-            wires: Vec::new(alloc),
+            rewires: Rewires::new(alloc),
+            cells: NewCells::new(alloc),
+            wires: Texts::new(alloc),
         })
     }
 
@@ -151,8 +152,9 @@ impl<'a> Changes<'a> {
             mut wires,
         } = self;
         let index = design.index();
-        let text = sections_text(alloc, x, &index.header)?;
-        sections.replace(span_of(index, x.par.name.as_bytes()), &text)?;
+        let span = span_of(index, x.par.name.as_bytes());
+        let text = sections_text(alloc, x, &index.header, span.to - span.from)?;
+        sections.replace_by(span, text)?;
         push_rewires(alloc, design, pinned, x, &mut rewires)?;
         push_cells(alloc, design.netlist(), pinned.net.id, x, &mut cells)?;
         push_wires(alloc, x, &mut wires)?;

@@ -8,10 +8,9 @@ ghost use Rattle.vg_split.specs.Splits.{forest, net_of};
 ghost use Rattle.vg_stages.specs.Stages.{heads};
 
 use std::alloc::Global;
-use ver_patch::Rewire;
+use ver_patch::Rewires;
 use vg_design::{Design, PinnedNet};
 use vg_num::Memory;
-use vg_scan::Name;
 use vg_split::Split;
 
 /// Whether a node is a pin or a port of the net.
@@ -24,44 +23,41 @@ fn is_old_end(x: &Split<'_>, node: usize) -> bool
 
 /// Puts the pin at a node of a stage last, linked to this net, if it is one of the net's.
 fn push_rewire(
-    alloc: Global,
     design: &Design,
     pinned: &PinnedNet,
     x: &Split<'_>,
     node: usize,
     net: &[u8],
-    to: &mut Vec<Rewire>,
+    to: &mut Rewires,
 ) -> Result<(), Memory>
     requires pins { ArePins design.now pinned.now.net pinned.now.pins }
     requires par { x.now.par ≡ pinned.now.net.par }
     requires node { node < length x.now.problem.tree.nodes }
     ensures { OnOk result ((k : ℕ) → net.now ≡ net_of x.now k
-        → to.new.items ≡ to.old.items ++ rewires_at design.now.netlist (placed_by pinned.now.net x.now) x.now k node) }
+        → to.new ≡ to.old ++ rewires_at design.now.netlist (placed_by pinned.now.net x.now) x.now k node) }
 {
     if !is_old_end(x, node) {
         return Ok(());
     }
     if let Some(at) = pinned.pins.as_slice()[x.old(node)] {
-        let net = Name::from_bytes(alloc, net)?;
-        to.push(Rewire { at, net })?;
+        to.push(at, net)?;
     }
     Ok(())
 }
 
 /// Puts the net's pins in a stage last, if it has a new net. What stands in `net` before does not matter.
 fn push_rewires_in(
-    alloc: Global,
     design: &Design,
     pinned: &PinnedNet,
     x: &Split<'_>,
     stage: usize,
     net: &mut Vec<u8>,
-    to: &mut Vec<Rewire>,
+    to: &mut Rewires,
 ) -> Result<(), Memory>
     requires pins { ArePins design.now pinned.now.net pinned.now.pins }
     requires par { x.now.par ≡ pinned.now.net.par }
     requires stage { stage < length (heads (forest x.now)) }
-    ensures { OnOk result (to.new.items ≡ to.old.items ++ rewires_in design.now.netlist (placed_by pinned.now.net x.now) x.now stage) }
+    ensures { OnOk result (to.new ≡ to.old ++ rewires_in design.now.netlist (placed_by pinned.now.net x.now) x.now stage) }
 {
     if stage == x.keeper as usize {
         return Ok(());
@@ -69,7 +65,7 @@ fn push_rewires_in(
     net.clear();
     x.push_net(stage, net)?;
     'node: for node in x.members(stage) {
-        push_rewire(alloc, design, pinned, x, *node as usize, net, to)?;
+        push_rewire(design, pinned, x, *node as usize, net, to)?;
     }
     Ok(())
 }
@@ -80,15 +76,15 @@ pub(crate) fn push_rewires(
     design: &Design,
     pinned: &PinnedNet,
     x: &Split<'_>,
-    to: &mut Vec<Rewire>,
+    to: &mut Rewires,
 ) -> Result<(), Memory>
     requires pins { ArePins design.now pinned.now.net pinned.now.pins }
     requires par { x.now.par ≡ pinned.now.net.par }
-    ensures { OnOk result (to.new.items ≡ to.old.items ++ rewires_of design.now.netlist (placed_by pinned.now.net x.now) x.now) }
+    ensures { OnOk result (to.new ≡ to.old ++ rewires_of design.now.netlist (placed_by pinned.now.net x.now) x.now) }
 {
     let mut net = Vec::new(alloc);
     'stage: for stage in 0..x.count() {
-        push_rewires_in(alloc, design, pinned, x, stage, &mut net, to)?;
+        push_rewires_in(design, pinned, x, stage, &mut net, to)?;
     }
     Ok(())
 }

@@ -31,17 +31,25 @@ fn push_section(
     Ok(())
 }
 
-/// The sections of the stages, one after another, without a newline behind the last one.
+/// The bytes that a stage adds to the section of its net, or more, for most nets: what it takes room for.
+const FOR_A_STAGE: usize = 160;
+
+/// The sections of the stages, one after another, without a newline behind the last one. Room is taken at once for the bytes of the section
+/// that they replace, and some more for each stage.
 pub(crate) fn sections_text(
     alloc: Global,
     x: &Split<'_>,
     header: &Header,
+    before: usize,
 ) -> Result<Vec<u8>, Memory>
     ensures { IfOk result (λ text. SaysStages header.now x.now (length (heads (forest x.now))) text.items) }
 {
     let count = x.count();
     let mut room = Room::new(alloc, x.order.len())?;
-    let mut text = Vec::new(alloc);
+    let mut text = Vec::with_capacity(
+        alloc,
+        before.saturating_add(count.saturating_mul(FOR_A_STAGE)),
+    )?;
     'stage: for stage in 0..count {
         push_section(x, stage, header, &mut room, &mut text)?;
     }

@@ -22,7 +22,7 @@ use Rattle.ver_net.specs.Connections.{pins_on}
 use Rattle.ver_net.specs.Laws.{HasLink}
 use Rattle.ver_net.specs.declared.pin_ref.PinRef.{PinRef}
 use Rattle.ver_net.proofs.LawLemmas.{pins_are_linked}
-use Rattle.ver_patch.specs.declared.text.Rewire.{Rewire}
+use Rattle.ver_patch.specs.Rewires.{Rewire}
 use Rattle.vg_change.specs.Changes.{Changes, HasPut, IsBehind, IsFresh, nothing, split_behind}
 use Rattle.vg_change.specs.Placed.{PlacedNet, is_old_end, linked, rewires_at, rewires_in, rewires_of}
 use Rattle.vg_change.specs.Steps.{placed_net}

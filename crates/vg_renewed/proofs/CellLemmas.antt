@@ -11,7 +11,7 @@ use Rattle.ver_module.specs.Netlists.{Instance, Netlist, Pin}
 use Rattle.ver_module.specs.declared.link.Link.TheVariants.{One}
 use Rattle.ver_net.specs.Laws.{HasLink}
 use Rattle.ver_net.specs.declared.pin_ref.PinRef.{PinRef}
-use Rattle.ver_patch.specs.declared.text.NewCell.{NewCell}
+use Rattle.ver_patch.specs.NewCells.{NewCell}
 use Rattle.ver_renewed.specs.Pins.{HasPin, PinName, input_name, output_name}
 use Rattle.ver_renewed.specs.Renewed.{IsRenewed, new_pin}
 use Rattle.ver_renewed.proofs.ShapeLemmas.{pins_are_renewed}

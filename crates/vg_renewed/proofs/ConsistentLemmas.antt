@@ -19,8 +19,8 @@ use Rattle.ver_links.proofs.RelinkedLemmas.{In, each_in}
 use Rattle.ver_module.specs.Netlists.{Instance, Net, net_name as written_name}
 use Rattle.ver_net.specs.Texts.{net_text}
 use Rattle.ver_patch.specs.Pins.{AreRewirable}
-use Rattle.ver_patch.specs.declared.text.NewCell.{NewCell}
-use Rattle.ver_patch.specs.declared.text.Rewire.{Rewire}
+use Rattle.ver_patch.specs.NewCells.{NewCell}
+use Rattle.ver_patch.specs.Rewires.{Rewire}
 use Rattle.ver_renewed.specs.Consistent.{IsConsistent, IsThere, Writes, WritesOne, taken_in, wire_name}
 use Rattle.ver_renewed.specs.Names.{IsNumbered, NO_NET, name_at, names_of}
 use Rattle.ver_renewed.proofs.ApartLemmas.{apart_map, apart_new}

@@ -4,7 +4,7 @@ use Rattle.std.specs.List.{flat_map}
 use Rattle.std.proofs.lemmas.List.{length-append, map-append}
 use Rattle.std.proofs.lemmas.Simd.{map-map}
 use Rattle.std.proofs.lemmas.List.FromFn.{get_or-range_with_len, length-range_with_len}
-use Rattle.ver_patch.specs.declared.text.NewCell.{NewCell}
+use Rattle.ver_patch.specs.NewCells.{NewCell}
 use Rattle.ver_links.proofs.RelinkedLemmas.{In}
 use Rattle.ver_renewed.proofs.ApartLemmas.{Apart, apart_join, apart_map, apart_places}
 use Rattle.ver_renewed.proofs.SetLemmas.{in_either, in_mapped}

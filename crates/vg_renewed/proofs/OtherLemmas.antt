@@ -13,8 +13,8 @@ use Rattle.ver_module.specs.Netlists.{Net, Netlist, net_name}
 use Rattle.ver_module.specs.declared.link.Link.TheVariants.{One}
 use Rattle.ver_net.specs.Laws.{HasLink}
 use Rattle.ver_net.specs.declared.pin_ref.PinRef.{PinRef}
-use Rattle.ver_patch.specs.declared.text.NewCell.{NewCell}
-use Rattle.ver_patch.specs.declared.text.Rewire.{Rewire}
+use Rattle.ver_patch.specs.NewCells.{NewCell}
+use Rattle.ver_patch.specs.Rewires.{Rewire}
 use Rattle.ver_renewed.specs.Consistent.{Writes, wire_name}
 use Rattle.ver_renewed.specs.Laws.{AreAlike}
 use Rattle.ver_renewed.specs.Names.{HasNamedLink, IsNumbered, name_at}

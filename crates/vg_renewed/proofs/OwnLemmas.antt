@@ -2,7 +2,7 @@
 use Rattle.std.proofs.Common.{◌≡◌, ℕ, ◌+◌, ◌≤◌, List, length, take, sym, ap, ◌∙◌, subst, arith, refl}
 use Rattle.std.specs.List.{flat_map}
 use Rattle.std.proofs.lemmas.List.{length-take-le}
-use Rattle.ver_patch.specs.declared.text.NewCell.{NewCell}
+use Rattle.ver_patch.specs.NewCells.{NewCell}
 use Rattle.ver_again.proofs.LawLemmas.{each_of}
 use Rattle.ver_links.proofs.RelinkedLemmas.{In, each_in}
 use Rattle.vg_change.specs.Changes.{Changes, IsChange, nothing}

@@ -3,8 +3,8 @@ use Rattle.std.proofs.Common.{◌≡◌, ℕ, ◌+◌, ◌-◌, ◌<◌, ◌≤�
 use Rattle.std.specs.List.{flat_map}
 use Rattle.std.proofs.lemmas.List.{append-nil, append_assoc, length-append, length-map}
 use Rattle.std.proofs.lemmas.List.FromFn.{length-range_with_len}
-use Rattle.ver_patch.specs.declared.text.NewCell.{NewCell}
-use Rattle.ver_patch.specs.declared.text.Rewire.{Rewire}
+use Rattle.ver_patch.specs.NewCells.{NewCell}
+use Rattle.ver_patch.specs.Rewires.{Rewire}
 use Rattle.ver_links.proofs.RelinkedLemmas.{In}
 use Rattle.ver_renewed.proofs.ApartLemmas.{Apart}
 use Rattle.ver_renewed.proofs.SetLemmas.{in_map}

@@ -5,8 +5,8 @@ use Rattle.std.specs.List.{flat_map, range_with_len}
 use Rattle.ver_links.proofs.RelinkedLemmas.{In}
 use Rattle.ver_module.specs.Netlists.{Netlist}
 use Rattle.ver_net.specs.declared.pin_ref.PinRef.{PinRef}
-use Rattle.ver_patch.specs.declared.text.NewCell.{NewCell}
-use Rattle.ver_patch.specs.declared.text.Rewire.{Rewire}
+use Rattle.ver_patch.specs.NewCells.{NewCell}
+use Rattle.ver_patch.specs.Rewires.{Rewire}
 use Rattle.ver_renewed.proofs.SetLemmas.{in_flat, in_flattened, in_map, in_mapped}
 use Rattle.vg_change.specs.Placed.{PlacedNet, cell_stages, cells_of, is_old_end, linked, new_cell, rewires_at, rewires_in, rewires_of}
 use Rattle.vg_design.specs.Designs.{name_of, pin_on}

@@ -1,4 +1,4 @@
-use Rattle.std.proofs.Common.{◌≡◌, ◌∙◌, length, ap, arith, subst, sym}
+use Rattle.std.proofs.Common.{◌≡◌, length, ap, arith, subst, sym}
 use Rattle.vg_patch.specs.Edits.{Rise, patched}
 use Rattle.ver_patch.specs.Orders.{rewires_at}
 use Rattle.ver_patch.specs.Patches.{edits_of, inserted}

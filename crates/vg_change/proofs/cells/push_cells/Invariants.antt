@@ -6,5 +6,5 @@ use Rattle.vg_change.proofs.cells.push_cells.Given as goal
 abbrev pub invariant-stage : goal.invariant-stage
 invariant-stage l = record {
   some : 1 ≤ l.stage;
-  put : l.to.items ≡ l.initial.to.items ++ map (new_cell l.netlist l.id l.x) (range_with_len 1 (l.stage - 1));
+  put : l.to ≡ l.initial.to ++ map (new_cell l.netlist l.id l.x) (range_with_len 1 (l.stage - 1));
 }

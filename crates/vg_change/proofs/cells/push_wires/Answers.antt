@@ -8,6 +8,7 @@ pub stage-preserved : goal.stage-preserved
 stage-preserved c = record {
   some = omega arith;
   put =
-      c.in_ok-push.ensures.items ∙ ap (λ xs. xs ++ c.in_ok-wire_of.field-0 ∷ []) c.stage.invariant.put
-      ∙ made_more (λ k. net_name c.args.x.now.prefix (number_of c.args.x.now k)) _ c.in_ok-wire_of.field-0 c.stage.stage c.stage.invariant.some c.in_ok-wire_of.ensures;
+      c.in_ok-push.ensures.last ∙ ap (λ xs. xs ++ c.deref.result.now ∷ []) c.stage.invariant.put
+      ∙ made_more (λ k. net_name c.args.x.now.prefix (number_of c.args.x.now k)) _ c.deref.result.now c.stage.stage c.stage.invariant.some
+      (c.deref.ensures.value ∙ c.in_ok-put_wire.ensures);
 }

@@ -7,5 +7,5 @@ use Rattle.vg_change.proofs.cells.push_wires.Given as goal
 abbrev pub invariant-stage : goal.invariant-stage
 invariant-stage l = record {
   some : 1 ≤ l.stage;
-  put : l.to.items ≡ l.initial.to.items ++ map (λ k. net_name l.x.prefix (number_of l.x k)) (range_with_len 1 (l.stage - 1));
+  put : l.to ≡ l.initial.to ++ map (λ k. net_name l.x.prefix (number_of l.x k)) (range_with_len 1 (l.stage - 1));
 }

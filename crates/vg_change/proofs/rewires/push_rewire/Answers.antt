@@ -4,7 +4,7 @@ use Rattle.std.proofs.lemmas.List.{append-nil}
 use Rattle.spef_net.specs.declared.net.ParNet.{ParNet}
 use Rattle.ver_module.specs.Netlists.{Netlist}
 use Rattle.ver_net.specs.declared.pin_ref.PinRef.{PinRef}
-use Rattle.ver_patch.specs.declared.text.Rewire.{Rewire}
+use Rattle.ver_patch.specs.Rewires.{Rewire}
 use Rattle.vg_design.specs.Designs.{Design, Joined, name_of, pin_on}
 use Rattle.vg_design.specs.Steps.{ArePins}
 use Rattle.vg_split.specs.Splits.{Split, net_of}
@@ -35,9 +35,9 @@ returns-in_ok-push c = λ k net.
     let end = sym c.is_old_end.ensures ∙ c.if-not-is_old_end.false in
     let pin = pin_is d n c.args.pinned.now.pins x c.args.node c.old.result c.requires.pins c.requires.par c.old.ensures.is c.old.ensures.within end in
     let at = sym pin ∙ ap (λ (ps : List (Option PinRef)). get_or ps c.old.result None) (sym c.as_slice.ensures) ∙ c.in-Some.is in
-    c.in_ok-push.ensures.items
-    ∙ ap (λ (m : List ℕ). c.args.to.now.items ++ record { at = c.in-Some.at; net = m } ∷ []) (c.in_ok-net.ensures ∙ net)
-    ∙ ap (λ (ys : List Rewire). c.args.to.now.items ++ ys) (sym (put_is d.netlist n x k c.args.node (Some c.in-Some.at) end at))
+    c.in_ok-push.ensures.last
+    ∙ ap (λ (m : List ℕ). c.args.to.now ++ record { at = c.in-Some.at; net = m } ∷ []) net
+    ∙ ap (λ (ys : List Rewire). c.args.to.now ++ ys) (sym (put_is d.netlist n x k c.args.node (Some c.in-Some.at) end at))
 
 none_left : (o : Option PinRef) → ((p : PinRef) → o ≡ Some p → ⊥) → o ≡ None
 none_left None never = refl
@@ -51,4 +51,4 @@ returns-in_default c = λ k net.
     let end = sym c.is_old_end.ensures ∙ c.if-not-is_old_end.false in
     let pin = pin_is d n c.args.pinned.now.pins x c.args.node c.old.result c.requires.pins c.requires.par c.old.ensures.is c.old.ensures.within end in
     let at = sym pin ∙ ap (λ (ps : List (Option PinRef)). get_or ps c.old.result None) (sym c.as_slice.ensures) ∙ none_left (get_or c.as_slice.result.now c.old.result None) c.in_default.not-Some in
-    sym (append-nil c.args.to.now.items) ∙ ap (λ (ys : List Rewire). c.args.to.now.items ++ ys) (sym (put_is d.netlist n x k c.args.node None end at))
+    sym (append-nil c.args.to.now) ∙ ap (λ (ys : List Rewire). c.args.to.now ++ ys) (sym (put_is d.netlist n x k c.args.node None end at))

@@ -5,4 +5,4 @@ use Rattle.vg_change.specs.Steps.{placed_by}
 use Rattle.vg_change.proofs.rewires.push_rewires.Given as goal
 
 abbrev pub invariant-stage : goal.invariant-stage
-invariant-stage l = l.to.items ≡ l.initial.to.items ++ flat_map (rewires_in l.design.netlist (placed_by l.pinned.net l.x) l.x) (range_with_len 0 l.stage)
+invariant-stage l = l.to ≡ l.initial.to ++ flat_map (rewires_in l.design.netlist (placed_by l.pinned.net l.x) l.x) (range_with_len 0 l.stage)

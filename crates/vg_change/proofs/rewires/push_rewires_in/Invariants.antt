@@ -9,6 +9,6 @@ use Rattle.vg_change.proofs.rewires.push_rewires_in.Given as goal
 abbrev pub invariant-node : goal.invariant-node
 invariant-node l = record {
   net : l.net.items ≡ net_of l.x l.stage;
-  put : l.to.items ≡ l.initial.to.items
+  put : l.to ≡ l.initial.to
       ++ flat_map (rewires_at l.design.netlist (placed_by l.pinned.net l.x) l.x l.stage) (take l.node-index (members (forest l.x) (head l.x l.stage)));
 }

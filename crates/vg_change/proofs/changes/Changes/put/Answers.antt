@@ -43,14 +43,14 @@ invariant_of-split c =
     let order_is = c.as_slice-order.ensures in
     let reps_is : c.repeaters.result.now ≡ self.design.library.repeaters = c.repeaters.ensures ∙ ap (λ (s : ChangesSpec). s.design.library.repeaters) view in
     let prefix_is = ap (λ (s : ChangesSpec). s.prefix) view in
-    let first_is : c.len-2.result ≡ length self.cells = omega (arith, c.len-2.ensures, c.self.inside.cells.ok, ap (λ (s : ChangesSpec). length s.cells) view) in
+    let first_is : c.len-2.result ≡ length self.cells = omega (arith, c.len-2.ensures.is, ap (λ (s : ChangesSpec). length s.cells) view) in
     let keeper = keeper_found self.design c.requires.posed.0 posed c.requires.posed.1 cs c.par_of-par.result.now c.as_slice-order.result.now c.in_ok-stages.stages
     c.port_or_root-port.result c.index.result.now par_is order_is c.in_ok-stages.ensures.stages c.port_or_root-port.ensures.is c.port_or_root-port.ensures.node
     c.index.ensures in
     let was : IsChange self = subst IsChange view c.self.invariant in
     let placement = subst (IsPlacement posed.problem) (sym c.as_slice-cells.ensures) c.requires.placement in
     let placed = subst (IsPlaced posed.problem) (sym c.as_slice-cells.ensures) c.requires.placed in
-    let few : length self.cells < 2 ^ 63 = omega (arith, ap (λ (s : ChangesSpec). length s.cells) view, c.self.inside.cells.ok, c.self.inside.cells.small) in
+    let few : length self.cells < 2 ^ 63 = omega (arith, first_is, c.len-2.ensures.few) in
     let own = is_split self was c.requires.posed.0 posed c.requires.posed.1 cs placement placed few keeper.1 in
     let split : IsSplit _ = subst IsSplit
     (λ k. record {
@@ -81,7 +81,7 @@ put_split-requires-clause-split c =
     let order_is = c.as_slice-order.ensures in
     let reps_is : c.repeaters.result.now ≡ self.design.library.repeaters = c.repeaters.ensures ∙ ap (λ (s : ChangesSpec). s.design.library.repeaters) view in
     let prefix_is = ap (λ (s : ChangesSpec). s.prefix) view in
-    let first_is : c.len-2.result ≡ length self.cells = omega (arith, c.len-2.ensures, c.self.inside.cells.ok, ap (λ (s : ChangesSpec). length s.cells) view) in
+    let first_is : c.len-2.result ≡ length self.cells = omega (arith, c.len-2.ensures.is, ap (λ (s : ChangesSpec). length s.cells) view) in
     let keeper = keeper_found self.design c.requires.posed.0 posed c.requires.posed.1 cs c.par_of-par.result.now c.as_slice-order.result.now c.in_ok-stages.stages
     c.port_or_root-port.result c.index.result.now par_is order_is c.in_ok-stages.ensures.stages c.port_or_root-port.ensures.is c.port_or_root-port.ensures.node
     c.index.ensures in

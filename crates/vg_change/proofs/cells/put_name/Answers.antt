@@ -2,7 +2,7 @@ use Rattle.std.proofs.Common.{ap, subst, arith}
 use Rattle.vg_split.specs.Conditions.{IsSplit}
 use Rattle.vg_split.specs.Splits.{Split as SplitSpec}
 use Rattle.vg_split.proofs.SplitLemmas.{number_fits}
-use Rattle.vg_change.proofs.cells.wire_of.Goals as goal
+use Rattle.vg_change.proofs.cells.put_name.Goals as goal
 
 pub overflow_add-x-inside : goal.overflow_add-x-inside
 overflow_add-x-inside c =
