@@ -1,6 +1,6 @@
 //! The stages of a net with cells.
 
-ghost use Rattle.std.specs.Prelude.{◌≡◌, ℕ, ◌+◌, ◌^◌, ◌<◌, true, List, Option, length, IfOk, OnOk};
+ghost use Rattle.std.specs.Prelude.{◌≡◌, ℕ, ◌+◌, ◌^◌, ◌<◌, ◌∷◌, [], true, List, Option, length, IfOk, OnOk};
 ghost use Rattle.elmore.specs.Path.{Falls};
 ghost use Rattle.elmore.specs.Stage.{is_head};
 ghost use Rattle.elmore.specs.Trees.{parent_of};
@@ -11,6 +11,9 @@ ghost use Rattle.vg_stages.specs.Stages.{heads_to, IsInStage, AreStages, AreStag
 use elmore::Problem;
 use std::alloc::Global;
 use vg_num::Memory;
+
+/// How many nodes a stage has room for at first. Most stages have no more, and a block of memory for fewer would not be smaller.
+const FIRST_ROOM: usize = 6;
 
 /// The stages that cells divide a net into, by their numbers: that of the root is 0, and those of the cells follow, as the cells do in
 /// tree order.
@@ -30,6 +33,15 @@ fn parent_of(p: &Problem, node: usize) -> usize
     ensures less { result < node }
 {
     p.tree.nodes.as_slice()[node].parent as usize
+}
+
+/// The nodes of a stage that begins at a node, so far. Answers `Memory` where there is no room.
+fn begun(alloc: Global, node: u32) -> Result<Vec<u32>, Memory>
+    ensures { IfOk result (λ members. members.items ≡ node ∷ []) }
+{
+    let mut members = Vec::with_capacity(alloc, FIRST_ROOM)?;
+    members.push(node)?;
+    Ok(members)
 }
 
 impl Stages {
@@ -56,7 +68,7 @@ impl Stages {
             → AreStagesTo f (node + 1) (node + 1) self.new) }
     {
         let number = self.nodes.len() as u32;
-        self.nodes.push(vec![in alloc; node as u32]?)?;
+        self.nodes.push(begun(alloc, node as u32)?)?;
         self.stage_of.push(number)?;
         Ok(())
     }

@@ -17,8 +17,8 @@ returns c = λ f falls head before.
     record {
       nodes_are =
           begun_nodes f falls c.args.node (map (λ (v : Vec ℕ Global). v.items) old) (map (λ (v : Vec ℕ Global). v.items) c.push.new.self.items) head before.nodes_are
-          (ap (map (λ (v : Vec ℕ Global). v.items)) c.in_ok-push.ensures.items ∙ map-append (λ (v : Vec ℕ Global). v.items) old (c.in_ok-vec.field-0 ∷ [])
-          ∙ ap (λ (l : List ℕ). map (λ (v : Vec ℕ Global). v.items) old ++ l ∷ []) c.in_ok-vec.ensures.items);
+          (ap (map (λ (v : Vec ℕ Global). v.items)) c.in_ok-push.ensures.items ∙ map-append (λ (v : Vec ℕ Global). v.items) old (c.in_ok-begun.field-0 ∷ [])
+          ∙ ap (λ (l : List ℕ). map (λ (v : Vec ℕ Global). v.items) old ++ l ∷ []) c.in_ok-begun.ensures);
       one_each = ap (λ (l : List ℕ). length l) c.in_ok-push-2.ensures.items ∙ length_push c.args.self.now.stage_of.items c.len-number.result ∙ ap (λ m. m + 1) before.one_each;
       each =
           begun_each f falls c.args.node c.len-number.result c.args.self.now.stage_of.items c.push-2.new.self.items head before.one_each before.each number_is
