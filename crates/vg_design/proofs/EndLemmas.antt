@@ -33,7 +33,7 @@ end_is net i d h =
     get_or-map (λ (conn : ParConn). name_of net conn.node) net.conns i NO_CONN d h ∙ ap (name_of net) (conn_node net i NO_CONN h)
 
 -- no two nodes of a net have one name
-names_differ : (net : ParNet) (i j : ℕ) → i < j → j < length net.nodes → name_of net i ≢ name_of net j
+pub names_differ : (net : ParNet) (i j : ℕ) → i < j → j < length net.nodes → name_of net i ≢ name_of net j
 names_differ net i j h k = net.sound.distinct i j NO_NODE h k
 
 module _ (net : ParNet) (at : ℕ) (h : at < length net.conns) where

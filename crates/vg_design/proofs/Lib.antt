@@ -2,6 +2,7 @@ pub mod PassLemmas
 pub mod NameLemmas
 pub mod LawLemmas
 pub mod EndLemmas
+pub mod OrderedLemmas
 pub mod SeeLemmas
 pub mod SeenLemmas
 pub mod ConnectedLemmas

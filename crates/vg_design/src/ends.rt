@@ -1,9 +1,9 @@
 //! The ends of a net by its parasitics, and the pins of the netlist that they are.
 
-ghost use Rattle.std.specs.Prelude.{◌≡◌, ◌<◌, ◌≤◌, ◌^◌, ℕ, None, true, false, length, option_map, IfOk};
+ghost use Rattle.std.specs.Prelude.{◌≡◌, ◌<◌, ◌≤◌, ◌^◌, ℕ, None, Some, true, false, length, option_map, IfOk, IfSome};
 ghost use Rattle.spef_nodes.specs.Members.{node_named};
-ghost use Rattle.vg_scan.specs.Nodes.{has_node};
-ghost use Rattle.vg_design.specs.Designs.{ends_of, pin_name};
+ghost use Rattle.vg_scan.specs.Nodes.{has_node, same_node};
+ghost use Rattle.vg_design.specs.Designs.{ends_of, name_of, pin_name};
 ghost use Rattle.vg_design.specs.Steps.{FindsPins, IsPin, IsSeen, pin_at, pin_or};
 
 use crate::design::Design;
@@ -13,6 +13,7 @@ use spef_nodes::NodeTable;
 use std::alloc::Global;
 use std::marker::Model;
 use ver_net::PinRef;
+use vg_names::is_same;
 use vg_num::Memory;
 
 /// The ends of a net by its parasitics, found by their names, each with the pin that was seen of its name.
@@ -109,9 +110,46 @@ fn see_pin(design: &Design, at: PinRef, ends: &mut Ends) -> Result<bool, Memory>
     Ok(found)
 }
 
-/// For each connection of a net the pin on it that has its name, if there is one. `None`: some pin on the net is no connection.
-/// Answers `Memory` where there is no room.
-pub(crate) fn pins_of(
+/// Whether a pin of the netlist has the name of a connection of a net.
+fn is_named(design: &Design, pin: PinRef, net: &ParNet, at: usize) -> bool
+    requires pin { IsPin design.now.netlist pin }
+    requires at { at < length net.now.conns }
+    ensures { result ≡ same_node (pin_name design.now.netlist pin) (name_of net.now at) }
+{
+    let instance = design.instance_of(pin);
+    is_same(instance.name, net.nodes.owner(at))
+        && is_same(instance.pin(pin.pin as usize).name, net.nodes.leaf(at))
+}
+
+/// The pins on a net, where they are its connections one after another. `None`: they come in another order, or are not the same. Answers
+/// `Memory` where there is no room.
+fn pins_in_order(
+    alloc: Global,
+    design: &Design,
+    net: &JoinedNet,
+) -> Result<Option<Vec<Option<PinRef>>>, Memory>
+    requires { net.now.id < length design.now.netlist.nets }
+    ensures { IfOk result (λ found. IfSome found (λ pins. FindsPins design.now net.now (Some pins.items))) }
+{
+    let on_net = design.pins_on(net.id);
+    let count = net.par.conns.len();
+    if on_net.len() != count {
+        return Ok(None);
+    }
+    let mut pins = Vec::with_capacity(alloc, count)?;
+    'pin: for at in 0..count {
+        let pin = on_net[at];
+        if !is_named(design, pin, &net.par, at) {
+            return Ok(None);
+        }
+        pins.push(Some(pin))?;
+    }
+    Ok(Some(pins))
+}
+
+/// For each connection of a net the pin on it that has its name, found by that, whatever order they come in. `None`: some pin on the net
+/// is no connection. Answers `Memory` where there is no room.
+fn pins_by_name(
     alloc: Global,
     design: &Design,
     net: &JoinedNet,
@@ -126,4 +164,21 @@ pub(crate) fn pins_of(
         }
     }
     Ok(Some(ends.pins))
+}
+
+/// For each connection of a net the pin on it that has its name, if there is one. `None`: some pin on the net is no connection.
+/// Answers `Memory` where there is no room.
+pub(crate) fn pins_of(
+    alloc: Global,
+    design: &Design,
+    net: &JoinedNet,
+) -> Result<Option<Vec<Option<PinRef>>>, Memory>
+    requires { net.now.id < length design.now.netlist.nets }
+    ensures { IfOk result (λ found. FindsPins design.now net.now (option_map (λ pins. pins.items) found)) }
+{
+    if let Some(pins) = pins_in_order(alloc, design, net)? {
+        return Ok(Some(pins));
+    }
+    let pins = pins_by_name(alloc, design, net)?;
+    Ok(pins)
 }

@@ -2,7 +2,7 @@ use Rattle.std.proofs.Common.{ap, arith}
 use Rattle.vg_design.specs.Designs.{Joined}
 use Rattle.vg_design.specs.Steps.{Seen}
 use Rattle.vg_design.proofs.SeenLemmas.{all_found, more_seen, none_found, pin_here}
-use Rattle.vg_design.proofs.ends.pins_of.Goals as goal
+use Rattle.vg_design.proofs.ends.pins_by_name.Goals as goal
 
 pub see_pin-requires : goal.see_pin-requires
 see_pin-requires c =
