@@ -9,7 +9,7 @@ use Rattle.spef_nodes.specs.declared.node_table.Table.{Table}
 
 -- a hash, with one byte more
 abbrev pub hash_with : ℕ → ℕ → ℕ
-hash_with hash byte = (hash * 10 + byte) % 2 ^ 32
+hash_with hash byte = (hash * 11 + byte) % 2 ^ 32
 
 -- a node's bucket among so many is that of the low bits of the hashes of its owner and its leaf
 unfoldable pub bucket_of : ℕ → NodeName → ℕ

@@ -38,14 +38,15 @@ impl Model for NodeTable {
     ghost invariant = { λ nodes. IsTable nodes.table.owners nodes.table.leaves nodes.table.chains };
 }
 
-/// The hash of a text: texts that end with numbers close to each other have hashes as close.
+/// The hash of a text: texts that end with numbers close to each other have hashes as close. The factor is odd, so that each
+/// byte of a long text counts in the low bits.
 fn hash_of(text: &[u8]) -> u64
     ensures hash { result ≡ fold hash_with 0 text.now }
     ensures within { result < 2 ^ 32 }
 {
     let mut hash = 0u64;
     'byte: for byte in text {
-        hash = (hash * 10 + u64::from(*byte)) % 0x1_0000_0000;
+        hash = (hash * 11 + u64::from(*byte)) % 0x1_0000_0000;
     }
     hash
 }
@@ -157,6 +158,15 @@ impl NodeTable {
             Some(id) => Ok(id),
             None => self.table.add(bucket, owner, leaf),
         }
+    }
+
+    /// The number of a node. `None`: it is not there.
+    pub fn find(&self, owner: &[u8], leaf: &[u8]) -> Option<u32>
+        ensures found { IfSome result (λ id. slice_get self.now id ≡ Some (node_named owner.now leaf.now)) }
+        ensures absent { IfNone result (has_node self.now (node_named owner.now leaf.now) ≡ false) }
+    {
+        let bucket = bucket_of(self.table.chains.buckets(), owner, leaf);
+        self.table.find_in(bucket, owner, leaf)
     }
 
     /// The number of a node of the net of this name: one that is there, or one inside the net, which is put last where it is

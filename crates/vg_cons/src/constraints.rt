@@ -1,6 +1,6 @@
 //! The rows of a constraints text, and look-ups in them.
 
-ghost use Rattle.std.specs.Prelude.{◌≡◌, option_copied};
+ghost use Rattle.std.specs.Prelude.{◌≡◌, IfOk, option_copied};
 ghost use Rattle.vg_cons.specs.Statements.{default};
 ghost use Rattle.vg_cons.specs.Views.{Adds, Begins, added_as, stored_as, as_statement};
 ghost use Rattle.vg_cons.specs.Rows.{Rows, required_of, arrival_of, wants_inverted_of, drive_of, load_of, is_blocked_of, allowed_of, in_box_of};
@@ -12,7 +12,7 @@ use crate::fault::ConsKind;
 use crate::format::Format;
 use crate::node::NodeRef;
 use crate::row::Row;
-use crate::tables::{NodeCells, NodeSet, NodeTimes, PortDrives, PortLoads};
+use crate::tables::{NodeCells, NodeSet, NodeTimes, PortDrives, PortLoads, buckets_for};
 use std::alloc::Global;
 use std::marker::Model;
 use vg_num::Memory;
@@ -69,22 +69,25 @@ impl Drop for Constraints {
 }
 
 impl Constraints {
-    /// No rows.
-    pub(crate) fn new(alloc: Global) -> Constraints
-        ensures { result ≡ no_rows }
+    /// No rows, with room for those of a text of so many bytes. Answers `Memory` where there is none.
+    pub(crate) fn new(alloc: Global, bytes: usize) -> Result<Constraints, Memory>
+        ensures { IfOk result (λ cons. cons ≡ no_rows) }
     {
-        Constraints {
+        let required = NodeTimes::new(alloc, buckets_for(bytes))?;
+        // Arrival times are those of drivers, of which there are few.
+        let arrival = NodeTimes::new(alloc, buckets_for(bytes / 16))?;
+        Ok(Constraints {
             format: None,
             default: None,
-            required: NodeTimes::new(alloc),
-            arrival: NodeTimes::new(alloc),
+            required,
+            arrival,
             want: NodeSet::new(alloc),
             drive: PortDrives::new(alloc),
             load: PortLoads::new(alloc),
             block: NodeSet::new(alloc),
             allow: NodeCells::new(alloc),
             boxes: Boxes::new(alloc),
-        }
+        })
     }
 
     /// The version, once a heading has named it.
@@ -115,8 +118,8 @@ impl Constraints {
     {
         match row {
             Row::Default(time) => self.add_default(time),
-            Row::Required(pin, time) => check_fresh(self.required.insert(pin, time)),
-            Row::Arrival(pin, time) => check_fresh(self.arrival.insert(pin, time)),
+            Row::Required(pin, time) => check_fresh(self.required.insert(&pin, time)),
+            Row::Arrival(pin, time) => check_fresh(self.arrival.insert(&pin, time)),
             Row::Want(pin) => check_fresh(self.want.insert(pin)),
             Row::Drive(port, drive) => check_fresh(self.drive.insert(port, drive)),
             Row::Load(port, load) => check_fresh(self.load.insert(port, load)),

@@ -107,7 +107,12 @@ pub fn read_constraints(alloc: Global, bytes: &[u8]) -> Result<Constraints, Cons
     ensures rows { IfOk result (λ cons. cons ≡ rows_of (lines_of bytes.now)) }
     ensures fault { IfErr result (λ fault. (fault.kind ≡ Memory) ⊎ IsFaultIn (lines_of bytes.now) fault) }
 {
-    let mut cons = Constraints::new(alloc);
+    let Ok(mut cons) = Constraints::new(alloc, bytes.len()) else {
+        return Err(ConsFault {
+            kind: ConsKind::Memory,
+            line: 1,
+        });
+    };
     match read_lines(alloc, &mut cons, bytes) {
         Ok(()) => Ok(cons),
         Err(fault) => Err(fault),

@@ -1,6 +1,6 @@
-//! The tables of the rows: a look-up takes no memory and no walk.
+//! The tables of the rows: a look-up takes no memory, and no walk over all rows.
 
-ghost use Rattle.std.specs.Prelude.{◌≡◌, ℕ, ℤ, List, [], ◌∷◌, ◌++◌, not, is_some, true, IfOk, option_copied};
+ghost use Rattle.std.specs.Prelude.{◌≡◌, ◌<◌, ◌≤◌, ◌^◌, ℕ, ℤ, List, [], ◌∷◌, ◌++◌, not, is_some, true, false, IfOk, OnErr, option_copied};
 ghost use Rattle.vg_scan.specs.Nodes.{node_value, has_node};
 ghost use Rattle.vg_scan.specs.declared.name.NodeName.{NodeName};
 ghost use Rattle.vg_cons.specs.Named.{named};
@@ -8,46 +8,93 @@ ghost use Rattle.vg_cons.specs.Names.{port_value};
 
 use crate::node::NodeRef;
 use indexmap::{IndexMap, IndexSet};
+use spef_nodes::NodeTable;
 use std::alloc::Global;
 use std::marker::Model;
 use vg_num::{Memory, Row};
 use vg_scan::{Name, NodeName};
 
-/// A time for each of some pins or nodes, in the order in which they came.
+/// How many buckets there are in a table of the rows of a text of so many bytes: a power of two.
+pub(crate) fn buckets_for(bytes: usize) -> usize
+    ensures { (0 < result) × (result ≤ 2 ^ 32) }
+{
+    // A row has a word, a name, a number and what parts them: 16 bytes and more.
+    let mut buckets = 4usize;
+    'double: while buckets < bytes / 16 && buckets < 1 << 20 {
+        buckets *= 2;
+    }
+    buckets
+}
+
+/// A time for each of some pins or nodes, in the order in which they came. Their names stand in one buffer.
 #[derive(Drop)]
 pub(crate) struct NodeTimes {
-    times: IndexMap<NodeName, i128>,
+    nodes: NodeTable,
+    times: Vec<i128>,
 }
 
 impl Model for NodeTimes {
+    ghost use Rattle.std.specs.Prelude.{◌≡◌, ℤ, List, length, zip};
+    ghost use Rattle.spef_nodes.specs.Members.{AreApart};
+    ghost use Rattle.vg_scan.specs.declared.name.NodeName.{NodeName};
+
     ghost Value = { List (NodeName × ℤ) };
 
-    ghost view = { λ table. table.times.entries };
+    ghost view = { λ table. zip table.nodes table.times.items };
+
+    ghost invariant = { λ table. AreApart table.nodes × (length table.times.items ≡ length table.nodes) };
 }
 
 impl NodeTimes {
-    pub fn new(alloc: Global) -> NodeTimes
-        ensures { result ≡ [] }
+    /// No times, in a table of so many buckets. Answers `Memory` where there is no room.
+    pub fn new(alloc: Global, buckets: usize) -> Result<NodeTimes, Memory>
+        requires some { 0 < buckets }
+        requires fit { buckets ≤ 2 ^ 32 }
+        ensures { IfOk result (λ table. table ≡ []) }
     {
-        NodeTimes {
-            times: IndexMap::new(alloc),
-        }
+        let nodes = NodeTable::new(alloc, buckets)?;
+        Ok(NodeTimes {
+            nodes,
+            times: Vec::new(alloc),
+        })
     }
 
-    /// Puts a time last where its node is new, and says whether it was.
-    pub fn insert(&mut self, node: NodeName, time: i128) -> Result<bool, Memory>
-        ensures fresh { IfOk result (λ fresh. fresh ≡ not (is_some (node_value self.old node))) }
-        ensures last { IfOk result (λ fresh. fresh ≡ true → self.new ≡ self.old ++ (node, time) ∷ []) }
+    /// Puts a time last where its node is new, and says whether it was. Answers `Memory` where there is no room; nothing changes
+    /// then.
+    pub fn insert(&mut self, node: &NodeName, time: i128) -> Result<bool, Memory>
+        ensures fresh { IfOk result (λ fresh. fresh ≡ not (is_some (node_value self.old node.now))) }
+        ensures last { IfOk result (λ fresh. fresh ≡ true → self.new ≡ self.old ++ (node.now, time) ∷ []) }
+        ensures there { IfOk result (λ fresh. fresh ≡ false → self.new ≡ self.old) }
+        ensures unchanged { OnErr result (self.new ≡ self.old) }
     {
-        let before = self.times.insert(node, time)?;
-        Ok(before.is_none())
+        let count = self.times.len();
+        self.times.push(time)?;
+        let Ok(id) = self
+            .nodes
+            .intern(node.owner.as_bytes(), node.leaf.as_bytes())
+        else {
+            self.times.truncate(count);
+            return Err(Memory);
+        };
+        if id as usize == count {
+            return Ok(true);
+        }
+        self.times.truncate(count);
+        Ok(false)
     }
 
     /// The time of a node.
     pub fn get(&self, node: NodeRef<'_>) -> Option<i128>
         ensures { result ≡ node_value self.now (named node.entry) }
     {
-        self.times.get(node).copied()
+        // No hash is made where no row is there to be found.
+        if self.times.is_empty() {
+            return None;
+        }
+        match self.nodes.find(node.owner, node.leaf) {
+            None => None,
+            Some(id) => Some(self.times[id as usize]),
+        }
     }
 }
 
