@@ -35,6 +35,12 @@ gains_front old mid new xs ys rest text same is first (k, short, second) =
       subst (FileGains old new) (front_of xs ys rest k short ∙ ap (take (length xs + k)) is) (gains_both old mid new xs (take k ys) same first second),
     )
 
+-- one that gains these bytes and then some first ones of the last, gains some first bytes of both
+pub gains_last : (old mid new : FilesState) (xs ys : List ℕ) → mid.target ≡ old.target → FileGains old mid xs → FileGainsPrefix mid new ys → FileGainsPrefix old new (xs ++ ys)
+gains_last old mid new xs ys same first second =
+    let ends : ys ++ [] ≡ ys = grind (arith, common_steps) in
+    gains_front old mid new xs ys [] (xs ++ ys) same (ap (λ (zs : List ℕ). xs ++ zs) ends) first second
+
 -- a file gains nothing at first
 pub gains_none : (files : FilesState) → FileGains files files []
 gains_none files = record { appended = nothing (file_named files.holds files.target); others = λ file differs. refl }
@@ -42,3 +48,12 @@ gains_none files = record { appended = nothing (file_named files.holds files.tar
     nothing : (file : Option (List ℕ)) → file ≡ option_map (λ held. held ++ []) file
     nothing None = refl
     nothing (Some held) = grind (arith, common_steps)
+
+-- what was written, what waits and what is left make the same text, where a piece is gathered and more is written
+pub moved_on : (done more waiting piece waits left : List ℕ) → waiting ++ piece ≡ more ++ waits → (done ++ more) ++ (waits ++ left) ≡ done ++ (waiting ++ (piece ++ left))
+moved_on done more waiting piece waits left same =
+    let first = append_assoc done more (waits ++ left) in
+    let second = append_assoc more waits left in
+    let third = append_assoc waiting piece left in
+    let fourth = ap (λ (front : List ℕ). done ++ (front ++ left)) same in
+    cc

@@ -6,7 +6,7 @@ use Rattle.vg_output.proofs.write.append_pieces.Given as goal
 
 abbrev pub invariant-piece : goal.invariant-piece
 invariant-piece g l = record {
-  gained : (done : List ℕ) × (done ++ concat l.piece-iterator ≡ concat l.initial.piece-iterator) × FileGains (g.F.Files.state l.fn.files) (g.F.Files.state l.files) done;
+  gained : (done : List ℕ) × (done ++ (l.waiting.items ++ concat l.piece-iterator) ≡ concat l.initial.piece-iterator) × FileGains (g.F.Files.state l.fn.files) (g.F.Files.state l.files) done;
   later : (g.F.Files.state l.fn.files).write_faults ≤ (g.F.Files.state l.files).write_faults;
   still_writing : (g.F.Files.state l.files).writing ≡ true;
   same_target : (g.F.Files.state l.files).target ≡ (g.F.Files.state l.fn.files).target;
