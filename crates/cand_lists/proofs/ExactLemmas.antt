@@ -6,8 +6,8 @@ use Rattle.std.proofs.lemmas.Int.{ints}
 use Rattle.std.proofs.lemmas.List.Elements.{All-map, Contains-get_or}
 use Rattle.elmore.specs.Pairs.{IsUndominated, IsBelow, Dominates}
 use Rattle.elmore.specs.declared.pair.Pair.{Pair}
-use Rattle.cand_laws.specs.Merging.{Wires, Raises, raised}
-use Rattle.cand_laws.proofs.RaiseLemmas.{all_raised}
+use Rattle.cand_pairs.specs.Merging.{Wires, Raises, raised}
+use Rattle.cand_pairs.proofs.RaiseLemmas.{all_raised}
 use Rattle.cand_pool.specs.Candidates.{Candidate, Candidates, IsModest, AreModest, wired, loaded, wired_to}
 use Rattle.cand_pool.specs.Sequences.{lowest, undominated, union}
 use Rattle.cand_pool.specs.Laws.{IsCandidateOf, IsOfEither, HeaviesFrom, InOrderAfter, IsInOrder}

@@ -3,7 +3,7 @@ use Rattle.std.specs.Prelude.{◌≡◌, ◌⊎◌, ℕ, ◌<◌, ◌^◌, List,
 use Rattle.std.specs.List.{Contains, AllPairs}
 use Rattle.elmore.specs.Pairs.{IsUndominated, IsBelow}
 use Rattle.elmore.specs.declared.pair.Pair.{Pair}
-use Rattle.cand_laws.specs.Merging.{Wires, Raises}
+use Rattle.cand_pairs.specs.Merging.{Wires, Raises}
 use Rattle.cand_pool.specs.Candidates.{Candidate, Candidates, AreModest, wired, loaded, wired_to}
 use Rattle.cand_pool.specs.Sequences.{undominated, union}
 use Rattle.cand_uses.specs.Pairs.{pairs_of}

@@ -5,7 +5,7 @@ use Rattle.std.proofs.lemmas.List.Elements.{All-nil}
 use Rattle.std.specs.List.{Contains}
 use Rattle.sol_arena.specs.declared.arena.Arena.{Arena}
 use Rattle.sol_arena.specs.Arenas.{made_of}
-use Rattle.cand_laws.specs.Solutions.{IsSolutionOf}
+use Rattle.cand_pairs.specs.Solutions.{IsSolutionOf}
 use Rattle.cand_pool.specs.Candidates.{Candidates}
 use Rattle.cand_pool.specs.Pools.{Block, IsLive, items_of, spare, name, KeepsOthers}
 use Rattle.cand_pool.specs.declared.ends.List.{List as NamedList}

@@ -21,19 +21,19 @@ use Rattle.sol_arena.specs.Meanings.{cells_of}
 use Rattle.sol_arena.specs.declared.arena.Arena.{Arena}
 use Rattle.sol_arena.proofs.OneLemmas.{one_same}
 use Rattle.sol_arena.proofs.ReachLemmas.{held_live}
-use Rattle.cand_laws.specs.Candidates.{with_cell, own_capacitance, fork_of, whole_fork}
-use Rattle.cand_laws.specs.Merging.{fork_from, live_from, Greatest, Owns, IsChoiceAt}
-use Rattle.cand_laws.specs.Parts.{IsLivePart}
-use Rattle.cand_laws.specs.Solutions.{cells_by, with_own, IsOpenSolutionOf, IsSolutionOf}
-use Rattle.cand_laws.proofs.ChildLemmas.{child_above}
-use Rattle.cand_laws.proofs.FromLemmas.{live_all, own_all}
-use Rattle.cand_laws.proofs.GreatestLemmas.{greatest_dense}
-use Rattle.cand_laws.proofs.MergeLemmas.{IsDense, dense_exact, same_exact}
-use Rattle.cand_laws.proofs.PairPartLemmas.{live_child_parts}
-use Rattle.cand_laws.proofs.SmallPairLemmas.{pair_small, live_from_in}
-use Rattle.cand_laws.proofs.SolutionLemmas.{solution_closed, solution_bare}
-use Rattle.cand_laws.proofs.StepLemmas.{over_self}
-use Rattle.cand_laws.proofs.TurnLemmas.{part_steps, part_open, bare_steps, kept_exact}
+use Rattle.cand_pairs.specs.Candidates.{with_cell, own_capacitance, fork_of, whole_fork}
+use Rattle.cand_pairs.specs.Merging.{fork_from, live_from, Greatest, Owns, IsChoiceAt}
+use Rattle.cand_pairs.specs.Parts.{IsLivePart}
+use Rattle.cand_pairs.specs.Solutions.{cells_by, with_own, IsOpenSolutionOf, IsSolutionOf}
+use Rattle.cand_pairs.proofs.ChildLemmas.{child_above}
+use Rattle.cand_pairs.proofs.FromLemmas.{live_all, own_all}
+use Rattle.cand_pairs.proofs.GreatestLemmas.{greatest_dense}
+use Rattle.cand_pairs.proofs.MergeLemmas.{IsDense, dense_exact, same_exact}
+use Rattle.cand_pairs.proofs.PairPartLemmas.{live_child_parts}
+use Rattle.cand_pairs.proofs.SmallPairLemmas.{pair_small, live_from_in}
+use Rattle.cand_pairs.proofs.SolutionLemmas.{solution_closed, solution_bare}
+use Rattle.cand_pairs.proofs.StepLemmas.{over_self}
+use Rattle.cand_pairs.proofs.TurnLemmas.{part_steps, part_open, bare_steps, kept_exact}
 use Rattle.cand_pool.specs.Candidates.{Candidate, Candidates, AreModest}
 use Rattle.cand_pool.specs.Sequences.{union, lowest}
 use Rattle.cand_uses.specs.Pairs.{pair_of, pairs_of}

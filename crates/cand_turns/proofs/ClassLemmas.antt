@@ -1,7 +1,7 @@
 -- The candidates with a cell at a node, of one class and of both.
 use Rattle.std.proofs.Common.{◌≡◌, ℕ, ◌+◌, ◌≤◌, Bool, true, false, List, [], ◌∷◌, length, refl, sym, ap, subst, arith}
 use Rattle.elmore.specs.Cells.{rep_at}
-use Rattle.cand_laws.specs.Merging.{IsGreatestBy}
+use Rattle.cand_pairs.specs.Merging.{IsGreatestBy}
 use Rattle.elmore.specs.declared.problem.Problem.{Problem}
 use Rattle.sol_arena.specs.declared.arena.Arena.{Arena}
 use Rattle.sol_arena.specs.declared.slot.Made.{Made}

@@ -17,16 +17,16 @@ use Rattle.sol_arena.specs.declared.slot.Slot.{Slot}
 use Rattle.sol_arena.specs.Arenas.{made_of}
 use Rattle.sol_arena.specs.Slots.{made_in}
 use Rattle.sol_arena.specs.Meanings.{cells_of, AreApart, joined}
-use Rattle.cand_laws.specs.Candidates.{IsOpenWith, carried, fork_of}
-use Rattle.cand_laws.specs.Merging.{Carries, IsSmallPair, live_from, own_from, fork_from, meet, Meets}
-use Rattle.cand_laws.specs.Solutions.{IsOpenSolutionOf}
-use Rattle.cand_laws.proofs.ChildLemmas.{one_child}
-use Rattle.cand_laws.proofs.FromLemmas.{live_here, live_own, not_yet}
-use Rattle.cand_laws.proofs.JoinLemmas.{is_child_of, parent_within}
-use Rattle.cand_laws.proofs.PairPartLemmas.{live_child_parts}
-use Rattle.cand_laws.proofs.SmallPairLemmas.{pair_small, open_small, open_times, live_from_in, charge_small}
-use Rattle.cand_laws.proofs.SolutionLemmas.{solution_more}
-use Rattle.cand_laws.proofs.TurnLemmas.{live_on_live}
+use Rattle.cand_pairs.specs.Candidates.{IsOpenWith, carried, fork_of}
+use Rattle.cand_pairs.specs.Merging.{Carries, IsSmallPair, live_from, own_from, fork_from, meet, Meets}
+use Rattle.cand_pairs.specs.Solutions.{IsOpenSolutionOf}
+use Rattle.cand_pairs.proofs.ChildLemmas.{one_child}
+use Rattle.cand_pairs.proofs.FromLemmas.{live_here, live_own, not_yet}
+use Rattle.cand_pairs.proofs.JoinLemmas.{is_child_of, parent_within}
+use Rattle.cand_pairs.proofs.PairPartLemmas.{live_child_parts}
+use Rattle.cand_pairs.proofs.SmallPairLemmas.{pair_small, open_small, open_times, live_from_in, charge_small}
+use Rattle.cand_pairs.proofs.SolutionLemmas.{solution_more}
+use Rattle.cand_pairs.proofs.TurnLemmas.{live_on_live}
 use Rattle.cand_pool.specs.Candidates.{Candidate, Candidates, IsModest, AreModest}
 use Rattle.cand_pool.specs.Pools.{Block, IsLive, items_of, spare, name, KeepsOthers}
 use Rattle.cand_pool.specs.declared.ends.List.{List as NamedList}

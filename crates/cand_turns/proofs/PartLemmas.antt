@@ -12,15 +12,15 @@ use Rattle.sol_arena.specs.declared.arena.Arena.{Arena}
 use Rattle.sol_arena.specs.declared.slot.Made.{Made}
 use Rattle.sol_arena.specs.Arenas.{made_of}
 use Rattle.sol_arena.specs.Meanings.{cells_of}
-use Rattle.cand_laws.specs.Candidates.{IsOpenWith, carried, fork_of}
-use Rattle.cand_laws.specs.Merging.{raised, live_from, own_from, fork_from}
-use Rattle.cand_laws.specs.Parts.{IsDeadPart}
-use Rattle.cand_laws.specs.Solutions.{IsOpenSolutionOf}
-use Rattle.cand_laws.proofs.FromLemmas.{live_here, live_own, dead_here, dead_own}
-use Rattle.cand_laws.proofs.JoinLemmas.{is_child_of, parent_within}
-use Rattle.cand_laws.proofs.SmallPairLemmas.{own_small}
-use Rattle.cand_laws.proofs.SolutionLemmas.{solution_first, solution_raised}
-use Rattle.cand_laws.proofs.TurnLemmas.{dead_on_dead, dead_on_live, live_on_dead}
+use Rattle.cand_pairs.specs.Candidates.{IsOpenWith, carried, fork_of}
+use Rattle.cand_pairs.specs.Merging.{raised, live_from, own_from, fork_from}
+use Rattle.cand_pairs.specs.Parts.{IsDeadPart}
+use Rattle.cand_pairs.specs.Solutions.{IsOpenSolutionOf}
+use Rattle.cand_pairs.proofs.FromLemmas.{live_here, live_own, dead_here, dead_own}
+use Rattle.cand_pairs.proofs.JoinLemmas.{is_child_of, parent_within}
+use Rattle.cand_pairs.proofs.SmallPairLemmas.{own_small}
+use Rattle.cand_pairs.proofs.SolutionLemmas.{solution_first, solution_raised}
+use Rattle.cand_pairs.proofs.TurnLemmas.{dead_on_dead, dead_on_live, live_on_dead}
 use Rattle.cand_pool.specs.Candidates.{Candidate, Candidates, AreModest, loaded}
 use Rattle.cand_pool.specs.Pools.{Block}
 use Rattle.cand_uses.specs.Pairs.{pair_of, pairs_of}

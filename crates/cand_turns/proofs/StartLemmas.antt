@@ -10,12 +10,12 @@ use Rattle.elmore.specs.Placements.{IsSinkAt}
 use Rattle.elmore.specs.Trees.{capacitance}
 use Rattle.elmore.specs.declared.parts.Sink.{Sink}
 use Rattle.elmore.specs.declared.problem.Problem.{Problem}
-use Rattle.cand_laws.specs.Candidates.{IsOpenWith, fork_of}
-use Rattle.cand_laws.specs.Merging.{fork_from, own_from}
-use Rattle.cand_laws.specs.Parts.{IsLivePart}
-use Rattle.cand_laws.specs.Solutions.{IsOpenSolutionOf}
-use Rattle.cand_laws.proofs.SolutionLemmas.{solution_sink}
-use Rattle.cand_laws.proofs.TurnLemmas.{start_live_part, sink_lists, start_live, start_own}
+use Rattle.cand_pairs.specs.Candidates.{IsOpenWith, fork_of}
+use Rattle.cand_pairs.specs.Merging.{fork_from, own_from}
+use Rattle.cand_pairs.specs.Parts.{IsLivePart}
+use Rattle.cand_pairs.specs.Solutions.{IsOpenSolutionOf}
+use Rattle.cand_pairs.proofs.SolutionLemmas.{solution_sink}
+use Rattle.cand_pairs.proofs.TurnLemmas.{start_live_part, sink_lists, start_live, start_own}
 use Rattle.sol_arena.specs.declared.slot.Made.{Made}
 use Rattle.sol_arena.specs.Meanings.{cells_of, bare}
 use Rattle.sol_arena.specs.Slots.{none}

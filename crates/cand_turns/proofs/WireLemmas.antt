@@ -11,9 +11,9 @@ use Rattle.sol_arena.specs.declared.arena.Arena.{Arena}
 use Rattle.sol_arena.specs.declared.slot.Made.{Made}
 use Rattle.sol_arena.specs.Arenas.{slots_of, made_of}
 use Rattle.sol_arena.specs.Meanings.{cells_of}
-use Rattle.cand_laws.specs.Merging.{IsSmallPair, Carries}
-use Rattle.cand_laws.specs.Solutions.{IsSolutionOf}
-use Rattle.cand_laws.proofs.SmallPairLemmas.{pair_small, resistance_small}
+use Rattle.cand_pairs.specs.Merging.{IsSmallPair, Carries}
+use Rattle.cand_pairs.specs.Solutions.{IsSolutionOf}
+use Rattle.cand_pairs.proofs.SmallPairLemmas.{pair_small, resistance_small}
 use Rattle.cand_pool.specs.Candidates.{Candidate, Candidates, AreModest, loaded, wired_to}
 use Rattle.cand_pool.specs.declared.ends.List.{List as NamedList}
 use Rattle.cand_uses.specs.Pairs.{pair_of, pairs_of}

@@ -5,9 +5,9 @@ use Rattle.elmore.specs.Pairs.{IsPairAt, IsUndominated}
 use Rattle.elmore.specs.declared.pair.Pair.{Pair}
 use Rattle.elmore.specs.declared.problem.Problem.{Problem}
 use Rattle.sol_arena.specs.declared.slot.Made.{Made}
-use Rattle.cand_laws.specs.Candidates.{IsOpenWith}
-use Rattle.cand_laws.specs.Merging.{fork_from, IsChoiceAt, IsGreatestBy}
-use Rattle.cand_laws.specs.Solutions.{IsOpenSolutionOf, IsSolutionOf}
+use Rattle.cand_pairs.specs.Candidates.{IsOpenWith}
+use Rattle.cand_pairs.specs.Merging.{fork_from, IsChoiceAt, IsGreatestBy}
+use Rattle.cand_pairs.specs.Solutions.{IsOpenSolutionOf, IsSolutionOf}
 use Rattle.cand_pool.specs.Candidates.{Candidates}
 use Rattle.cand_uses.specs.Pairs.{pairs_of}
 use Rattle.cand_turns.specs.Solved.{AreSolved}

@@ -10,10 +10,10 @@ use Rattle.elmore.specs.declared.problem.Problem.{Problem}
 use Rattle.sol_arena.specs.declared.slot.Made.{Made}
 use Rattle.sol_arena.specs.Slots.{none}
 use Rattle.sol_arena.specs.Meanings.{cells_of}
-use Rattle.cand_laws.specs.Candidates.{carried}
-use Rattle.cand_laws.specs.Merging.{Carries, fork_from}
-use Rattle.cand_laws.specs.Parts.{IsLivePart}
-use Rattle.cand_laws.specs.Solutions.{IsSolutionOf, IsOpenSolutionOf}
+use Rattle.cand_pairs.specs.Candidates.{carried}
+use Rattle.cand_pairs.specs.Merging.{Carries, fork_from}
+use Rattle.cand_pairs.specs.Parts.{IsLivePart}
+use Rattle.cand_pairs.specs.Solutions.{IsSolutionOf, IsOpenSolutionOf}
 use Rattle.cand_pool.specs.Candidates.{Candidate, Candidates}
 use Rattle.cand_uses.specs.Pairs.{pair_of, pairs_of}
 use Rattle.cand_lists.specs.ListLaws.{through_wire}

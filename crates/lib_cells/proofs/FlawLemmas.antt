@@ -2,7 +2,7 @@
 use Rattle.std.proofs.Common.{◌≡◌, ℕ, List, [], ◌∷◌, ◌++◌, fold, map, Option, None, refl, sym, ap, ◌∙◌}
 use Rattle.std.proofs.lemmas.List.Sums.{fold-append}
 use Rattle.lib_text.specs.Groups.{Group}
-use Rattle.vg_names.specs.Distinct.{with_name}
+use Rattle.name_tables.specs.Distinct.{with_name}
 use Rattle.lib_cells.specs.declared.flaw.Flaw.{Flaw}
 use Rattle.lib_cells.specs.Cells.{name_of}
 use Rattle.lib_cells.specs.Flaws.{twice_flaw, twice_flaws}

@@ -4,7 +4,7 @@ use Rattle.std.specs.List.{list_any, position_or_len}
 use Rattle.std.specs.Str.{bytes_eq}
 use Rattle.std.proofs.lemmas.Bool.Decides.{nat_tests}
 use Rattle.std.proofs.lemmas.List.{append-nil}
-use Rattle.vg_names.specs.Distinct.{number_of as place_of, with_name}
+use Rattle.name_tables.specs.Distinct.{number_of as place_of, with_name}
 use Rattle.lib_text.specs.Groups.{Group}
 use Rattle.lib_text.specs.declared.statement.Statement.{Statement}
 use Rattle.lib_cells.specs.declared.fault.LibKind.{LibKind}

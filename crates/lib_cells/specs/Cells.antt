@@ -3,7 +3,7 @@
 use Rattle.std.specs.Prelude.{ℕ, max, Bool, false, true, List, [], ◌∷◌, map, codes, fold, Option, Some, None, option_map, unwrap_or, if◌then◌else◌}
 use Rattle.std.specs.List.{cons_option, flat_map}
 use Rattle.std.specs.Str.{bytes_eq}
-use Rattle.vg_names.specs.Distinct.{with_name}
+use Rattle.name_tables.specs.Distinct.{with_name}
 use Rattle.vg_scan.specs.Lines.{words}
 use Rattle.lib_text.specs.Groups.{Group, groups_in, names_of, value_in}
 use Rattle.lib_cells.specs.declared.cell.CellInfo.{CellInfo}

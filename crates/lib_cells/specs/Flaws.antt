@@ -3,7 +3,7 @@ use Rattle.std.specs.Prelude.{◌≡◌, ◌⊎◌, ℕ, ◌==◌, ℤ, pos, Boo
 use Rattle.std.specs.Ordering.{int_eq}
 use Rattle.std.specs.List.{All, Contains, flat_map}
 use Rattle.std.specs.Str.{bytes_eq}
-use Rattle.vg_names.specs.Distinct.{number_of as place_of, with_name}
+use Rattle.name_tables.specs.Distinct.{number_of as place_of, with_name}
 use Rattle.vg_num.specs.declared.fault.NumFault.{NumFault}
 use Rattle.vg_scan.specs.declared.fault.LineFault.{LineFault}
 use Rattle.lib_text.specs.declared.statement.Statement.{Statement}

@@ -1,7 +1,7 @@
 //! The flaws of the cells of a library.
 
 ghost use Rattle.std.specs.Prelude.{◌≡◌, ◌≤◌, None, option_to_list, flat_map, fold, map, IfOk, IfErr, []};
-ghost use Rattle.vg_names.specs.Distinct.{with_name};
+ghost use Rattle.name_tables.specs.Distinct.{with_name};
 ghost use Rattle.lib_cells.specs.Cells.{cell_groups, name_of, pin_groups, timings};
 ghost use Rattle.lib_cells.specs.FirstFlaws.{first_of};
 ghost use Rattle.lib_cells.specs.Flaws.{IsFirstOrMemory, cell_flaws, number_flaws, pin_flaws, slope_flaws, timing_flaws, twice_flaw, twice_flaws, value_flaws};
@@ -14,8 +14,8 @@ use crate::related_pins::add_name;
 use crate::units::Units;
 use crate::values::{number_of, signed_of};
 use lib_text::Group;
+use name_tables::Names;
 use std::alloc::Global;
-use vg_names::Names;
 use vg_num::Memory;
 
 /// What is wrong with a number that is used.

@@ -1,14 +1,14 @@
 //! The pins that a pin's timing groups name as related.
 
 ghost use Rattle.std.specs.Prelude.{◌≡◌, fold, IfOk};
-ghost use Rattle.vg_names.specs.Distinct.{with_name};
+ghost use Rattle.name_tables.specs.Distinct.{with_name};
 ghost use Rattle.lib_cells.specs.Cells.{related_in, related_of};
 ghost use Rattle.lib_cells.specs.Cells.{direction_of};
 
 use crate::pin::{PinDir, is_output};
 use lib_text::Group;
+use name_tables::Names;
 use std::alloc::Global;
-use vg_names::Names;
 use vg_num::{Memory, Row};
 use vg_scan::{Name, Words};
 

@@ -1,9 +1,9 @@
 -- In a library each statement has a name of its own.
 use Rattle.std.proofs.Common.{◌≡◌, arith, ℕ, suc, Bool, true, false, ◌||◌, not, List, [], ◌∷◌, ◌++◌, Option, Some, None, refl, ap, ◌∙◌}
 use Rattle.std.specs.List.{list_all}
-use Rattle.vg_grammar.specs.Grammar.{Part, Derives}
-use Rattle.vg_grammar.specs.Grammar.Part.{one, nothing, both, either, many, named}
-use Rattle.vg_grammar.specs.Grammar.Derives.{by_one, by_nothing, by_both, by_left, by_right, by_none, by_more, by_name}
+use Rattle.grammar_laws.specs.Grammar.{Part, Derives}
+use Rattle.grammar_laws.specs.Grammar.Part.{one, nothing, both, either, many, named}
+use Rattle.grammar_laws.specs.Grammar.Derives.{by_one, by_nothing, by_both, by_left, by_right, by_none, by_more, by_name}
 use Rattle.lib_text.specs.declared.kind.Kind.{Kind}
 use Rattle.lib_text.specs.declared.kind.Kind.TheVariants.{Library, Cell, Pin, Word, Colon, Value, Open, Single, Several, Other, Close, Begin, End, Semicolon, Stray}
 use Rattle.lib_text.specs.Grammar.{Name, rules, library, is_library, is_cell, is_pin, is_word, is_single, is_names, is_list, is_no_cell, is_no_pin, simple, complex, group}

@@ -5,3 +5,10 @@ pub mod LawNames
 pub mod LawOwnNames
 pub mod LawJoins
 pub mod LawLemmas
+pub mod TokenForms
+pub mod ItemLemmas
+pub mod BodySteps
+pub mod FirstLemmas
+pub mod ReadLemmas
+pub mod GroupLemmas
+pub mod NameLemmas

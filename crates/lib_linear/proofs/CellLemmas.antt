@@ -18,7 +18,7 @@ use Rattle.lib_linear.specs.Repeaters.{AreRepeaters, AreRepeatersOf, AreTwoPins,
 use Rattle.lib_linear.specs.Repeaters.AreRepeaters.{no_cell, taken, passed}
 use Rattle.lib_linear.specs.RepeaterLaws.{AreDistinct}
 use Rattle.lib_linear.proofs.RepeaterOrder.{found_distinct, ordered_distinct}
-use Rattle.vg_names.proofs.NameTableLemmas.{eq_no}
+use Rattle.name_tables.proofs.NameTableLemmas.{eq_no}
 
 same : (a : List ℕ) → bytes_eq a a ≡ true
 same a = (bytes_eq-Decides a a).1 refl

@@ -2,7 +2,7 @@
 use Rattle.std.proofs.Common.{◌≡◌, ℕ, ◌<◌, Bool, List, [], ◌∷◌, ◌++◌, length, Option, Some, filter, map, ◌||◌, get_or, refl, sym, ap, ◌∙◌, arith, true, false, ◌≢◌}
 use Rattle.std.specs.List.{All, flat_map, list_any}
 use Rattle.std.specs.Option.{is_none}
-use Rattle.vg_names.specs.Distinct.{number_of as place_of, with_name}
+use Rattle.name_tables.specs.Distinct.{number_of as place_of, with_name}
 use Rattle.std.specs.Str.{bytes_eq}
 use Rattle.std.proofs.lemmas.List.Elements.{All-cons, All-nil}
 use Rattle.std.proofs.lemmas.List.Folds.{list_any-append}

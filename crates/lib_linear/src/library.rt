@@ -6,8 +6,8 @@ ghost use Rattle.lib_linear.specs.Libraries.{AreOfCells, cap_of, drive_in, limit
 
 use crate::repeater::Repeater;
 use lib_cells::{CellInfo, PinInfo};
+use name_tables::Names;
 use std::marker::Model;
-use vg_names::Names;
 use vg_num::Row;
 use vg_scan::Name;
 

@@ -1,7 +1,7 @@
 -- The machine goes on as the grammar does, place by place.
 use Rattle.std.proofs.Common.{◌≡◌, ℕ, zero, suc, ltb, Bool, true, false, [], ◌∷◌, ◌++◌, None, cond, refl}
-use Rattle.vg_grammar.specs.Ways.{after_any, followed_by, can_stop}
-use Rattle.vg_grammar.specs.Machines.{ways_of, has_way, IsMachine}
+use Rattle.grammar_laws.specs.Ways.{after_any, followed_by, can_stop}
+use Rattle.grammar_laws.specs.Machines.{ways_of, has_way, IsMachine}
 use Rattle.lib_text.specs.Grammar.{rules}
 use Rattle.lib_text.specs.Grammar.Name.{in_library, in_cell, inside}
 use Rattle.lib_text.specs.Moves.{ends, ways_at, ways, in_body, state, after_name, after_open, after_close, move, is_done_at, is_done, next}

@@ -1,9 +1,9 @@
 -- A text that is read token by token.
 use Rattle.std.proofs.Common.{◌≡◌, ℕ, zero, suc, ◌+◌, ◌<◌, Bool, true, false, List, [], ◌∷◌, length, map, take_all, drop, get_or, Option, Some, None, refl, sym, ap, ◌∙◌, arith, length-drop, ◌==◌, if◌then◌else◌}
 use Rattle.std.proofs.lemmas.List.{length-map}
-use Rattle.vg_grammar.specs.Ways.{IsLeft}
-use Rattle.vg_grammar.proofs.WayLemmas.{left_start}
-use Rattle.vg_grammar.proofs.MachineLemmas.{stepped, stuck, ended, cut}
+use Rattle.grammar_laws.specs.Ways.{IsLeft}
+use Rattle.grammar_laws.proofs.WayLemmas.{left_start}
+use Rattle.grammar_laws.proofs.MachineLemmas.{stepped, stuck, ended, cut}
 use Rattle.lib_text.specs.declared.kind.Kind.{Kind}
 use Rattle.lib_text.specs.declared.kind.Kind.TheVariants.{Library, Single, Several, Other}
 use Rattle.lib_text.specs.declared.state.At.{At}

@@ -1,8 +1,8 @@
 -- The grammar of a library, over kinds of tokens. Source: Liberty User Guide, Synopsys: a group statement has a name,
 -- arguments and statements; a simple attribute a name and a value; a complex attribute a name and arguments.
 use Rattle.std.specs.Prelude.{ℕ, suc, ltb, Bool, true, false, ◌&&◌, not, List, [], ◌∷◌}
-use Rattle.vg_grammar.specs.Grammar.{Part}
-use Rattle.vg_grammar.specs.Grammar.Part.{one, nothing, both, either, many, named}
+use Rattle.grammar_laws.specs.Grammar.{Part}
+use Rattle.grammar_laws.specs.Grammar.Part.{one, nothing, both, either, many, named}
 use Rattle.lib_text.specs.declared.kind.Kind.{Kind}
 use Rattle.lib_text.specs.declared.kind.Kind.TheVariants.{Library, Cell, Pin, Word, Colon, Value, Open, Single, Several, Other, Close, Begin, End, Semicolon}
 

@@ -1,7 +1,7 @@
 -- How the machine goes on, token by token, and which ways of the grammar each place stands for: for the functions between.
 use Rattle.std.specs.Prelude.{ℕ, zero, suc, ltb, Bool, true, false, List, [], ◌∷◌, Option, Some, None, if◌then◌else◌}
-use Rattle.vg_grammar.specs.Grammar.{Part}
-use Rattle.vg_grammar.specs.Grammar.Part.{one, many, named}
+use Rattle.grammar_laws.specs.Grammar.{Part}
+use Rattle.grammar_laws.specs.Grammar.Part.{one, many, named}
 use Rattle.lib_text.specs.Grammar.{Name, library, is_colon, is_value, is_open, is_single, is_names, is_list, is_close, is_begin_in, is_end}
 use Rattle.lib_text.specs.Grammar.Name.{in_library, in_cell, inside}
 use Rattle.lib_text.specs.declared.kind.Kind.{Kind}

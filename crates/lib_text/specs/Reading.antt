@@ -1,6 +1,6 @@
 -- A text that is read up to a place, as the code does it: for the functions between.
 use Rattle.std.specs.Prelude.{◌≡◌, ℕ, ◌-◌, List, length, take, drop, Bool, true, false, Option}
-use Rattle.vg_grammar.specs.Ways.{IsLeft}
+use Rattle.grammar_laws.specs.Ways.{IsLeft}
 use Rattle.lib_text.specs.declared.state.At.{At}
 use Rattle.lib_text.specs.declared.state.At.TheVariants.{Opened}
 use Rattle.lib_text.specs.declared.state.Head.TheVariants.{Cell, Pin}

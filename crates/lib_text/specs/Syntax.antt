@@ -1,7 +1,7 @@
 -- Which texts are libraries, and where a text is none.
 use Rattle.std.specs.Prelude.{◌≡◌, ℕ, zero, suc, ◌-◌, min, List, [], ◌∷◌, length}
 use Rattle.vg_scan.specs.Lines.{line_number}
-use Rattle.vg_grammar.specs.Grammar.{Derives, IsFault}
+use Rattle.grammar_laws.specs.Grammar.{Derives, IsFault}
 use Rattle.lib_text.specs.declared.token.Token.{Token}
 use Rattle.lib_text.specs.Grammar.{rules, library}
 use Rattle.lib_text.specs.Kinds.{kinds_of}

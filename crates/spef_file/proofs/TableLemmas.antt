@@ -3,7 +3,7 @@ use Rattle.std.proofs.Common.{◌≡◌, ℕ, ◌+◌, Bool, ◌||◌, not, cond
 use Rattle.std.proofs.lemmas.Bool.Decides.{nat_tests}
 use Rattle.std.specs.Map.{lookup}
 use Rattle.std.specs.Str.{bytes_eq}
-use Rattle.vg_names.specs.Distinct.{with_name}
+use Rattle.name_tables.specs.Distinct.{with_name}
 use Rattle.spef_file.specs.declared.fault.SpefKind.TheVariants.{MapTwice, Stray}
 use Rattle.spef_file.specs.Rows.{mapped}
 use Rattle.spef_file.specs.Machine.{given_fault}

@@ -2,7 +2,7 @@
 use Rattle.std.proofs.Common.{◌≡◌, ℕ, zero, suc, ◌<◌, false, List, [], ◌∷◌, ◌++◌, length, map, get_or, refl, sym, ap, ◌∙◌, arith, Some, None, is_some}
 use Rattle.std.specs.List.{zip, list_any, position, slice_get}
 use Rattle.std.specs.Str.{bytes_eq}
-use Rattle.vg_names.specs.Distinct.{with_name, number_of}
+use Rattle.name_tables.specs.Distinct.{with_name, number_of}
 use Rattle.spef_file.specs.Rows.{mapped, is_mapped}
 use Rattle.spef_file.proofs.TableLemmas.{lookup_some, lookup_none, lookup_any, position_any, named_more, some_of}
 

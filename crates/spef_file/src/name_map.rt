@@ -4,9 +4,9 @@ ghost use Rattle.std.specs.Prelude.{◌≡◌, ◌==◌, ◌-◌, ◌<◌, ◌^�
 ghost use Rattle.std.specs.List.{slice_get};
 ghost use Rattle.spef_file.specs.Rows.{mapped, is_mapped};
 
+use name_tables::{Names, Texts};
 use std::alloc::Global;
 use std::marker::Model;
-use vg_names::{Names, Texts};
 use vg_num::Memory;
 
 /// The rows of a name map: the digits of an index, and its canonical name. Contracts see the list of rows, in the order of

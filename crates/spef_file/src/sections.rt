@@ -6,9 +6,9 @@ ghost use Rattle.std.specs.Str.{bytes_eq};
 ghost use Rattle.spef_file.specs.Tables.{names_of, is_section};
 
 use crate::section::Section;
+use name_tables::Names;
 use std::alloc::Global;
 use std::marker::Model;
-use vg_names::Names;
 use vg_num::Memory;
 
 /// The nets of a file: the canonical name of each, and where it stands. Contracts see the list of them, in the order of the

@@ -6,8 +6,8 @@ use Rattle.std.proofs.lemmas.Slice.Eq.{bytes_eq-Decides}
 use Rattle.std.specs.Str.{bytes_eq}
 use Rattle.std.specs.List.{slice_get}
 use Rattle.vg_scan.specs.declared.name.NodeName.{NodeName}
-use Rattle.vg_names.specs.declared.chains.Chains.{Chains}
-use Rattle.vg_names.specs.Chains.{IsLastBelow, AreChains}
+use Rattle.name_tables.specs.declared.chains.Chains.{Chains}
+use Rattle.name_tables.specs.Chains.{IsLastBelow, AreChains}
 use Rattle.vg_scan.specs.Nodes.{same_node, has_node}
 use Rattle.spef_nodes.specs.Members.{with_node}
 use Rattle.spef_nodes.specs.NodeTables.{bucket_of, buckets_of, nodes_in, IsTable}

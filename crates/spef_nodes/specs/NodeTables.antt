@@ -2,8 +2,8 @@
 use Rattle.std.specs.Prelude.{◌≡◌, ℕ, ◌+◌, ◌-◌, ◌*◌, ◌%◌, ◌^◌, ◌<◌, ◌≤◌, bit_and, List, [], ◌∷◌, length, map, slice_index_or}
 use Rattle.std.specs.List.{fold}
 use Rattle.vg_scan.specs.declared.name.NodeName.{NodeName}
-use Rattle.vg_names.specs.declared.chains.Chains.{Chains}
-use Rattle.vg_names.specs.Chains.{AreChains}
+use Rattle.name_tables.specs.declared.chains.Chains.{Chains}
+use Rattle.name_tables.specs.Chains.{AreChains}
 use Rattle.spef_nodes.specs.Members.{node_named}
 use Rattle.spef_nodes.specs.declared.node_table.Table.{Table}
 

@@ -10,10 +10,10 @@ ghost use Rattle.spef_nodes.specs.NodeReaders.{IsNumbered, SeesNode, Writes, net
 
 use crate::node::{Node, prefix_of, read_node};
 use crate::node_table::NodeTable;
+use name_tables::is_same;
 use spef_file::SpefIndex;
 use std::alloc::Global;
 use std::marker::Model;
-use vg_names::is_same;
 use vg_num::Memory;
 use vg_scan::NameFault;
 

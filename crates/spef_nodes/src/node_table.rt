@@ -7,9 +7,9 @@ ghost use Rattle.spef_nodes.specs.Members.{node_named, with_node, Owns};
 ghost use Rattle.spef_nodes.specs.NodeTables.{node_at, hash_with, bucket_of, nodes_in, nodes_of, IsTable};
 
 use crate::members::is_inner;
+use name_tables::{Chains, Texts, is_same};
 use std::alloc::Global;
 use std::marker::Model;
-use vg_names::{Chains, Texts, is_same};
 use vg_num::Memory;
 
 /// The names of nodes, and chains of those that are in one bucket.

@@ -5,9 +5,9 @@ ghost use Rattle.spef_nodes.specs.Nodes.{ParNode, noted_all};
 ghost use Rattle.spef_nodes.specs.NodeTables.{nodes_in};
 
 use crate::notes::Notes;
+use name_tables::Texts;
 use std::alloc::Global;
 use std::marker::Model;
-use vg_names::Texts;
 use vg_num::Memory;
 use vg_scan::{Name, NodeName};
 

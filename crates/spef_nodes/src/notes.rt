@@ -5,9 +5,9 @@ ghost use Rattle.spef_nodes.specs.Nodes.{note_at, is_joined, is_starred, text_of
 ghost use Rattle.spef_nodes.specs.Notes.{note_in, IsMark};
 ghost use Rattle.spef_nodes.specs.declared.notes.Mark.TheVariants.{Fresh};
 
+use name_tables::Texts;
 use std::alloc::Global;
 use std::marker::Model;
-use vg_names::Texts;
 use vg_num::Memory;
 
 /// What is noted of a node, with the number of the note's text.

@@ -2,10 +2,10 @@
 
 ghost use Rattle.std.specs.Prelude.{◌≡◌, true, IsTrue, IfOk};
 ghost use Rattle.std.specs.List.{All, AllPairs};
-ghost use Rattle.cand_laws.specs.Merging.{IsModest};
+ghost use Rattle.cand_pairs.specs.Merging.{IsModest};
 ghost use Rattle.elmore.specs.Pairs.{IsBelow};
 
-use cand_laws::{meet_all, sweep, through_wire};
+use cand_pairs::{meet_all, sweep, through_wire};
 use elmore::Pair;
 use std::alloc::Global;
 use std::test::Fail;

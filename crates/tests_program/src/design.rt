@@ -2,14 +2,14 @@
 ghost use Rattle.std.specs.Prelude.{◌≤◌, ◌^◌, length, IfOk};
 
 use crate::texts::{HEADER, LIB, NETLIST};
+use design_read::read_design;
 use elmore::{Allowed, Driver, Node, Problem, Sink};
 use spef_file::SpefText;
+use spef_wire::{Refusal, Refused};
 use std::alloc::Global;
 use std::test::Fail;
 use vg_design::{BareNet, Design, NetProblem, TreeNames, bare_net, problem};
-use vg_inputs::read_design;
 use vg_scan::Name;
-use vg_wire::{Refusal, Refused};
 
 /// A net whose inner node says where it is.
 const NET: &str = "*D_NET n1 200

@@ -3,10 +3,10 @@
 use crate::texts::HEADER;
 use spef_file::{SpefText, index};
 use spef_net::NetKind;
+use spef_wire::{Refusal, Refused, WireNet, wire_net};
 use std::alloc::Global;
 use std::test::Fail;
 use vg_scan::Name;
-use vg_wire::{Refusal, Refused, WireNet, wire_net};
 
 /// A file with these lines behind its header.
 fn file(alloc: Global, lines: &str) -> Result<SpefText, Fail> {

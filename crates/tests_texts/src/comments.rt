@@ -2,7 +2,7 @@
 
 use std::alloc::Global;
 use std::test::Fail;
-use vg_comments::take_comments;
+use vg_patch::take_comments;
 use vg_scan::Comments;
 
 /// Texts, and what they are without comments.

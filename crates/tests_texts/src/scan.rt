@@ -2,9 +2,9 @@
 
 ghost use Rattle.vg_scan.specs.Printed.{IsPrintable};
 
+use name_tables::Names;
 use std::alloc::Global;
 use std::test::Fail;
-use vg_names::Names;
 use vg_scan::{
     Chars, Comments, NameFault, Span, Words, index_of, inner_name, line_of, next_line, next_word,
     node_name, port_name, print_spef_name, skip_comments, spef_name, split_node, text_at,

@@ -3,9 +3,9 @@
 use crate::net::{HEADER, read};
 use crate::texts::text_of;
 use spef_file::index;
+use spef_write::{has_small_charge, write_net};
 use std::alloc::Global;
 use std::test::Fail;
-use vg_written::{has_small_charge, write_net};
 
 /// Sections, and what is written of their nets.
 static SECTIONS: [(&str, &str); 4] = [

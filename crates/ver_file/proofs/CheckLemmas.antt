@@ -1,6 +1,6 @@
 -- The flaws of one item more.
 use Rattle.std.proofs.Common.{◌≡◌, ℕ, List, [], ◌++◌, map, flat_map, fold, Option, sym, ap, ◌∙◌}
-use Rattle.vg_names.specs.Distinct.{with_name}
+use Rattle.name_tables.specs.Distinct.{with_name}
 use Rattle.ver_syntax.specs.declared.row.Row.{Row}
 use Rattle.ver_file.specs.Firsts.{first_of, named_by}
 use Rattle.ver_file.specs.Flaws.{named, repeated}

@@ -3,7 +3,7 @@ use Rattle.std.proofs.Common.{Bool, true, false, not, ◌≡◌, ℕ, suc, ◌+�
 use Rattle.std.proofs.lemmas.List.{append-nil, drop_all, map-append}
 use Rattle.std.proofs.lemmas.List.Elements.{filter-append}
 use Rattle.std.proofs.Math.Seq.{drop-cons}
-use Rattle.vg_names.specs.Distinct.{with_name}
+use Rattle.name_tables.specs.Distinct.{with_name}
 use Rattle.ver_syntax.specs.declared.row.Row.{Row}
 use Rattle.ver_module.specs.Netlists.{Net}
 use Rattle.ver_items.specs.declared.heading.Heading.{Heading}

@@ -5,7 +5,7 @@ use Rattle.std.specs.Str.{bytes_eq}
 use Rattle.std.proofs.lemmas.Bool.Decides.{nat_tests}
 use Rattle.std.proofs.lemmas.List.{append-nil}
 use Rattle.std.proofs.lemmas.List.Sums.{fold-append}
-use Rattle.vg_names.specs.Distinct.{number_in, with_name}
+use Rattle.name_tables.specs.Distinct.{number_in, with_name}
 use Rattle.ver_module.proofs.NameLemmas.{past, there, with_new, with_old}
 use Rattle.ver_file.specs.Firsts.{earlier, first_of, named_at}
 use Rattle.ver_file.specs.Flaws.{Named, named, repeated, unless}

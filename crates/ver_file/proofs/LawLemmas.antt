@@ -6,9 +6,9 @@ use Rattle.std.proofs.lemmas.Bool.Decides.{nat_tests}
 use Rattle.std.proofs.lemmas.List.Elements.{All-append, All-cons, All-contains, All-map, All-nil}
 use Rattle.std.proofs.lemmas.List.{append-nil, get_or_append_left}
 use Rattle.std.proofs.Math.Seq.{get_or-append_seam}
-use Rattle.vg_names.specs.Distinct.{number_of, with_name}
-use Rattle.vg_names.specs.NameTables.{AreDistinct}
-use Rattle.vg_names.proofs.NameTableLemmas.{absent_of}
+use Rattle.name_tables.specs.Distinct.{number_of, with_name}
+use Rattle.name_tables.specs.NameTables.{AreDistinct}
+use Rattle.name_tables.proofs.NameTableLemmas.{absent_of}
 use Rattle.vg_scan.specs.declared.fault.LineFault.{LineFault}
 use Rattle.ver_syntax.specs.declared.fault.VerKind.{VerKind}
 use Rattle.ver_syntax.specs.declared.fault.VerKind.TheVariants.{Grammar, InstanceTwice, NameClash}

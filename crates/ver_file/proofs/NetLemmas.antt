@@ -3,7 +3,7 @@ use Rattle.std.proofs.Common.{◌≡◌, ℕ, Bool, true, false, not, List, [], 
 use Rattle.std.specs.List.{list_any}
 use Rattle.std.specs.Str.{bytes_eq}
 use Rattle.std.proofs.lemmas.List.{append-nil, map-append}
-use Rattle.vg_names.specs.Distinct.{with_name}
+use Rattle.name_tables.specs.Distinct.{with_name}
 use Rattle.ver_syntax.specs.declared.fault.VerKind.TheVariants.{NameClash}
 use Rattle.ver_syntax.specs.declared.row.Row.{Row}
 use Rattle.ver_module.specs.Netlists.{Net}

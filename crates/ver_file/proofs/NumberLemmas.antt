@@ -4,8 +4,8 @@ use Rattle.std.specs.List.{list_any}
 use Rattle.std.specs.Str.{bytes_eq}
 use Rattle.std.proofs.lemmas.List.{get_or-map, length-map}
 use Rattle.std.proofs.lemmas.Option.{get_or_from_slice_get, slice_get-get_or, slice_get-map, slice_get_within}
-use Rattle.vg_names.specs.Distinct.{number_in, number_of, with_name}
-use Rattle.vg_names.proofs.NameTableLemmas.{known_of}
+use Rattle.name_tables.specs.Distinct.{number_in, number_of, with_name}
+use Rattle.name_tables.proofs.NameTableLemmas.{known_of}
 use Rattle.ver_module.proofs.NameLemmas.{with_new}
 use Rattle.ver_text.specs.declared.kind.Kind.TheVariants.{Module}
 use Rattle.ver_syntax.specs.declared.row.Place.TheVariants.{Start}

@@ -4,7 +4,7 @@ use Rattle.std.specs.List.{before_first, list_any}
 use Rattle.std.specs.Str.{bytes_eq}
 use Rattle.std.proofs.lemmas.List.{append-nil, map-append}
 use Rattle.std.proofs.lemmas.List.Elements.{filter-append}
-use Rattle.vg_names.specs.Distinct.{number_in, with_name}
+use Rattle.name_tables.specs.Distinct.{number_in, with_name}
 use Rattle.ver_text.specs.declared.kind.Kind.{Kind}
 use Rattle.ver_text.specs.declared.kind.Kind.TheVariants.{Direction, Identifier}
 use Rattle.ver_syntax.specs.declared.row.Row.{Row}

@@ -4,8 +4,8 @@ use Rattle.std.specs.List.{list_any}
 use Rattle.std.specs.Str.{bytes_eq}
 use Rattle.std.proofs.lemmas.List.Sums.{fold-append}
 use Rattle.std.proofs.lemmas.List.{get_or-set_other, get_or-set_same}
-use Rattle.vg_names.specs.Distinct.{number_in, number_of, with_name}
-use Rattle.vg_names.proofs.NameTableLemmas.{absent_of, no_place, number_known}
+use Rattle.name_tables.specs.Distinct.{number_in, number_of, with_name}
+use Rattle.name_tables.proofs.NameTableLemmas.{absent_of, no_place, number_known}
 use Rattle.ver_module.specs.declared.direction.PortDir.{PortDir}
 use Rattle.ver_module.proofs.NameLemmas.{one_before, there, with_new, with_old}
 use Rattle.ver_items.specs.declared.bits.Range.{Range}

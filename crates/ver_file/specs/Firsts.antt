@@ -1,6 +1,6 @@
 -- The first places of flaws, as the code keeps them: for the functions between.
 use Rattle.std.specs.Prelude.{ℕ, min, nat_le, List, [], map, filter, Option, Some, None, fold, if◌then◌else◌}
-use Rattle.vg_names.specs.Distinct.{with_name}
+use Rattle.name_tables.specs.Distinct.{with_name}
 use Rattle.ver_syntax.specs.Syntax.{line_at}
 use Rattle.ver_file.specs.declared.first.Flaw.{Flaw}
 use Rattle.ver_syntax.specs.declared.row.Row.{Row}

@@ -1,7 +1,7 @@
 -- What is true of the netlist and of the fault of every text.
 use Rattle.std.specs.Prelude.{◌≡◌, ℕ, ◌<◌, List, length, map}
 use Rattle.std.specs.List.{All}
-use Rattle.vg_names.specs.NameTables.{AreDistinct}
+use Rattle.name_tables.specs.NameTables.{AreDistinct}
 use Rattle.vg_scan.specs.declared.fault.LineFault.{LineFault}
 use Rattle.ver_syntax.specs.declared.fault.VerKind.{VerKind}
 use Rattle.ver_module.specs.Netlists.{AreWithin, IsNamed, Netlist}

@@ -1,6 +1,6 @@
 -- Identifiers that were looked up: for the functions between.
 use Rattle.std.specs.Prelude.{◌≡◌}
-use Rattle.vg_names.specs.Distinct.{number_of}
+use Rattle.name_tables.specs.Distinct.{number_of}
 use Rattle.ver_items.specs.Declarations.{declared_of, range_in}
 use Rattle.ver_file.specs.declared.scope.Found.{Found}
 use Rattle.ver_file.specs.declared.scope.Scope.{Scope}

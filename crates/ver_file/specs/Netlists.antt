@@ -2,7 +2,7 @@
 -- 12.3.6 (connections by name), 5.1.14 (concatenations).
 use Rattle.std.specs.Prelude.{ℕ, Bool, ◌&&◌, List, [], ◌∷◌, map, find, Option, Some, None, option_map, unwrap_or, if◌then◌else◌}
 use Rattle.std.specs.List.{flat_map}
-use Rattle.vg_names.specs.Distinct.{number_in}
+use Rattle.name_tables.specs.Distinct.{number_in}
 use Rattle.ver_text.specs.declared.kind.Kind.TheVariants.{EndModule, Semicolon}
 use Rattle.ver_syntax.specs.declared.row.Place.TheVariants.{Head, Assignment}
 use Rattle.ver_syntax.specs.declared.row.Row.{Row}

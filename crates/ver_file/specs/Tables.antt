@@ -2,7 +2,7 @@
 use Rattle.std.specs.Prelude.{◌≡◌, ℕ, ◌+◌, ◌<◌, ◌++◌, List, [], ◌∷◌, length, map, slice_index_or, Option, None, Some, if◌then◌else◌}
 use Rattle.std.specs.List.{All, list_any}
 use Rattle.std.specs.Str.{bytes_eq}
-use Rattle.vg_names.specs.Distinct.{number_in}
+use Rattle.name_tables.specs.Distinct.{number_in}
 use Rattle.ver_module.specs.Netlists.{Net, net_name}
 use Rattle.ver_items.specs.declared.heading.Heading.{Heading}
 use Rattle.vg_scan.specs.Lines.{part}

@@ -3,7 +3,7 @@
 ghost use Rattle.std.specs.Prelude.{◌≡◌, ◌<◌, ◌∷◌, [], flat_map, length, map, not, IfOk};
 ghost use Rattle.std.specs.List.{list_any};
 ghost use Rattle.std.specs.Str.{bytes_eq};
-ghost use Rattle.vg_names.specs.Distinct.{with_name};
+ghost use Rattle.name_tables.specs.Distinct.{with_name};
 ghost use Rattle.ver_items.specs.Begins.{begins};
 ghost use Rattle.ver_items.specs.Bits.{fits, select_before};
 ghost use Rattle.ver_file.specs.Netlists.{identifiers_in, range_at};
@@ -19,6 +19,7 @@ ghost use Rattle.ver_file.specs.Scopes.{HasIdentifiers};
 use crate::first::{Firsts, unless};
 use crate::identifier::{direction_said, range_said, room_for_names};
 use crate::scope::Scope;
+use name_tables::Names;
 use std::alloc::Global;
 use ver_items::{
     Begin, Heading, Range, Section, Sections, Select, after_first, connection_of, expression_in,
@@ -26,7 +27,6 @@ use ver_items::{
 };
 use ver_module::{PortDir, name_number};
 use ver_syntax::{Place, Row};
-use vg_names::Names;
 use vg_num::Memory;
 
 /// The most tokens of an instance whose pins are compared with one another: some thirty pins.

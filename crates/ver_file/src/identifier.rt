@@ -1,7 +1,7 @@
 //! The identifiers of nets, and what is declared of them.
 
 ghost use Rattle.std.specs.Prelude.{[], ◌≡◌, ℕ, List, ◌∷◌, ◌++◌, ◌<◌, length, max, min, ◌/◌, ◌^◌, slice_get, slice_index_or, IfNone, IfOk, IfSome, IsTrue, OnOk, Some, true, ◌↔◌};
-ghost use Rattle.vg_names.specs.Distinct.{number_in, number_of};
+ghost use Rattle.name_tables.specs.Distinct.{number_in, number_of};
 ghost use Rattle.ver_syntax.specs.declared.row.Row.{Row as RowSpec};
 ghost use Rattle.ver_syntax.specs.Rows.{rows_of};
 ghost use Rattle.ver_syntax.specs.Syntax.{HasTokens, IsModule};
@@ -12,13 +12,13 @@ ghost use Rattle.ver_file.specs.Firsts.{declared_among, declared_under};
 ghost use Rattle.ver_file.specs.Said.{direction_said, is_supply_said, or_else, range_said, said_of, with_heading};
 ghost use Rattle.ver_file.specs.Tables.{AreIdentifiers, AreRead, Reads, ReadsOne};
 
+use name_tables::Names;
 use std::alloc::Global;
 use ver_items::{
     Begin, Found, Heading, Items, KeptItems, Range, begins_declaration, is_net_name, name_at,
 };
 use ver_module::{PortDir, name_number};
 use ver_syntax::{Machine, Row};
-use vg_names::Names;
 use vg_num::Memory;
 
 /// How many bytes a text has for each of its nets and for each of its instances, about, where its names are long.

@@ -3,7 +3,7 @@
 ghost use Rattle.std.specs.Prelude.{◌≡◌, ℕ, List, ◌++◌, ◌∷◌, [], Some, is_some, map, slice_get, IfOk, IfSome, MatchOption, OnOk};
 ghost use Rattle.ver_items.specs.Bits.{bits_of, selected};
 ghost use Rattle.ver_file.specs.Netlists.{bit_in, is_one, link_of, number_of_bit, one_named, nets_in, nets_named};
-ghost use Rattle.vg_names.specs.Distinct.{number_of};
+ghost use Rattle.name_tables.specs.Distinct.{number_of};
 ghost use Rattle.ver_file.specs.Lookups.{IsLookedUp};
 ghost use Rattle.ver_file.specs.Said.{said_of};
 ghost use Rattle.ver_items.specs.Declarations.{declared_of};

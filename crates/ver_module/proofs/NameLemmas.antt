@@ -8,7 +8,7 @@ use Rattle.std.proofs.lemmas.List.{get_or_append_left}
 use Rattle.std.proofs.lemmas.List.Folds.{list_any_at}
 use Rattle.std.proofs.lemmas.Option.{get_or_from_slice_get, slice_get-get_or, slice_get_within}
 use Rattle.std.proofs.Math.Seq.{get_or-append_seam}
-use Rattle.vg_names.specs.Distinct.{number_in, number_of, with_name}
+use Rattle.name_tables.specs.Distinct.{number_in, number_of, with_name}
 use Rattle.vg_scan.proofs.FirstLemmas.{lt_yes, lt_no}
 
 -- a name that is one of them stands at its number

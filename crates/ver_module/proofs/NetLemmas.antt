@@ -9,10 +9,10 @@ use Rattle.std.proofs.Math.Dec.{eqb-suc-zero}
 use Rattle.std.proofs.Math.Seq.{take-append_seam, take-length}
 use Rattle.std.proofs.lemmas.List.{get_or-map, length-map, take_min}
 use Rattle.std.proofs.lemmas.Option.{get_or_from_slice_get, slice_get-get_or, slice_get-map, slice_get_within}
-use Rattle.vg_names.specs.Distinct.{number_of}
-use Rattle.vg_names.specs.NameTables.{AreDistinct}
-use Rattle.vg_names.proofs.ChainLemmas.{lt_or_le}
-use Rattle.vg_names.proofs.NameTableLemmas.{is_number, no_number}
+use Rattle.name_tables.specs.Distinct.{number_of}
+use Rattle.name_tables.specs.NameTables.{AreDistinct}
+use Rattle.name_tables.proofs.ChainLemmas.{lt_or_le}
+use Rattle.name_tables.proofs.NameTableLemmas.{is_number, no_number}
 use Rattle.ver_module.specs.declared.nets.NetRow.{NetRow}
 use Rattle.ver_module.specs.Netlists.{net_name}
 use Rattle.ver_module.specs.Flat.{AreNets, net_with, nets_with}

@@ -6,9 +6,9 @@ use Rattle.std.specs.Str.{bytes_eq}
 use Rattle.std.proofs.Math.ListN.{set, length-set, replicate}
 use Rattle.std.proofs.lemmas.List.{get_or_append_left, length-map, length-replicate, map-append}
 use Rattle.std.proofs.lemmas.Option.{slice_get_within}
-use Rattle.vg_names.specs.Distinct.{with_name}
-use Rattle.vg_names.specs.NameTables.{AreDistinct}
-use Rattle.vg_names.proofs.ChainLemmas.{eq_or_ne}
+use Rattle.name_tables.specs.Distinct.{with_name}
+use Rattle.name_tables.specs.NameTables.{AreDistinct}
+use Rattle.name_tables.proofs.ChainLemmas.{eq_or_ne}
 use Rattle.ver_module.specs.declared.nets.NetRow.{NetRow}
 use Rattle.ver_module.specs.Netlists.{Net, IsNamed}
 use Rattle.ver_module.specs.Flat.{AreNets, net_with, nets_with}

@@ -1,7 +1,7 @@
 -- Nets and instances, as a module keeps them: for the functions between.
 use Rattle.std.specs.Prelude.{◌≡◌, ◌↔◌, ℕ, suc, ◌<◌, ◌≤◌, ◌^◌, List, [], ◌∷◌, Some, map, length, slice_get, slice_index_or, take, ⊤}
 use Rattle.std.specs.List.{All, between}
-use Rattle.vg_names.specs.NameTables.{AreDistinct}
+use Rattle.name_tables.specs.NameTables.{AreDistinct}
 use Rattle.ver_module.specs.declared.nets.NetRow.{NetRow}
 use Rattle.ver_module.specs.declared.instances.InstanceRow.{InstanceRow}
 use Rattle.ver_module.specs.declared.instances.PinRow.{PinRow}

@@ -2,16 +2,16 @@
 
 ghost use Rattle.std.specs.Prelude.{◌≡◌, ◌<◌, ◌^◌, ◌+◌, ◌≤◌, ◌++◌, ◌∷◌, [], Some, drop, length, slice_get, IfOk, OnErr, OnOk};
 ghost use Rattle.std.specs.List.{All, between};
-ghost use Rattle.vg_names.specs.Distinct.{with_name};
+ghost use Rattle.name_tables.specs.Distinct.{with_name};
 ghost use Rattle.ver_module.specs.Flat.{pins_end};
 ghost use Rattle.ver_module.specs.Netlists.{with_pin};
 
 use crate::link::{Link, LinkRef, LinkRow, keep};
 use crate::name::{MOST, number_by_guess};
 use crate::place::place;
+use name_tables::{Names, Texts};
 use std::alloc::Global;
 use std::marker::Model;
-use vg_names::{Names, Texts};
 use vg_num::{Memory, Row};
 use vg_scan::Span;
 

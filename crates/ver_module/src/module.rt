@@ -2,7 +2,7 @@
 
 ghost use Rattle.std.specs.Prelude.{◌≡◌, ◌<◌, Some, length, map, slice_get};
 ghost use Rattle.std.specs.List.{All};
-ghost use Rattle.vg_names.specs.Distinct.{number_of};
+ghost use Rattle.name_tables.specs.Distinct.{number_of};
 ghost use Rattle.ver_module.specs.Netlists.{AreWithin, IsSound};
 
 use crate::instances::{Instance, Instances};

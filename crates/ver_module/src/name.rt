@@ -1,9 +1,9 @@
 //! Tables of names of which no number reaches 2^32.
 
 ghost use Rattle.std.specs.Prelude.{◌≡◌, ◌<◌, ◌-◌, ◌^◌, ◌↔◌, Some, length, slice_get, IfOk, IsTrue, OnErr, OnOk};
-ghost use Rattle.vg_names.specs.Distinct.{number_in, with_name};
+ghost use Rattle.name_tables.specs.Distinct.{number_in, with_name};
 
-use vg_names::{Names, is_same};
+use name_tables::{Names, is_same};
 use vg_num::Memory;
 
 /// The most names that a table takes.

@@ -3,15 +3,15 @@
 ghost use Rattle.std.specs.Prelude.{◌≡◌, ◌==◌, ℕ, ◌<◌, ◌^◌, List, ◌++◌, ◌∷◌, [], Some, if◌then◌else◌, length, map, not, slice_get, slice_index, IfOk, OnErr};
 ghost use Rattle.std.specs.List.{list_any};
 ghost use Rattle.std.specs.Str.{bytes_eq};
-ghost use Rattle.vg_names.specs.Distinct.{number_in, number_of};
+ghost use Rattle.name_tables.specs.Distinct.{number_in, number_of};
 ghost use Rattle.ver_module.specs.Flat.{AreNets, nets_with};
 ghost use Rattle.ver_module.specs.Netlists.{IsNamed};
 
 use crate::direction::PortDir;
 use crate::name::{MOST, number_by_guess};
+use name_tables::Names;
 use std::alloc::Global;
 use std::marker::Model;
-use vg_names::Names;
 use vg_num::Memory;
 
 /// The number of no name: there are at most so many.

@@ -2,10 +2,10 @@
 use Rattle.std.proofs.Common.{◌≡◌, Bool, true, false, not, ◌&&◌, ◌||◌, List, [], ◌∷◌, ◌++◌, refl, sym, ap, ◌∙◌, subst, append_assoc}
 use Rattle.std.specs.List.{list_any}
 use Rattle.std.proofs.lemmas.Bool.{and_parts}
-use Rattle.vg_grammar.specs.Grammar.{Part, Derives, Begins}
-use Rattle.vg_grammar.specs.Grammar.Part.{one, nothing, both, either, many, named}
-use Rattle.vg_grammar.specs.Grammar.Derives.{by_one, by_nothing, by_both, by_left, by_right, by_none, by_more, by_name}
-use Rattle.vg_grammar.specs.Grammar.Begins.{at_start, at_one, in_first, in_rest, in_left, in_right, in_member}
+use Rattle.grammar_laws.specs.Grammar.{Part, Derives, Begins}
+use Rattle.grammar_laws.specs.Grammar.Part.{one, nothing, both, either, many, named}
+use Rattle.grammar_laws.specs.Grammar.Derives.{by_one, by_nothing, by_both, by_left, by_right, by_none, by_more, by_name}
+use Rattle.grammar_laws.specs.Grammar.Begins.{at_start, at_one, in_first, in_rest, in_left, in_right, in_member}
 use Rattle.ver_text.specs.declared.kind.Kind.{Kind}
 use Rattle.ver_text.specs.declared.kind.Kind.TheVariants.{Module, EndModule, Assign, Identifier, Semicolon}
 use Rattle.ver_syntax.specs.Grammar.{Name, is, the, opt, ports, item, rules, module_declaration}

@@ -5,8 +5,8 @@ ghost use Rattle.ver_patch.specs.NewCells.{cell_of};
 ghost use Rattle.ver_patch.specs.Texts.{cell_text, cell_texts, pin_text, wire_text, wire_texts};
 
 use crate::cells::{CellTexts, NewCells};
+use name_tables::Texts;
 use ver_text::print_name;
-use vg_names::Texts;
 use vg_num::Memory;
 
 /// Prints the declaration of a wire, behind a line's end.

@@ -1,8 +1,8 @@
 -- What the machine tells of a token that is not allowed.
 use Rattle.std.proofs.Common.{◌≡◌, Bool, true, false, ◌&&◌, ◌||◌, not, List, [], ◌∷◌, ◌++◌, Option, Some, None, is_some, refl, sym, ◌∙◌, inl, inr, if◌then◌else◌}
-use Rattle.vg_grammar.specs.Grammar.{Begins}
-use Rattle.vg_grammar.specs.Ways.{IsLeft}
-use Rattle.vg_grammar.proofs.MachineLemmas.{would, would_not}
+use Rattle.grammar_laws.specs.Grammar.{Begins}
+use Rattle.grammar_laws.specs.Ways.{IsLeft}
+use Rattle.grammar_laws.proofs.MachineLemmas.{would, would_not}
 use Rattle.ver_syntax.specs.Grammar.{is, rules, module_declaration}
 use Rattle.ver_syntax.specs.Moves.{State, ways, ways_at, move, next, is_done, is_cell, is_pins, is_named, is_opened, pins_kind, fault_kind}
 use Rattle.ver_syntax.specs.Syntax.{ends_in, NamesInstance, OpensPins, IsWrongIn, IsWrongAt}

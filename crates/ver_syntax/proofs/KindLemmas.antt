@@ -2,10 +2,10 @@
 use Rattle.std.proofs.Common.{◌≡◌, ℕ, Bool, true, false, ◌||◌, List, [], ◌∷◌, ◌++◌, Option, Some, None, is_some, map, refl, sym, ap, ◌∙◌, subst}
 use Rattle.std.specs.List.{list_any}
 use Rattle.std.specs.Prelude.{find}
-use Rattle.vg_grammar.specs.Machines.{ways_of}
-use Rattle.vg_grammar.specs.Ways.{IsLeft, after_any}
-use Rattle.vg_grammar.proofs.MachineLemmas.{ended, cut}
-use Rattle.vg_grammar.proofs.WayLemmas.{left_step}
+use Rattle.grammar_laws.specs.Machines.{ways_of}
+use Rattle.grammar_laws.specs.Ways.{IsLeft, after_any}
+use Rattle.grammar_laws.proofs.MachineLemmas.{ended, cut}
+use Rattle.grammar_laws.proofs.WayLemmas.{left_step}
 use Rattle.ver_text.specs.declared.kind.Kind.{Kind}
 use Rattle.ver_text.specs.declared.kind.Kind.TheVariants.{Stray}
 use Rattle.ver_text.specs.declared.token.Token.{Token}

@@ -1,7 +1,7 @@
 -- A text has one first fault at most, and a module has none.
 use Rattle.std.proofs.Common.{◌≡◌, ℕ, true, List, [], ◌∷◌, take, drop, Option, Some, None, sym, ◌∙◌, inl, inr}
 use Rattle.std.specs.Prelude.{MatchOption, find}
-use Rattle.vg_grammar.proofs.LawLemmas.{break_once}
+use Rattle.grammar_laws.proofs.LawLemmas.{break_once}
 use Rattle.vg_scan.specs.declared.fault.LineFault.{LineFault}
 use Rattle.ver_syntax.specs.declared.fault.VerKind.{VerKind}
 use Rattle.ver_text.specs.declared.kind.Kind.{Kind}

@@ -1,7 +1,7 @@
 -- The machine goes on as the grammar does, place by place.
 use Rattle.std.proofs.Common.{◌≡◌, true, List, [], ◌∷◌, refl}
-use Rattle.vg_grammar.specs.Ways.{after_any, can_stop}
-use Rattle.vg_grammar.specs.Machines.{ways_of, has_way, IsMachine}
+use Rattle.grammar_laws.specs.Ways.{after_any, can_stop}
+use Rattle.grammar_laws.specs.Machines.{ways_of, has_way, IsMachine}
 use Rattle.ver_syntax.specs.Grammar.{rules}
 use Rattle.ver_syntax.specs.Grammar.Name.{expression}
 use Rattle.ver_syntax.specs.Moves.{head_way, item_way, range_way, instance_way, after_expr, expr_ways, ways_at, ways, gives, head_move, item_move, range_move, instance_move, end_move, expr_move, move, next, is_done_at, is_done}

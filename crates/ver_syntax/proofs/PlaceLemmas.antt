@@ -1,8 +1,8 @@
 -- Where the machine stands, and what the next token stands in.
 use Rattle.std.proofs.Common.{◌≡◌, ◌↔◌, ℕ, ◌<◌, Bool, true, false, ◌&&◌, ◌||◌, ◌==◌, not, List, [], ◌∷◌, ◌++◌, length, map, Option, Some, None, is_some, refl, sym, ap, ◌∙◌, arith}
-use Rattle.vg_grammar.specs.Grammar.{Begins}
-use Rattle.vg_grammar.specs.Machines.{run}
-use Rattle.vg_grammar.proofs.LawLemmas.{goes_on}
+use Rattle.grammar_laws.specs.Grammar.{Begins}
+use Rattle.grammar_laws.specs.Machines.{run}
+use Rattle.grammar_laws.proofs.LawLemmas.{goes_on}
 use Rattle.ver_text.specs.declared.kind.Kind.{Kind}
 use Rattle.ver_text.specs.declared.kind.Kind.TheVariants.{Assign}
 use Rattle.ver_text.specs.declared.token.Token.{Token}

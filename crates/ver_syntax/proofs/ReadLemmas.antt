@@ -1,9 +1,9 @@
 -- A text that is read token by token.
 use Rattle.std.proofs.Common.{◌≡◌, ℕ, zero, suc, ◌+◌, ◌<◌, Bool, true, false, List, [], ◌∷◌, ◌++◌, length, map, take, take_all, drop, get_or, Some, None, refl, sym, ap, ◌∙◌, arith, length-drop}
 use Rattle.std.proofs.lemmas.List.{length-map, take_more}
-use Rattle.vg_grammar.specs.Ways.{IsLeft}
-use Rattle.vg_grammar.proofs.WayLemmas.{left_start}
-use Rattle.vg_grammar.proofs.MachineLemmas.{stepped, stuck, ended, cut}
+use Rattle.grammar_laws.specs.Ways.{IsLeft}
+use Rattle.grammar_laws.proofs.WayLemmas.{left_start}
+use Rattle.grammar_laws.proofs.MachineLemmas.{stepped, stuck, ended, cut}
 use Rattle.vg_scan.specs.declared.fault.LineFault.{LineFault}
 use Rattle.ver_syntax.specs.declared.fault.VerKind.{VerKind}
 use Rattle.ver_syntax.specs.declared.fault.VerKind.TheVariants.{Grammar}

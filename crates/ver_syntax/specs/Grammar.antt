@@ -1,8 +1,8 @@
 -- The grammar of a structural module, over kinds of tokens. Source: IEEE Std 1364-2005, annex A: a module declaration whose
 -- items are declarations of ports and nets, continuous assignments of nets, and instances with connections by name.
 use Rattle.std.specs.Prelude.{Bool, true, false, List, [], ◌∷◌}
-use Rattle.vg_grammar.specs.Grammar.{Part}
-use Rattle.vg_grammar.specs.Grammar.Part.{one, nothing, both, either, many, named}
+use Rattle.grammar_laws.specs.Grammar.{Part}
+use Rattle.grammar_laws.specs.Grammar.Part.{one, nothing, both, either, many, named}
 use Rattle.ver_text.specs.declared.kind.Kind.{Kind}
 use Rattle.ver_text.specs.declared.kind.Kind.TheVariants.{Module, EndModule, Direction, Wire, NetType, Assign, Parameter, Identifier, Zero, Small, Limit, Large, Based, Open, Close, OpenSquare, CloseSquare, OpenBrace, CloseBrace, Comma, Semicolon, Dot, Colon, Equals, Hash, Stray}
 

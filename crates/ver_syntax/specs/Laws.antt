@@ -1,6 +1,6 @@
 -- What is true of the faults and of the rows of every text.
 use Rattle.std.specs.Prelude.{◌≡◌, ◌↔◌, ℕ, ◌<◌, List, [], ◌∷◌, ◌++◌, length, map}
-use Rattle.vg_grammar.specs.Grammar.{Begins}
+use Rattle.grammar_laws.specs.Grammar.{Begins}
 use Rattle.vg_scan.specs.declared.fault.LineFault.{LineFault}
 use Rattle.ver_text.specs.declared.kind.Kind.{Kind}
 use Rattle.ver_text.specs.declared.kind.Kind.TheVariants.{Assign}

@@ -1,7 +1,7 @@
 -- How the machine goes on, token by token, and which ways of the grammar each place stands for: for the functions between.
 use Rattle.std.specs.Prelude.{Bool, true, false, List, [], ◌∷◌, Option, Some, None, if◌then◌else◌}
-use Rattle.vg_grammar.specs.Grammar.{Part}
-use Rattle.vg_grammar.specs.Grammar.Part.{one, many, named}
+use Rattle.grammar_laws.specs.Grammar.{Part}
+use Rattle.grammar_laws.specs.Grammar.Part.{one, many, named}
 use Rattle.ver_syntax.specs.Grammar.{Name, the, is_index, is_below_limit, is_positive, seq, opt, more, list_of, bounds, range, port, ports, select, in_braces, assignment, pin, instance, item, module_declaration}
 use Rattle.ver_syntax.specs.Grammar.Name.{expression}
 use Rattle.ver_syntax.specs.declared.fault.VerKind.{VerKind}

@@ -1,7 +1,7 @@
 -- A text that is read up to a token, as the code does it: for the functions between.
 use Rattle.std.specs.Prelude.{◌≡◌, ℕ, ◌-◌, true, false, List, [], ◌++◌, length, take, drop, find, Option, None, Some, is_some}
 use Rattle.std.specs.List.{list_any}
-use Rattle.vg_grammar.specs.Ways.{IsLeft}
+use Rattle.grammar_laws.specs.Ways.{IsLeft}
 use Rattle.ver_text.specs.declared.kind.Kind.{Kind}
 use Rattle.ver_text.specs.declared.kind.Kind.TheVariants.{Identifier, Open, Stray}
 use Rattle.ver_syntax.specs.declared.machine.Machine.{Machine}

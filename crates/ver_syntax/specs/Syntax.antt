@@ -1,6 +1,6 @@
 -- Which texts are structural modules, and the first fault of a text that is none.
 use Rattle.std.specs.Prelude.{◌≡◌, ◌⊎◌, ℕ, zero, suc, ◌-◌, min, Bool, true, false, List, [], ◌∷◌, ◌++◌, length, take, drop, find, MatchOption, None}
-use Rattle.vg_grammar.specs.Grammar.{Derives, Begins, IsFault}
+use Rattle.grammar_laws.specs.Grammar.{Derives, Begins, IsFault}
 use Rattle.vg_scan.specs.Lines.{line_number}
 use Rattle.vg_scan.specs.declared.fault.LineFault.{LineFault}
 use Rattle.ver_syntax.specs.declared.fault.VerKind.{VerKind}

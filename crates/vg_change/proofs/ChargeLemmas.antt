@@ -11,7 +11,7 @@ use Rattle.rc_tree.specs.Nets.{capacitance_at}
 use Rattle.spef_net.specs.Nets.{IsCapOf}
 use Rattle.vg_design.specs.Designs.{Design, Joined}
 use Rattle.vg_design.specs.Parts.{loaded, loaded_tree}
-use Rattle.vg_written.specs.Sections.{total}
+use Rattle.spef_write.specs.Sections.{total}
 
 -- the sum of the first n
 sum_to : (ℕ → ℕ) → ℕ → ℕ

@@ -18,8 +18,8 @@ use Rattle.vg_design.specs.Refusals.{IsJoined, PassesUpTo}
 use Rattle.vg_design.proofs.EndLemmas.{end_is, ends_size}
 use Rattle.vg_num.specs.Number.{are_digits}
 use Rattle.vg_split.specs.Conditions.{IsOld}
-use Rattle.vg_wire.specs.Nets.{IsNetNamed}
-use Rattle.vg_wire.specs.declared.refusal.Refusal.TheVariants.{Mismatch}
+use Rattle.spef_wire.specs.Nets.{IsNetNamed}
+use Rattle.spef_wire.specs.declared.refusal.Refusal.TheVariants.{Mismatch}
 use Rattle.vg_change.specs.Taken.{names_of, taken}
 
 -- where none passes, none of the list does

@@ -17,18 +17,18 @@ use Rattle.elmore.specs.declared.problem.Problem.{Problem}
 use Rattle.elmore.proofs.TreeLemmas.{tree_falls}
 use Rattle.lib_linear.specs.declared.repeater.Repeater.{Repeater}
 use Rattle.spef_net.specs.declared.net.ParNet.{ParNet}
-use Rattle.vg_cut.specs.CutNets.{forest_of}
+use Rattle.cut_laws.specs.CutNets.{forest_of}
 use Rattle.vg_design.specs.Designs.{Design, Joined, NO_NODE, is_port, name_of}
 use Rattle.vg_design.specs.Nets.{IsPosedNet}
 use Rattle.vg_design.specs.Parts.{free_of, loaded_tree, places_in, sinks_of}
 use Rattle.vg_design.specs.declared.net_problem.PosedNet.{PosedNet}
 use Rattle.vg_design.proofs.PartLemmas.{conn_not_free, order_size, tree_size}
-use Rattle.vg_stages.proofs.StageLists.{some_cell}
-use Rattle.vg_written.specs.Sections.{total}
+use Rattle.vg_split.proofs.StageLists.{some_cell}
+use Rattle.spef_write.specs.Sections.{total}
 use Rattle.vg_split.specs.Conditions.{IsSplit}
 use Rattle.vg_split.specs.Splits.{Split, forest, is_celled, old_node}
-use Rattle.vg_stages.specs.Stages.{AreStages, heads}
-use Rattle.vg_stages.specs.declared.stages.Stages.{Stages}
+use Rattle.vg_split.specs.Stages.{AreStages, heads}
+use Rattle.vg_split.specs.declared.stages.Stages.{Stages}
 use Rattle.vg_change.specs.Changes.{Changes, IsChange, split_behind}
 use Rattle.vg_change.specs.Placed.{PlacedNet, is_port_at, keeper_of, stage_at}
 use Rattle.vg_change.specs.Steps.{placed_net}

@@ -18,15 +18,15 @@ use Rattle.ver_net.specs.declared.pin_ref.PinRef.{PinRef}
 use Rattle.ver_net.proofs.LawLemmas.{pins_are_linked}
 use Rattle.ver_patch.specs.Pins.{AreRewirable, IsOnOneNet}
 use Rattle.ver_patch.specs.Rewires.{Rewire}
-use Rattle.vg_cut.proofs.PieceLemmas.{piece_cases}
+use Rattle.cut_laws.proofs.PieceLemmas.{piece_cases}
 use Rattle.vg_design.specs.Designs.{Joined, NO_NODE, name_of, pin_name, pin_on}
 use Rattle.vg_scan.specs.Nodes.{same_node}
 use Rattle.vg_split.specs.Conditions.{IsSplit}
 use Rattle.vg_split.specs.Splits.{Split, forest, head, is_celled, is_end, net_of}
 use Rattle.vg_split.proofs.MemberLemmas.{members_in, members_low, members_rise}
 use Rattle.vg_split.proofs.SplitLemmas.{falls}
-use Rattle.vg_stages.specs.Stages.{heads, members}
-use Rattle.vg_stages.proofs.StageLists.{head_is, heads_differ}
+use Rattle.vg_split.specs.Stages.{heads, members}
+use Rattle.vg_split.proofs.StageLists.{head_is, heads_differ}
 use Rattle.vg_change.specs.Placed.{is_old_end, linked, rewires_at, rewires_in, rewires_of}
 use Rattle.vg_change.specs.Steps.{placed_by}
 use Rattle.vg_change.proofs.NameLemmas.{found_in}
@@ -157,7 +157,7 @@ module _ (netlist : Netlist) (n : Joined) (x : Split) (is : IsSplit x) (par : x.
 
       inside : (j : ℕ) → Contains (members (forest x) (head x j)) w → in_stage (forest x).parent (forest x).cell (head x j) w ≡ true
       inside j there =
-          elim (piece_cases (forest x) (head x j) w (of_all (λ v. Rattle.vg_cut.specs.Pieces.in_piece (forest x) (head x j) v ≡ true) (members (forest x) (head x j)) w (members_in x j) there)) [
+          elim (piece_cases (forest x) (head x j) w (of_all (λ v. Rattle.cut_laws.specs.Pieces.in_piece (forest x) (head x j) v ≡ true) (members (forest x) (head x j)) w (members_in x j) there)) [
             | inl i ↦ i
             | inr ends ↦ absurd (false≢true (sym (bare (is_celled x w) (is_end x w) end) ∙ (end_inner (forest x).parent (forest x).cell (falls x) (head x j) w ends).here))
           ]

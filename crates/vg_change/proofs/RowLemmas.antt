@@ -21,8 +21,8 @@ use Rattle.vg_design.specs.Refusals.{IsJoined}
 use Rattle.vg_scan.proofs.PieceLemmas.{length-without}
 use Rattle.vg_scan.specs.Comments.{without_comments}
 use Rattle.vg_scan.specs.declared.comments.Comments.TheVariants.{Spef}
-use Rattle.vg_wire.proofs.NamedLemmas.{none_named}
-use Rattle.vg_wire.specs.Nets.{head_named, IsNetNamed}
+use Rattle.spef_wire.proofs.NamedLemmas.{none_named}
+use Rattle.spef_wire.specs.Nets.{head_named, IsNetNamed}
 use Rattle.vg_change.proofs.NameLemmas.{found_in}
 use Rattle.vg_change.proofs.PairLemmas.{of_all}
 use Rattle.spef_file.specs.declared.section.Section.{Section}

@@ -8,8 +8,8 @@ use Rattle.spef_net.specs.declared.net.ParNet.{ParNet}
 use Rattle.spef_nodes.proofs.NodeTableLemmas.{slice_get_front, slice_get_last}
 use Rattle.vg_scan.specs.declared.chars.Chars.{Chars}
 use Rattle.vg_split.specs.Splits.{Split, IsStageNet}
-use Rattle.vg_spliced.specs.Sections.{sections_text}
-use Rattle.vg_written.specs.Sections.{section_text}
+use Rattle.spef_patch_laws.specs.Sections.{sections_text}
+use Rattle.spef_write.specs.Sections.{section_text}
 use Rattle.vg_change.specs.Changes.{AreStageNets}
 use Rattle.vg_change.specs.Steps.{SaysStages}
 

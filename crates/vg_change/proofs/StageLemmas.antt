@@ -5,9 +5,9 @@ use Rattle.std.proofs.lemmas.List.Sums.{position_or_len_is}
 use Rattle.elmore.specs.Path.{Falls}
 use Rattle.elmore.specs.Stage.{in_stage}
 use Rattle.elmore.proofs.HeadLemmas.{one_stage}
-use Rattle.vg_cut.specs.Pieces.{Forest}
-use Rattle.vg_stages.specs.Stages.{heads, IsInStage}
-use Rattle.vg_stages.proofs.StageLists.{head_is, heads_differ}
+use Rattle.cut_laws.specs.Pieces.{Forest}
+use Rattle.vg_split.specs.Stages.{heads, IsInStage}
+use Rattle.vg_split.proofs.StageLists.{head_is, heads_differ}
 use Rattle.vg_change.specs.Placed.{stage_at}
 
 -- a node is in one stage alone

@@ -17,8 +17,8 @@ use Rattle.vg_scan.specs.Printed.{is_solid}
 use Rattle.vg_scan.specs.declared.chars.Chars.{Chars}
 use Rattle.vg_split.specs.Conditions.{IsNamed}
 use Rattle.vg_split.specs.Splits.{Split, forest, IsStageNet}
-use Rattle.vg_spliced.specs.Sections.{edit_of}
-use Rattle.vg_stages.specs.Stages.{heads}
+use Rattle.spef_patch_laws.specs.Sections.{edit_of}
+use Rattle.vg_split.specs.Stages.{heads}
 use Rattle.vg_change.specs.Placed.{PlacedNet, split_of, rewires_of, cells_of, wires_of}
 use Rattle.vg_change.specs.Taken.{taken}
 

@@ -10,12 +10,12 @@ use Rattle.ver_net.specs.Texts.{net_text}
 use Rattle.ver_net.specs.declared.pin_ref.PinRef.{PinRef}
 use Rattle.ver_patch.specs.NewCells.{NewCell}
 use Rattle.ver_patch.specs.Rewires.{Rewire}
-use Rattle.vg_cut.specs.CutNets.{forest_of}
-use Rattle.vg_cut.specs.Pieces.{Forest}
+use Rattle.cut_laws.specs.CutNets.{forest_of}
+use Rattle.cut_laws.specs.Pieces.{Forest}
 use Rattle.vg_design.specs.Designs.{Design, Joined, is_port, name_of, pin_on}
 use Rattle.vg_split.specs.NewNames.{cell_name, net_name}
 use Rattle.vg_split.specs.Splits.{Split, forest, head, is_celled, is_end, net_of, number_of, repeater_at}
-use Rattle.vg_stages.specs.Stages.{heads, members}
+use Rattle.vg_split.specs.Stages.{heads, members}
 
 -- A net in which cells are put: its parasitics and its number in the netlist, the order in which its tree has its nodes, its
 -- problem, and for each node of the tree the number of the repeater that is put there, if one is.

@@ -5,7 +5,7 @@ use Rattle.spef_net.specs.declared.net.ParNet.{ParNet}
 use Rattle.vg_design.specs.Designs.{Joined}
 use Rattle.vg_design.specs.declared.net_problem.PosedNet.{PosedNet}
 use Rattle.vg_split.specs.Splits.{Split}
-use Rattle.vg_spliced.specs.Sections.{sections_text}
+use Rattle.spef_patch_laws.specs.Sections.{sections_text}
 use Rattle.vg_change.specs.Changes.{AreStageNets, Changes, split_behind}
 use Rattle.vg_change.specs.Placed.{PlacedNet}
 

@@ -5,13 +5,13 @@ ghost use Rattle.ver_net.specs.Texts.{net_text};
 ghost use Rattle.vg_change.specs.Placed.{above, cells_of, new_cell, text_in, wires_of};
 ghost use Rattle.vg_split.specs.NewNames.{cell_name, net_name};
 ghost use Rattle.vg_split.specs.Splits.{forest, head, number_of};
-ghost use Rattle.vg_stages.specs.Stages.{heads};
+ghost use Rattle.vg_split.specs.Stages.{heads};
 
+use name_tables::Texts;
 use std::alloc::Global;
 use ver_module::Module;
 use ver_net::net_text;
 use ver_patch::{CellTexts, NewCells};
-use vg_names::Texts;
 use vg_num::Memory;
 use vg_split::{Split, push_cell_name, push_net_name};
 

@@ -23,19 +23,18 @@ use crate::prefix::taken;
 use crate::rewires::push_rewires;
 use crate::sections::sections_text;
 use elmore::Placement;
+use name_tables::Texts;
 use spef_file::SpefIndex;
 use spef_net::ParNet;
+use spef_write::sums;
 use std::alloc::Global;
 use std::marker::Model;
 use ver_patch::{NewCells, Rewires, patch};
 use vg_design::{Design, PinnedNet, PosedNet};
-use vg_names::Texts;
 use vg_num::Memory;
 use vg_patch::Patch;
 use vg_scan::Span;
-use vg_split::Split;
-use vg_stages::Stages;
-use vg_written::sums;
+use vg_split::{Split, Stages};
 
 /// What changes in a design when cells are put into nets: sections of its parasitics (SPEF, IEEE Std 1481), connections of its
 /// netlist (Verilog, IEEE Std 1364), new cells and new nets.

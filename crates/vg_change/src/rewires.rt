@@ -5,7 +5,7 @@ ghost use Rattle.vg_change.specs.Placed.{is_old_end, rewires_at, rewires_in, rew
 ghost use Rattle.vg_change.specs.Steps.{placed_by};
 ghost use Rattle.vg_design.specs.Steps.{ArePins};
 ghost use Rattle.vg_split.specs.Splits.{forest, net_of};
-ghost use Rattle.vg_stages.specs.Stages.{heads};
+ghost use Rattle.vg_split.specs.Stages.{heads};
 
 use std::alloc::Global;
 use ver_patch::Rewires;

@@ -3,7 +3,7 @@
 ghost use Rattle.std.specs.Prelude.{◌≡◌, ◌+◌, ◌<◌, length, IfOk, OnOk};
 ghost use Rattle.vg_change.specs.Steps.{SaysStages};
 ghost use Rattle.vg_split.specs.Splits.{forest};
-ghost use Rattle.vg_stages.specs.Stages.{heads};
+ghost use Rattle.vg_split.specs.Stages.{heads};
 
 use spef_file::Header;
 use std::alloc::Global;

@@ -7,7 +7,7 @@ use Rattle.std.specs.Int.{int_max}
 use Rattle.std.specs.List.{Contains}
 use Rattle.elmore.specs.declared.pair.Pair.{Pair}
 use Rattle.elmore.specs.declared.problem.Problem.{Problem}
-use Rattle.cand_laws.specs.Candidates.{Drives, DrivesNone, root_value}
+use Rattle.cand_pairs.specs.Candidates.{Drives, DrivesNone, root_value}
 use Rattle.vg_check.specs.Verdicts.{IsRootBound, IsBoundOf}
 
 -- a pair that the driver may not charge

@@ -11,12 +11,12 @@ use Rattle.elmore.specs.declared.problem.Problem.{Problem}
 use Rattle.elmore.specs.declared.tree.Node.{Node}
 use Rattle.elmore.proofs.PathLemmas.{over_le}
 use Rattle.elmore.proofs.TreeLemmas.{tree_falls}
-use Rattle.cand_laws.specs.Candidates.{NodeLists, IsLive, IsCoveredAt, of_lists}
-use Rattle.cand_laws.specs.Parts.{IsDeadPart, IsLivePart, list_of}
-use Rattle.cand_laws.proofs.CertificateLemmas.{joins_decide}
-use Rattle.cand_laws.proofs.ChildLemmas.{IsChild}
-use Rattle.cand_laws.proofs.LiveChildLemmas.{live_sees}
-use Rattle.cand_laws.proofs.TurnLemmas.{dead_stays, live_stays, part_is_dead, part_is_live, part_open}
+use Rattle.cand_pairs.specs.Candidates.{NodeLists, IsLive, IsCoveredAt, of_lists}
+use Rattle.cand_pairs.specs.Parts.{IsDeadPart, IsLivePart, list_of}
+use Rattle.cand_pairs.proofs.CertificateLemmas.{joins_decide}
+use Rattle.cand_pairs.proofs.ChildLemmas.{IsChild}
+use Rattle.cand_pairs.proofs.LiveChildLemmas.{live_sees}
+use Rattle.cand_pairs.proofs.TurnLemmas.{dead_stays, live_stays, part_is_dead, part_is_live, part_open}
 use Rattle.vg_check.specs.Covers.{ClassLists, CoversOwns}
 use Rattle.vg_check.specs.Parts.{AreCoveredFrom, AreParts, IsPart, part_at}
 use Rattle.vg_check.specs.Verdicts.{IsLastUncovered}

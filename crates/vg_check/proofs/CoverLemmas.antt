@@ -10,11 +10,11 @@ use Rattle.elmore.specs.Pairs.{IsBelow}
 use Rattle.elmore.specs.declared.rep.Rep.{Rep}
 use Rattle.elmore.specs.declared.pair.Pair.{Pair}
 use Rattle.elmore.specs.declared.problem.Problem.{Problem}
-use Rattle.cand_laws.specs.Candidates.{past_cell, IsCoveredBy}
-use Rattle.cand_laws.specs.Merging.{AreCoveredBy, Greatest, IsChoiceAt, IsGreatestBy, NoneFits, Owns}
-use Rattle.cand_laws.proofs.GreatestLemmas.{greatest_dense}
-use Rattle.cand_laws.proofs.MeetLemmas.{nil}
-use Rattle.cand_laws.proofs.MergeLemmas.{dense_covered}
+use Rattle.cand_pairs.specs.Candidates.{past_cell, IsCoveredBy}
+use Rattle.cand_pairs.specs.Merging.{AreCoveredBy, Greatest, IsChoiceAt, IsGreatestBy, NoneFits, Owns}
+use Rattle.cand_pairs.proofs.GreatestLemmas.{greatest_dense}
+use Rattle.cand_pairs.proofs.MeetLemmas.{nil}
+use Rattle.cand_pairs.proofs.MergeLemmas.{dense_covered}
 use Rattle.vg_check.specs.Covers.{ClassLists, CoversCell, CoversCells, CoversJoins, CoversOwns}
 
 -- THE WALK

@@ -4,7 +4,7 @@ use Rattle.std.proofs.lemmas.Bool.{cases_lt}
 use Rattle.elmore.specs.Legal.{IsLegalAt}
 use Rattle.elmore.specs.Placements.{HasPolarity, IsFirstWrong, load_of}
 use Rattle.elmore.specs.declared.problem.Problem.{Problem}
-use Rattle.cand_laws.specs.Candidates.{NodeLists}
+use Rattle.cand_pairs.specs.Candidates.{NodeLists}
 use Rattle.vg_cert.specs.Fits.{lists_of}
 use Rattle.vg_cert.specs.declared.certificate.Certificate.{Certificate}
 use Rattle.vg_check.specs.Verdicts.{Finds, IsLastUncovered, IsVerdict, turn_of}

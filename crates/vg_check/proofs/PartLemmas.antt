@@ -16,15 +16,15 @@ use Rattle.elmore.specs.Wire.{downstream_in}
 use Rattle.elmore.specs.declared.pair.Pair.{Pair}
 use Rattle.elmore.specs.declared.parts.Sink.{Sink}
 use Rattle.elmore.specs.declared.problem.Problem.{Problem}
-use Rattle.cand_laws.specs.Candidates.{NodeLists, IsOpenWith, carried, of_lists}
-use Rattle.cand_laws.specs.Merging.{IsModest, Meets, Raises, Wires, children_from, fork_from, live_from}
-use Rattle.cand_laws.specs.Parts.{AreCarried, IsDeadPart, IsLivePart}
-use Rattle.cand_laws.proofs.FromLemmas.{dead_own}
-use Rattle.cand_laws.proofs.JoinLemmas.{is_child_of, parent_within}
-use Rattle.cand_laws.proofs.MergeLemmas.{rising_exact}
-use Rattle.cand_laws.proofs.PairPartLemmas.{live_child_parts}
-use Rattle.cand_laws.proofs.SmallPairLemmas.{live_from_in, own_small, resistance_small}
-use Rattle.cand_laws.proofs.TurnLemmas.{dead_on_dead, dead_on_live, live_on_dead, live_on_live, start_live_part}
+use Rattle.cand_pairs.specs.Candidates.{NodeLists, IsOpenWith, carried, of_lists}
+use Rattle.cand_pairs.specs.Merging.{IsModest, Meets, Raises, Wires, children_from, fork_from, live_from}
+use Rattle.cand_pairs.specs.Parts.{AreCarried, IsDeadPart, IsLivePart}
+use Rattle.cand_pairs.proofs.FromLemmas.{dead_own}
+use Rattle.cand_pairs.proofs.JoinLemmas.{is_child_of, parent_within}
+use Rattle.cand_pairs.proofs.MergeLemmas.{rising_exact}
+use Rattle.cand_pairs.proofs.PairPartLemmas.{live_child_parts}
+use Rattle.cand_pairs.proofs.SmallPairLemmas.{live_from_in, own_small, resistance_small}
+use Rattle.cand_pairs.proofs.TurnLemmas.{dead_on_dead, dead_on_live, live_on_dead, live_on_live, start_live_part}
 use Rattle.vg_cert.specs.Fits.{IsEntry, IsList, list_of, lists_in}
 use Rattle.vg_cert.specs.declared.certificate.NodeLists.{NodeLists as WrittenLists}
 use Rattle.vg_check.specs.Covers.{AreWorked, ClassLists, IsWorked}

@@ -8,8 +8,8 @@ use Rattle.elmore.specs.Legal.{IsLegal, IsFirstIllegal}
 use Rattle.elmore.specs.Placements.{IsSlack, HasPolarity, IsFirstWrong}
 use Rattle.elmore.specs.declared.pair.Pair.{Pair}
 use Rattle.elmore.specs.declared.problem.Problem.{Problem}
-use Rattle.cand_laws.specs.Candidates.{NodeLists, IsCover, of_lists, at_root}
-use Rattle.cand_laws.specs.Certificates.{IsValid}
+use Rattle.cand_pairs.specs.Candidates.{NodeLists, IsCover, of_lists, at_root}
+use Rattle.cand_pairs.specs.Certificates.{IsValid}
 use Rattle.vg_cert.specs.Fits.{lists_of}
 use Rattle.vg_cert.specs.declared.certificate.Certificate.{Certificate}
 use Rattle.vg_cert.specs.declared.certificate.NodeLists.{NodeLists as WrittenLists}

@@ -6,8 +6,8 @@ use Rattle.elmore.specs.Pairs.{IsBelow}
 use Rattle.elmore.specs.declared.pair.Pair.{Pair}
 use Rattle.elmore.specs.declared.problem.Problem.{Problem}
 use Rattle.elmore.specs.declared.rep.Rep.{Rep}
-use Rattle.cand_laws.specs.Candidates.{past_cell}
-use Rattle.cand_laws.specs.Merging.{AreCoveredBy, IsChoiceAt, IsGreatestBy, IsModest, Owns}
+use Rattle.cand_pairs.specs.Candidates.{past_cell}
+use Rattle.cand_pairs.specs.Merging.{AreCoveredBy, IsChoiceAt, IsGreatestBy, IsModest, Owns}
 
 -- the list rises, and its numbers are small enough for one more step
 pub record IsWorked (xs : List Pair) : Type 0 where

@@ -5,8 +5,8 @@ use Rattle.std.specs.Bool.{beq}
 use Rattle.elmore.specs.declared.pair.Pair.{Pair}
 use Rattle.elmore.specs.declared.parts.Sink.{Sink}
 use Rattle.elmore.specs.declared.problem.Problem.{Problem}
-use Rattle.cand_laws.specs.Candidates.{NodeLists, IsLive, IsCoveredAt, of_lists}
-use Rattle.cand_laws.specs.Parts.{IsDeadPart, IsLivePart, list_of}
+use Rattle.cand_pairs.specs.Candidates.{NodeLists, IsLive, IsCoveredAt, of_lists}
+use Rattle.cand_pairs.specs.Parts.{IsDeadPart, IsLivePart, list_of}
 use Rattle.vg_cert.specs.Fits.{IsList}
 use Rattle.vg_check.specs.declared.part.Part.{Part}
 use Rattle.vg_check.specs.declared.part.Part.TheVariants.{Dead, Live}

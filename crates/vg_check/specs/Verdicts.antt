@@ -6,7 +6,7 @@ use Rattle.elmore.specs.Legal.{IsFirstIllegal}
 use Rattle.elmore.specs.Placements.{IsSlack, IsFirstWrong}
 use Rattle.elmore.specs.declared.pair.Pair.{Pair}
 use Rattle.elmore.specs.declared.problem.Problem.{Problem}
-use Rattle.cand_laws.specs.Candidates.{NodeLists, IsLive, IsCoveredAt, IsBoundedBy, Drives, DrivesNone, root_value, of_lists, at_root}
+use Rattle.cand_pairs.specs.Candidates.{NodeLists, IsLive, IsCoveredAt, IsBoundedBy, Drives, DrivesNone, root_value, of_lists, at_root}
 use Rattle.vg_cert.specs.Fits.{lists_of}
 use Rattle.vg_cert.specs.declared.certificate.Certificate.{Certificate}
 use Rattle.vg_check.specs.declared.verdict.Verdict.{Verdict}

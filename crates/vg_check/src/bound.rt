@@ -3,7 +3,7 @@
 ghost use Rattle.std.specs.Prelude.{◌≡◌, ◌↔◌, ◌*◌, ◌^◌, ◌≤◌, ◌++◌, ◌∷◌, [], List, ◌+ℤ◌, ◌-ℤ◌, ◌≤ℤ◌, pos, IsTrue};
 ghost use Rattle.std.specs.List.{All};
 ghost use Rattle.elmore.specs.Problems.{IsDriverWithin};
-ghost use Rattle.cand_laws.specs.Candidates.{Drives};
+ghost use Rattle.cand_pairs.specs.Candidates.{Drives};
 ghost use Rattle.elmore.specs.declared.pair.Pair.{Pair as PairSpec};
 ghost use Rattle.vg_cert.specs.Fits.{IsEntry, IsTime};
 ghost use Rattle.vg_check.specs.Verdicts.{IsBoundOf, IsOver};

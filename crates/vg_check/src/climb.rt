@@ -2,7 +2,7 @@
 
 ghost use Rattle.std.specs.Prelude.{◌≡◌, ◌↔◌, ℕ, ◌+◌, ◌<◌, ◌≤◌, Bool, [], length, OnOk, IfOk, IsTrue, MatchOption};
 ghost use Rattle.elmore.specs.Trees.{parent_of};
-ghost use Rattle.cand_laws.specs.Candidates.{NodeLists as NodeListsSpec, IsLive, IsCover, IsCoveredAt, of_lists};
+ghost use Rattle.cand_pairs.specs.Candidates.{NodeLists as NodeListsSpec, IsLive, IsCover, IsCoveredAt, of_lists};
 ghost use Rattle.vg_cert.specs.Fits.{lists_in};
 ghost use Rattle.vg_check.specs.Parts.{AreLists, AreParts, IsPart};
 ghost use Rattle.vg_check.specs.Verdicts.{IsLastUncovered};

@@ -6,13 +6,13 @@ ghost use Rattle.elmore.specs.Allowances.{allowed_at, Allows};
 ghost use Rattle.elmore.specs.Cells.{rep_at};
 ghost use Rattle.elmore.specs.Pairs.{IsBelow};
 ghost use Rattle.elmore.specs.Problems.{IsRepWithin};
-ghost use Rattle.cand_laws.specs.Candidates.{past_cell};
-ghost use Rattle.cand_laws.specs.Merging.{AreCoveredBy, Greatest, IsChoiceAt, IsGreatestBy, IsModest, Owns};
-ghost use Rattle.cand_laws.specs.Parts.{list_of};
+ghost use Rattle.cand_pairs.specs.Candidates.{past_cell};
+ghost use Rattle.cand_pairs.specs.Merging.{AreCoveredBy, Greatest, IsChoiceAt, IsGreatestBy, IsModest, Owns};
+ghost use Rattle.cand_pairs.specs.Parts.{list_of};
 ghost use Rattle.vg_cert.specs.Fits.{list_of as entries_of};
 ghost use Rattle.vg_check.specs.Covers.{AreWorked, CoversCell, CoversCells, CoversJoins, CoversOwns};
 
-use cand_laws::{Classes, greatest};
+use cand_pairs::{Classes, greatest};
 use elmore::{Pair, Problem, Rep};
 use vg_cert::NodeLists;
 

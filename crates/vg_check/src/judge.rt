@@ -1,8 +1,8 @@
 //! The check of a certificate, part by part.
 
 ghost use Rattle.std.specs.Prelude.{◌≡◌, ◌↔◌, IfOk, MatchOption};
-ghost use Rattle.cand_laws.specs.Candidates.{IsCover, of_lists};
-ghost use Rattle.cand_laws.specs.Certificates.{IsValid, IsShown};
+ghost use Rattle.cand_pairs.specs.Candidates.{IsCover, of_lists};
+ghost use Rattle.cand_pairs.specs.Certificates.{IsValid, IsShown};
 ghost use Rattle.vg_cert.specs.Fits.{Fits, lists_of};
 ghost use Rattle.vg_check.specs.Verdicts.{IsFault, IsPlacementSound, IsVerdict};
 ghost use Rattle.vg_check.specs.declared.verdict.Verdict.TheVariants.{Yes};

@@ -5,14 +5,14 @@ ghost use Rattle.elmore.specs.Problems.{is_live, sink_of};
 ghost use Rattle.elmore.specs.Trees.{parent_of, capacitance, resistance};
 ghost use Rattle.elmore.specs.Wire.{downstream_in};
 ghost use Rattle.elmore.specs.Pairs.{IsUndominated};
-ghost use Rattle.cand_laws.specs.Candidates.{NodeLists as NodeListsSpec};
-ghost use Rattle.cand_laws.specs.Merging.{Meets, Raises, Wires};
-ghost use Rattle.cand_laws.specs.Parts.{list_of};
+ghost use Rattle.cand_pairs.specs.Candidates.{NodeLists as NodeListsSpec};
+ghost use Rattle.cand_pairs.specs.Merging.{Meets, Raises, Wires};
+ghost use Rattle.cand_pairs.specs.Parts.{list_of};
 ghost use Rattle.vg_cert.specs.Fits.{IsList, list_of as entries_of, lists_in};
 ghost use Rattle.vg_check.specs.Covers.{AreWorked};
 ghost use Rattle.vg_check.specs.Parts.{AreLists, IsPart, alone};
 
-use cand_laws::{Classes, meet_all, raise, through_wire};
+use cand_pairs::{Classes, meet_all, raise, through_wire};
 use elmore::{Pair, Problem, Sink};
 use std::alloc::Global;
 use std::mem::drop;

@@ -7,7 +7,7 @@ ghost use Rattle.std.specs.Cmp.Rules.{hashing};
 ghost use Rattle.std.proofs.Common.{rules};
 
 use indexmap::Equivalent;
-use vg_names::is_same;
+use name_tables::is_same;
 use vg_scan::NodeName;
 
 /// A node by the texts of its name, which stand elsewhere: its rows are found without a copy of the name. A port has an empty leaf.

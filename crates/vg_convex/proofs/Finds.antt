@@ -9,8 +9,8 @@ use Rattle.std.proofs.lemmas.List.Elements.{Contains-get_or}
 use Rattle.elmore.specs.Legal.{IsWithin}
 use Rattle.elmore.specs.declared.pair.Pair.{Pair}
 use Rattle.elmore.specs.declared.rep.Rep.{Rep}
-use Rattle.cand_laws.specs.Candidates.{with_cell}
-use Rattle.cand_laws.specs.Merging.{NoneFits}
+use Rattle.cand_pairs.specs.Candidates.{with_cell}
+use Rattle.cand_pairs.specs.Merging.{NoneFits}
 use Rattle.cand_pool.specs.Candidates.{Candidate, Candidates}
 use Rattle.vg_convex.specs.declared.shelf.Driver.{Driver}
 use Rattle.vg_convex.specs.declared.work.Point.{Point}

@@ -10,8 +10,8 @@ use Rattle.elmore.specs.declared.allowed.Allowed.{Allowed}
 use Rattle.elmore.specs.declared.pair.Pair.{Pair}
 use Rattle.elmore.specs.declared.rep.Rep.{Rep}
 use Rattle.sol_arena.specs.declared.slot.Made.{Made}
-use Rattle.cand_laws.specs.Candidates.{with_cell}
-use Rattle.cand_laws.specs.Merging.{IsGreatestBy}
+use Rattle.cand_pairs.specs.Candidates.{with_cell}
+use Rattle.cand_pairs.specs.Merging.{IsGreatestBy}
 use Rattle.cand_pool.specs.Candidates.{Candidate, Candidates}
 use Rattle.cand_uses.specs.Pairs.{pair_of, pairs_of}
 use Rattle.vg_convex.specs.Answers.{IsBestOf, IsAnswer, found_at, HaveFound, found_by, IsResultOf, IsResult, made_pairs, AreSwept}

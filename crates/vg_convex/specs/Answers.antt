@@ -8,8 +8,8 @@ use Rattle.elmore.specs.Pairs.{IsUndominated}
 use Rattle.elmore.specs.declared.allowed.Allowed.{Allowed}
 use Rattle.elmore.specs.declared.pair.Pair.{Pair}
 use Rattle.elmore.specs.declared.rep.Rep.{Rep}
-use Rattle.cand_laws.specs.Candidates.{with_cell}
-use Rattle.cand_laws.specs.Merging.{NoneFits, IsGreatestBy}
+use Rattle.cand_pairs.specs.Candidates.{with_cell}
+use Rattle.cand_pairs.specs.Merging.{NoneFits, IsGreatestBy}
 use Rattle.cand_pool.specs.Candidates.{Candidate, Candidates}
 use Rattle.cand_uses.specs.Pairs.{pair_of, pairs_of}
 use Rattle.vg_convex.specs.declared.shelf.Driver.{Driver}

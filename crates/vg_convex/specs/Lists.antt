@@ -12,7 +12,7 @@ use Rattle.sol_arena.specs.declared.slot.Slot.{Slot}
 use Rattle.sol_arena.specs.Slots.{none, made_in, made_at, IsSolution, IsLive as IsLiveSolution}
 use Rattle.sol_arena.specs.Uses.{held_of}
 use Rattle.sol_arena.specs.Meanings.{with_own, cells_of}
-use Rattle.cand_laws.specs.Merging.{IsGreatestBy}
+use Rattle.cand_pairs.specs.Merging.{IsGreatestBy}
 use Rattle.cand_pool.specs.Candidates.{Candidate, Candidates}
 use Rattle.cand_pool.specs.Pools.{Block, spare, Holds, KeepsOthers, name}
 use Rattle.cand_pool.specs.declared.ends.List.{List as NamedList}

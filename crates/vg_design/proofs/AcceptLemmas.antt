@@ -4,7 +4,7 @@ use Rattle.std.specs.List.{find}
 use Rattle.elmore.specs.declared.tree.Node.{Node}
 use Rattle.ver_net.specs.declared.pin_ref.PinRef.{PinRef}
 use Rattle.vg_scan.specs.declared.name.NodeName.{NodeName}
-use Rattle.vg_wire.specs.declared.refusal.Refusal.TheVariants.{TooLarge, Unconstrained}
+use Rattle.spef_wire.specs.declared.refusal.Refusal.TheVariants.{TooLarge, Unconstrained}
 use Rattle.vg_design.proofs.NameLemmas.{bare_17, bare_large, first_for, joined_once, passes_for}
 use Rattle.vg_design.proofs.PassLemmas.{not_past, passes_16, passes_17}
 use Rattle.vg_design.specs.Designs.{Design, Joined}

@@ -5,11 +5,11 @@ use Rattle.elmore.specs.declared.tree.Node.{Node}
 use Rattle.spef_net.specs.declared.net.ParConn.{ParConn}
 use Rattle.spef_net.specs.declared.net.ParNet.{ParNet}
 use Rattle.vg_scan.specs.declared.name.NodeName.{NodeName}
-use Rattle.vg_wire.proofs.AnswerLemmas.{trees_are}
-use Rattle.vg_wire.proofs.OneRefusalLemmas.{faults_are, floating_once}
-use Rattle.vg_wire.specs.Refusals.{number_of, IsNetTree}
-use Rattle.vg_wire.specs.declared.refusal.Refusal.{Refusal}
-use Rattle.vg_wire.specs.declared.refusal.Refusal.TheVariants.{UnknownNet, Section, Reduced, Inductive, Bidirectional, NoDriver, ManyDrivers, Mismatch, Tied, NoDrive, NoLoad, Floating, Loop, NoSink, Unconstrained, TooLarge}
+use Rattle.spef_wire.proofs.AnswerLemmas.{trees_are}
+use Rattle.spef_wire.proofs.OneRefusalLemmas.{faults_are, floating_once}
+use Rattle.spef_wire.specs.Refusals.{number_of, IsNetTree}
+use Rattle.spef_wire.specs.declared.refusal.Refusal.{Refusal}
+use Rattle.spef_wire.specs.declared.refusal.Refusal.TheVariants.{UnknownNet, Section, Reduced, Inductive, Bidirectional, NoDriver, ManyDrivers, Mismatch, Tied, NoDrive, NoLoad, Floating, Loop, NoSink, Unconstrained, TooLarge}
 use Rattle.vg_design.specs.Designs.{Design, Joined, name_of}
 use Rattle.vg_design.specs.Laws.{AreSame, BareAccepts, OneProblem, OneRefusal, ProblemOrRefused}
 use Rattle.vg_design.specs.Nets.{names_of}

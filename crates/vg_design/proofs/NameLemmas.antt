@@ -3,13 +3,13 @@ use Rattle.std.proofs.Common.{◌≡◌, ◌≢◌, ℕ, ◌<◌, ◌≤◌, Lis
 use Rattle.std.proofs.lemmas.Bool.{cases_lt}
 use Rattle.spef_net.specs.declared.fault.NetKind.{NetKind}
 use Rattle.vg_scan.specs.declared.fault.LineFault.{LineFault}
-use Rattle.vg_wire.proofs.AnswerLemmas.{nets_are, not_missing, fault_not_missing, not_faulty}
-use Rattle.vg_wire.specs.Nets.{IsFaultNamed, IsRefusedBelow as IsWireRefusedBelow}
-use Rattle.vg_wire.specs.Refusals.{number_of}
-use Rattle.vg_wire.specs.declared.refusal.Refusal.{Refusal}
-use Rattle.vg_wire.specs.declared.refusal.Refusal.TheVariants.{UnknownNet, Section, TooLarge}
-use Rattle.vg_wire.specs.declared.refusal.Refused.{Refused}
-use Rattle.vg_wire.specs.declared.refusal.Refused.TheVariants.{Net, Memory}
+use Rattle.spef_wire.proofs.AnswerLemmas.{nets_are, not_missing, fault_not_missing, not_faulty}
+use Rattle.spef_wire.specs.Nets.{IsFaultNamed, IsRefusedBelow as IsWireRefusedBelow}
+use Rattle.spef_wire.specs.Refusals.{number_of}
+use Rattle.spef_wire.specs.declared.refusal.Refusal.{Refusal}
+use Rattle.spef_wire.specs.declared.refusal.Refusal.TheVariants.{UnknownNet, Section, TooLarge}
+use Rattle.spef_wire.specs.declared.refusal.Refused.{Refused}
+use Rattle.spef_wire.specs.declared.refusal.Refused.TheVariants.{Net, Memory}
 use Rattle.vg_design.specs.Designs.{Design, Joined, net_number}
 use Rattle.vg_design.specs.Nets.{IsRefused, IsBareRefused}
 use Rattle.vg_design.specs.Refusals.{Holds, HasNet, IsJoined, Refuses, PassesUpTo, PassesBareUpTo, IsFirstRefusal, IsFirstBareRefusal}

@@ -26,8 +26,8 @@ use Rattle.spef_nodes.specs.Nodes.{ParNode}
 use Rattle.std.proofs.lemmas.Option.{slice_get-get_or}
 use Rattle.ver_net.specs.declared.pin_ref.PinRef.{PinRef}
 use Rattle.vg_cons.specs.Rows.{allowed_of, is_blocked_of}
-use Rattle.vg_wire.specs.Refusals.{drives, drivers_of, is_sink, most_capacitors}
-use Rattle.vg_wire.specs.Wires.{is_sink_node}
+use Rattle.spef_wire.specs.Refusals.{drives, drivers_of, is_sink, most_capacitors}
+use Rattle.spef_wire.specs.Wires.{is_sink_node}
 use Rattle.vg_design.specs.Designs.{Design, Joined, NO_NODE, name_of}
 use Rattle.vg_design.proofs.EndLemmas.{NO_CONN, conn_node}
 use Rattle.vg_design.specs.Parts.{allowance_at, allowed_by, allowed_in, cells_of, driver_of, free_of, loaded, loaded_tree, is_boxed, is_free, numbers_of, reps_of, sink_at, sink_given, sinks_of, IsWithinLimits}

@@ -4,10 +4,10 @@ use Rattle.std.proofs.lemmas.Bool.{cases_lt}
 use Rattle.elmore.specs.declared.tree.Node.{Node}
 use Rattle.ver_module.specs.declared.direction.PortDir.TheVariants.{Inout}
 use Rattle.vg_scan.specs.declared.name.NodeName.{NodeName}
-use Rattle.vg_wire.proofs.AnswerLemmas.{trees_are}
-use Rattle.vg_wire.specs.Refusals.{number_of, Refuses as WireRefuses, PassesUpTo as PassesWire, IsFirstRefusal as IsFirstInWire, IsNetTree}
-use Rattle.vg_wire.specs.declared.refusal.Refusal.{Refusal}
-use Rattle.vg_wire.specs.declared.refusal.Refusal.TheVariants.{UnknownNet, Section, Reduced, Inductive, Bidirectional, NoDriver, ManyDrivers, Mismatch, Tied, NoDrive, NoLoad, Floating, Loop, NoSink, Unconstrained, TooLarge}
+use Rattle.spef_wire.proofs.AnswerLemmas.{trees_are}
+use Rattle.spef_wire.specs.Refusals.{number_of, Refuses as WireRefuses, PassesUpTo as PassesWire, IsFirstRefusal as IsFirstInWire, IsNetTree}
+use Rattle.spef_wire.specs.declared.refusal.Refusal.{Refusal}
+use Rattle.spef_wire.specs.declared.refusal.Refusal.TheVariants.{UnknownNet, Section, Reduced, Inductive, Bidirectional, NoDriver, ManyDrivers, Mismatch, Tied, NoDrive, NoLoad, Floating, Loop, NoSink, Unconstrained, TooLarge}
 use Rattle.vg_design.specs.Designs.{Design, Joined, port_of}
 use Rattle.vg_design.specs.Parts.{IsWithinLimits}
 use Rattle.vg_design.specs.Refusals.{Holds, IsPastLimits}

@@ -17,9 +17,9 @@ use Rattle.ver_net.proofs.LawLemmas.{pins_are_linked}
 use Rattle.ver_net.specs.Connections.{pins_on}
 use Rattle.ver_net.specs.declared.pin_ref.PinRef.{PinRef}
 use Rattle.vg_scan.specs.Nodes.{same_node}
-use Rattle.vg_wire.specs.Refusals.{drives, drivers_of, is_sink, PassesUpTo as PassesWire}
-use Rattle.vg_wire.specs.declared.refusal.Refusal.TheVariants.{NoSink}
-use Rattle.vg_wire.specs.Wires.{is_sink_node, AreMarks}
+use Rattle.spef_wire.specs.Refusals.{drives, drivers_of, is_sink, PassesUpTo as PassesWire}
+use Rattle.spef_wire.specs.declared.refusal.Refusal.TheVariants.{NoSink}
+use Rattle.spef_wire.specs.Wires.{is_sink_node, AreMarks}
 use Rattle.vg_design.proofs.ConnectedLemmas.{found_is}
 use Rattle.vg_design.proofs.EndLemmas.{conn_node, end_is, ends_size}
 use Rattle.vg_design.specs.Designs.{Design, Joined, NO_INSTANCE, NO_PIN, cell_on, ends_of, instance_at, name_of, pin_name, pin_on, IsConnected}

@@ -8,7 +8,7 @@ use Rattle.elmore.specs.declared.parts.Sink.{Sink}
 use Rattle.spef_net.specs.declared.net.ParNet.{ParNet}
 use Rattle.std.specs.List.{range_with_len}
 use Rattle.vg_cons.specs.Rows.{Rows}
-use Rattle.vg_wire.specs.Wires.{is_sink_node}
+use Rattle.spef_wire.specs.Wires.{is_sink_node}
 use Rattle.vg_design.specs.Designs.{Design, name_of}
 use Rattle.vg_design.specs.Nets.{IsNetProblem, sink_nodes}
 use Rattle.vg_design.specs.Parts.{loaded, sink_at, sink_given, sinks_of}

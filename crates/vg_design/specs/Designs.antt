@@ -18,7 +18,7 @@ use Rattle.ver_net.specs.Connections.{pins_on}
 use Rattle.ver_net.specs.Laws.{HasLink}
 use Rattle.ver_net.specs.declared.pin_ref.PinRef.{PinRef}
 use Rattle.vg_cons.specs.Rows.{Rows, arrival_of, drive_of, load_of}
-use Rattle.vg_names.specs.Distinct.{number_of}
+use Rattle.name_tables.specs.Distinct.{number_of}
 use Rattle.vg_scan.specs.Nodes.{has_node, same_node}
 use Rattle.vg_scan.specs.declared.name.NodeName.{NodeName}
 

@@ -1,9 +1,9 @@
 -- What is true of the problems and the refusals of all nets.
 use Rattle.std.specs.Prelude.{◌≡◌, ℕ, List}
 use Rattle.vg_scan.specs.declared.name.NodeName.{NodeName}
-use Rattle.vg_wire.specs.Refusals.{number_of}
-use Rattle.vg_wire.specs.declared.refusal.Refusal.{Refusal}
-use Rattle.vg_wire.specs.declared.refusal.Refusal.TheVariants.{Unconstrained}
+use Rattle.spef_wire.specs.Refusals.{number_of}
+use Rattle.spef_wire.specs.declared.refusal.Refusal.{Refusal}
+use Rattle.spef_wire.specs.declared.refusal.Refusal.TheVariants.{Unconstrained}
 use Rattle.vg_design.specs.Designs.{Design}
 use Rattle.vg_design.specs.Nets.{IsNetProblem}
 use Rattle.vg_design.specs.Refusals.{IsFirstRefusal, IsFirstBareRefusal}

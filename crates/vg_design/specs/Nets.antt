@@ -6,10 +6,10 @@ use Rattle.elmore.specs.declared.problem.Problem.{Problem}
 use Rattle.elmore.specs.declared.tree.Node.{Node}
 use Rattle.spef_net.specs.declared.net.ParNet.{ParNet}
 use Rattle.vg_scan.specs.declared.name.NodeName.{NodeName}
-use Rattle.vg_wire.specs.Refusals.{IsNetTree}
-use Rattle.vg_wire.specs.Wires.{is_sink_node}
-use Rattle.vg_wire.specs.declared.refusal.Refused.{Refused}
-use Rattle.vg_wire.specs.declared.refusal.Refused.TheVariants.{Net, Memory}
+use Rattle.spef_wire.specs.Refusals.{IsNetTree}
+use Rattle.spef_wire.specs.Wires.{is_sink_node}
+use Rattle.spef_wire.specs.declared.refusal.Refused.{Refused}
+use Rattle.spef_wire.specs.declared.refusal.Refused.TheVariants.{Net, Memory}
 use Rattle.vg_design.specs.Designs.{Design, Joined, NO_NODE, name_of}
 use Rattle.vg_design.specs.Parts.{loaded_tree, driver_of, IsProblemOf}
 use Rattle.vg_design.specs.Refusals.{IsJoined, PassesUpTo, PassesBareUpTo, IsFirstRefusal, IsFirstBareRefusal}

@@ -17,8 +17,8 @@ use Rattle.spef_net.specs.declared.net.ParNet.{ParNet}
 use Rattle.spef_nodes.specs.Nodes.{ParNode}
 use Rattle.vg_cons.specs.Rows.{Rows, allowed_of, in_box_of, is_blocked_of, required_of, wants_inverted_of}
 use Rattle.vg_scan.specs.declared.name.NodeName.{NodeName}
-use Rattle.vg_wire.specs.Refusals.{most_capacitors}
-use Rattle.vg_wire.specs.Wires.{is_sink_node}
+use Rattle.spef_wire.specs.Refusals.{most_capacitors}
+use Rattle.spef_wire.specs.Wires.{is_sink_node}
 use Rattle.vg_design.specs.Designs.{Design, Joined, NO_NODE, name_of, driver_at, sink_load}
 
 -- ---- sinks

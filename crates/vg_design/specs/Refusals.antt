@@ -9,10 +9,10 @@ use Rattle.ver_module.specs.declared.direction.PortDir.TheVariants.{Inout}
 use Rattle.ver_net.specs.Connections.{is_tied}
 use Rattle.vg_cons.specs.Rows.{Rows, required_of}
 use Rattle.vg_scan.specs.declared.name.NodeName.{NodeName}
-use Rattle.vg_wire.specs.Nets.{IsMissing, IsNetNamed, IsFaultNamed}
-use Rattle.vg_wire.specs.Refusals.{number_of, drivers_of, goes_both_ways, is_sink, IsFirstFloating, IsLooped, IsNetTree}
-use Rattle.vg_wire.specs.declared.refusal.Refusal.{Refusal}
-use Rattle.vg_wire.specs.declared.refusal.Refusal.TheVariants.{UnknownNet, Section, Reduced, Inductive, Bidirectional, NoDriver, ManyDrivers, Mismatch, Tied, NoDrive, NoLoad, Floating, Loop, NoSink, Unconstrained, TooLarge}
+use Rattle.spef_wire.specs.Nets.{IsMissing, IsNetNamed, IsFaultNamed}
+use Rattle.spef_wire.specs.Refusals.{number_of, drivers_of, goes_both_ways, is_sink, IsFirstFloating, IsLooped, IsNetTree}
+use Rattle.spef_wire.specs.declared.refusal.Refusal.{Refusal}
+use Rattle.spef_wire.specs.declared.refusal.Refusal.TheVariants.{UnknownNet, Section, Reduced, Inductive, Bidirectional, NoDriver, ManyDrivers, Mismatch, Tied, NoDrive, NoLoad, Floating, Loop, NoSink, Unconstrained, TooLarge}
 use Rattle.vg_design.specs.Designs.{Design, Joined, name_of, net_number, port_of, is_port, pin_cap_of, pin_drive_of, IsConnected}
 use Rattle.vg_design.specs.Parts.{IsWithinLimits}
 

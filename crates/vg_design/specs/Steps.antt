@@ -18,10 +18,10 @@ use Rattle.ver_module.specs.declared.link.Link.{Link}
 use Rattle.vg_cons.specs.Rows.{Rows}
 use Rattle.vg_scan.specs.Nodes.{has_node, same_node}
 use Rattle.vg_scan.specs.declared.name.NodeName.{NodeName}
-use Rattle.vg_wire.specs.Refusals.{number_of, is_sink, IsNetTree}
-use Rattle.vg_wire.specs.declared.refusal.Refusal.{Refusal}
-use Rattle.vg_wire.specs.declared.refusal.Refused.{Refused}
-use Rattle.vg_wire.specs.declared.refusal.Refused.TheVariants.{Net, Memory}
+use Rattle.spef_wire.specs.Refusals.{number_of, is_sink, IsNetTree}
+use Rattle.spef_wire.specs.declared.refusal.Refusal.{Refusal}
+use Rattle.spef_wire.specs.declared.refusal.Refused.{Refused}
+use Rattle.spef_wire.specs.declared.refusal.Refused.TheVariants.{Net, Memory}
 use Rattle.vg_design.specs.Designs.{Design, Joined, agrees, cell_on, ends_of, is_port, name_of, pin_name, pin_on}
 use Rattle.vg_design.specs.Parts.{reps_of, IsProblemOf, IsWithinLimits}
 use Rattle.vg_design.specs.Refusals.{Holds, IsFirstConn, IsFirstRefusal, IsJoined, is_unconstrained}

@@ -11,10 +11,10 @@ use crate::net_problem::problem_of;
 use crate::numbers::push_where;
 use crate::ready::ready_net;
 use elmore::{Driver, Sink, Tree};
+use spef_wire::{Refusal, Refused};
 use std::alloc::Global;
 use vg_num::{Memory, Row};
 use vg_scan::Name;
-use vg_wire::{Refusal, Refused};
 
 /// What a net is whatever the constraints ask for: its tree with the loads of its sinks, its driver, the names of the tree's
 /// nodes, and the nodes of the tree that are sinks, in tree order.

@@ -8,12 +8,12 @@ ghost use Rattle.vg_design.specs.Steps.{FindsPins, IsPin, IsSeen, pin_at, pin_or
 
 use crate::design::Design;
 use crate::joined::JoinedNet;
+use name_tables::is_same;
 use spef_net::ParNet;
 use spef_nodes::NodeTable;
 use std::alloc::Global;
 use std::marker::Model;
 use ver_net::PinRef;
-use vg_names::is_same;
 use vg_num::Memory;
 
 /// The ends of a net by its parasitics, found by their names, each with the pin that was seen of its name.

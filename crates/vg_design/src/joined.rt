@@ -2,18 +2,18 @@
 
 ghost use Rattle.std.specs.Prelude.{◌≡◌, ◌<◌, ◌∷◌, [], length, IfOk, IfErr};
 ghost use Rattle.spef_net.specs.Sections.{IsSized};
-ghost use Rattle.vg_wire.specs.Refusals.{drivers_of, number_of, PassesUpTo as PassesWire};
+ghost use Rattle.spef_wire.specs.Refusals.{drivers_of, number_of, PassesUpTo as PassesWire};
 ghost use Rattle.vg_design.specs.Designs.{port_of};
 ghost use Rattle.vg_design.specs.Refusals.{IsJoined};
 ghost use Rattle.vg_design.specs.Steps.{IsFirstHeld, IsRefusedBelow, PassesNet};
 
 use crate::design::Design;
 use spef_net::{ParConn, ParNet};
+use spef_wire::{Refusal, Refused, driver_of, named_net};
 use std::alloc::Global;
 use std::marker::Model;
 use ver_module::PortDir;
 use vg_scan::Name;
-use vg_wire::{Refusal, Refused, driver_of, named_net};
 
 /// A net with its parasitics, and its number in the netlist.
 #[derive(Drop)]

@@ -2,10 +2,10 @@
 
 ghost use Rattle.std.specs.Prelude.{◌≡◌, ◌<◌, ◌≤◌, find, length, IfOk, IfErr};
 ghost use Rattle.std.specs.List.{All};
-ghost use Rattle.vg_wire.specs.Refusals.{most_capacitors};
+ghost use Rattle.spef_wire.specs.Refusals.{most_capacitors};
 ghost use Rattle.vg_design.specs.Nets.{names_of, IsNetProblem, IsPosedNet, IsRefused};
 ghost use Rattle.vg_design.specs.Parts.{loaded_tree as loaded_in};
-ghost use Rattle.vg_wire.specs.Wires.{AreMarks};
+ghost use Rattle.spef_wire.specs.Wires.{AreMarks};
 ghost use Rattle.vg_design.specs.Refusals.{is_unconstrained};
 ghost use Rattle.vg_design.specs.Steps.{FindsUnconstrained, IsReady, MakesProblem};
 
@@ -17,11 +17,11 @@ use crate::pins::PinnedNet;
 use crate::ready::{ReadyNet, ready_net};
 use elmore::{Node, Problem, Tree};
 use spef_net::{ParConn, ParNet};
+use spef_wire::{MOST_CAPACITORS, Refusal, Refused, is_sink, sink_marks};
 use std::alloc::Global;
 use vg_cons::{Constraints, required};
 use vg_num::{Memory, Row};
 use vg_scan::{Name, NodeName};
-use vg_wire::{MOST_CAPACITORS, Refusal, Refused, is_sink, sink_marks};
 
 /// The problem of a net, and the names of its nodes.
 #[derive(Drop)]

@@ -7,7 +7,7 @@ ghost use Rattle.vg_design.specs.Steps.{ArePins};
 ghost use Rattle.elmore.specs.Problems.{AreRising};
 ghost use Rattle.vg_cons.specs.Named.{named};
 ghost use Rattle.elmore.specs.Trees.{node_at};
-ghost use Rattle.vg_wire.specs.Wires.{AreMarks};
+ghost use Rattle.spef_wire.specs.Wires.{AreMarks};
 ghost use Rattle.vg_design.specs.Designs.{driver_at as driver_by, name_of as name_in, pin_driver as pin_driver_by, port_driver as port_driver_by, sink_load as sink_load_of, NO_NODE};
 ghost use Rattle.vg_design.specs.Parts.{allowed_in, free_of as free_in, is_boxed_at, is_free as is_free_in, load_at as load_in, loaded as loaded_in, loaded_tree, reps_of as reps_in, sink_at as sink_in, sink_given as sink_by, sinks_of as sinks_in};
 

@@ -2,7 +2,7 @@
 
 ghost use Rattle.std.specs.Prelude.{◌≡◌, ◌<◌, ◌↔◌, ◌∷◌, [], None, Some, length, find, option_map, IfOk, IsTrue, MatchOption};
 ghost use Rattle.spef_net.specs.declared.net.ConnKind.TheVariants.{Pin as PinKind};
-ghost use Rattle.vg_wire.specs.Refusals.{drivers_of};
+ghost use Rattle.spef_wire.specs.Refusals.{drivers_of};
 ghost use Rattle.vg_design.specs.Designs.{name_of, pin_cap_of, pin_drive_of, pin_limit_of};
 ghost use Rattle.vg_design.specs.Refusals.{is_unloaded, IsWithoutDrive};
 ghost use Rattle.vg_design.specs.Steps.{ArePins, cell_at};
@@ -11,9 +11,9 @@ use crate::design::Design;
 use crate::joined::JoinedNet;
 use lib_linear::{pin_cap, pin_drive, pin_limit};
 use spef_net::{ConnKind, ParConn};
+use spef_wire::is_sink;
 use ver_net::PinRef;
 use vg_num::Row;
-use vg_wire::is_sink;
 
 /// A net with the pin of the netlist that each of its connections is; that of a port is none.
 #[derive(Drop)]

@@ -3,7 +3,7 @@
 ghost use Rattle.std.specs.Prelude.{◌≡◌, ◌<◌, ◌∷◌, [], true, length, IfOk, IfErr};
 ghost use Rattle.std.specs.List.{All, list_any};
 ghost use Rattle.spef_net.specs.Sections.{IsSized};
-ghost use Rattle.vg_wire.specs.Refusals.{drivers_of, is_sink, IsNetTree, PassesUpTo as PassesWire};
+ghost use Rattle.spef_wire.specs.Refusals.{drivers_of, is_sink, IsNetTree, PassesUpTo as PassesWire};
 ghost use Rattle.vg_design.specs.Nets.{names_of};
 ghost use Rattle.vg_design.specs.Steps.{ArePins, IsAccepted, IsHeldBelow, IsReady, IsRefusedBelow, PassesNet};
 
@@ -17,10 +17,10 @@ use crate::pins::PinnedNet;
 use elmore::Tree;
 use rc_tree::Built;
 use spef_net::ParConn;
+use spef_wire::{Refusal, Refused, tree_from};
 use std::alloc::Global;
 use vg_num::Row;
 use vg_scan::Name;
-use vg_wire::{Refusal, Refused, tree_from};
 
 /// A net with its tree.
 #[derive(Drop)]

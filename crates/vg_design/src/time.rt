@@ -7,10 +7,10 @@ use crate::design::Design;
 use crate::names::TreeNames;
 use crate::net_problem::problem;
 use elmore::{Placement, Problem, Scratch, first_wrong, slack};
+use spef_wire::Refused;
 use std::alloc::Global;
 use vg_num::Memory;
 use vg_scan::{Name, NodeName};
-use vg_wire::Refused;
 
 /// The timing of a net without cells.
 #[derive(Drop)]

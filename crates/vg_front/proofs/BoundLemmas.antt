@@ -12,11 +12,11 @@ use Rattle.elmore.specs.declared.problem.Problem.{Problem}
 use Rattle.elmore.proofs.PlacedTreeLemmas.{rep_within}
 use Rattle.sol_arena.specs.declared.slot.Made.{Made}
 use Rattle.sol_arena.specs.Meanings.{cells_of}
-use Rattle.cand_laws.specs.Candidates.{IsOpenWith, Fork}
-use Rattle.cand_laws.specs.Merging.{IsSmallPair, live_from, own_from, fork_from}
-use Rattle.cand_laws.specs.Priced.{Priced, IsPricedAt, IsPricedOpenWith}
-use Rattle.cand_laws.proofs.PairPartLemmas.{live_child_parts}
-use Rattle.cand_laws.proofs.SmallPairLemmas.{live_from_in, open_times, open_small, pair_small, charge_small}
+use Rattle.cand_pairs.specs.Candidates.{IsOpenWith, Fork}
+use Rattle.cand_pairs.specs.Merging.{IsSmallPair, live_from, own_from, fork_from}
+use Rattle.cand_pairs.specs.Priced.{Priced, IsPricedAt, IsPricedOpenWith}
+use Rattle.cand_pairs.proofs.PairPartLemmas.{live_child_parts}
+use Rattle.cand_pairs.proofs.SmallPairLemmas.{live_from_in, open_times, open_small, pair_small, charge_small}
 use Rattle.vg_front.specs.declared.offer.Candidate.{Candidate}
 use Rattle.vg_front.specs.Offers.{priced}
 use Rattle.vg_front.specs.Held.{AreBounded, IsPruned, carried_by}

@@ -20,13 +20,13 @@ use Rattle.sol_arena.specs.Reach.{IsRestored}
 use Rattle.sol_arena.specs.Uses.{held_of}
 use Rattle.sol_arena.proofs.ReachLemmas.{restored}
 use Rattle.cand_uses.specs.Uses.{HoldsBeside}
-use Rattle.cand_laws.specs.Candidates.{fork_of, Fork}
-use Rattle.cand_laws.specs.Merging.{HasEnd, live_from, own_from, fork_from}
-use Rattle.cand_laws.specs.Priced.{IsPricedPart, IsPricedOpenWith, IsPricedAt}
-use Rattle.cand_laws.specs.Solutions.{IsOpenSolutionOf}
-use Rattle.cand_laws.proofs.ChildLemmas.{IsChild}
-use Rattle.cand_laws.proofs.FromLemmas.{other_live, other_own, live_all, end_live}
-use Rattle.cand_laws.proofs.TurnLemmas.{dead_stays}
+use Rattle.cand_pairs.specs.Candidates.{fork_of, Fork}
+use Rattle.cand_pairs.specs.Merging.{HasEnd, live_from, own_from, fork_from}
+use Rattle.cand_pairs.specs.Priced.{IsPricedPart, IsPricedOpenWith, IsPricedAt}
+use Rattle.cand_pairs.specs.Solutions.{IsOpenSolutionOf}
+use Rattle.cand_pairs.proofs.ChildLemmas.{IsChild}
+use Rattle.cand_pairs.proofs.FromLemmas.{other_live, other_own, live_all, end_live}
+use Rattle.cand_pairs.proofs.TurnLemmas.{dead_stays}
 use Rattle.vg_front.specs.Branches.{list_of, all_of}
 use Rattle.vg_front.specs.Fronts.{In, AreSolved}
 use Rattle.vg_front.specs.Held.{AreHeld, IsGiven, MeanTheSame}

@@ -4,13 +4,13 @@ use Rattle.elmore.specs.Cells.{rep_of}
 use Rattle.elmore.specs.Legal.{MayHave}
 use Rattle.elmore.specs.declared.problem.Problem.{Problem}
 use Rattle.sol_arena.specs.declared.slot.Made.{Made}
-use Rattle.cand_laws.specs.Candidates.{fork_of, own_capacitance, past_cell}
-use Rattle.cand_laws.specs.Merging.{fork_from, live_from}
-use Rattle.cand_laws.specs.Priced.{Priced, IsBeatenBy, IsPricedPart, IsPricedAt, IsPricedOpenWith, IsPricedOpen, IsPricedStep, PricedOwns, with_price}
-use Rattle.cand_laws.specs.Solutions.{IsSolutionOf}
-use Rattle.cand_laws.proofs.FromLemmas.{live_all, own_all}
-use Rattle.cand_laws.proofs.PricedLemmas.{one_priced}
-use Rattle.cand_laws.proofs.PricedMergeLemmas.{part_trans, priced_owns, kept_part}
+use Rattle.cand_pairs.specs.Candidates.{fork_of, own_capacitance, past_cell}
+use Rattle.cand_pairs.specs.Merging.{fork_from, live_from}
+use Rattle.cand_pairs.specs.Priced.{Priced, IsBeatenBy, IsPricedPart, IsPricedAt, IsPricedOpenWith, IsPricedOpen, IsPricedStep, PricedOwns, with_price}
+use Rattle.cand_pairs.specs.Solutions.{IsSolutionOf}
+use Rattle.cand_pairs.proofs.FromLemmas.{live_all, own_all}
+use Rattle.cand_pairs.proofs.PricedLemmas.{one_priced}
+use Rattle.cand_pairs.proofs.PricedMergeLemmas.{part_trans, priced_owns, kept_part}
 use Rattle.vg_front.specs.declared.offer.Candidate.{Candidate}
 use Rattle.vg_front.specs.Offers.{priced}
 use Rattle.vg_front.specs.Held.{MeanTheSame, IsBlend}

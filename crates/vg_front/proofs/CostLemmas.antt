@@ -12,14 +12,14 @@ use Rattle.elmore.proofs.SumLemmas.{sum_of_both, sum_of_same, sum_of_none, sum_a
 use Rattle.elmore.proofs.TreeLemmas.{tree_falls}
 use Rattle.sol_arena.specs.declared.slot.Made.{Made}
 use Rattle.sol_arena.specs.Meanings.{bare, with_own, joined, cells_of, AreApart}
-use Rattle.cand_laws.specs.Candidates.{with_cell, fork_of, whole_fork, own_capacitance}
-use Rattle.cand_laws.specs.Merging.{fork_from, live_from}
-use Rattle.cand_laws.specs.Solutions.{IsOpenSolutionOf, IsSolutionOf}
-use Rattle.cand_laws.proofs.ChildLemmas.{child_above}
-use Rattle.cand_laws.proofs.FromLemmas.{live_all, own_all}
-use Rattle.cand_laws.proofs.PairPartLemmas.{live_child_parts}
-use Rattle.cand_laws.proofs.SmallPairLemmas.{live_from_in}
-use Rattle.cand_laws.proofs.SolutionLemmas.{solution_closed, solution_bare}
+use Rattle.cand_pairs.specs.Candidates.{with_cell, fork_of, whole_fork, own_capacitance}
+use Rattle.cand_pairs.specs.Merging.{fork_from, live_from}
+use Rattle.cand_pairs.specs.Solutions.{IsOpenSolutionOf, IsSolutionOf}
+use Rattle.cand_pairs.proofs.ChildLemmas.{child_above}
+use Rattle.cand_pairs.proofs.FromLemmas.{live_all, own_all}
+use Rattle.cand_pairs.proofs.PairPartLemmas.{live_child_parts}
+use Rattle.cand_pairs.proofs.SmallPairLemmas.{live_from_in}
+use Rattle.cand_pairs.proofs.SolutionLemmas.{solution_closed, solution_bare}
 use Rattle.vg_front.specs.declared.offer.Candidate.{Candidate}
 use Rattle.vg_front.specs.declared.offer.Offer.{Offer}
 use Rattle.vg_front.specs.Offers.{priced}

@@ -6,9 +6,9 @@ use Rattle.elmore.specs.Cells.{rep_of, rep_at}
 use Rattle.elmore.specs.Legal.{IsWithin, IsFit, MayHave}
 use Rattle.elmore.specs.declared.problem.Problem.{Problem}
 use Rattle.sol_arena.specs.declared.slot.Made.{Made}
-use Rattle.cand_laws.specs.Candidates.{past_cell}
-use Rattle.cand_laws.specs.Priced.{Priced, IsPricedPart, PricedOwns, with_price}
-use Rattle.cand_laws.proofs.PricedLemmas.{one_priced}
+use Rattle.cand_pairs.specs.Candidates.{past_cell}
+use Rattle.cand_pairs.specs.Priced.{Priced, IsPricedPart, PricedOwns, with_price}
+use Rattle.cand_pairs.proofs.PricedLemmas.{one_priced}
 use Rattle.vg_front.specs.declared.offer.Candidate.{Candidate}
 use Rattle.vg_front.specs.declared.offer.Proposal.{Proposal}
 use Rattle.vg_front.specs.Offers.{priced, offers_of, proposed_by, IsBeaten, IsPartOf}

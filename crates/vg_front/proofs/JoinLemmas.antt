@@ -8,17 +8,17 @@ use Rattle.elmore.specs.declared.pair.Pair.{Pair}
 use Rattle.elmore.specs.declared.problem.Problem.{Problem}
 use Rattle.sol_arena.specs.declared.slot.Made.{Made}
 use Rattle.sol_arena.specs.Meanings.{cells_of, AreApart, joined}
-use Rattle.cand_laws.specs.Candidates.{carried, fork_of}
-use Rattle.cand_laws.specs.Merging.{meet, live_from, own_from, fork_from, HasEnd}
-use Rattle.cand_laws.specs.Priced.{IsBeatenBy, IsPricedPart, IsPricedAt, IsPricedOpenWith, PricedMeets}
-use Rattle.cand_laws.specs.Solutions.{IsOpenSolutionOf}
-use Rattle.cand_laws.proofs.ChildLemmas.{one_child}
-use Rattle.cand_laws.proofs.FromLemmas.{live_here, live_own, not_yet}
-use Rattle.cand_laws.proofs.JoinLemmas.{is_child_of}
-use Rattle.cand_laws.proofs.PairPartLemmas.{live_child_parts}
-use Rattle.cand_laws.proofs.PricedMergeLemmas.{part_trans, priced_meets}
-use Rattle.cand_laws.proofs.SmallPairLemmas.{live_from_in}
-use Rattle.cand_laws.proofs.SolutionLemmas.{solution_more}
+use Rattle.cand_pairs.specs.Candidates.{carried, fork_of}
+use Rattle.cand_pairs.specs.Merging.{meet, live_from, own_from, fork_from, HasEnd}
+use Rattle.cand_pairs.specs.Priced.{IsBeatenBy, IsPricedPart, IsPricedAt, IsPricedOpenWith, PricedMeets}
+use Rattle.cand_pairs.specs.Solutions.{IsOpenSolutionOf}
+use Rattle.cand_pairs.proofs.ChildLemmas.{one_child}
+use Rattle.cand_pairs.proofs.FromLemmas.{live_here, live_own, not_yet}
+use Rattle.cand_pairs.proofs.JoinLemmas.{is_child_of}
+use Rattle.cand_pairs.proofs.PairPartLemmas.{live_child_parts}
+use Rattle.cand_pairs.proofs.PricedMergeLemmas.{part_trans, priced_meets}
+use Rattle.cand_pairs.proofs.SmallPairLemmas.{live_from_in}
+use Rattle.cand_pairs.proofs.SolutionLemmas.{solution_more}
 use Rattle.vg_front.specs.declared.offer.Candidate.{Candidate}
 use Rattle.vg_front.specs.declared.offer.Offer.{Offer}
 use Rattle.vg_front.specs.declared.offer.Proposal.{Proposal}

@@ -10,7 +10,7 @@ use Rattle.sol_arena.specs.declared.arena.Arena.{Arena}
 use Rattle.sol_arena.specs.Arenas.{slots_of, made_of}
 use Rattle.sol_arena.specs.Changes.{IsReleased}
 use Rattle.sol_arena.specs.Uses.{one_if}
-use Rattle.cand_laws.specs.Priced.{Priced}
+use Rattle.cand_pairs.specs.Priced.{Priced}
 use Rattle.vg_front.specs.declared.offer.Candidate.{Candidate}
 use Rattle.vg_front.specs.declared.offer.Offer.{Offer}
 use Rattle.vg_front.specs.declared.stairs.Stair.{Stair}

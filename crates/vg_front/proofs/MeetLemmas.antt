@@ -3,7 +3,7 @@ use Rattle.std.proofs.Common.{◌≡◌, ◌⊎◌, ℕ, ◌+◌, ◌-◌, ◌<�
 use Rattle.std.proofs.lemmas.Bool.{cases_lt, cases_eq}
 use Rattle.std.proofs.lemmas.Int.{ints, clamps}
 use Rattle.std.specs.List.{Contains}
-use Rattle.cand_laws.specs.Priced.{Priced}
+use Rattle.cand_pairs.specs.Priced.{Priced}
 use Rattle.vg_front.specs.declared.offer.Candidate.{Candidate}
 use Rattle.vg_front.specs.declared.offer.Proposal.{Proposal}
 use Rattle.vg_front.specs.Offers.{priced, proposed_by, IsBeaten, IsPartOf, With, Adds}

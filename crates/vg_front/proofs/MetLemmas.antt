@@ -4,8 +4,8 @@ use Rattle.std.proofs.lemmas.Int.{ints, clamps}
 use Rattle.elmore.specs.Trees.{resistance}
 use Rattle.elmore.specs.declared.problem.Problem.{Problem}
 use Rattle.sol_arena.specs.declared.slot.Made.{Made}
-use Rattle.cand_laws.specs.Priced.{Priced, Beats, IsPricedPart, PricedMeets, meet_priced}
-use Rattle.cand_laws.proofs.StepLemmas.{within_less}
+use Rattle.cand_pairs.specs.Priced.{Priced, Beats, IsPricedPart, PricedMeets, meet_priced}
+use Rattle.cand_pairs.proofs.StepLemmas.{within_less}
 use Rattle.vg_front.specs.declared.offer.Candidate.{Candidate}
 use Rattle.vg_front.specs.declared.offer.Proposal.{Proposal}
 use Rattle.vg_front.specs.Offers.{priced, offers_of, IsBeaten, IsPartOf}

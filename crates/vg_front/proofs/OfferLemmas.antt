@@ -7,8 +7,8 @@ use Rattle.std.proofs.lemmas.List.Elements.{Contains-append_left, Contains-appen
 use Rattle.std.proofs.lemmas.List.Sorted.{Contains-permutation, IsPermutation-sym}
 use Rattle.std.specs.List.{Contains}
 use Rattle.std.specs.List.Sorted.{IsPermutation}
-use Rattle.cand_laws.specs.Priced.{Priced, Beats}
-use Rattle.cand_laws.proofs.ChildLemmas.{in_cons}
+use Rattle.cand_pairs.specs.Priced.{Priced, Beats}
+use Rattle.cand_pairs.proofs.ChildLemmas.{in_cons}
 use Rattle.vg_front.specs.declared.offer.Proposal.{Proposal}
 use Rattle.vg_front.specs.declared.stairs.Stair.{Stair}
 use Rattle.vg_front.specs.Offers.{priced, proposed_by, IsBeaten, IsPartOf, With, Or, Adds, OfSome}

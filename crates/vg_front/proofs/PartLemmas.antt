@@ -17,17 +17,17 @@ use Rattle.sol_arena.specs.Arenas.{made_of}
 use Rattle.sol_arena.specs.Meanings.{cells_of, bare}
 use Rattle.sol_arena.specs.Slots.{none}
 use Rattle.cand_uses.proofs.ExchangeLemmas.{empty_cells}
-use Rattle.cand_laws.specs.Candidates.{carried, fork_of, Fork}
-use Rattle.cand_laws.specs.Merging.{HasEnd, raised, live_from, own_from, fork_from}
-use Rattle.cand_laws.specs.Parts.{IsDeadPart}
-use Rattle.cand_laws.specs.Priced.{Priced, IsPricedPart, IsPricedAt, IsPricedOpenWith, PricedFirst, PricedRaises, raise_priced}
-use Rattle.cand_laws.specs.Solutions.{IsOpenSolutionOf}
-use Rattle.cand_laws.proofs.FromLemmas.{live_here, live_own, dead_here, dead_own}
-use Rattle.cand_laws.proofs.JoinLemmas.{is_child_of, parent_within}
-use Rattle.cand_laws.proofs.PricedMergeLemmas.{part_trans, priced_first, priced_raises, priced_sink}
-use Rattle.cand_laws.proofs.SmallPairLemmas.{own_small}
-use Rattle.cand_laws.proofs.SolutionLemmas.{solution_first, solution_raised, solution_sink}
-use Rattle.cand_laws.proofs.TurnLemmas.{start_live, start_own, dead_on_dead}
+use Rattle.cand_pairs.specs.Candidates.{carried, fork_of, Fork}
+use Rattle.cand_pairs.specs.Merging.{HasEnd, raised, live_from, own_from, fork_from}
+use Rattle.cand_pairs.specs.Parts.{IsDeadPart}
+use Rattle.cand_pairs.specs.Priced.{Priced, IsPricedPart, IsPricedAt, IsPricedOpenWith, PricedFirst, PricedRaises, raise_priced}
+use Rattle.cand_pairs.specs.Solutions.{IsOpenSolutionOf}
+use Rattle.cand_pairs.proofs.FromLemmas.{live_here, live_own, dead_here, dead_own}
+use Rattle.cand_pairs.proofs.JoinLemmas.{is_child_of, parent_within}
+use Rattle.cand_pairs.proofs.PricedMergeLemmas.{part_trans, priced_first, priced_raises, priced_sink}
+use Rattle.cand_pairs.proofs.SmallPairLemmas.{own_small}
+use Rattle.cand_pairs.proofs.SolutionLemmas.{solution_first, solution_raised, solution_sink}
+use Rattle.cand_pairs.proofs.TurnLemmas.{start_live, start_own, dead_on_dead}
 use Rattle.vg_front.specs.declared.branch.Branch.{Branch}
 use Rattle.vg_front.specs.declared.offer.Candidate.{Candidate}
 use Rattle.vg_front.specs.declared.offer.Offer.{Offer}

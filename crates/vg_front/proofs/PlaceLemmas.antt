@@ -11,8 +11,8 @@ use Rattle.sol_arena.specs.declared.arena.Arena.{Arena}
 use Rattle.sol_arena.specs.declared.slot.Made.{Made}
 use Rattle.sol_arena.specs.declared.slot.Slot.{Slot}
 use Rattle.sol_arena.specs.Arenas.{slots_of, made_of}
-use Rattle.cand_laws.specs.Merging.{fork_from}
-use Rattle.cand_laws.specs.Solutions.{IsOpenSolutionOf, IsSolutionOf}
+use Rattle.cand_pairs.specs.Merging.{fork_from}
+use Rattle.cand_pairs.specs.Solutions.{IsOpenSolutionOf, IsSolutionOf}
 use Rattle.vg_front.specs.declared.branch.Branch.{Branch}
 use Rattle.vg_front.specs.declared.offer.Candidate.{Candidate}
 use Rattle.vg_front.specs.declared.offer.Proposal.{Proposal}

@@ -4,8 +4,8 @@ use Rattle.std.proofs.lemmas.Int.{ints}
 use Rattle.std.proofs.lemmas.List.{take-append-drop}
 use Rattle.std.proofs.lemmas.List.Elements.{Contains-append_left, Contains-append_right, Contains-append_cases, Contains-push, Contains-push_cases, All-set, All-contains, All-weaker, All-contains_itself}
 use Rattle.std.specs.List.{Contains}
-use Rattle.cand_laws.specs.Priced.{Priced, Beats}
-use Rattle.cand_laws.proofs.PricedLemmas.{beats_trans}
+use Rattle.cand_pairs.specs.Priced.{Priced, Beats}
+use Rattle.cand_pairs.proofs.PricedLemmas.{beats_trans}
 use Rattle.vg_front.specs.declared.offer.Offer.{Offer}
 use Rattle.vg_front.specs.declared.stairs.Stair.{Stair}
 use Rattle.vg_front.specs.declared.stairs.Stairs.{Stairs}

@@ -10,7 +10,7 @@ use Rattle.std.specs.List.{Contains, between}
 use Rattle.elmore.specs.Cells.{rep_at}
 use Rattle.elmore.specs.Legal.{IsWithin}
 use Rattle.elmore.specs.declared.rep.Rep.{Rep}
-use Rattle.cand_laws.specs.Priced.{Beats}
+use Rattle.cand_pairs.specs.Priced.{Beats}
 use Rattle.vg_front.specs.declared.offer.Candidate.{Candidate}
 use Rattle.vg_front.specs.declared.offer.Offer.{Offer}
 use Rattle.vg_front.specs.declared.offer.Proposal.{Proposal}

@@ -7,7 +7,7 @@ use Rattle.std.specs.List.{Contains, sum_by}
 use Rattle.std.specs.List.Sorted.{IsPermutation}
 use Rattle.std.specs.declared.cmp.Reverse.{Reverse}
 use Rattle.elmore.specs.Legal.{IsWithin}
-use Rattle.cand_laws.proofs.ChildLemmas.{in_cons}
+use Rattle.cand_pairs.proofs.ChildLemmas.{in_cons}
 use Rattle.vg_front.specs.declared.offer.Candidate.{Candidate}
 use Rattle.vg_front.specs.declared.offer.Proposal.{Proposal}
 use Rattle.vg_front.specs.declared.runs.Run.{Run}

@@ -6,7 +6,7 @@ use Rattle.elmore.specs.Cells.{rep_at}
 use Rattle.elmore.specs.Legal.{IsWithin}
 use Rattle.elmore.specs.declared.problem.Problem.{Problem}
 use Rattle.elmore.specs.declared.rep.Rep.{Rep}
-use Rattle.cand_laws.specs.Priced.{Beats}
+use Rattle.cand_pairs.specs.Priced.{Beats}
 use Rattle.vg_front.specs.Offers.{priced, proposed_by, IsBeaten, IsPartOf, With}
 use Rattle.vg_front.specs.declared.offer.Candidate.{Candidate}
 use Rattle.vg_front.specs.declared.offer.Offer.{Offer}

@@ -9,10 +9,10 @@ use Rattle.elmore.specs.declared.pair.Pair.{Pair}
 use Rattle.elmore.specs.declared.problem.Problem.{Problem}
 use Rattle.sol_arena.specs.declared.slot.Made.{Made}
 use Rattle.sol_arena.specs.Meanings.{cells_of}
-use Rattle.cand_laws.specs.Candidates.{past_cell}
-use Rattle.cand_laws.specs.Merging.{HasEnd, live_from, fork_from}
-use Rattle.cand_laws.specs.Priced.{Priced, IsPricedPart, IsPricedOpenWith, IsPricedAt, PricedOwns, with_price}
-use Rattle.cand_laws.specs.Solutions.{IsOpenSolutionOf, IsSolutionOf}
+use Rattle.cand_pairs.specs.Candidates.{past_cell}
+use Rattle.cand_pairs.specs.Merging.{HasEnd, live_from, fork_from}
+use Rattle.cand_pairs.specs.Priced.{Priced, IsPricedPart, IsPricedOpenWith, IsPricedAt, PricedOwns, with_price}
+use Rattle.cand_pairs.specs.Solutions.{IsOpenSolutionOf, IsSolutionOf}
 use Rattle.vg_front.specs.declared.offer.Candidate.{Candidate}
 use Rattle.vg_front.specs.Offers.{priced, offers_of, IsBeaten}
 

@@ -1,7 +1,7 @@
 -- What candidates and proposals come to, as pairs with their costs.
 use Rattle.std.specs.Prelude.{◌≡◌, ◌⊎◌, ℕ, ◌+◌, ◌<◌, List, map, length, slice_index_or}
 use Rattle.std.specs.List.{Contains}
-use Rattle.cand_laws.specs.Priced.{Priced, IsBeatenBy}
+use Rattle.cand_pairs.specs.Priced.{Priced, IsBeatenBy}
 use Rattle.vg_front.specs.declared.offer.Offer.{Offer}
 use Rattle.vg_front.specs.declared.offer.Candidate.{Candidate}
 use Rattle.vg_front.specs.declared.offer.Proposal.{Proposal}

@@ -2,7 +2,7 @@
 use Rattle.std.specs.Prelude.{◌≡◌, ℕ, ◌<◌, List, [], ◌∷◌, ◌++◌, length, slice_index_or, Option}
 use Rattle.elmore.specs.declared.problem.Problem.{Problem}
 use Rattle.sol_arena.specs.declared.slot.Made.{Made}
-use Rattle.cand_laws.specs.Parts.{IsDeadPart}
+use Rattle.cand_pairs.specs.Parts.{IsDeadPart}
 use Rattle.vg_front.specs.Branches.{list_of, all_of}
 use Rattle.vg_front.specs.Fronts.{IsOpenAt}
 use Rattle.vg_front.specs.declared.offer.Candidate.{Candidate}

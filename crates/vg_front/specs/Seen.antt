@@ -1,7 +1,7 @@
 -- What stairs tell of the candidates that were seen.
 use Rattle.std.specs.Prelude.{◌≡◌, ◌⊎◌, ℕ, ◌≤◌, List, ◌++◌, ◌≤ℤ◌}
 use Rattle.std.specs.List.{Contains}
-use Rattle.cand_laws.specs.Priced.{Priced}
+use Rattle.cand_pairs.specs.Priced.{Priced}
 use Rattle.vg_front.specs.declared.offer.Offer.{Offer}
 use Rattle.vg_front.specs.declared.stairs.Stair.{Stair}
 use Rattle.vg_front.specs.declared.stairs.Stairs.{Stairs}

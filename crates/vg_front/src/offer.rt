@@ -2,7 +2,7 @@
 
 ghost use Rattle.std.specs.Prelude.{◌↔◌, IsTrue};
 ghost use Rattle.elmore.specs.Legal.{IsWithin};
-ghost use Rattle.cand_laws.specs.Priced.{Beats};
+ghost use Rattle.cand_pairs.specs.Priced.{Beats};
 ghost use Rattle.vg_front.specs.Offers.{priced};
 
 use sol_arena::Sol;

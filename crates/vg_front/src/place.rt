@@ -2,8 +2,8 @@
 
 ghost use Rattle.std.specs.Prelude.{◌≡◌, ◌+◌, ◌<◌, Bool, true, false, [], length, slice_index_or, IfOk, MatchResult};
 ghost use Rattle.sol_arena.specs.Arenas.{slots_of, made_of};
-ghost use Rattle.cand_laws.specs.Merging.{fork_from};
-ghost use Rattle.cand_laws.specs.Solutions.{IsOpenSolutionOf, IsSolutionOf};
+ghost use Rattle.cand_pairs.specs.Merging.{fork_from};
+ghost use Rattle.cand_pairs.specs.Solutions.{IsOpenSolutionOf, IsSolutionOf};
 ghost use Rattle.vg_front.specs.Branches.{list_of, all_of};
 ghost use Rattle.vg_front.specs.Held.{AreBounded, AreHeld, IsGiven};
 ghost use Rattle.vg_front.specs.Fronts.{In, AreCells, AreSolved};

@@ -1,7 +1,7 @@
 //! Which candidates are beaten by those that were seen before.
 
 ghost use Rattle.std.specs.Prelude.{◌≡◌, ◌+◌, ◌<◌, ◌≤◌, List, [], ◌∷◌, ◌++◌, length, IsTrue, MatchBool};
-ghost use Rattle.cand_laws.specs.Priced.{Priced};
+ghost use Rattle.cand_pairs.specs.Priced.{Priced};
 ghost use Rattle.vg_front.specs.Offers.{priced, IsBeaten};
 ghost use Rattle.vg_front.specs.Seen.{stairs_of, stair_of, AreReached, AreOf, AreSomeOf, IsMoved, IsRefused};
 

@@ -14,8 +14,8 @@ use Rattle.sol_arena.specs.declared.slot.Slot.{Slot}
 use Rattle.sol_arena.specs.Arenas.{slots_of, made_of}
 use Rattle.sol_arena.specs.Meanings.{joined, cells_of, AreApart}
 use Rattle.sol_arena.specs.Slots.{made_in}
-use Rattle.cand_laws.proofs.MeetLemmas.{nil, meet_at, Merging, Moved, merging_none, merging_more, merging_all}
-use Rattle.cand_laws.specs.Merging.{meet}
+use Rattle.cand_pairs.proofs.MeetLemmas.{nil, meet_at, Merging, Moved, merging_none, merging_more, merging_all}
+use Rattle.cand_pairs.specs.Merging.{meet}
 use Rattle.cand_pool.specs.Candidates.{Candidate, Candidates, AreModest, formed}
 use Rattle.cand_pool.specs.Sequences.{left_of, spare_after}
 use Rattle.cand_uses.proofs.ExchangeLemmas.{uses_of_one, uses_of_both, no_exchange, exchange_then, exchange_among}

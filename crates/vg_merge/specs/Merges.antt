@@ -6,7 +6,7 @@ use Rattle.sol_arena.specs.declared.slot.Made.{Made}
 use Rattle.sol_arena.specs.declared.slot.Slot.{Slot}
 use Rattle.sol_arena.specs.Slots.{made_in}
 use Rattle.sol_arena.specs.Meanings.{joined, AreApart, cells_of}
-use Rattle.cand_laws.specs.Merging.{meet, Meets}
+use Rattle.cand_pairs.specs.Merging.{meet, Meets}
 use Rattle.cand_pool.specs.Candidates.{Candidate, Candidates, AreModest}
 use Rattle.cand_uses.specs.Pairs.{pair_of, pairs_of}
 use Rattle.cand_uses.specs.Uses.{HoldsFor}

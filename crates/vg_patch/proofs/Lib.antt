@@ -1,2 +1,4 @@
 pub mod EditLemmas
 pub mod PieceLemmas
+mod KeptLemmas
+mod TakeLemmas

@@ -2,3 +2,4 @@ pub mod Edits
 pub mod Rows
 pub mod Laws
 pub mod Pieces
+pub mod Kept

@@ -4,15 +4,15 @@ use Rattle.std.specs.Fmt.{signed_decimal}
 use Rattle.std.specs.List.{flat_map, range_with_len}
 use Rattle.elmore.specs.Placements.{cost_of}
 use Rattle.vg_scan.specs.declared.name.NodeName.{NodeName}
-use Rattle.vg_wire.specs.declared.refusal.Refusal.{Refusal}
-use Rattle.vg_wire.specs.declared.refusal.Refusal.TheVariants.{UnknownNet, Section, Reduced, Inductive, Bidirectional, NoDriver, ManyDrivers, Mismatch, Tied, NoDrive, NoLoad, Floating, Loop, NoSink, Unconstrained, TooLarge}
+use Rattle.spef_wire.specs.declared.refusal.Refusal.{Refusal}
+use Rattle.spef_wire.specs.declared.refusal.Refusal.TheVariants.{UnknownNet, Section, Reduced, Inductive, Bidirectional, NoDriver, ManyDrivers, Mismatch, Tied, NoDrive, NoLoad, Floating, Loop, NoSink, Unconstrained, TooLarge}
 use Rattle.vg_design.specs.Nets.{name_at}
 use Rattle.vg_design.specs.declared.net_problem.NetProblem.{NetProblem}
 use Rattle.vg_design.specs.declared.time.Timed.{Timed}
 use Rattle.vg_slack.specs.declared.answer.Best.{Best}
 use Rattle.vg_front.specs.declared.root.Point.{Point}
-use Rattle.vg_wire.specs.declared.wire.WireNet.{WireNet}
-use Rattle.vg_wire.specs.Refusals.{number_of}
+use Rattle.spef_wire.specs.declared.wire.WireNet.{WireNet}
+use Rattle.spef_wire.specs.Refusals.{number_of}
 use Rattle.vg_report.specs.Faults.{net_fault}
 
 -- a node: its owner, and after a colon its leaf, where it has one

@@ -5,9 +5,9 @@ ghost use Rattle.vg_report.specs.Reports.{refusal_kind, refusal_line};
 
 use crate::faults::print_net_fault;
 use crate::report::{print_node, print_refused, push};
+use spef_wire::Refusal;
 use std::alloc::Global;
 use vg_num::Memory;
-use vg_wire::Refusal;
 
 /// Appends the kind of a refusal, and what it tells.
 fn print_kind(refusal: &Refusal, to: &mut Vec<u8>) -> Result<(), Memory>

@@ -5,9 +5,9 @@ ghost use Rattle.std.specs.List.{flat_map};
 ghost use Rattle.vg_report.specs.Reports.{sink_line, wire_report};
 
 use crate::report::{print_sink, print_total};
+use spef_wire::{SinkDelays, WireNet};
 use std::alloc::Global;
 use vg_num::Memory;
-use vg_wire::{SinkDelays, WireNet};
 
 /// Appends a line for each sink.
 fn print_sinks(sinks: &SinkDelays, to: &mut Vec<u8>) -> Result<(), Memory>

@@ -6,12 +6,12 @@ use Rattle.std.proofs.lemmas.List.{get_or_default, length-append}
 use Rattle.std.proofs.lemmas.Map.Steps.{length-le_from_distinct_below}
 use Rattle.std.proofs.lemmas.List.Elements.{All-contains}
 use Rattle.std.proofs.lemmas.List.Folds.{Any-from_list_any, list_any-from_Any}
-use Rattle.vg_cut.specs.Walks.{IsClimb}
+use Rattle.cut_laws.specs.Walks.{IsClimb}
 use Rattle.vg_design.specs.Designs.{Design}
-use Rattle.vg_wire.specs.declared.refusal.Refusal.{Refusal}
-use Rattle.vg_wire.specs.declared.refusal.Refusal.TheVariants.{Loop, NoDriver}
-use Rattle.vg_wire.specs.declared.refusal.Refused.{Refused}
-use Rattle.vg_wire.specs.declared.refusal.Refused.TheVariants.{Net as RefusedNet, Memory}
+use Rattle.spef_wire.specs.declared.refusal.Refusal.{Refusal}
+use Rattle.spef_wire.specs.declared.refusal.Refusal.TheVariants.{Loop, NoDriver}
+use Rattle.spef_wire.specs.declared.refusal.Refused.{Refused}
+use Rattle.spef_wire.specs.declared.refusal.Refused.TheVariants.{Net as RefusedNet, Memory}
 use Rattle.vg_retime.proofs.ReachedLemmas.{net_elsewhere, net_there, with_net}
 use Rattle.vg_retime.proofs.RiseLemmas.{climb_of, rise_next, rise_same}
 use Rattle.vg_retime.proofs.SignalListLemmas.{all_next, pairs_next}

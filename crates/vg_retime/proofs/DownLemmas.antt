@@ -8,12 +8,12 @@ use Rattle.std.proofs.lemmas.List.Elements.{All-append}
 use Rattle.std.proofs.lemmas.List.FromFn.{get_or-range_with_len, length-range_with_len}
 use Rattle.std.proofs.lemmas.Option.{slice_get-map, slice_get_read, slice_get_within, get_or_from_slice_get}
 use Rattle.elmore.specs.Path.{nodes as node_numbers}
-use Rattle.vg_cut.specs.Walks.{End, nothing, sink, passes, Signal, end_at, late_at, passed, passed_on, reached, IsStopped}
+use Rattle.cut_laws.specs.Walks.{End, nothing, sink, passes, Signal, end_at, late_at, passed, passed_on, reached, IsStopped}
 use Rattle.vg_scan.specs.declared.name.NodeName.{NodeName}
 use Rattle.vg_design.specs.Designs.{Design}
-use Rattle.vg_wire.specs.declared.refusal.Refusal.TheVariants.{Loop}
-use Rattle.vg_wire.specs.declared.refusal.Refused.{Refused}
-use Rattle.vg_wire.specs.declared.refusal.Refused.TheVariants.{Net, Memory}
+use Rattle.spef_wire.specs.declared.refusal.Refusal.TheVariants.{Loop}
+use Rattle.spef_wire.specs.declared.refusal.Refused.{Refused}
+use Rattle.spef_wire.specs.declared.refusal.Refused.TheVariants.{Net, Memory}
 use Rattle.vg_design.proofs.LawLemmas.{few_refusals}
 use Rattle.vg_retime.proofs.ClimbLemmas.{few_come, no_net}
 use Rattle.vg_retime.proofs.LeastLemmas.{from_some}

@@ -6,8 +6,8 @@ use Rattle.std.proofs.lemmas.List.{get_or_append_left, get_or_at, get_or_default
 use Rattle.std.proofs.lemmas.List.Elements.{All-contains, Contains-append_left}
 use Rattle.std.proofs.lemmas.Option.{slice_get_within, get_or_from_slice_get}
 use Rattle.elmore.specs.declared.parts.Sink.{Sink}
-use Rattle.vg_cut.specs.Walks.{Signal, TimedNet, end_at, sink, passed_on, passed_on_by, reached, IsClimb, IsWalk, Meets}
-use Rattle.vg_cut.proofs.OneWalkLemmas.{one_walk, one_walk_over, in_walk, reached_grow, walks_go_on}
+use Rattle.cut_laws.specs.Walks.{Signal, TimedNet, end_at, sink, passed_on, passed_on_by, reached, IsClimb, IsWalk, Meets}
+use Rattle.cut_laws.proofs.OneWalkLemmas.{one_walk, one_walk_over, in_walk, reached_grow, walks_go_on}
 use Rattle.std.specs.Prelude.{slice_index}
 use Rattle.vg_design.specs.Designs.{Design, Joined, name_of}
 use Rattle.vg_design.specs.Nets.{names_of}
@@ -15,9 +15,9 @@ use Rattle.vg_design.specs.Parts.{driver_of, loaded_tree}
 use Rattle.vg_design.specs.declared.time.Timed.{Timed}
 use Rattle.vg_design.proofs.LawLemmas.{few_refusals}
 use Rattle.vg_design.proofs.NameLemmas.{joined_once}
-use Rattle.vg_wire.proofs.AnswerLemmas.{trees_are}
-use Rattle.vg_wire.specs.Refusals.{number_of}
-use Rattle.vg_wire.specs.declared.refusal.Refusal.{Refusal}
+use Rattle.spef_wire.proofs.AnswerLemmas.{trees_are}
+use Rattle.spef_wire.specs.Refusals.{number_of}
+use Rattle.spef_wire.specs.declared.refusal.Refusal.{Refusal}
 use Rattle.vg_retime.specs.Laws.{RetimedNotRefused}
 use Rattle.vg_retime.specs.Passages.{above_at, end_in}
 use Rattle.vg_retime.specs.Refusals.{IsFirstHere}

@@ -9,7 +9,7 @@ use Rattle.std.proofs.lemmas.List.FromFn.{get_or-range_with_len, length-range_wi
 use Rattle.elmore.specs.Path.{nodes as node_numbers}
 use Rattle.elmore.specs.declared.parts.Driver.{Driver}
 use Rattle.elmore.specs.declared.parts.Sink.{Sink}
-use Rattle.vg_cut.specs.Walks.{End, nothing, sink, passes, Signal, TimedNet, end_at, late_at, start_of, IsRetimed, IsWalk, Meets}
+use Rattle.cut_laws.specs.Walks.{End, nothing, sink, passes, Signal, TimedNet, end_at, late_at, start_of, IsRetimed, IsWalk, Meets}
 use Rattle.vg_retime.specs.Times.{left_by, lefts_in, lefts_of, IsLeastOf}
 
 -- ---- members of lists

@@ -3,8 +3,8 @@ use Rattle.std.proofs.Common.{◌≡◌, ℕ, ℤ, ◌≤ℤ◌, List, [], ◌�
 use Rattle.std.specs.List.{cons_option, filter_map, slice_get}
 use Rattle.std.proofs.lemmas.List.Elements.{All-contains_itself, All-head, All-tail}
 use Rattle.elmore.specs.declared.parts.Sink.{Sink}
-use Rattle.vg_cut.specs.Walks.{Signal, IsRetimed, Meets, slack_behind}
-use Rattle.vg_cut.proofs.OneWalkLemmas.{one_retiming, one_walk}
+use Rattle.cut_laws.specs.Walks.{Signal, IsRetimed, Meets, slack_behind}
+use Rattle.cut_laws.proofs.OneWalkLemmas.{one_retiming, one_walk}
 use Rattle.vg_design.specs.Designs.{Design}
 use Rattle.vg_retime.specs.Laws.{OneTiming}
 use Rattle.vg_retime.specs.WalkNets.{WalkNet, timed}

@@ -2,7 +2,7 @@
 use Rattle.std.proofs.Common.{◌≡◌, ◌≢◌, ℕ, eq-eqb, zero, suc, ◌+◌, ◌<◌, ◌==◌, Bool, true, false, List, ◌++◌, take, cond, refl, sym, ap, ◌∙◌, arith, All, Option, Some, None}
 use Rattle.std.specs.List.{slice_get}
 use Rattle.std.proofs.lemmas.Bool.{eqb-true}
-use Rattle.vg_cut.specs.Walks.{TimedNet, Signal, passed_on, passed_on_by, reached}
+use Rattle.cut_laws.specs.Walks.{TimedNet, Signal, passed_on, passed_on_by, reached}
 use Rattle.vg_retime.proofs.SignalListLemmas.{of_first, slice_get_stays}
 
 -- nets, of which one is another

@@ -3,11 +3,11 @@ use Rattle.std.proofs.Common.{◌≡◌, ℕ, ◌<◌, List, arith, sym, ◌∙�
 use Rattle.std.specs.List.{find}
 use Rattle.elmore.specs.declared.tree.Node.{Node}
 use Rattle.vg_scan.specs.declared.name.NodeName.{NodeName}
-use Rattle.vg_wire.specs.Refusals.{number_of, IsNetTree}
-use Rattle.vg_wire.specs.declared.refusal.Refusal.{Refusal}
-use Rattle.vg_wire.specs.declared.refusal.Refusal.TheVariants.{TooLarge, Unconstrained}
-use Rattle.vg_wire.specs.declared.refusal.Refused.{Refused}
-use Rattle.vg_wire.specs.declared.refusal.Refused.TheVariants.{Net, Memory}
+use Rattle.spef_wire.specs.Refusals.{number_of, IsNetTree}
+use Rattle.spef_wire.specs.declared.refusal.Refusal.{Refusal}
+use Rattle.spef_wire.specs.declared.refusal.Refusal.TheVariants.{TooLarge, Unconstrained}
+use Rattle.spef_wire.specs.declared.refusal.Refused.{Refused}
+use Rattle.spef_wire.specs.declared.refusal.Refused.TheVariants.{Net, Memory}
 use Rattle.vg_design.proofs.NameLemmas.{joined_once, passes_for}
 use Rattle.vg_design.proofs.PassLemmas.{not_past}
 use Rattle.vg_design.specs.Designs.{Design, Joined}

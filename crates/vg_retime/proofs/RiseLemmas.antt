@@ -1,6 +1,6 @@
 -- The climb of a walk, net by net.
 use Rattle.std.proofs.Common.{◌≡◌, ℕ, suc, List, [], ◌∷◌, ◌++◌, refl, sym, ap, ◌∙◌, subst, arith, All, Some, None}
-use Rattle.vg_cut.specs.Walks.{TimedNet, IsClimb}
+use Rattle.cut_laws.specs.Walks.{TimedNet, IsClimb}
 use Rattle.vg_retime.specs.Stops.{IsRise}
 
 -- one net more

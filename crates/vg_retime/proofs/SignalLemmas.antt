@@ -4,7 +4,7 @@ use Rattle.std.specs.List.{cons_option, filter_map, range_with_len}
 use Rattle.std.proofs.lemmas.List.{append-nil, append_assoc, get_or-map, length-map, map-append}
 use Rattle.std.proofs.lemmas.List.FromFn.{get_or-map-range_with_len, length-map-range_with_len}
 use Rattle.elmore.specs.Delay.{is_odd}
-use Rattle.vg_cut.specs.Walks.{End, nothing, sink, Signal, TimedNet, end_at, late_at}
+use Rattle.cut_laws.specs.Walks.{End, nothing, sink, Signal, TimedNet, end_at, late_at}
 use Rattle.elmore.specs.Trees.{total_capacitance, IsTree}
 use Rattle.elmore.specs.Wire.{delay_in}
 use Rattle.elmore.specs.declared.parts.Sink.{Sink}

@@ -10,7 +10,7 @@ use Rattle.elmore.specs.Steps.{IsSum}
 use Rattle.elmore.specs.Trees.{total_capacitance, total_resistance, IsTree, IsWithinLimits}
 use Rattle.elmore.specs.Wire.{delay_in, downstream_in}
 use Rattle.elmore.specs.declared.tree.Node.{Node}
-use Rattle.vg_cut.specs.Walks.{Signal, TimedNet, late_at}
+use Rattle.cut_laws.specs.Walks.{Signal, TimedNet, late_at}
 use Rattle.vg_retime.specs.Times.{lates_in}
 
 sum_small : (late r load delay c whole : ℕ) → r ≤ 10 ^ 9 → load ≤ c → delay ≤ c * whole → c ≤ 10 ^ 11 → whole ≤ 10 ^ 12

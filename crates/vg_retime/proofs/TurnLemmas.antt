@@ -8,7 +8,7 @@ use Rattle.std.proofs.lemmas.List.{length-take, take-append-drop, append-nil, ge
 use Rattle.std.proofs.lemmas.List.Elements.{filter_map-append}
 use Rattle.std.proofs.lemmas.List.Folds.{Any-from_list_any, list_any-from_Any}
 use Rattle.std.proofs.lemmas.Grind.{flat_map-append}
-use Rattle.vg_cut.specs.Walks.{TimedNet, Signal, passed_on, reached}
+use Rattle.cut_laws.specs.Walks.{TimedNet, Signal, passed_on, reached}
 use Rattle.vg_retime.proofs.ReachedLemmas.{net_elsewhere, net_there, reached_next, reached_same, with_net}
 use Rattle.vg_retime.proofs.SignalListLemmas.{all_next, filter_map_same, flat_map_same, pairs_next, take_next}
 

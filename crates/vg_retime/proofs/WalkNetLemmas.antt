@@ -8,11 +8,11 @@ use Rattle.elmore.specs.declared.parts.Sink.{Sink}
 use Rattle.elmore.specs.declared.tree.Node.{Node}
 use Rattle.ver_module.specs.Netlists.{IsSound}
 use Rattle.ver_net.specs.declared.pin_ref.PinRef.{PinRef}
-use Rattle.vg_cut.specs.Walks.{End, nothing, sink, passes}
+use Rattle.cut_laws.specs.Walks.{End, nothing, sink, passes}
 use Rattle.spef_net.specs.declared.net.ParNet.{ParNet}
 use Rattle.vg_cons.specs.Rows.{Rows}
-use Rattle.vg_wire.specs.Refusals.{IsNetTree}
-use Rattle.vg_wire.specs.Wires.{is_sink_node}
+use Rattle.spef_wire.specs.Refusals.{IsNetTree}
+use Rattle.spef_wire.specs.Wires.{is_sink_node}
 use Rattle.vg_design.proofs.ReadyLemmas.{sink_within}
 use Rattle.vg_design.specs.Refusals.{IsJoined}
 use Rattle.vg_retime.specs.Refusals.{PassesHere}

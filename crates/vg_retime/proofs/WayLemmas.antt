@@ -8,13 +8,13 @@ use Rattle.std.proofs.lemmas.List.FromFn.{length-map-range_with_len}
 use Rattle.elmore.specs.Trees.{node_at}
 use Rattle.elmore.specs.declared.tree.Node.{Node}
 use Rattle.ver_module.specs.Netlists.{Net as ModuleNet, Netlist}
-use Rattle.vg_cut.specs.Walks.{End, Signal, IsRetimed}
+use Rattle.cut_laws.specs.Walks.{End, Signal, IsRetimed}
 use Rattle.vg_design.specs.Designs.{Design, Joined, net_number}
 use Rattle.vg_design.specs.Parts.{loaded}
 use Rattle.vg_design.specs.declared.time.Timed.{Timed}
-use Rattle.vg_wire.specs.declared.refusal.Refusal.TheVariants.{NoSink}
-use Rattle.vg_wire.specs.declared.refusal.Refused.{Refused}
-use Rattle.vg_wire.specs.declared.refusal.Refused.TheVariants.{Net, Memory}
+use Rattle.spef_wire.specs.declared.refusal.Refusal.TheVariants.{NoSink}
+use Rattle.spef_wire.specs.declared.refusal.Refused.{Refused}
+use Rattle.spef_wire.specs.declared.refusal.Refused.TheVariants.{Net, Memory}
 use Rattle.vg_retime.proofs.LeastLemmas.{least_slack, none_met}
 use Rattle.vg_retime.specs.Passages.{end_in}
 use Rattle.vg_retime.specs.Retimings.{at_end, downward, upward, IsFirstRefusal, IsRefused, Retimes}

@@ -2,8 +2,8 @@
 use Rattle.std.specs.Prelude.{◌≡◌, ◌≤◌, ℕ, List}
 use Rattle.vg_design.specs.Designs.{Design}
 use Rattle.vg_design.specs.declared.time.Timed.{Timed}
-use Rattle.vg_wire.specs.Refusals.{number_of}
-use Rattle.vg_wire.specs.declared.refusal.Refusal.{Refusal}
+use Rattle.spef_wire.specs.Refusals.{number_of}
+use Rattle.spef_wire.specs.declared.refusal.Refusal.{Refusal}
 use Rattle.vg_retime.specs.Retimings.{Retimes, IsFirstRefusal}
 
 -- a net that re-times, where no refusal of a number below k refuses a net on the way, is refused by none of these

@@ -8,7 +8,7 @@ use Rattle.lib_linear.specs.declared.repeater.Repeater.{Repeater}
 use Rattle.ver_module.specs.Netlists.{Instance}
 use Rattle.ver_module.specs.declared.link.Link.{Link}
 use Rattle.ver_module.specs.declared.link.Link.TheVariants.{One}
-use Rattle.vg_cut.specs.Walks.{End, nothing, sink, passes}
+use Rattle.cut_laws.specs.Walks.{End, nothing, sink, passes}
 use Rattle.vg_design.specs.Designs.{Design, Joined, instance_at, name_of, pin_on}
 use Rattle.vg_design.specs.Parts.{sink_at}
 use Rattle.vg_scan.specs.declared.name.NodeName.{NodeName}

@@ -2,11 +2,11 @@
 use Rattle.std.specs.Prelude.{◌≡◌, ℕ, ◌<◌, ◌&&◌, Bool, List, find, is_none, Option, Some, None}
 use Rattle.spef_net.specs.declared.net.ParConn.{ParConn}
 use Rattle.vg_scan.specs.declared.name.NodeName.{NodeName}
-use Rattle.vg_wire.specs.Refusals.{number_of}
-use Rattle.vg_wire.specs.declared.refusal.Refusal.{Refusal}
-use Rattle.vg_wire.specs.declared.refusal.Refusal.TheVariants.{Unconstrained}
-use Rattle.vg_wire.specs.declared.refusal.Refused.{Refused}
-use Rattle.vg_wire.specs.declared.refusal.Refused.TheVariants.{Net, Memory}
+use Rattle.spef_wire.specs.Refusals.{number_of}
+use Rattle.spef_wire.specs.declared.refusal.Refusal.{Refusal}
+use Rattle.spef_wire.specs.declared.refusal.Refusal.TheVariants.{Unconstrained}
+use Rattle.spef_wire.specs.declared.refusal.Refused.{Refused}
+use Rattle.spef_wire.specs.declared.refusal.Refused.TheVariants.{Net, Memory}
 use Rattle.vg_design.specs.Designs.{Design, Joined, name_of}
 use Rattle.vg_design.specs.Refusals.{IsFirstConn, IsJoined, Refuses, is_unconstrained}
 use Rattle.vg_retime.specs.Passages.{into_at}

@@ -1,12 +1,12 @@
 -- A net of a design, timed through the cells that were put in, or why it is not.
 use Rattle.std.specs.Prelude.{◌≡◌, ℕ, List, Some, None}
-use Rattle.vg_cut.specs.Walks.{IsRetimed}
+use Rattle.cut_laws.specs.Walks.{IsRetimed}
 use Rattle.vg_design.specs.Designs.{Design, net_number}
 use Rattle.vg_design.specs.declared.time.Timed.{Timed}
-use Rattle.vg_wire.specs.declared.refusal.Refusal.{Refusal}
-use Rattle.vg_wire.specs.declared.refusal.Refusal.TheVariants.{UnknownNet, NoSink}
-use Rattle.vg_wire.specs.declared.refusal.Refused.{Refused}
-use Rattle.vg_wire.specs.declared.refusal.Refused.TheVariants.{Net, Memory}
+use Rattle.spef_wire.specs.declared.refusal.Refusal.{Refusal}
+use Rattle.spef_wire.specs.declared.refusal.Refusal.TheVariants.{UnknownNet, NoSink}
+use Rattle.spef_wire.specs.declared.refusal.Refused.{Refused}
+use Rattle.spef_wire.specs.declared.refusal.Refused.TheVariants.{Net, Memory}
 use Rattle.vg_retime.specs.Stops.{IsSinkless, IsStoppedDown, IsStoppedUp}
 use Rattle.vg_retime.specs.Ways.{Way, timed_nets, first_wrong, IsFirstNet, IsWay}
 use Rattle.vg_retime.specs.declared.climb.First.{First}

@@ -4,7 +4,7 @@ use Rattle.std.specs.List.{All, AllPairs, IsDistinct}
 use Rattle.elmore.specs.Problems.{IsDriverWithin, IsSmall}
 use Rattle.elmore.specs.Trees.{IsTree, IsWithinLimits}
 use Rattle.elmore.specs.declared.parts.Driver.{Driver}
-use Rattle.vg_cut.specs.Walks.{End, nothing, sink, passes, Signal, TimedNet, late_at, passed, passed_on, reached}
+use Rattle.cut_laws.specs.Walks.{End, nothing, sink, passes, Signal, TimedNet, late_at, passed, passed_on, reached}
 use Rattle.vg_design.specs.Designs.{Design}
 use Rattle.vg_scan.specs.declared.name.NodeName.{NodeName}
 use Rattle.vg_retime.specs.Times.{lefts_in, lefts_of, IsLeastOf, IsLeastWith, IsTime}

@@ -2,12 +2,12 @@
 use Rattle.std.specs.Prelude.{◌≡◌, ◌≢◌, ◌⊎◌, ℕ, List, [], ◌∷◌, map, Some}
 use Rattle.std.specs.List.{All, AllPairs, Contains}
 use Rattle.elmore.specs.declared.parts.Sink.{Sink}
-use Rattle.vg_cut.specs.Walks.{Signal, TimedNet, IsStopped, Meets}
+use Rattle.cut_laws.specs.Walks.{Signal, TimedNet, IsStopped, Meets}
 use Rattle.vg_design.specs.Designs.{Design}
-use Rattle.vg_wire.specs.declared.refusal.Refusal.{Refusal}
-use Rattle.vg_wire.specs.declared.refusal.Refusal.TheVariants.{Loop, NoDriver}
-use Rattle.vg_wire.specs.declared.refusal.Refused.{Refused}
-use Rattle.vg_wire.specs.declared.refusal.Refused.TheVariants.{Net as RefusedNet, Memory}
+use Rattle.spef_wire.specs.declared.refusal.Refusal.{Refusal}
+use Rattle.spef_wire.specs.declared.refusal.Refusal.TheVariants.{Loop, NoDriver}
+use Rattle.spef_wire.specs.declared.refusal.Refused.{Refused}
+use Rattle.spef_wire.specs.declared.refusal.Refused.TheVariants.{Net as RefusedNet, Memory}
 use Rattle.vg_retime.specs.Refusals.{IsFirstHere}
 use Rattle.vg_retime.specs.WalkNets.{net_name, IsNetIn}
 use Rattle.vg_retime.specs.Ways.{Nets, Way, begins, timed_nets}

@@ -2,7 +2,7 @@
 use Rattle.std.specs.Prelude.{◌≡◌, ℕ, ◌^◌, List, [], ◌++◌, map, length, ℤ, pos, ◌-ℤ◌, ◌≤ℤ◌, Option, Some, None}
 use Rattle.std.specs.List.{All, Contains, filter_map, flat_map}
 use Rattle.elmore.specs.Path.{nodes as node_numbers}
-use Rattle.vg_cut.specs.Walks.{End, sink, Signal, TimedNet, end_at, late_at}
+use Rattle.cut_laws.specs.Walks.{End, sink, Signal, TimedNet, end_at, late_at}
 
 -- when a signal comes to each node of a net
 abbrev pub lates_in : TimedNet → Signal → List ℕ

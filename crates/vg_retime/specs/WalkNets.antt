@@ -2,13 +2,13 @@
 use Rattle.std.specs.Prelude.{◌≡◌, ℕ, List, [], map, slice_index, slice_get, Option, Some, None, option_map, unwrap_or}
 use Rattle.elmore.specs.declared.parts.Driver.{Driver}
 use Rattle.elmore.specs.declared.tree.Node.{Node}
-use Rattle.vg_cut.specs.Walks.{End, nothing, sink, passes, TimedNet}
+use Rattle.cut_laws.specs.Walks.{End, nothing, sink, passes, TimedNet}
 use Rattle.vg_design.specs.Designs.{Design, Joined, name_of}
 use Rattle.vg_design.specs.Nets.{names_of}
 use Rattle.vg_design.specs.Parts.{driver_of, loaded_tree}
 use Rattle.vg_design.specs.Refusals.{IsJoined}
 use Rattle.vg_scan.specs.declared.name.NodeName.{NodeName}
-use Rattle.vg_wire.specs.Refusals.{IsNetTree}
+use Rattle.spef_wire.specs.Refusals.{IsNetTree}
 use Rattle.vg_retime.specs.Passages.{above_at, end_in}
 use Rattle.vg_retime.specs.Refusals.{PassesHere}
 use Rattle.vg_retime.specs.declared.walk_net.Above.{Above}

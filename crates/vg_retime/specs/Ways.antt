@@ -3,7 +3,7 @@ use Rattle.std.specs.Prelude.{◌≡◌, ◌≢◌, ℕ, Bool, false, not, List,
 use Rattle.std.specs.List.{All, AllPairs, filter_map, slice_get}
 use Rattle.elmore.specs.Delay.{is_odd}
 use Rattle.elmore.specs.Path.{nodes as node_numbers}
-use Rattle.vg_cut.specs.Walks.{End, sink, Signal, TimedNet, end_at, start_of, IsClimb, IsWalk}
+use Rattle.cut_laws.specs.Walks.{End, sink, Signal, TimedNet, end_at, start_of, IsClimb, IsWalk}
 use Rattle.vg_design.specs.Designs.{Design, net_number}
 use Rattle.vg_design.specs.Nets.{name_at}
 use Rattle.vg_scan.specs.declared.name.NodeName.{NodeName}

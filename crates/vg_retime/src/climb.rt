@@ -10,9 +10,9 @@ ghost use Rattle.vg_retime.specs.Ways.{IsFirstNet};
 use crate::come::Come;
 use crate::walk_net::{Above, walk_net};
 use elmore::Driver;
+use spef_wire::{Refusal, Refused};
 use std::alloc::Global;
 use vg_design::Design;
-use vg_wire::{Refusal, Refused};
 
 /// The first net of a walk, and what drives it.
 #[derive(Clone, Copy, Debug, Drop)]

@@ -10,11 +10,11 @@ use crate::climb::First;
 use crate::come::Come;
 use crate::signals::{Signal, lates, least_in, pass_on, wrong_in};
 use crate::walk_net::{WalkNet, walk_net};
+use spef_wire::{Refusal, Refused};
 use std::alloc::Global;
 use vg_design::Design;
 use vg_num::Memory;
 use vg_scan::NodeName;
-use vg_wire::{Refusal, Refused};
 
 /// A walk on its way down.
 #[derive(Drop)]

@@ -5,10 +5,10 @@ ghost use Rattle.vg_retime.specs.Retimings.{Retimes, IsRefused};
 
 use crate::climb::climb;
 use crate::down::go_down;
+use spef_wire::{Refusal, Refused};
 use std::alloc::Global;
 use vg_design::{Design, Timed};
 use vg_scan::Name;
-use vg_wire::{Refusal, Refused};
 
 /// Times the net of a name in a design through the cells that were put in: the instances whose names begin with the prefix and
 /// whose cells are repeaters.

@@ -4,7 +4,7 @@ ghost use Rattle.std.specs.Prelude.{◌≡◌, ◌<◌, ◌≤◌, ◌^◌, ◌+
 ghost use Rattle.elmore.specs.Problems.{IsSmall};
 ghost use Rattle.elmore.specs.Steps.{IsSum};
 ghost use Rattle.elmore.specs.Trees.{total_capacitance};
-ghost use Rattle.vg_cut.specs.Walks.{Signal as SignalSpec, passed_on};
+ghost use Rattle.cut_laws.specs.Walks.{Signal as SignalSpec, passed_on};
 ghost use Rattle.vg_retime.specs.Times.{lates_in, lefts_in, IsLeastWith, IsTime};
 ghost use Rattle.vg_retime.specs.WalkNets.{timed, walk_end};
 ghost use Rattle.vg_retime.specs.Ways.{is_wrong, wrong_in};

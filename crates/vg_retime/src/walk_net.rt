@@ -14,12 +14,12 @@ ghost use Rattle.vg_retime.specs.WalkNets.{walk_end, IsNetIn, IsNetOf, net_name}
 use crate::passages::{from_at, into_at};
 use elmore::{Driver, Rep, Sink, Tree};
 use spef_net::ParConn;
+use spef_wire::{Refusal, Refused};
 use std::alloc::Global;
 use std::marker::Model;
 use vg_design::{Design, PinnedNet, TreeNames, is_unconstrained, problem_of, ready_net};
 use vg_num::Memory;
 use vg_scan::{Name, NodeName};
-use vg_wire::{Refusal, Refused};
 
 /// What stands at a node of a net.
 #[derive(Clone, Copy, Debug, Drop)]

@@ -22,10 +22,10 @@ use Rattle.sol_arena.specs.Uses.{held_of}
 use Rattle.sol_arena.specs.declared.arena.Arena.{Arena}
 use Rattle.sol_arena.specs.declared.slot.Slot.{Slot}
 use Rattle.sol_arena.proofs.ReachLemmas.{held_live}
-use Rattle.cand_laws.specs.Candidates.{IsBoundedBy}
-use Rattle.cand_laws.specs.Solutions.{cells_by, IsSolutionOf}
-use Rattle.cand_laws.proofs.CoverLemmas.{root_best}
-use Rattle.cand_laws.proofs.SolutionLemmas.{read_by}
+use Rattle.cand_pairs.specs.Candidates.{IsBoundedBy}
+use Rattle.cand_pairs.specs.Solutions.{cells_by, IsSolutionOf}
+use Rattle.cand_pairs.proofs.CoverLemmas.{root_best}
+use Rattle.cand_pairs.proofs.SolutionLemmas.{read_by}
 use Rattle.cand_pool.specs.Candidates.{Candidate, Candidates}
 use Rattle.cand_uses.specs.Pairs.{pair_of, pairs_of}
 use Rattle.cand_uses.specs.Uses.{HoldsFor}

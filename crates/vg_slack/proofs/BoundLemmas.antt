@@ -9,9 +9,9 @@ use Rattle.elmore.specs.declared.problem.Problem.{Problem}
 use Rattle.elmore.proofs.TreeLemmas.{tree_of}
 use Rattle.elmore.proofs.WireLemmas.{downstream_children}
 use Rattle.sol_arena.specs.Uses.{one_if}
-use Rattle.cand_laws.specs.Merging.{children_from}
-use Rattle.cand_laws.proofs.ChildLemmas.{IsChild}
-use Rattle.cand_laws.proofs.FromLemmas.{children_here, children_other, children_none, children_all}
+use Rattle.cand_pairs.specs.Merging.{children_from}
+use Rattle.cand_pairs.proofs.ChildLemmas.{IsChild}
+use Rattle.cand_pairs.proofs.FromLemmas.{children_here, children_other, children_none, children_all}
 use Rattle.cand_pool.specs.Pools.{Block}
 use Rattle.cand_turns.specs.declared.branch.Branch.{Branch}
 use Rattle.cand_turns.specs.declared.part.Part.{Part}

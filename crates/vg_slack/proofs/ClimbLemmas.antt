@@ -15,8 +15,8 @@ use Rattle.elmore.specs.declared.problem.Problem.{Problem}
 use Rattle.sol_arena.specs.declared.arena.Arena.{Arena}
 use Rattle.sol_arena.specs.declared.slot.Made.{Made}
 use Rattle.sol_arena.specs.Arenas.{made_of}
-use Rattle.cand_laws.proofs.ChildLemmas.{IsChild, child_above}
-use Rattle.cand_laws.proofs.TurnLemmas.{part_is_live, part_is_dead, part_load}
+use Rattle.cand_pairs.proofs.ChildLemmas.{IsChild, child_above}
+use Rattle.cand_pairs.proofs.TurnLemmas.{part_is_live, part_is_dead, part_load}
 use Rattle.cand_pool.specs.Pools.{Block, IsLive}
 use Rattle.cand_pool.specs.declared.ends.List.{List as NamedList}
 use Rattle.cand_uses.specs.Pairs.{pairs_of}

@@ -10,7 +10,7 @@ use Rattle.elmore.specs.declared.problem.Problem.{Problem}
 use Rattle.elmore.specs.Pairs.{IsPairAt, IsUndominated}
 use Rattle.elmore.specs.Problems.{is_live}
 use Rattle.sol_arena.specs.declared.slot.Made.{Made}
-use Rattle.cand_laws.specs.Candidates.{IsLive}
+use Rattle.cand_pairs.specs.Candidates.{IsLive}
 use Rattle.cand_pool.specs.Candidates.{Candidates}
 use Rattle.cand_uses.specs.Pairs.{pair_of, pairs_of}
 use Rattle.cand_turns.specs.Solved.{IsClosedAt}

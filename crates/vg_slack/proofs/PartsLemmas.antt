@@ -14,12 +14,12 @@ use Rattle.sol_arena.specs.Arenas.{slots_of, made_of}
 use Rattle.sol_arena.specs.Reach.{IsRestored}
 use Rattle.sol_arena.specs.Uses.{held_of}
 use Rattle.sol_arena.proofs.ReachLemmas.{restored}
-use Rattle.cand_laws.specs.Candidates.{fork_of}
-use Rattle.cand_laws.specs.Merging.{live_from, own_from}
-use Rattle.cand_laws.specs.Solutions.{IsOpenSolutionOf}
-use Rattle.cand_laws.proofs.ChildLemmas.{IsChild}
-use Rattle.cand_laws.proofs.FromLemmas.{other_live, other_own}
-use Rattle.cand_laws.proofs.TurnLemmas.{live_stays, dead_stays}
+use Rattle.cand_pairs.specs.Candidates.{fork_of}
+use Rattle.cand_pairs.specs.Merging.{live_from, own_from}
+use Rattle.cand_pairs.specs.Solutions.{IsOpenSolutionOf}
+use Rattle.cand_pairs.proofs.ChildLemmas.{IsChild}
+use Rattle.cand_pairs.proofs.FromLemmas.{other_live, other_own}
+use Rattle.cand_pairs.proofs.TurnLemmas.{live_stays, dead_stays}
 use Rattle.elmore.specs.Pairs.{IsPairAt}
 use Rattle.cand_pool.specs.Candidates.{Candidates}
 use Rattle.cand_pool.specs.Pools.{Block, IsLive}

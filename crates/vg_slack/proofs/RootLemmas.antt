@@ -8,7 +8,7 @@ use Rattle.std.proofs.lemmas.List.{map-append, append_assoc, append-nil, length_
 use Rattle.std.proofs.lemmas.List.Elements.{Contains-append_left, Contains-append_right, Contains-append_cases}
 use Rattle.elmore.specs.declared.pair.Pair.{Pair}
 use Rattle.elmore.specs.declared.problem.Problem.{Problem}
-use Rattle.cand_laws.specs.Candidates.{Drives, IsBoundedBy, root_value}
+use Rattle.cand_pairs.specs.Candidates.{Drives, IsBoundedBy, root_value}
 use Rattle.cand_pool.specs.Candidates.{Candidate, Candidates, IsModest, AreModest}
 use Rattle.cand_pool.specs.Pools.{Block, IsPlace}
 use Rattle.cand_pool.specs.declared.ends.Cand.{Cand}

@@ -7,7 +7,7 @@ use Rattle.elmore.specs.Trees.{parent_of}
 use Rattle.elmore.specs.Wire.{downstream}
 use Rattle.elmore.specs.declared.problem.Problem.{Problem}
 use Rattle.sol_arena.specs.Uses.{one_if}
-use Rattle.cand_laws.specs.Merging.{children_from}
+use Rattle.cand_pairs.specs.Merging.{children_from}
 use Rattle.cand_pool.specs.Pools.{Block}
 use Rattle.cand_turns.specs.declared.part.Part.{Part}
 use Rattle.cand_turns.specs.Parts.{size_in}

@@ -4,7 +4,7 @@ use Rattle.elmore.specs.Pairs.{IsPairAt, IsUndominated}
 use Rattle.elmore.specs.Problems.{is_live}
 use Rattle.elmore.specs.declared.pair.Pair.{Pair}
 use Rattle.elmore.specs.declared.problem.Problem.{Problem}
-use Rattle.cand_laws.specs.Candidates.{IsLive}
+use Rattle.cand_pairs.specs.Candidates.{IsLive}
 use Rattle.vg_slack.specs.Bounds.{most_at}
 use Rattle.vg_slack.specs.Waits.{IsThere}
 use Rattle.vg_slack.specs.declared.lists.NodeLists.{NodeLists}

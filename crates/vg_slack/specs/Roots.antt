@@ -5,8 +5,8 @@ use Rattle.elmore.specs.Pairs.{IsPairAt, IsUndominated}
 use Rattle.elmore.specs.declared.problem.Problem.{Problem}
 use Rattle.sol_arena.specs.declared.arena.Arena.{Arena}
 use Rattle.sol_arena.specs.Arenas.{slots_of, made_of}
-use Rattle.cand_laws.specs.Candidates.{Drives, DrivesNone, IsBoundedBy, root_value}
-use Rattle.cand_laws.specs.Solutions.{IsSolutionOf}
+use Rattle.cand_pairs.specs.Candidates.{Drives, DrivesNone, IsBoundedBy, root_value}
+use Rattle.cand_pairs.specs.Solutions.{IsSolutionOf}
 use Rattle.cand_pool.specs.Candidates.{Candidate, Candidates}
 use Rattle.cand_uses.specs.Pairs.{pair_of, pairs_of}
 use Rattle.cand_uses.specs.Uses.{HoldsFor}

@@ -4,8 +4,8 @@ use Rattle.std.specs.List.{filter, All, AllPairs, Contains}
 use Rattle.std.proofs.lemmas.Bool.{eq-eqb, ne_eqb}
 use Rattle.std.proofs.lemmas.List.Elements.{All-append, All-contains_itself, All-filter}
 use Rattle.std.proofs.lemmas.List.Sums.{sum_by-cons}
-use Rattle.vg_stages.specs.Stages.{members}
-use Rattle.vg_written.specs.Sections.{total, total_at}
+use Rattle.vg_split.specs.Stages.{members}
+use Rattle.spef_write.specs.Sections.{total, total_at}
 use Rattle.vg_split.specs.Splits.{Split, cap_in, ends_in, forest, head, inner_in, is_celled, is_end, nodes_in}
 use Rattle.vg_split.specs.Steps.{AreNumbered, cap_row, is_own}
 use Rattle.vg_split.proofs.MemberLemmas.{members_rise}

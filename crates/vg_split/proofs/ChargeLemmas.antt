@@ -5,8 +5,8 @@ use Rattle.std.proofs.lemmas.Bool.{ne_eqb}
 use Rattle.std.proofs.lemmas.Bool.Decides.{nat_tests}
 use Rattle.std.proofs.lemmas.List.{take_more}
 use Rattle.std.proofs.lemmas.List.Sums.{sum_by-append, sum_by-cons, sum_by_more_le}
-use Rattle.vg_stages.specs.Stages.{members}
-use Rattle.vg_written.specs.Sections.{total, total_at}
+use Rattle.vg_split.specs.Stages.{members}
+use Rattle.spef_write.specs.Sections.{total, total_at}
 use Rattle.vg_split.specs.Conditions.{IsSplit}
 use Rattle.vg_split.specs.Splits.{Split, cap_in, forest, head, is_celled}
 use Rattle.vg_split.specs.Steps.{cap_row, is_own}

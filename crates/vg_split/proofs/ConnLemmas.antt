@@ -12,8 +12,8 @@ use Rattle.spef_net.specs.declared.net.ParConn.{ParConn}
 use Rattle.spef_net.specs.Nets.{AreJoined, IsEnd}
 use Rattle.spef_net.specs.Statements.{is_at}
 use Rattle.spef_nodes.specs.Nodes.{ParNode}
-use Rattle.vg_stages.specs.Stages.{members}
-use Rattle.vg_written.specs.Sections.{NO_NODE}
+use Rattle.vg_split.specs.Stages.{members}
+use Rattle.spef_write.specs.Sections.{NO_NODE}
 use Rattle.vg_split.specs.Conditions.{IsSplit}
 use Rattle.vg_split.specs.Splits.{NO_CONN, Split, conn_in, ends_in, forest, head, inner_in, is_end, kind_of, name_in, node_in, nodes_in, old_conn, old_node, pin_in}
 use Rattle.vg_split.specs.Steps.{AreConns, conn_of}

@@ -9,9 +9,9 @@ use Rattle.vg_num.specs.Number.{are_digits}
 use Rattle.vg_scan.specs.declared.name.NodeName.{NodeName}
 use Rattle.spef_net.specs.Nets.{IsInside}
 use Rattle.spef_nodes.specs.Nodes.{ParNode}
-use Rattle.vg_stages.specs.Stages.{heads}
-use Rattle.vg_written.specs.Sections.{NO_NODE}
-use Rattle.vg_written.proofs.WordLemmas.{both_true}
+use Rattle.vg_split.specs.Stages.{heads}
+use Rattle.spef_write.specs.Sections.{NO_NODE}
+use Rattle.spef_write.proofs.WordLemmas.{both_true}
 use Rattle.vg_split.specs.Conditions.{IsOld, IsSplit}
 use Rattle.vg_split.specs.NewNames.{cell_name, net_name}
 use Rattle.vg_split.specs.Splits.{Split, forest, head, is_celled, is_end, name_in, net_of, number_of, old_node, pin_in, stage_from}

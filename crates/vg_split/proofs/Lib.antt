@@ -1,3 +1,4 @@
+pub mod StageLists
 pub mod StageNumberLemmas
 pub mod SplitLemmas
 pub mod MemberLemmas

@@ -9,9 +9,9 @@ use Rattle.std.proofs.lemmas.List.Kept.{AllPairs-filter}
 use Rattle.elmore.specs.Path.{Falls, nodes}
 use Rattle.elmore.specs.Stage.{in_stage, ends_stage}
 use Rattle.elmore.specs.Trees.{parent_of}
-use Rattle.vg_cut.specs.Pieces.{Forest, in_piece}
-use Rattle.vg_stages.specs.Stages.{heads, members, members_to}
-use Rattle.vg_stages.proofs.StageLists.{filter_more, first_member, nodes_below, nodes_rise, piece_below}
+use Rattle.cut_laws.specs.Pieces.{Forest, in_piece}
+use Rattle.vg_split.specs.Stages.{heads, members, members_to}
+use Rattle.vg_split.proofs.StageLists.{filter_more, first_member, nodes_below, nodes_rise, piece_below}
 use Rattle.vg_split.specs.Splits.{Split, forest, head}
 use Rattle.vg_split.proofs.SplitLemmas.{falls, head_low}
 use Rattle.vg_split.proofs.StageNumberLemmas.{stands_at}

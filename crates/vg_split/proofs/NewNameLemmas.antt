@@ -9,7 +9,7 @@ use Rattle.std.proofs.lemmas.Fmt.{decimal_injective}
 use Rattle.std.proofs.lemmas.List.{append_cancel_left, length-append}
 use Rattle.std.proofs.lemmas.List.Elements.{All-append, All-cons}
 use Rattle.vg_scan.specs.Printed.{is_solid, IsPrintable}
-use Rattle.vg_written.proofs.NumberLemmas.{decimal_number, number_word}
+use Rattle.spef_write.proofs.NumberLemmas.{decimal_number, number_word}
 use Rattle.vg_split.specs.Conditions.{IsOld}
 use Rattle.vg_split.specs.NewNames.{cell_name, net_name}
 

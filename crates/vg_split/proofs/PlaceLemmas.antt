@@ -5,7 +5,7 @@ use Rattle.std.proofs.lemmas.Bool.{cases_Bool}
 use Rattle.std.proofs.lemmas.List.{get_or_default}
 use Rattle.std.proofs.lemmas.List.Elements.{Contains-append_left, Contains-append_right}
 use Rattle.elmore.specs.Trees.{parent_of}
-use Rattle.vg_stages.specs.Stages.{heads, members}
+use Rattle.vg_split.specs.Stages.{heads, members}
 use Rattle.vg_split.specs.Splits.{Split, forest, head, ends_in, inner_in, is_end, nodes_in, place_in}
 use Rattle.vg_split.specs.Steps.{AreNumbered}
 use Rattle.vg_split.proofs.MemberLemmas.{first_is, members_in, members_low, members_rise, parent_in}
@@ -66,5 +66,5 @@ parent_member x k i w stage some low is =
     let above = members_rise x k 0 i 0 some low in
     let first = first_is x k stage in
     parent_in x k w (subst (λ u. u < length x.problem.tree.nodes) is (members_low x k i 0 low))
-    (ap (λ u. Rattle.vg_cut.specs.Pieces.in_piece (forest x) (head x k) u) (sym is) ∙ members_in x k i 0 low)
+    (ap (λ u. Rattle.cut_laws.specs.Pieces.in_piece (forest x) (head x k) u) (sym is) ∙ members_in x k i 0 low)
     (λ e. omega (arith, above, first, is, e)) (omega (arith, above, is))

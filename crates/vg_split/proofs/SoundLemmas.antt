@@ -15,7 +15,7 @@ use Rattle.vg_scan.specs.Printed.{is_solid, IsPrintable}
 use Rattle.spef_net.specs.Nets.{AreDistinct, IsInside, IsNamed as IsNodeNamed, IsNote}
 use Rattle.spef_nodes.specs.Members.{is_inner}
 use Rattle.spef_nodes.specs.Nodes.{ParNode}
-use Rattle.vg_stages.specs.Stages.{heads, members}
+use Rattle.vg_split.specs.Stages.{heads, members}
 use Rattle.vg_split.specs.Conditions.{IsNamed, IsSplit}
 use Rattle.vg_split.specs.Splits.{NO_REPEATER, Split, ends_in, forest, head, inner_in, is_celled, is_end, name_in, net_of, node_in, nodes_in, note_in, number_of, old_node, pin_in, repeater_at, stage_from, with_cell}
 use Rattle.vg_split.specs.Steps.{AreNumbered}

@@ -6,9 +6,9 @@ use Rattle.elmore.specs.Cells.{rep_of}
 use Rattle.elmore.specs.Path.{Falls}
 use Rattle.elmore.proofs.HeadLemmas.{head_cell, head_other}
 use Rattle.elmore.proofs.TreeLemmas.{tree_falls}
-use Rattle.vg_stages.specs.Stages.{heads, heads_to, AreStages}
-use Rattle.vg_stages.specs.declared.stages.Stages.{Stages}
-use Rattle.vg_stages.proofs.StageLists.{few_heads, head_below, head_is}
+use Rattle.vg_split.specs.Stages.{heads, heads_to, AreStages}
+use Rattle.vg_split.specs.declared.stages.Stages.{Stages}
+use Rattle.vg_split.proofs.StageLists.{few_heads, head_below, head_is}
 use Rattle.vg_split.specs.Conditions.{IsSplit}
 use Rattle.vg_split.specs.Splits.{Split, forest, head, is_celled, stage_from}
 use Rattle.vg_split.proofs.StageNumberLemmas.{head_number, number_below, number_head, number_some, own_number}

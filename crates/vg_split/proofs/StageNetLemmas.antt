@@ -8,12 +8,12 @@ use Rattle.spef_net.specs.declared.net.ParConn.{ParConn}
 use Rattle.spef_net.specs.declared.net.ParNet.{ParNet}
 use Rattle.spef_net.specs.Nets.{IsCapOf, IsResOf, IsSound}
 use Rattle.spef_nodes.specs.Nodes.{ParNode}
-use Rattle.vg_stages.specs.Stages.{heads, members}
-use Rattle.vg_written.specs.Made.{IsSectionOf}
-use Rattle.vg_written.specs.Printed.{PrintedNode, printed_of}
-use Rattle.vg_written.specs.Sections.{total, total_at}
-use Rattle.vg_written.specs.declared.section.Section.{Section}
-use Rattle.vg_written.proofs.PartLemmas.{printed_each}
+use Rattle.vg_split.specs.Stages.{heads, members}
+use Rattle.spef_write.specs.Made.{IsSectionOf}
+use Rattle.spef_write.specs.Printed.{PrintedNode, printed_of}
+use Rattle.spef_write.specs.Sections.{total, total_at}
+use Rattle.spef_write.specs.declared.section.Section.{Section}
+use Rattle.spef_write.proofs.PartLemmas.{printed_each}
 use Rattle.vg_split.specs.Conditions.{IsSplit}
 use Rattle.vg_split.specs.Splits.{IsStageNet, Split, cap_in, ends_in, forest, head, inner_in, is_end, net_of, node_in, nodes_in, old_node, repeater_at, res_in, with_cell}
 use Rattle.vg_split.specs.Steps.{AreParts, ArePrintedParts, cap_row, inner_node, inner_row, is_own, row_in}

@@ -8,10 +8,10 @@ use Rattle.elmore.specs.Path.{Falls, nodes}
 use Rattle.elmore.specs.Stage.{is_head}
 use Rattle.elmore.proofs.HeadLemmas.{head_cell, one_stage}
 use Rattle.elmore.proofs.StageLemmas.{stage_self}
-use Rattle.vg_cut.specs.Pieces.{Forest}
-use Rattle.vg_stages.specs.Stages.{heads, heads_to, members, members_to, IsInStage, AreStages}
-use Rattle.vg_stages.specs.declared.stages.Stages.{Stages}
-use Rattle.vg_stages.proofs.StageLists.{as_many, filter_more, head_is, head_below, heads_differ}
+use Rattle.cut_laws.specs.Pieces.{Forest}
+use Rattle.vg_split.specs.Stages.{heads, heads_to, members, members_to, IsInStage, AreStages}
+use Rattle.vg_split.specs.declared.stages.Stages.{Stages}
+use Rattle.vg_split.proofs.StageLists.{as_many, filter_more, head_is, head_below, heads_differ}
 
 -- what passes stands behind as many as pass before it
 pub record StandsAt (p : ℕ → Bool) (n w : ℕ) : Type 0 where

@@ -7,8 +7,8 @@ use Rattle.std.proofs.lemmas.List.Sums.{get_or-le-sum_by}
 use Rattle.elmore.specs.Trees.{parent_of, resistance, total_resistance}
 use Rattle.elmore.specs.declared.tree.Node.{Node}
 use Rattle.spef_net.specs.Nets.{IsCapOf, IsResOf}
-use Rattle.vg_stages.specs.Stages.{heads, members}
-use Rattle.vg_written.proofs.ChargeLemmas.{total_at-le}
+use Rattle.vg_split.specs.Stages.{heads, members}
+use Rattle.spef_write.proofs.ChargeLemmas.{total_at-le}
 use Rattle.vg_split.specs.Conditions.{IsSplit}
 use Rattle.vg_split.specs.Splits.{Split, forest, head, nodes_in, res_in}
 use Rattle.vg_split.specs.Steps.{AreNumbered, cap_row, is_own}

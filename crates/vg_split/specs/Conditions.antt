@@ -5,8 +5,8 @@ use Rattle.lib_linear.specs.declared.repeater.Repeater.{Repeater}
 use Rattle.rc_tree.specs.Answers.{ListsAll}
 use Rattle.spef_net.specs.Lines.{is_space}
 use Rattle.vg_scan.specs.Printed.{is_solid, IsPrintable}
-use Rattle.vg_stages.specs.Stages.{heads}
-use Rattle.vg_written.specs.Sections.{total}
+use Rattle.vg_split.specs.Stages.{heads}
+use Rattle.spef_write.specs.Sections.{total}
 use Rattle.vg_split.specs.Splits.{Split, forest, is_celled, old_node}
 
 -- the names of a repeater can be words; a note ends with the cell's, and so it has no carriage return at its end

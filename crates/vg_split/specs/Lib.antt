@@ -1,3 +1,4 @@
+pub mod Stages
 pub mod NewNames
 pub mod Splits
 pub mod Conditions

@@ -12,14 +12,14 @@ use Rattle.spef_net.specs.declared.net.Direction.TheVariants.{In, Out}
 use Rattle.spef_net.specs.declared.net.ParConn.{ParConn}
 use Rattle.spef_net.specs.declared.net.ParNet.{ParNet}
 use Rattle.spef_nodes.specs.Nodes.{ParNode}
-use Rattle.vg_cut.specs.CutNets.{forest_of}
-use Rattle.vg_cut.specs.Pieces.{Forest}
+use Rattle.cut_laws.specs.CutNets.{forest_of}
+use Rattle.cut_laws.specs.Pieces.{Forest}
 use Rattle.vg_scan.specs.declared.chars.Chars.{Chars}
 use Rattle.vg_scan.specs.declared.name.NodeName.{NodeName}
 use Rattle.vg_scan.specs.Printed.{printed}
-use Rattle.vg_stages.specs.Stages.{heads, heads_to, members}
+use Rattle.vg_split.specs.Stages.{heads, heads_to, members}
 use Rattle.vg_split.specs.NewNames.{cell_name, net_name}
-use Rattle.vg_written.specs.Sections.{node_at, total_at}
+use Rattle.spef_write.specs.Sections.{node_at, total_at}
 
 -- A net with cells at nodes of its tree, whose node i is node order[i] of the net. Its cells are numbered from `first` on, in tree order;
 -- their names and those of the new nets begin with `prefix`. The stage `keeper` keeps the net's name.

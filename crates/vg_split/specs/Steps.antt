@@ -7,9 +7,9 @@ use Rattle.spef_net.specs.declared.net.ParNet.{ParNet}
 use Rattle.spef_nodes.specs.Nodes.{ParNode}
 use Rattle.vg_scan.specs.declared.chars.Chars.{Chars}
 use Rattle.vg_split.specs.Splits.{IsStageNet, NO_CONN, Split, cap_in, ends_in, forest, head, is_celled, is_end, kind_of, net_of, node_in, nodes_in, old_node, place_in, res_in, way_in}
-use Rattle.vg_stages.specs.Stages.{members}
-use Rattle.vg_written.specs.Printed.{PrintedNode, printed_of}
-use Rattle.vg_written.specs.Sections.{section_text, total_at}
+use Rattle.vg_split.specs.Stages.{members}
+use Rattle.spef_write.specs.Printed.{PrintedNode, printed_of}
+use Rattle.spef_write.specs.Sections.{section_text, total_at}
 
 -- the connection of a number at a node
 abbrev pub conn_of : Split → ℕ → ℕ → ℕ → ParConn

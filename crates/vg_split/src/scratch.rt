@@ -3,9 +3,9 @@
 ghost use Rattle.std.specs.Prelude.{◌≡◌, length, IfOk};
 
 use spef_net::ParConn;
+use spef_write::Printed;
 use std::alloc::Global;
 use vg_num::Memory;
-use vg_written::Printed;
 
 /// Room to work in, for names and places.
 #[derive(Drop)]

@@ -3,16 +3,16 @@
 ghost use Rattle.std.specs.Prelude.{◌≡◌, ◌==◌, ℕ, ◌++◌, ◌<◌, true, false, length, drop, slice_index, MatchOption, OnErr, OnOk};
 ghost use Rattle.elmore.specs.Trees.{parent_of, resistance};
 ghost use Rattle.vg_split.specs.Splits.{forest, head, is_celled, is_end, net_of, number_of, old_conn, repeater_at, stage_from};
-ghost use Rattle.vg_stages.specs.Stages.{heads, members, IsInStage};
-ghost use Rattle.vg_written.specs.Sections.{total_at};
+ghost use Rattle.vg_split.specs.Stages.{heads, members, IsInStage};
+ghost use Rattle.spef_write.specs.Sections.{total_at};
 
+use crate::Stages;
 use crate::names::push_net_name;
 use elmore::Problem;
 use lib_linear::Repeater;
 use spef_net::{ParConn, ParNet};
 use std::marker::Model;
 use vg_num::Memory;
-use vg_stages::Stages;
 
 /// A net with cells at nodes of its tree, split into stages: that of the root and, in tree order, those of the cells. The cells are
 /// numbered from `first` on. One stage keeps the net's name, and each other gets a new net.
@@ -38,11 +38,11 @@ pub struct Split<'a> {
 
 impl<'a> Model for Split<'a> {
     ghost use Rattle.std.specs.Prelude.{length};
-    ghost use Rattle.vg_cut.specs.CutNets.{forest_of};
+    ghost use Rattle.cut_laws.specs.CutNets.{forest_of};
     ghost use Rattle.vg_split.specs.Conditions.{IsSplit};
     ghost use Rattle.vg_split.specs.Splits.{Split as SplitSpec};
-    ghost use Rattle.vg_stages.specs.Stages.{AreStages};
-    ghost use Rattle.vg_written.specs.Charges.{AreSums};
+    ghost use Rattle.vg_split.specs.Stages.{AreStages};
+    ghost use Rattle.spef_write.specs.Charges.{AreSums};
 
     ghost Value = { SplitSpec };
 

@@ -4,8 +4,8 @@ ghost use Rattle.std.specs.Prelude.{◌≡◌, ◌||◌, ◌++◌, ◌∷◌, []
 ghost use Rattle.vg_scan.specs.Printed.{IsPrintable};
 ghost use Rattle.vg_split.specs.Splits.{cap_in, forest, head, is_celled, is_end, with_cell, ends_in, inner_in, nodes_in, net_of, res_in, repeater_at};
 ghost use Rattle.vg_split.specs.Steps.{is_own, cap_row, conn_of, inner_row, row_in, AreConns, AreNumbered, ArePrintedParts, SaysStage};
-ghost use Rattle.vg_stages.specs.Stages.{heads, members};
-ghost use Rattle.vg_written.specs.Sections.{total};
+ghost use Rattle.vg_split.specs.Stages.{heads, members};
+ghost use Rattle.spef_write.specs.Sections.{total};
 
 use crate::names::push_cell_name;
 use crate::scratch::{Room, Scratch};
@@ -13,9 +13,9 @@ use crate::split::Split;
 use lib_linear::Repeater;
 use spef_file::Header;
 use spef_net::{ConnKind, Direction, ParConn};
+use spef_write::{NodeText, Printed, Section, write_section};
 use vg_num::Memory;
 use vg_scan::{Chars, print_spef_name};
-use vg_written::{NodeText, Printed, Section, write_section};
 
 /// Puts a note with the cell of a pin behind a text.
 fn push_note(note: &[u8], cell: &[u8], chars: &Chars, to: &mut Vec<u8>) -> Result<(), Memory>

@@ -1,3 +1,4 @@
+pub mod CertifyLemmas
 pub mod VerdictLemmas
 pub mod TextLemmas
 pub mod ShownLemmas

@@ -6,11 +6,11 @@ use Rattle.std.proofs.lemmas.List.{map-id}
 use Rattle.std.proofs.lemmas.List.FromFn.{sum_by-map-range_with_len_more}
 use Rattle.elmore.specs.declared.pair.Pair.{Pair}
 use Rattle.elmore.specs.declared.problem.Problem.{Problem}
-use Rattle.cand_laws.specs.Candidates.{NodeLists}
+use Rattle.cand_pairs.specs.Candidates.{NodeLists}
 use Rattle.vg_cert.specs.Fits.{Fits, lists_in, lists_of}
 use Rattle.vg_cert.specs.declared.certificate.Certificate.{Certificate}
 use Rattle.vg_cert.specs.declared.certificate.NodeLists.{NodeLists as Written}
-use Rattle.vg_certify.specs.Claims.{HasKept, IsClaimOf}
+use Rattle.vg_verdict.specs.Claims.{HasKept, IsClaimOf}
 use Rattle.vg_check.proofs.PartLemmas.{lists_here}
 use Rattle.vg_slack.specs.declared.answer.Best.{Best}
 use Rattle.vg_verdict.specs.Judged.{CountsEntries, pairs_at, pairs_in}

@@ -18,8 +18,8 @@ use Rattle.lib_linear.proofs.RepeaterLaws.{none_twice}
 use Rattle.lib_linear.proofs.RepeaterOrder.{found_distinct, ordered_distinct}
 use Rattle.lib_linear.specs.Libraries.{Cells, Denotes, library_in_bytes}
 use Rattle.lib_linear.specs.declared.repeater.Repeater.{Repeater}
-use Rattle.lib_names.proofs.NameLemmas.{are_words}
-use Rattle.lib_names.specs.Laws.{HasPrintableNames}
+use Rattle.lib_laws.proofs.NameLemmas.{are_words}
+use Rattle.lib_laws.specs.NameLaws.{HasPrintableNames}
 use Rattle.rc_tree.specs.Answers.{ListsAll}
 use Rattle.spef_file.specs.Nets.{NetHead}
 use Rattle.spef_net.specs.Nets.{IsNamed}
@@ -32,7 +32,7 @@ use Rattle.vg_design.specs.Nets.{names_of}
 use Rattle.vg_design.specs.Parts.{cells_of, loaded_tree}
 use Rattle.vg_scan.specs.Printed.{IsPrintable, is_solid}
 use Rattle.vg_scan.specs.declared.name.NodeName.{NodeName}
-use Rattle.vg_wire.specs.Nets.{IsNetNamed}
+use Rattle.spef_wire.specs.Nets.{IsNetNamed}
 use Rattle.vg_verdict.specs.Laws.{NamesFit}
 
 -- ---- words

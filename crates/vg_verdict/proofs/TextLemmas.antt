@@ -17,7 +17,7 @@ use Rattle.vg_cert.specs.declared.certificate.Certificate.{Certificate}
 use Rattle.vg_cert.specs.declared.certificate.NodeLists.{NodeLists}
 use Rattle.vg_cert.specs.declared.fault.CertKind.{CertKind}
 use Rattle.vg_cert.proofs.AgainLemmas.{text_denotes, text_faultless}
-use Rattle.vg_certify.specs.Claims.{IsClaimOf}
+use Rattle.vg_verdict.specs.Claims.{IsClaimOf}
 use Rattle.vg_check.specs.declared.verdict.Verdict.TheVariants.{Yes}
 use Rattle.vg_check.proofs.VerdictLemmas.{valid_verdict}
 use Rattle.vg_slack.specs.declared.answer.Best.{Best}

@@ -10,8 +10,8 @@ use Rattle.elmore.specs.declared.problem.Problem.{Problem}
 use Rattle.elmore.proofs.LeastLemmas.{within_sinks}
 use Rattle.elmore.proofs.PathLemmas.{over_le}
 use Rattle.elmore.proofs.TreeLemmas.{tree_falls}
-use Rattle.cand_laws.specs.Candidates.{IsLive, NodeLists, at_root, of_lists}
-use Rattle.cand_laws.proofs.LiveChildLemmas.{live_sees}
+use Rattle.cand_pairs.specs.Candidates.{IsLive, NodeLists, at_root, of_lists}
+use Rattle.cand_pairs.proofs.LiveChildLemmas.{live_sees}
 use Rattle.vg_cert.specs.Fits.{Fits, lists_of}
 use Rattle.vg_cert.specs.declared.certificate.Certificate.{Certificate}
 use Rattle.vg_check.specs.Verdicts.{Finds, IsLastUncovered, IsRootBound, IsVerdict}

@@ -3,8 +3,8 @@ use Rattle.std.specs.Prelude.{◌≡◌, ℕ, ◌+◌, ◌<◌, ◌++◌, Bool, 
 use Rattle.std.specs.List.{range_with_len, sum_by}
 use Rattle.elmore.specs.declared.pair.Pair.{Pair}
 use Rattle.elmore.specs.declared.problem.Problem.{Problem}
-use Rattle.cand_laws.specs.Candidates.{NodeLists}
-use Rattle.cand_laws.specs.Certificates.{IsShown, IsValid}
+use Rattle.cand_pairs.specs.Candidates.{NodeLists}
+use Rattle.cand_pairs.specs.Certificates.{IsShown, IsValid}
 use Rattle.vg_scan.specs.declared.fault.LineFault.{LineFault}
 use Rattle.vg_scan.specs.declared.name.NetNames.{NetNames}
 use Rattle.vg_cert.specs.Denoted.{Denotes}
@@ -14,7 +14,7 @@ use Rattle.vg_cert.specs.Lines.{lines}
 use Rattle.vg_cert.specs.Written.{text_of}
 use Rattle.vg_cert.specs.declared.certificate.Certificate.{Certificate}
 use Rattle.vg_cert.specs.declared.fault.CertKind.{CertKind}
-use Rattle.vg_certify.specs.Claims.{HasKept, IsClaimOf}
+use Rattle.vg_verdict.specs.Claims.{HasKept, IsClaimOf}
 use Rattle.vg_check.specs.Verdicts.{IsVerdict}
 use Rattle.vg_check.specs.declared.verdict.Verdict.{Verdict}
 use Rattle.vg_check.specs.declared.verdict.Verdict.TheVariants.{Yes}

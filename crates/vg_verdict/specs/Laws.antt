@@ -1,7 +1,7 @@
 -- What is true of all judgements of certificates.
 use Rattle.std.specs.Prelude.{◌≡◌, ◌⊎◌, ℕ, ℤ, Bool, true, List, Option, option_map}
 use Rattle.elmore.specs.declared.problem.Problem.{Problem}
-use Rattle.cand_laws.specs.Certificates.{IsShown}
+use Rattle.cand_pairs.specs.Certificates.{IsShown}
 use Rattle.vg_scan.specs.declared.name.NetNames.{NetNames}
 use Rattle.vg_cert.specs.Names.{AreNamesOf}
 use Rattle.vg_cert.specs.declared.certificate.Certificate.{Certificate}
@@ -10,7 +10,7 @@ use Rattle.vg_design.specs.Designs.{Design}
 use Rattle.vg_design.specs.Nets.{IsPosedNet, names_of}
 use Rattle.vg_design.specs.Parts.{cells_of}
 use Rattle.vg_design.specs.declared.net_problem.PosedNet.{PosedNet}
-use Rattle.vg_inputs.specs.Designs.{Texts, IsDesign}
+use Rattle.design_read.specs.Designs.{Texts, IsDesign}
 use Rattle.vg_slack.specs.declared.answer.Best.{Best}
 use Rattle.vg_verdict.specs.Judged.{IsCertificateOf, IsJudged, Writes}
 use Rattle.vg_verdict.specs.Lines.{names_for, verdict_line}

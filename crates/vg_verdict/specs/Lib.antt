@@ -1,3 +1,4 @@
+pub mod Claims
 pub mod Lines
 pub mod Judged
 pub mod Steps

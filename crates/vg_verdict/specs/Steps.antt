@@ -1,7 +1,7 @@
 -- What the functions between say; what the crate promises does not rest on it.
 use Rattle.std.specs.Prelude.{◌≡◌, ℕ, ◌<◌, ◌++◌, Bool, List, Option, option_map}
 use Rattle.elmore.specs.declared.problem.Problem.{Problem}
-use Rattle.cand_laws.specs.Certificates.{IsShown}
+use Rattle.cand_pairs.specs.Certificates.{IsShown}
 use Rattle.vg_scan.specs.declared.name.NetNames.{NetNames}
 use Rattle.vg_cert.specs.declared.certificate.Certificate.{Certificate}
 use Rattle.vg_check.specs.Verdicts.{IsVerdict}

@@ -7,12 +7,12 @@ ghost use Rattle.vg_slack.specs.Kept.{AreListsOf};
 ghost use Rattle.vg_verdict.specs.Judged.{CountsEntries, IsCertificateOf};
 ghost use Rattle.vg_verdict.specs.Steps.{claim_of};
 
+use crate::certificate;
 use crate::count::count_pairs;
 use crate::made::{Certified, Summed};
 use elmore::Problem;
 use std::alloc::Global;
 use vg_cert::{Certificate, write_certificate};
-use vg_certify::certificate;
 use vg_check::{Verdict, check};
 use vg_num::Memory;
 use vg_scan::NetNames;

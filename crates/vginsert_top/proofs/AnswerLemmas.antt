@@ -3,13 +3,13 @@ use Rattle.std.proofs.Common.{◌≡◌, ℕ, List, [], false, inl, inr, refl, s
 use Rattle.std.specs.Prelude.{IfOk, IfErr}
 use Rattle.std.specs.Result.{IsErrAnd}
 use Rattle.vg_design.specs.Designs.{Design}
-use Rattle.vg_inputs.specs.Designs.{Texts, IsDesign, IsDesignOf, IsFirstFault, texts_of as texts_in_files}
-use Rattle.vg_inputs.specs.declared.design_fault.DesignFault.{DesignFault}
-use Rattle.vg_inputs.specs.declared.design_fault.DesignFault.TheVariants.{Spef as SpefFaulty, Lib as LibFaulty, Ver as VerFaulty, Cons as ConsFaulty, Memory as NoRoom}
+use Rattle.design_read.specs.Designs.{Texts, IsDesign, IsDesignOf, IsFirstFault, texts_of as texts_in_files}
+use Rattle.design_read.specs.declared.design_fault.DesignFault.{DesignFault}
+use Rattle.design_read.specs.declared.design_fault.DesignFault.TheVariants.{Spef as SpefFaulty, Lib as LibFaulty, Ver as VerFaulty, Cons as ConsFaulty, Memory as NoRoom}
 use Rattle.vg_scan.specs.Comments.{without_comments}
 use Rattle.vg_scan.specs.declared.comments.Comments.TheVariants.{Spef as SpefComments}
-use Rattle.vg_wire.specs.Nets.{IsRefusalOf}
-use Rattle.vg_wire.specs.declared.refusal.Refusal.{Refusal}
+use Rattle.spef_wire.specs.Nets.{IsRefusalOf}
+use Rattle.spef_wire.specs.declared.refusal.Refusal.{Refusal}
 use Rattle.vg_words.specs.declared.ask.Mode.{Mode}
 use Rattle.vg_words.specs.declared.ask.Mode.TheVariants.{Wire, Time, Best, Frontier, Check, Gen}
 use Rattle.vginsert_top.specs.Answer.{AnswersFor, FrontsNets, IsAnswerFor, IsAnswerWith, IsNoDesign, IsNoDesignOf, IsRefusedWith, IsWireAnswer, Tells, TimesNets, design_texts, files_in, one_net, said_by, texts_by, texts_of}

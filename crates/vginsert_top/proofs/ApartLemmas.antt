@@ -10,11 +10,11 @@ use Rattle.vg_words.specs.declared.ask.Mode.TheVariants.{Wire, Time, Best, Front
 use Rattle.spef_file.specs.Files.{File, IsFileOf, IsFileFault}
 use Rattle.spef_file.proofs.LawLemmas.{file_or_fault}
 use Rattle.spef_file.specs.declared.fault.SpefKind.{SpefKind}
-use Rattle.vg_wire.specs.Refusals.{number_of}
-use Rattle.vg_wire.specs.Nets.{IsRefusalOf}
-use Rattle.vg_wire.specs.declared.refusal.Refusal.{Refusal}
-use Rattle.vg_wire.specs.declared.refusal.Refusal.TheVariants.{UnknownNet, Section, Reduced, Inductive, Bidirectional, NoDriver, ManyDrivers, Mismatch, Tied, NoDrive, NoLoad, Floating, Loop, NoSink, Unconstrained, TooLarge}
-use Rattle.vg_wire.proofs.AnswerLemmas.{passed_is}
+use Rattle.spef_wire.specs.Refusals.{number_of}
+use Rattle.spef_wire.specs.Nets.{IsRefusalOf}
+use Rattle.spef_wire.specs.declared.refusal.Refusal.{Refusal}
+use Rattle.spef_wire.specs.declared.refusal.Refusal.TheVariants.{UnknownNet, Section, Reduced, Inductive, Bidirectional, NoDriver, ManyDrivers, Mismatch, Tied, NoDrive, NoLoad, Floating, Loop, NoSink, Unconstrained, TooLarge}
+use Rattle.spef_wire.proofs.AnswerLemmas.{passed_is}
 use Rattle.vg_design.specs.Designs.{Design}
 use Rattle.vg_design.specs.Laws.{AreSame}
 use Rattle.vg_design.specs.Nets.{IsNetProblem, IsPosedNet}
@@ -37,8 +37,8 @@ use Rattle.vg_verdict.specs.Lines.{names_for}
 use Rattle.vg_verdict.proofs.TextLemmas.{one_judgement}
 use Rattle.vg_slack.specs.Bests.{HasNoGood, IsFound}
 use Rattle.vg_slack.specs.declared.answer.Best.{Best as BestFound}
-use Rattle.vg_inputs.specs.Designs.{IsSpef, IsDesign, Texts}
-use Rattle.vg_inputs.proofs.LawLemmas.{apart_faults, library_apart, module_apart, one_is}
+use Rattle.design_read.specs.Designs.{IsSpef, IsDesign, Texts}
+use Rattle.design_read.proofs.LawLemmas.{apart_faults, library_apart, module_apart, one_is}
 use Rattle.vginsert_top.specs.Answer.{IsAnswerFor, IsGenAnswer, IsTakenFor, IsWireAnswer, design_texts, one_net}
 use Rattle.vginsert_top.specs.Inputs.{design_inputs, judged_inputs, made_up, IsFaultFor, IsFirstFault}
 use Rattle.vginsert_top.specs.Results.{Asked, Said, HasNoneWithin, IsBestSaid, IsCheckSaid, IsFreeDesign, IsFrontSaid, IsMadeRefusal, IsSummary, IsTaken, IsTimeSaid, kind_judged, made_net, nets_for, nets_to_time, problem_in}

@@ -11,16 +11,16 @@ use Rattle.elmore.specs.Legal.{IsPlaced}
 use Rattle.elmore.specs.declared.problem.Problem.{Problem}
 use Rattle.lib_linear.specs.Libraries.{Cells, Denotes as DenotesLibrary}
 use Rattle.lib_linear.specs.declared.repeater.Repeater.{Repeater}
-use Rattle.lib_names.specs.Laws.{HasPrintableNames}
-use Rattle.lib_names.proofs.NameLemmas.{are_words}
+use Rattle.lib_laws.specs.NameLaws.{HasPrintableNames}
+use Rattle.lib_laws.proofs.NameLemmas.{are_words}
 use Rattle.ver_file.specs.Modules.{Denotes}
 use Rattle.vg_change.specs.Changes.{Changes, HasPut, HavePut, nothing}
 use Rattle.vg_change.specs.Patches.{ArePatchesOf}
 use Rattle.vg_change.specs.Placed.{PlacedNet}
 use Rattle.vg_change.specs.Steps.{placed_net}
 use Rattle.vg_change.specs.declared.changes.Patches.{Patches}
-use Rattle.vg_change_nets.specs.Order.{AreOpenFrom}
-use Rattle.vg_change_nets.proofs.OrderLemmas.{open_later, open_put}
+use Rattle.change_spef_laws.specs.Order.{AreOpenFrom}
+use Rattle.change_spef_laws.proofs.OrderLemmas.{open_later, open_put}
 use Rattle.vg_design.specs.Designs.{Design, net_names}
 use Rattle.vg_design.specs.Nets.{names_of, IsPosedNet}
 use Rattle.vg_design.specs.Parts.{cells_of}
@@ -32,7 +32,7 @@ use Rattle.vg_patch.specs.Edits.{Edit, Rise, patched}
 use Rattle.vg_slack.specs.Bests.{HasNoCell}
 use Rattle.vg_slack.specs.declared.answer.Best.{Best}
 use Rattle.vg_split.specs.Conditions.{IsNamed}
-use Rattle.vg_wire.specs.declared.refusal.Refusal.{Refusal}
+use Rattle.spef_wire.specs.declared.refusal.Refusal.{Refusal}
 use Rattle.vginsert_top.specs.Best.{AreCertified, AreFinished, AreJudged, ArePatchesFor, ArePut, FitIn, HaveChange, IsJudged, IsOneMore, JudgesOne, files_with, has_any}
 use Rattle.vg_report.specs.Reports.{best_report, cell_count, none_line, refusal_line}
 use Rattle.vginsert_top.specs.Results.{Asked, Files, AreFilesOf, IsBestSaid, IsCertFor, problem_in, put_of}

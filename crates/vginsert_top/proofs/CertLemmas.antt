@@ -19,7 +19,7 @@ use Rattle.vg_scan.specs.declared.name.NetNames.{NetNames}
 use Rattle.vg_verdict.specs.Judged.{IsCertificateOf, IsJudged, Judges}
 use Rattle.vg_verdict.specs.Laws.{names_in}
 use Rattle.vg_verdict.specs.Lines.{names_for}
-use Rattle.vg_wire.specs.declared.refusal.Refusal.{Refusal}
+use Rattle.spef_wire.specs.declared.refusal.Refusal.{Refusal}
 use Rattle.vginsert_top.specs.Best.{AreCertified, AreFitNames, AreJudged, CertifiesOne, IsCertifiedNet, IsOneMore, JudgesOne}
 use Rattle.vginsert_top.specs.Answer.{IsRefusedWith}
 use Rattle.vginsert_top.specs.Check.{ChecksNet}

@@ -16,11 +16,11 @@ use Rattle.spef_net.specs.Statements.{statements}
 use Rattle.spef_net.specs.Faults.{IsFaultless, IsFirstFaultIn}
 use Rattle.spef_net.specs.Denoted.{IsNet}
 use Rattle.spef_net.specs.declared.net.ParNet.{ParNet}
-use Rattle.vg_wire.specs.Nets.{IsHeadOf, IsNetNamed, IsNetRefused, IsRefusalOf}
-use Rattle.vg_wire.specs.Wires.{IsWireOf}
-use Rattle.vg_wire.specs.declared.refusal.Refusal.{Refusal}
-use Rattle.vg_wire.specs.declared.refusal.Refusal.TheVariants.{UnknownNet, Section as Faulty, Reduced, Inductive, Bidirectional, NoDriver, ManyDrivers, Mismatch, Tied, NoDrive, NoLoad, Floating, Loop, NoSink, Unconstrained, TooLarge}
-use Rattle.vg_wire.specs.declared.wire.WireNet.{WireNet}
+use Rattle.spef_wire.specs.Nets.{IsHeadOf, IsNetNamed, IsNetRefused, IsRefusalOf}
+use Rattle.spef_wire.specs.Wires.{IsWireOf}
+use Rattle.spef_wire.specs.declared.refusal.Refusal.{Refusal}
+use Rattle.spef_wire.specs.declared.refusal.Refusal.TheVariants.{UnknownNet, Section as Faulty, Reduced, Inductive, Bidirectional, NoDriver, ManyDrivers, Mismatch, Tied, NoDrive, NoLoad, Floating, Loop, NoSink, Unconstrained, TooLarge}
+use Rattle.spef_wire.specs.declared.wire.WireNet.{WireNet}
 use Rattle.vg_words.specs.declared.ask.Mode.TheVariants.{Wire}
 use Rattle.vginsert_top.specs.Answer.{AnswersFor, IsAnswerFor, one_net, said_by, texts_of}
 use Rattle.vginsert_top.specs.Results.{Asked, Said, IsSpefFault}

@@ -11,8 +11,8 @@ use Rattle.elmore.specs.Placed.{IsPlacementOf}
 use Rattle.elmore.specs.Placements.{cost_of}
 use Rattle.elmore.specs.Trees.{node_at}
 use Rattle.elmore.specs.declared.problem.Problem.{Problem}
-use Rattle.cand_laws.specs.Candidates.{root_value}
-use Rattle.cand_laws.proofs.CoverLemmas.{root_pairs}
+use Rattle.cand_pairs.specs.Candidates.{root_value}
+use Rattle.cand_pairs.proofs.CoverLemmas.{root_pairs}
 use Rattle.lib_linear.specs.declared.repeater.Repeater.{Repeater}
 use Rattle.vg_design.specs.Designs.{Design, name_of}
 use Rattle.vg_design.specs.Parts.{cells_of, loaded}

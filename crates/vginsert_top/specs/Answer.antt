@@ -3,9 +3,9 @@ use Rattle.std.specs.Prelude.{◌≡◌, ℕ, List, [], Option, Some, None, Resu
 use Rattle.spef_file.specs.Indexes.{IsIndexOf}
 use Rattle.spef_file.specs.declared.spef_index.SpefIndex.{SpefIndex}
 use Rattle.vg_design.specs.Designs.{Design}
-use Rattle.vg_inputs.specs.Designs.{Texts, texts_of as design_of}
-use Rattle.vg_inputs.specs.declared.design_fault.DesignFault.{DesignFault}
-use Rattle.vg_inputs.specs.declared.design_fault.DesignFault.TheVariants.{Spef as SpefFaulty, Lib as LibFaulty, Ver as VerFaulty, Cons as ConsFaulty, Memory as NoRoom}
+use Rattle.design_read.specs.Designs.{Texts, texts_of as design_of}
+use Rattle.design_read.specs.declared.design_fault.DesignFault.{DesignFault}
+use Rattle.design_read.specs.declared.design_fault.DesignFault.TheVariants.{Spef as SpefFaulty, Lib as LibFaulty, Ver as VerFaulty, Cons as ConsFaulty, Memory as NoRoom}
 use Rattle.vg_scan.specs.Comments.{without_comments}
 use Rattle.vg_scan.specs.declared.comments.Comments.TheVariants.{Spef as SpefComments}
 use Rattle.vg_words.specs.declared.ask.Mode.{Mode}

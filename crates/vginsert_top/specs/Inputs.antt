@@ -12,7 +12,7 @@ use Rattle.vg_words.specs.declared.ask.Mode.{Mode}
 use Rattle.vg_words.specs.declared.ask.Mode.TheVariants.{Wire, Time, Best, Frontier, Check, Gen}
 use Rattle.vg_words.specs.declared.option.Opt.{Opt}
 use Rattle.vg_words.specs.declared.option.Opt.TheVariants.{Spef as SpefOption, Lib as LibOption, Verilog as VerilogOption, Cons as ConsOption, Cert as CertOption}
-use Rattle.vg_inputs.specs.Designs.{IsSpef, IsLib, IsModule}
+use Rattle.design_read.specs.Designs.{IsSpef, IsLib, IsModule}
 use Rattle.vginsert_top.specs.Results.{Asked, IsSpefFault, IsLibFault, IsVerFault, IsConsFault}
 use Rattle.vginsert_top.specs.declared.input.Input.{Input}
 use Rattle.vginsert_top.specs.declared.input.Input.TheVariants.{Spef, Lib, Verilog, Cons, Cert}

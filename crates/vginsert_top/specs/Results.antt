@@ -22,15 +22,15 @@ use Rattle.vg_change.specs.Taken.{taken}
 use Rattle.vg_design.specs.Nets.{names_of, IsPosedNet, IsTimedOf}
 use Rattle.vg_design.specs.Refusals.{IsFirstRefusal}
 use Rattle.vg_design.specs.declared.time.Timed.{Timed}
-use Rattle.vg_inputs.specs.Designs.{Texts, IsDesign}
+use Rattle.design_read.specs.Designs.{Texts, IsDesign}
 use Rattle.vg_retime.specs.Retimings.{Retimes, IsFirstRefusal as IsFirstOnWay}
 use Rattle.vg_scan.specs.declared.fault.LineFault.{LineFault}
 use Rattle.vg_verdict.specs.Laws.{names_in}
 use Rattle.vg_verdict.specs.Judged.{CountsEntries, IsCertificateOf, IsJudged}
-use Rattle.vg_wire.specs.Nets.{IsRefusalOf}
-use Rattle.vg_wire.specs.Wires.{IsWireOf}
-use Rattle.vg_wire.specs.declared.refusal.Refusal.{Refusal}
-use Rattle.vg_wire.specs.declared.wire.WireNet.{WireNet}
+use Rattle.spef_wire.specs.Nets.{IsRefusalOf}
+use Rattle.spef_wire.specs.Wires.{IsWireOf}
+use Rattle.spef_wire.specs.declared.refusal.Refusal.{Refusal}
+use Rattle.spef_wire.specs.declared.wire.WireNet.{WireNet}
 use Rattle.vg_report.specs.Faults.{cons_fault, lib_fault, spef_fault, ver_fault}
 use Rattle.vg_design.specs.Parts.{cells_of}
 use Rattle.vg_design.specs.declared.net_problem.NetProblem.{NetProblem}

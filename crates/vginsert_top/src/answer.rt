@@ -1,17 +1,17 @@
 //! What is said of the nets that are asked for.
 
 ghost use Rattle.std.specs.Prelude.{◌≡◌, ◌≤◌, ◌^◌, length, IfOk, IfErr};
-ghost use Rattle.vg_inputs.specs.Designs.{IsDesignOf};
+ghost use Rattle.design_read.specs.Designs.{IsDesignOf};
 ghost use Rattle.vginsert_top.specs.Answer.{IsNoDesignOf, Indexes, Tells};
 ghost use Rattle.vginsert_top.specs.Run.{status_for};
 ghost use Rattle.vginsert_top.specs.Verdicts.{worse};
 ghost use Rattle.vginsert_top.specs.declared.answer.NoAnswer.TheVariants.{Memory as out_of_memory};
 
 use crate::input::Input;
+use design_read::{DesignFault, read_design};
 use spef_file::{SpefIndex, SpefKind, SpefText, index};
 use std::alloc::Global;
 use vg_design::Design;
-use vg_inputs::{DesignFault, read_design};
 use vg_num::{Memory, Row};
 use vg_patch::Patched;
 use vg_report::{cons_fault, lib_fault, spef_fault, ver_fault};

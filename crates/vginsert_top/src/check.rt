@@ -12,12 +12,12 @@ use crate::answer::{Answer, AnswerKind, NoAnswer, design_of};
 use crate::input::Texts;
 use crate::wire::refuse;
 use spef_file::SpefText;
+use spef_wire::Refused;
 use std::alloc::Global;
 use vg_design::{Design, PosedNet, posed_net};
 use vg_num::Memory;
 use vg_scan::Name;
 use vg_verdict::{judge_text, net_names};
-use vg_wire::Refused;
 use vg_words::{Ask, Opt};
 
 /// What is said of a text as a certificate of a posed net.

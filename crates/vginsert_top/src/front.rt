@@ -11,13 +11,13 @@ use crate::answer::{Answer, AnswerKind, NoAnswer, design_of};
 use crate::input::Texts;
 use sol_arena::Arena;
 use spef_file::SpefText;
+use spef_wire::Refused;
 use std::alloc::Global;
 use vg_design::{Design, NetProblem, posed_net};
 use vg_front::frontier_in;
 use vg_num::Memory;
 use vg_report::{print_none, print_refusal, report_front};
 use vg_scan::Name;
-use vg_wire::Refused;
 use vg_words::Ask;
 
 /// Appends the frontier of a net with this problem within a cap of the cost (thousandths), if there is one, or that no good placement

@@ -3,7 +3,7 @@
 ghost use Rattle.std.specs.Prelude.{◌≡◌, ℕ, List, ◌∷◌, [], Some, IfOk};
 ghost use Rattle.elmore.specs.Best.{IsGood};
 ghost use Rattle.vg_change.specs.Changes.{IsBehind, IsFresh, nothing};
-ghost use Rattle.vg_change_nets.specs.Order.{IsOpen};
+ghost use Rattle.change_spef_laws.specs.Order.{IsOpen};
 ghost use Rattle.vg_design.specs.Designs.{net_names};
 ghost use Rattle.vg_design.specs.Nets.{IsPosedNet};
 ghost use Rattle.vg_slack.specs.Bests.{IsAnswer, IsFound};
@@ -16,6 +16,7 @@ ghost use Rattle.vginsert_top.specs.declared.answer.AnswerKind.{AnswerKind as Ki
 use crate::answer::AnswerKind;
 use crate::search::search;
 use elmore::Placement;
+use spef_wire::{Refusal, Refused};
 use std::alloc::Global;
 use vg_change::Changes;
 use vg_design::{Design, PosedNet, posed_net};
@@ -25,7 +26,6 @@ use vg_report::{count_cells, print_none, print_refusal, report_best};
 use vg_scan::Name;
 use vg_slack::{Best, Room};
 use vg_verdict::{certified, net_names};
-use vg_wire::{Refusal, Refused};
 
 /// What is said of the best placements of nets, one after another, and what changes in their design when the cells are put in.
 #[derive(Drop)]

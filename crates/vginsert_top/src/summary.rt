@@ -2,7 +2,7 @@
 
 ghost use Rattle.std.specs.Prelude.{◌≡◌, ℕ, List, ◌++◌, ◌≤◌, OnOk, IfOk, IfErr};
 ghost use Rattle.vg_design.specs.Nets.{IsRefused};
-ghost use Rattle.vg_inputs.specs.Designs.{IsDesign};
+ghost use Rattle.design_read.specs.Designs.{IsDesign};
 ghost use Rattle.vg_words.specs.declared.ask.Mode.{Mode};
 ghost use Rattle.vginsert_top.specs.Answer.{AnswersFor, IsNoDesign, design_texts};
 ghost use Rattle.vginsert_top.specs.Inputs.{made_up};
@@ -16,6 +16,7 @@ use crate::search::search;
 use crate::wire::refuse;
 use elmore::Problem;
 use spef_file::SpefText;
+use spef_wire::Refused;
 use std::alloc::Global;
 use vg_design::{Design, PosedNet, Timed, posed_net, time_net};
 use vg_gen::{Generated, generate};
@@ -24,7 +25,6 @@ use vg_report::{count_cells, push};
 use vg_scan::Name;
 use vg_slack::{Best, Room};
 use vg_verdict::summed_up;
-use vg_wire::Refused;
 
 /// The name of the net of a made-up design.
 const NET: &[u8] = b"g";

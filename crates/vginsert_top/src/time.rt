@@ -10,13 +10,13 @@ ghost use Rattle.vg_words.specs.declared.ask.Mode.{Mode};
 use crate::answer::{Answer, AnswerKind, NoAnswer, design_of};
 use crate::input::Texts;
 use spef_file::SpefText;
+use spef_wire::Refused;
 use std::alloc::Global;
 use vg_design::Design;
 use vg_num::Memory;
 use vg_report::{print_refusal, report_timed};
 use vg_retime::retime;
 use vg_scan::Name;
-use vg_wire::Refused;
 use vg_words::Ask;
 
 /// Appends what is said of the slack of the net of this name in a design, through the cells that were put in, whose names begin with

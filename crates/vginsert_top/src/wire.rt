@@ -7,11 +7,11 @@ ghost use Rattle.vg_report.specs.Reports.{refusal_line};
 
 use crate::answer::{Answer, AnswerKind, NoAnswer, index_of};
 use spef_file::SpefText;
+use spef_wire::{Refusal, Refused, wire_net};
 use std::alloc::Global;
 use vg_num::Memory;
 use vg_report::{print_refusal, report_wire};
 use vg_scan::Name;
-use vg_wire::{Refusal, Refused, wire_net};
 
 /// The answer that refuses a net.
 pub fn refuse(alloc: Global, name: &[u8], refusal: &Refusal) -> Result<Answer, Memory>

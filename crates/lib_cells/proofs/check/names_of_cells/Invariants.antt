@@ -1,5 +1,5 @@
 use Rattle.std.proofs.Common.{◌≡◌, fold, map}
-use Rattle.vg_names.specs.Distinct.{with_name}
+use Rattle.name_tables.specs.Distinct.{with_name}
 use Rattle.lib_cells.specs.Cells.{name_of}
 use Rattle.lib_cells.specs.FirstFlaws.{first_of}
 use Rattle.lib_cells.specs.Flaws.{twice_flaws}

@@ -1,5 +1,5 @@
 use Rattle.std.proofs.Common.{◌≡◌, fold}
-use Rattle.vg_names.specs.Distinct.{with_name}
+use Rattle.name_tables.specs.Distinct.{with_name}
 use Rattle.lib_cells.proofs.related_pins.add_related.Given as goal
 
 abbrev pub invariant-word : goal.invariant-word

@@ -1,5 +1,5 @@
 use Rattle.std.proofs.Common.{◌≡◌, flat_map, fold}
-use Rattle.vg_names.specs.Distinct.{with_name}
+use Rattle.name_tables.specs.Distinct.{with_name}
 use Rattle.lib_cells.specs.Cells.{related_in}
 use Rattle.lib_cells.proofs.related_pins.related_of.Given as goal
 

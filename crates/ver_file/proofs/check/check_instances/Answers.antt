@@ -1,5 +1,5 @@
 use Rattle.std.proofs.Common.{◌≡◌, ◌∷◌, flat_map, fold, map, sym, ap, ◌∙◌}
-use Rattle.vg_names.specs.Distinct.{with_name}
+use Rattle.name_tables.specs.Distinct.{with_name}
 use Rattle.ver_file.specs.Firsts.{first_of, named_by}
 use Rattle.ver_file.specs.Flaws.{connection_flaws, named, repeated}
 use Rattle.ver_items.specs.Sections.{Section, instances_in}

@@ -1,5 +1,5 @@
 use Rattle.std.proofs.Common.{nat_eq, sym, ap, ◌∙◌}
-use Rattle.vg_names.specs.Distinct.{number_in}
+use Rattle.name_tables.specs.Distinct.{number_in}
 use Rattle.ver_file.specs.Firsts.{first_of, named_at}
 use Rattle.ver_file.specs.Flaws.{unless}
 use Rattle.ver_items.specs.Sections.{name_at}

@@ -1,7 +1,7 @@
 use Rattle.std.proofs.Common.{◌≡◌, ◌++◌, take}
 use Rattle.std.specs.List.{flat_map}
 use Rattle.vg_split.specs.Splits.{forest, head, net_of}
-use Rattle.vg_stages.specs.Stages.{members}
+use Rattle.vg_split.specs.Stages.{members}
 use Rattle.vg_change.specs.Placed.{rewires_at}
 use Rattle.vg_change.specs.Steps.{placed_by}
 use Rattle.vg_change.proofs.rewires.push_rewires_in.Given as goal

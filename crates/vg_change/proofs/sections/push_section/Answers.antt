@@ -1,5 +1,5 @@
 use Rattle.std.proofs.Common.{ℕ, ◌++◌, List, ap, ◌∙◌, arith, Vec, Global}
-use Rattle.vg_written.specs.Sections.{section_text}
+use Rattle.spef_write.specs.Sections.{section_text}
 use Rattle.vg_change.proofs.SectionLemmas.{stages_more}
 use Rattle.vg_change.proofs.sections.push_section.Goals as goal
 use Rattle.vg_change.proofs.sections.push_section.Goals.{then-stage-gt0+in_ok-push, else-stage-gt0}

@@ -2,7 +2,7 @@ use Rattle.std.proofs.Common.{◌+◌, Bool, List, arith, refl, subst}
 use Rattle.std.specs.List.{AllPairs}
 use Rattle.elmore.specs.Pairs.{IsBelow}
 use Rattle.elmore.specs.declared.pair.Pair.{Pair}
-use Rattle.cand_laws.specs.Parts.{list_of}
+use Rattle.cand_pairs.specs.Parts.{list_of}
 use Rattle.vg_cert.specs.Fits.{list_of as entries_of, lists_in}
 use Rattle.vg_check.specs.Parts.{IsPart}
 use Rattle.vg_check.proofs.ClimbLemmas.{dead_covered, live_covered}

@@ -1,5 +1,5 @@
 use Rattle.std.proofs.Common.{◌≡◌, ◌+◌, [], ◌∷◌, ◌++◌, length, arith, refl, rules, sym, subst}
-use Rattle.cand_laws.specs.Candidates.{IsCoveredAt, IsLive, of_lists}
+use Rattle.cand_pairs.specs.Candidates.{IsCoveredAt, IsLive, of_lists}
 use Rattle.vg_cert.specs.Fits.{lists_in}
 use Rattle.vg_check.specs.Parts.{AreCoveredFrom, AreParts}
 use Rattle.vg_check.proofs.ClimbLemmas.{longer, none_covered, one_covered}

@@ -1,5 +1,5 @@
 use Rattle.std.proofs.Common.{◌≡◌, ◌<◌, ℕ, length}
-use Rattle.cand_laws.specs.Candidates.{NodeLists}
+use Rattle.cand_pairs.specs.Candidates.{NodeLists}
 use Rattle.vg_check.specs.Parts.{IsPart, part_at}
 use Rattle.vg_check.proofs.climb.start.Given as goal
 

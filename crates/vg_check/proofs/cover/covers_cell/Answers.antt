@@ -1,6 +1,6 @@
 use Rattle.std.proofs.Common.{◌∙◌, refl, sym, true, false}
 use Rattle.std.proofs.lemmas.Bool.{false≢true}
-use Rattle.cand_laws.specs.Parts.{list_of}
+use Rattle.cand_pairs.specs.Parts.{list_of}
 use Rattle.vg_cert.specs.Fits.{list_of as entries_of}
 use Rattle.vg_check.proofs.CoverLemmas.{both_classes}
 use Rattle.vg_check.proofs.cover.covers_cell.Goals as goal

@@ -1,4 +1,4 @@
-use Rattle.cand_laws.specs.Parts.{list_of}
+use Rattle.cand_pairs.specs.Parts.{list_of}
 use Rattle.vg_cert.specs.Fits.{list_of as entries_of}
 use Rattle.vg_check.proofs.CoverLemmas.{CoversBefore}
 use Rattle.vg_check.proofs.cover.covers_cells.Given as goal

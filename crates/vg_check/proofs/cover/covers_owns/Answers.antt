@@ -1,6 +1,6 @@
 use Rattle.std.proofs.Common.{◌∙◌, refl, sym}
 use Rattle.std.proofs.lemmas.Bool.{false≢true}
-use Rattle.cand_laws.specs.Parts.{list_of}
+use Rattle.cand_pairs.specs.Parts.{list_of}
 use Rattle.vg_cert.specs.Fits.{list_of as entries_of}
 use Rattle.vg_check.proofs.CoverLemmas.{owns_bare, owns_cells, owns_from}
 use Rattle.vg_check.proofs.cover.covers_owns.Goals as goal

@@ -1,7 +1,7 @@
 use Rattle.std.proofs.Common.{subst}
 use Rattle.std.specs.Prelude.{MatchOption}
-use Rattle.cand_laws.specs.Candidates.{IsCover, of_lists}
-use Rattle.cand_laws.proofs.CertificateLemmas.{valid_shows}
+use Rattle.cand_pairs.specs.Candidates.{IsCover, of_lists}
+use Rattle.cand_pairs.proofs.CertificateLemmas.{valid_shows}
 use Rattle.vg_cert.specs.Fits.{lists_of}
 use Rattle.vg_check.specs.Verdicts.{IsFault, IsLastUncovered, IsPlacementSound}
 use Rattle.vg_check.specs.declared.verdict.Verdict.TheVariants.{Uncovered}

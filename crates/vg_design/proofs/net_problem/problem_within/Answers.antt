@@ -2,7 +2,7 @@ use Rattle.std.proofs.Common.{◌≡◌, ◌<◌, ◌≤◌, List, length, is_so
 use Rattle.std.specs.List.{All, list_any}
 use Rattle.elmore.specs.Problems.{AreRising, is_sink}
 use Rattle.spef_net.specs.declared.net.ParNet.{ParNet}
-use Rattle.vg_wire.specs.Refusals.{most_capacitors}
+use Rattle.spef_wire.specs.Refusals.{most_capacitors}
 use Rattle.vg_design.specs.Parts.{allowed_in, free_of, sinks_of}
 use Rattle.vg_design.proofs.PartLemmas.{allowed_each, free_each, made_is, order_within, root_conn, root_not_free, sink_not_free, sinks_each, some_sink}
 use Rattle.vg_design.proofs.net_problem.problem_within.Goals as goal

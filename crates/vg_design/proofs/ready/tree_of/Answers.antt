@@ -1,6 +1,6 @@
 use Rattle.std.proofs.Common.{subst, ◌≡◌, true}
 use Rattle.std.specs.List.{list_any}
-use Rattle.vg_wire.specs.Refusals.{is_sink}
+use Rattle.spef_wire.specs.Refusals.{is_sink}
 use Rattle.vg_design.specs.declared.pins.PinnedNet.{PinnedNet}
 use Rattle.vg_design.proofs.ReadyLemmas.{sink_there}
 use Rattle.vg_design.proofs.ready.tree_of.Goals as goal

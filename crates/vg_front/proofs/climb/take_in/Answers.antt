@@ -1,7 +1,7 @@
 use Rattle.std.proofs.Common.{◌+◌, [], ◌++◌, subst}
 use Rattle.elmore.specs.Trees.{parent_of}
 use Rattle.sol_arena.specs.Arenas.{slots_of, made_of}
-use Rattle.cand_laws.proofs.TurnLemmas.{part_is_dead, part_load}
+use Rattle.cand_pairs.proofs.TurnLemmas.{part_is_dead, part_load}
 use Rattle.vg_front.specs.Branches.{list_of, all_of}
 use Rattle.vg_front.specs.Held.{IsGiven}
 use Rattle.vg_front.specs.Parts.{held_in, IsPart}

@@ -1,9 +1,9 @@
 use Rattle.std.proofs.Common.{◌≡◌, true, false, List, sym, ◌∙◌, subst}
 use Rattle.sol_arena.specs.Arenas.{slots_of, made_of}
-use Rattle.cand_laws.specs.Priced.{IsPricedPart, IsPricedAt}
-use Rattle.cand_laws.specs.Solutions.{IsSolutionOf}
-use Rattle.cand_laws.proofs.CoverLemmas.{root_live}
-use Rattle.cand_laws.proofs.TurnLemmas.{part_is_dead}
+use Rattle.cand_pairs.specs.Priced.{IsPricedPart, IsPricedAt}
+use Rattle.cand_pairs.specs.Solutions.{IsSolutionOf}
+use Rattle.cand_pairs.proofs.CoverLemmas.{root_live}
+use Rattle.cand_pairs.proofs.TurnLemmas.{part_is_dead}
 use Rattle.vg_front.specs.Branches.{list_of}
 use Rattle.vg_front.specs.Fronts.{In, AreSolved, IsOpenAt, IsClosedAt}
 use Rattle.vg_front.specs.Held.{AreHeld, AreBounded}

@@ -3,7 +3,7 @@ use Rattle.std.specs.List.{range_with_len}
 use Rattle.std.proofs.lemmas.List.FromFn.{map-range_with_len_more}
 use Rattle.elmore.specs.Trees.{IsTree, IsWithinLimits}
 use Rattle.elmore.specs.declared.tree.Node.{Node}
-use Rattle.vg_cut.specs.Walks.{late_at}
+use Rattle.cut_laws.specs.Walks.{late_at}
 use Rattle.vg_retime.specs.Steps.{signal_of}
 use Rattle.vg_retime.specs.WalkNets.{WalkNet, timed}
 use Rattle.vg_retime.proofs.SignalLemmas.{late_made}

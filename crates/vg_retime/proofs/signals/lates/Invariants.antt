@@ -1,6 +1,6 @@
 use Rattle.std.proofs.Common.{◌≡◌, map}
 use Rattle.std.specs.List.{range_with_len}
-use Rattle.vg_cut.specs.Walks.{late_at}
+use Rattle.cut_laws.specs.Walks.{late_at}
 use Rattle.vg_retime.specs.Steps.{signal_of}
 use Rattle.vg_retime.specs.WalkNets.{timed}
 use Rattle.vg_retime.proofs.signals.lates.Given as goal

@@ -3,7 +3,7 @@ use Rattle.std.specs.Prelude.{IfSome}
 use Rattle.std.specs.List.{filter_map, range_with_len}
 use Rattle.std.proofs.lemmas.List.{append-nil}
 use Rattle.elmore.specs.Problems.{IsSmall}
-use Rattle.vg_cut.specs.Walks.{end_at, late_at}
+use Rattle.cut_laws.specs.Walks.{end_at, late_at}
 use Rattle.vg_retime.specs.Steps.{IsSizedEnd}
 use Rattle.vg_retime.specs.Times.{left_by, IsLeastOf, IsTime}
 use Rattle.vg_retime.specs.WalkNets.{WalkNet, timed, walk_end}

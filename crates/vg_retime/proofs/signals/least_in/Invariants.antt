@@ -1,7 +1,7 @@
 use Rattle.std.proofs.Common.{◌≡◌, ℤ, ◌++◌, List}
 use Rattle.std.specs.Prelude.{IfSome}
 use Rattle.std.specs.List.{filter_map, range_with_len}
-use Rattle.vg_cut.specs.Walks.{Signal, end_at, late_at}
+use Rattle.cut_laws.specs.Walks.{Signal, end_at, late_at}
 use Rattle.vg_retime.specs.Times.{lates_in, left_by, IsLeastOf, IsTime}
 use Rattle.vg_retime.specs.WalkNets.{timed}
 use Rattle.vg_retime.proofs.signals.least_in.Given as goal

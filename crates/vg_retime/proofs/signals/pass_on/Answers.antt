@@ -1,6 +1,6 @@
 use Rattle.std.proofs.Common.{◌≡◌, ◌<◌, ◌++◌, map, length, Vec, Global, sym, ap, ◌∙◌, arith, ℕ}
 use Rattle.std.specs.List.{filter_map, range_with_len}
-use Rattle.vg_cut.specs.Walks.{end_at, passed}
+use Rattle.cut_laws.specs.Walks.{end_at, passed}
 use Rattle.vg_retime.specs.Steps.{signal_of}
 use Rattle.vg_retime.specs.WalkNets.{WalkNet, timed}
 use Rattle.vg_retime.specs.declared.signals.Signal.{Signal as SignalHere}

@@ -1,6 +1,6 @@
 use Rattle.std.proofs.Common.{◌≡◌, ℕ, ◌<◌, false}
 use Rattle.elmore.specs.Delay.{is_odd}
-use Rattle.vg_cut.specs.Walks.{end_at}
+use Rattle.cut_laws.specs.Walks.{end_at}
 use Rattle.vg_retime.specs.Ways.{is_wrong}
 use Rattle.vg_retime.specs.WalkNets.{timed}
 use Rattle.vg_retime.proofs.signals.wrong_in.Given as goal

@@ -4,7 +4,7 @@ use Rattle.std.specs.Int.{w128}
 use Rattle.std.specs.Prelude.{MatchOption}
 use mir.Val.{SFits}
 use Rattle.elmore.specs.declared.placement.Placement.{Placement}
-use Rattle.cand_laws.proofs.TurnLemmas.{root_none}
+use Rattle.cand_pairs.proofs.TurnLemmas.{root_none}
 use Rattle.cand_uses.specs.Pairs.{pairs_of}
 use Rattle.vg_slack.specs.declared.root.Choice.{Choice}
 use Rattle.vg_slack.specs.Roots.{IsChoice}

@@ -1,7 +1,7 @@
 use Rattle.std.proofs.Common.{[], ◌≡◌, true, false, sym, ◌∙◌, subst}
 use Rattle.sol_arena.specs.Arenas.{made_of}
-use Rattle.cand_laws.proofs.CoverLemmas.{root_live}
-use Rattle.cand_laws.proofs.TurnLemmas.{part_is_dead}
+use Rattle.cand_pairs.proofs.CoverLemmas.{root_live}
+use Rattle.cand_pairs.proofs.TurnLemmas.{part_is_dead}
 use Rattle.cand_pool.specs.Pools.{items_of}
 use Rattle.cand_turns.specs.Swaps.{search, IsSwap}
 use Rattle.cand_turns.specs.Branches.{lists_of}

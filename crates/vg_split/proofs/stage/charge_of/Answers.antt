@@ -3,7 +3,7 @@ use Rattle.std.specs.List.{sum_by}
 use Rattle.std.proofs.Math.Seq.{take-length}
 use Rattle.vg_split.specs.Conditions.{IsSplit}
 use Rattle.vg_split.specs.Splits.{cap_in, forest, head}
-use Rattle.vg_stages.specs.Stages.{members}
+use Rattle.vg_split.specs.Stages.{members}
 use Rattle.vg_split.proofs.ChargeLemmas.{few_summed, one_summed, own_sum}
 use Rattle.vg_split.proofs.stage.charge_of.Goals as goal
 

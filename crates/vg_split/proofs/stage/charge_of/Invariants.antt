@@ -1,7 +1,7 @@
 use Rattle.std.proofs.Common.{◌≡◌, take}
 use Rattle.std.specs.Prelude.{sum_by}
 use Rattle.vg_split.specs.Splits.{cap_in, forest, head}
-use Rattle.vg_stages.specs.Stages.{members}
+use Rattle.vg_split.specs.Stages.{members}
 use Rattle.vg_split.proofs.stage.charge_of.Given as goal
 
 abbrev pub invariant-node : goal.invariant-node

@@ -4,8 +4,8 @@ use Rattle.spef_net.specs.declared.net.ParConn.{ParConn}
 use Rattle.vg_split.specs.Splits.{forest, head, is_end}
 use Rattle.vg_split.specs.Steps.{AreConns, AreNumbered, ends_to, row_in}
 use Rattle.vg_split.specs.declared.scratch.Scratch.{Scratch}
-use Rattle.vg_stages.specs.Stages.{members}
-use Rattle.vg_written.specs.Printed.{PrintedNode}
+use Rattle.vg_split.specs.Stages.{members}
+use Rattle.spef_write.specs.Printed.{PrintedNode}
 use Rattle.vg_split.proofs.ConnLemmas.{conns_more}
 use Rattle.vg_split.proofs.MemberLemmas.{few_members, members_rise}
 use Rattle.vg_split.proofs.NumberedLemmas.{before_differ, kept_few, kept_more, kept_same, numbered_more}

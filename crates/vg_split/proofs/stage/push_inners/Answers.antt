@@ -6,8 +6,8 @@ use Rattle.vg_split.specs.Conditions.{IsSplit}
 use Rattle.vg_split.specs.Splits.{forest, head, is_end, ends_in, net_of}
 use Rattle.vg_split.specs.Steps.{AreNumbered, inner_row, inner_to}
 use Rattle.vg_split.specs.declared.scratch.Scratch.{Scratch}
-use Rattle.vg_stages.specs.Stages.{members}
-use Rattle.vg_written.specs.Printed.{PrintedNode}
+use Rattle.vg_split.specs.Stages.{members}
+use Rattle.spef_write.specs.Printed.{PrintedNode}
 use Rattle.vg_split.proofs.MemberLemmas.{few_members, members_rise}
 use Rattle.vg_split.proofs.NumberedLemmas.{before_differ, filter_few, kept_few, kept_more, kept_same, numbered_more, passing_differ}
 use Rattle.vg_split.proofs.SoundLemmas.{named_net}

@@ -3,7 +3,7 @@ use Rattle.std.specs.List.{AllPass}
 use Rattle.std.proofs.lemmas.List.Elements.{All-get_or}
 use Rattle.spef_net.specs.Nets.{IsNamed}
 use Rattle.vg_scan.specs.Printed.{is_solid, IsPrintable}
-use Rattle.vg_written.specs.Sections.{NO_NODE}
+use Rattle.spef_write.specs.Sections.{NO_NODE}
 use Rattle.vg_split.specs.Splits.{Split as SplitSpec}
 use Rattle.vg_split.proofs.stage.push_old.Goals as goal
 

@@ -2,7 +2,7 @@ use Rattle.std.proofs.Common.{◌≡◌, ℕ, ◌+◌, ◌<◌, List, [], ◌∷
 use Rattle.std.proofs.lemmas.List.{get_or-drop, length-drop, map-append, take_more}
 use Rattle.elmore.specs.Trees.{parent_of}
 use Rattle.vg_split.specs.Splits.{forest, head, res_in}
-use Rattle.vg_stages.specs.Stages.{members}
+use Rattle.vg_split.specs.Stages.{members}
 use Rattle.vg_split.proofs.PlaceLemmas.{member_at, parent_member, placed}
 use Rattle.vg_split.proofs.stage.push_ress.Goals as goal
 

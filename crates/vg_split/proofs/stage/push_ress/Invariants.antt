@@ -1,6 +1,6 @@
 use Rattle.std.proofs.Common.{◌≡◌, drop, map, take}
 use Rattle.vg_split.specs.Splits.{forest, head, res_in}
-use Rattle.vg_stages.specs.Stages.{members}
+use Rattle.vg_split.specs.Stages.{members}
 use Rattle.vg_split.proofs.stage.push_ress.Given as goal
 
 abbrev pub invariant-node : goal.invariant-node

@@ -1,7 +1,7 @@
 use Rattle.std.proofs.Common.{◌≡◌, ◌≤◌, ◌^◌, ℕ, List, length, ap, sym, ◌∙◌, subst, arith}
 use Rattle.std.specs.Vec.{with_items}
 use Rattle.std.proofs.lemmas.List.{with_items_is}
-use Rattle.vg_comments.specs.Kept.{FitIn}
+use Rattle.vg_patch.specs.Kept.{FitIn}
 use Rattle.vg_patch.specs.Edits.{patched}
 use Rattle.vg_scan.specs.declared.comments.Comments.TheVariants.{Spef}
 use Rattle.vg_scan.proofs.PieceLemmas.{length-without}

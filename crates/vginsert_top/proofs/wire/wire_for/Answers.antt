@@ -1,5 +1,5 @@
 use Rattle.std.proofs.Common.{[], subst, ℕ, List}
-use Rattle.vg_wire.specs.Nets.{IsRefusalOf}
+use Rattle.spef_wire.specs.Nets.{IsRefusalOf}
 use Rattle.vginsert_top.proofs.AnswerLemmas.{refused_answer}
 use Rattle.vginsert_top.proofs.wire.wire_for.Goals as goal
 

@@ -2,8 +2,8 @@ use Rattle.std.proofs.Common.{◌≤◌, ◌+◌, ◌∷◌, [], true, false, le
 use Rattle.std.proofs.lemmas.Bool.{cases_Bool}
 use Rattle.elmore.specs.Trees.{parent_of}
 use Rattle.sol_arena.specs.Arenas.{slots_of, made_of}
-use Rattle.cand_laws.specs.Merging.{Meets, fork_from}
-use Rattle.cand_laws.specs.Solutions.{IsOpenSolutionOf}
+use Rattle.cand_pairs.specs.Merging.{Meets, fork_from}
+use Rattle.cand_pairs.specs.Solutions.{IsOpenSolutionOf}
 use Rattle.cand_pool.specs.Candidates.{Candidates}
 use Rattle.cand_pool.specs.Pools.{items_of}
 use Rattle.cand_uses.specs.Pairs.{pairs_of}

@@ -4,7 +4,7 @@ use Rattle.cand_pool.specs.Candidates.{loaded}
 use Rattle.cand_turns.specs.Swaps.{at_slots, AreHeld, IsTurn}
 use Rattle.cand_turns.specs.Branches.{classes_in, lists_of}
 use Rattle.cand_turns.specs.Parts.{IsPart, lists_in}
-use Rattle.cand_laws.proofs.JoinLemmas.{parent_within}
+use Rattle.cand_pairs.proofs.JoinLemmas.{parent_within}
 use Rattle.cand_turns.proofs.PartLemmas.{dead_dead, dead_sum, dead_live, open_at_modest, open_at_as}
 use Rattle.cand_turns.proofs.part.Part.take_dead.Goals as goal
 

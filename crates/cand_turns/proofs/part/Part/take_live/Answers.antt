@@ -2,7 +2,7 @@ use Rattle.std.proofs.Common.{◌≡◌, ℕ, ◌+◌, ◌++◌, [], map, subst,
 use Rattle.std.proofs.lemmas.List.Sorted.{IsPermutation-append_comm}
 use Rattle.elmore.specs.Trees.{parent_of}
 use Rattle.sol_arena.specs.Arenas.{made_of}
-use Rattle.cand_laws.proofs.JoinLemmas.{parent_within}
+use Rattle.cand_pairs.proofs.JoinLemmas.{parent_within}
 use Rattle.cand_pool.specs.Candidates.{loaded}
 use Rattle.cand_turns.specs.Swaps.{search, AreHeld, IsTurn, IsSwap}
 use Rattle.cand_turns.specs.Branches.{classes_in, lists_of}

@@ -1,6 +1,6 @@
 use Rattle.std.proofs.Common.{◌≡◌, false, ◌∙◌, sym, ap, ap₂, arith, not, is_some, length, length-append, ◌++◌, ◌∷◌, [], List, ℕ}
 use Rattle.std.specs.List.{zip}
-use Rattle.vg_names.specs.Distinct.{number_of}
+use Rattle.name_tables.specs.Distinct.{number_of}
 use Rattle.spef_file.specs.Rows.{is_mapped}
 use Rattle.spef_file.proofs.ZipLemmas.{mapped_any, length_of, zip_more, key_more}
 use Rattle.spef_file.proofs.name_map.NameMap.add.Goals as goal

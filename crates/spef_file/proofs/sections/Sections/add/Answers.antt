@@ -1,7 +1,7 @@
 use Rattle.std.proofs.Common.{◌≡◌, false, ◌∙◌, sym, ap, ap₂, arith, not, is_some, length, length-append, ◌++◌, ◌∷◌, [], List}
 use Rattle.std.specs.List.{zip, list_any}
 use Rattle.std.specs.Str.{bytes_eq}
-use Rattle.vg_names.specs.Distinct.{number_of}
+use Rattle.name_tables.specs.Distinct.{number_of}
 use Rattle.spef_file.specs.Tables.{NetRow, is_section}
 use Rattle.spef_file.proofs.TableLemmas.{position_any}
 use Rattle.spef_file.proofs.ZipLemmas.{keys_of, length_of, zip_more, key_more}

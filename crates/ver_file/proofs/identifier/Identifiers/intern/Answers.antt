@@ -1,7 +1,7 @@
 use Rattle.std.proofs.Common.{[], length, List, ℕ, refl, sym, ap, ◌∙◌, subst, get_or, ◌<◌}
 use Rattle.std.specs.List.{list_any}
 use Rattle.std.specs.Str.{bytes_eq}
-use Rattle.vg_names.specs.Distinct.{number_in, with_name}
+use Rattle.name_tables.specs.Distinct.{number_in, with_name}
 use Rattle.ver_module.proofs.NameLemmas.{none_before, numbered, one_before, with_new, with_old}
 use Rattle.ver_file.proofs.ReadLemmas.{same_count, read_new, read_old}
 use Rattle.ver_file.proofs.SaidLemmas.{number_stays}

@@ -1,5 +1,5 @@
 use Rattle.std.proofs.Common.{sym, ap, ◌∙◌}
-use Rattle.vg_names.specs.Distinct.{number_of}
+use Rattle.name_tables.specs.Distinct.{number_of}
 use Rattle.ver_items.specs.Declarations.{declared_of, range_in}
 use Rattle.ver_items.specs.Sections.{name_at}
 use Rattle.ver_file.specs.Said.{range_said}

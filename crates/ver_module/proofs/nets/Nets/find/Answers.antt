@@ -1,7 +1,7 @@
 use Rattle.std.proofs.Common.{◌<◌, [], Some, length, map, sym, ap, ◌∙◌, arith}
 use Rattle.std.proofs.lemmas.Option.{slice_get-get_or}
-use Rattle.vg_names.specs.Distinct.{number_of}
-use Rattle.vg_names.proofs.NameTableLemmas.{absent_of, known_of}
+use Rattle.name_tables.specs.Distinct.{number_of}
+use Rattle.name_tables.proofs.NameTableLemmas.{absent_of, known_of}
 use Rattle.ver_module.proofs.NetLemmas.{before, none_named, number_is}
 use Rattle.ver_module.proofs.nets.Nets.find.Goals as goal
 

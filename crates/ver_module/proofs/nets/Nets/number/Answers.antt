@@ -1,6 +1,6 @@
 use Rattle.std.proofs.Common.{◌≡◌, length, map, sym, ap, ◌∙◌, rules}
 use Rattle.std.proofs.lemmas.List.{length-map}
-use Rattle.vg_names.proofs.NameTableLemmas.{absent_of, no_place}
+use Rattle.name_tables.proofs.NameTableLemmas.{absent_of, no_place}
 use Rattle.ver_module.proofs.NetLemmas.{count_nets}
 use Rattle.ver_module.proofs.nets.Nets.number.Goals as goal
 

@@ -1,5 +1,5 @@
 use Rattle.std.proofs.Common.{refl}
-use Rattle.vg_grammar.proofs.WayLemmas.{left_start}
+use Rattle.grammar_laws.proofs.WayLemmas.{left_start}
 use Rattle.ver_syntax.specs.Grammar.{rules, module_declaration}
 use Rattle.ver_syntax.proofs.MoveLemmas.{machine}
 use Rattle.ver_syntax.proofs.machine.Machine.new.Goals as goal

@@ -4,8 +4,8 @@ use Rattle.elmore.specs.Legal.{IsPlaced}
 use Rattle.elmore.specs.Placements.{IsPlacement}
 use Rattle.spef_net.specs.declared.net.ParNet.{ParNet}
 use Rattle.vg_split.specs.Conditions.{IsSplit}
-use Rattle.vg_written.specs.Charges.{AreSums}
-use Rattle.vg_written.specs.Sections.{total}
+use Rattle.spef_write.specs.Charges.{AreSums}
+use Rattle.spef_write.specs.Sections.{total}
 use Rattle.vg_change.specs.Changes.{Changes as ChangesSpec, IsChange, IsSectionNamed}
 use Rattle.vg_change.specs.Placed.{keeper_of}
 use Rattle.vg_change.proofs.PosedLemmas.{is_split, keeper_found, small_charge}

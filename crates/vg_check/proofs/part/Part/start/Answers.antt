@@ -1,5 +1,5 @@
 use Rattle.std.proofs.Common.{sym, ◌∙◌}
-use Rattle.cand_laws.specs.Parts.{list_of}
+use Rattle.cand_pairs.specs.Parts.{list_of}
 use Rattle.vg_check.proofs.PartLemmas.{sink_starts}
 use Rattle.vg_check.proofs.part.Part.start.Goals as goal
 

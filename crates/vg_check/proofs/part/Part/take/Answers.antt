@@ -1,7 +1,7 @@
 use Rattle.std.proofs.Common.{◌+◌, subst}
-use Rattle.cand_laws.specs.Candidates.{of_lists}
-use Rattle.cand_laws.specs.Parts.{list_of}
-use Rattle.cand_laws.proofs.TurnLemmas.{part_is_dead, part_is_live, part_load}
+use Rattle.cand_pairs.specs.Candidates.{of_lists}
+use Rattle.cand_pairs.specs.Parts.{list_of}
+use Rattle.cand_pairs.proofs.TurnLemmas.{part_is_dead, part_is_live, part_load}
 use Rattle.vg_cert.specs.Fits.{lists_in}
 use Rattle.vg_check.specs.Parts.{IsPart}
 use Rattle.vg_check.proofs.part.Part.take.Goals as goal

@@ -1,7 +1,7 @@
 use Rattle.std.proofs.Common.{◌+◌, ◌≤◌, ◌^◌, subst, rules}
 use Rattle.elmore.specs.Trees.{parent_of}
-use Rattle.cand_laws.specs.Parts.{list_of}
-use Rattle.cand_laws.proofs.JoinLemmas.{parent_within}
+use Rattle.cand_pairs.specs.Parts.{list_of}
+use Rattle.cand_pairs.proofs.JoinLemmas.{parent_within}
 use Rattle.vg_check.specs.Parts.{IsPart}
 use Rattle.vg_check.proofs.PartLemmas.{dead_load_small, live_takes_dead, part_worked, sum_small, takes_dead}
 use Rattle.vg_check.proofs.part.Part.take_dead.Goals as goal

@@ -1,8 +1,8 @@
 use Rattle.std.proofs.Common.{◌+◌, Bool, List, arith, subst}
 use Rattle.elmore.specs.Trees.{parent_of}
 use Rattle.elmore.specs.declared.pair.Pair.{Pair}
-use Rattle.cand_laws.specs.Parts.{list_of}
-use Rattle.cand_laws.proofs.JoinLemmas.{parent_within}
+use Rattle.cand_pairs.specs.Parts.{list_of}
+use Rattle.cand_pairs.proofs.JoinLemmas.{parent_within}
 use Rattle.vg_cert.specs.Fits.{IsList, lists_in}
 use Rattle.vg_check.specs.Parts.{IsPart}
 use Rattle.vg_check.proofs.PartLemmas.{above_here, above_worked, dead_small, dead_takes_live, lists_here, live_takes_live, part_worked}

@@ -1,7 +1,7 @@
 use Rattle.std.proofs.Common.{◌+◌, ◌++◌}
 use Rattle.elmore.specs.Trees.{parent_of}
 use Rattle.sol_arena.specs.Arenas.{made_of}
-use Rattle.cand_laws.proofs.JoinLemmas.{parent_within}
+use Rattle.cand_pairs.proofs.JoinLemmas.{parent_within}
 use Rattle.vg_front.specs.Branches.{list_of, all_of}
 use Rattle.vg_front.proofs.BoundLemmas.{open_bounded, carried_bounded, pruned_bounded}
 use Rattle.vg_front.proofs.GoneLemmas.{ArePruned, both_pruned, upper_same, lower_same, ups_held, lows_held, gone_for, gone_same, gone_open}

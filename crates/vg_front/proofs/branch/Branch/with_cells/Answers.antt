@@ -1,7 +1,7 @@
 use Rattle.std.proofs.Common.{false, []}
 use Rattle.sol_arena.specs.Arenas.{slots_of, made_of}
-use Rattle.cand_laws.specs.Merging.{fork_from}
-use Rattle.cand_laws.specs.Solutions.{IsOpenSolutionOf, IsSolutionOf}
+use Rattle.cand_pairs.specs.Merging.{fork_from}
+use Rattle.cand_pairs.specs.Solutions.{IsOpenSolutionOf, IsSolutionOf}
 use Rattle.vg_front.specs.Branches.{list_of, all_of}
 use Rattle.vg_front.specs.Fronts.{In, AreCells, AreSolved}
 use Rattle.vg_front.proofs.HeldLemmas.{given_then}

@@ -1,6 +1,6 @@
 use Rattle.std.proofs.Common.{◌+◌, ◌≤◌, ◌^◌, map, subst, sym, rules}
 use Rattle.elmore.specs.Trees.{parent_of}
-use Rattle.cand_laws.proofs.JoinLemmas.{parent_within}
+use Rattle.cand_pairs.proofs.JoinLemmas.{parent_within}
 use Rattle.vg_front.specs.declared.part.Part.{Part}
 use Rattle.vg_front.specs.Branches.{list_of, all_of}
 use Rattle.vg_front.specs.Held.{IsGiven, carried_by}

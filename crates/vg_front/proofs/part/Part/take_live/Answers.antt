@@ -1,7 +1,7 @@
 use Rattle.std.proofs.Common.{◌≡◌, ◌+◌, ◌++◌, [], map, subst, sym, ap, ◌∙◌, arith}
 use Rattle.elmore.specs.Trees.{parent_of, resistance}
 use Rattle.sol_arena.specs.Arenas.{slots_of, made_of}
-use Rattle.cand_laws.proofs.JoinLemmas.{parent_within}
+use Rattle.cand_pairs.proofs.JoinLemmas.{parent_within}
 use Rattle.vg_front.specs.declared.part.Part.{Part}
 use Rattle.vg_front.specs.Branches.{list_of, all_of}
 use Rattle.vg_front.specs.Held.{AreHeld, IsGiven, carried_by}

@@ -1,5 +1,5 @@
 use Rattle.std.proofs.Common.{ℕ, ◌<◌, List, length, slice_index, Vec, Global, sym, ap, subst, ◌∙◌}
-use Rattle.vg_stages.specs.Stages.{AreStages}
+use Rattle.vg_split.specs.Stages.{AreStages}
 use Rattle.vg_split.specs.Splits.{Split as SplitSpec, forest}
 use Rattle.vg_split.proofs.MemberLemmas.{members_low}
 use Rattle.vg_split.proofs.StageNumberLemmas.{stage_nodes}

@@ -1,5 +1,5 @@
 use Rattle.std.proofs.Common.{ap, subst, arith}
-use Rattle.vg_stages.specs.Stages.{AreStages}
+use Rattle.vg_split.specs.Stages.{AreStages}
 use Rattle.vg_split.specs.Conditions.{IsSplit}
 use Rattle.vg_split.specs.Splits.{Split as SplitSpec, forest}
 use Rattle.vg_split.proofs.SplitLemmas.{number_is}

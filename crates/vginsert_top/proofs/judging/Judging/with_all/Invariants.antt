@@ -1,5 +1,5 @@
 use Rattle.std.proofs.Common.{◌≡◌, take}
-use Rattle.vg_change_nets.specs.Order.{AreOpenFrom}
+use Rattle.change_spef_laws.specs.Order.{AreOpenFrom}
 use Rattle.vg_design.specs.Designs.{net_names}
 use Rattle.vginsert_top.specs.Best.{AreJudged}
 use Rattle.vginsert_top.proofs.judging.Judging.with_all.Given as goal

@@ -1,5 +1,0 @@
-use Rattle.cand_laws.proofs.CertificateLemmas.{joins_decide}
-use Rattle.cand_laws.proofs.laws.joins_decide.Goals as goal
-
-pub returns : goal.returns
-returns c = joins_decide

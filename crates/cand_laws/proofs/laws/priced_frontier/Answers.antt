@@ -1,6 +1,0 @@
-use Rattle.cand_laws.proofs.PricedFrontierLemmas.{priced_frontier}
-use Rattle.cand_laws.specs.Priced.{of_priced}
-use Rattle.cand_laws.proofs.laws.priced_frontier.Goals as goal
-
-pub returns : goal.returns
-returns c = λ p cap lists points. priced_frontier p cap (of_priced lists) points

@@ -1,6 +1,0 @@
-use Rattle.cand_laws.proofs.StepLemmas.{step_over}
-use Rattle.cand_laws.specs.Candidates.{of_lists}
-use Rattle.cand_laws.proofs.laws.step_is_monotone.Goals as goal
-
-pub returns : goal.returns
-returns c = λ p these those v odd x. step_over p (of_lists these) (of_lists those) v odd x

@@ -1,5 +1,0 @@
-use Rattle.cand_laws.proofs.RaiseLemmas.{AreRaised}
-use Rattle.cand_laws.proofs.lists.raise.Given as goal
-
-abbrev pub invariant-raise : goal.invariant-raise
-invariant-raise l = AreRaised l.more l.fn.pairs l.i l.pairs

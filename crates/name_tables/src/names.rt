@@ -1,0 +1,209 @@
+//! Names and their numbers.
+
+ghost use Rattle.std.specs.Prelude.{◌≡◌, ◌≢◌, ◌==◌, ℕ, suc, ◌+◌, ◌-◌, ◌*◌, ◌<◌, ◌≤◌, ◌^◌, ◌++◌, [], ◌∷◌, List, length, slice_index_or, vec_len, IfOk, IfSome, IfNone, OnErr, OnOk, IsTrue, ◌↔◌};
+ghost use Rattle.std.specs.Vec.{vec_capacity};
+ghost use Rattle.name_tables.specs.Distinct.{number_of, with_name, number_in};
+ghost use Rattle.name_tables.specs.HashChains.{AreHashChains};
+ghost use Rattle.name_tables.specs.Hashes.{hash_of};
+ghost use Rattle.name_tables.specs.NameTables.{AreDistinct, hashes_of, IsTable};
+
+use crate::hash::hash_of;
+use crate::hash_chains::{HashChains, Link};
+use crate::same::is_same;
+use crate::texts::Texts;
+use std::alloc::Global;
+use std::marker::Model;
+use vg_num::Memory;
+
+/// How many buckets the first name brings. Each time that there are as many names as buckets, there are twice as many.
+const FIRST_BUCKETS: usize = 32;
+
+/// The most names that room is made for at first.
+const MOST_ROOM: usize = 1 << 24;
+
+/// Distinct names, numbered from 0 in the order in which they came first. Contracts see the list of names. They stand in one
+/// buffer; a look-up hashes the name, and takes no memory.
+#[derive(Drop)]
+pub struct Names {
+    alloc: Global,
+    texts: Texts,
+    chains: HashChains,
+}
+
+impl Model for Names {
+    ghost use Rattle.std.specs.Prelude.{List, ℕ};
+    ghost use Rattle.name_tables.specs.NameTables.{IsTable};
+
+    ghost Value = { List (List ℕ) };
+
+    ghost view = { λ names. names.texts };
+
+    ghost invariant = { λ names. IsTable names.texts names.chains };
+}
+
+/// Whether a link's row has this name, of this hash.
+fn is_named(texts: &Texts, link: Link, name: &[u8], hash: u32) -> bool
+    requires row { (0 < link.next) × (link.next ≤ length texts.now) }
+    requires holds { link.hash ≡ hash_of (slice_index_or texts.now (link.next - 1) []) }
+    requires hash { hash ≡ hash_of name.now }
+    ensures { IsTrue result ↔ (slice_index_or texts.now (link.next - 1) [] ≡ name.now) }
+{
+    link.hash == hash && is_same(texts.get(link.next as usize - 1), name)
+}
+
+/// The number of a name of this hash. `None`: it is not there.
+fn row_of(texts: &Texts, chains: &HashChains, name: &[u8], hash: u32) -> Option<u32>
+    requires chained { AreHashChains chains.now (hashes_of texts.now) }
+    requires some { 0 < length chains.now.lasts.items }
+    requires hash { hash ≡ hash_of name.now }
+    ensures found { IfSome result (λ row. (row < length texts.now) × (slice_index_or texts.now row [] ≡ name.now)) }
+    ensures absent { IfNone result ((row : ℕ) → row < length texts.now → slice_index_or texts.now row [] ≢ name.now) }
+{
+    let mut link = chains.last(hash);
+    'row: while link.next != 0 {
+        if is_named(texts, link, name, hash) {
+            return Some(link.next - 1);
+        }
+        link = chains.before(link.next as usize - 1);
+    }
+    None
+}
+
+/// Texts in chains over so many buckets. Answers `Memory` where there is no room.
+fn chain(alloc: Global, texts: &Texts, buckets: usize) -> Result<HashChains, Memory>
+    requires some { 0 < buckets }
+    requires few { length texts.now < 2 ^ 32 - 1 }
+    ensures chained { IfOk result (λ chains. AreHashChains chains (hashes_of texts.now)) }
+    ensures buckets { IfOk result (λ chains. length chains.lasts.items ≡ buckets) }
+{
+    let mut chains = HashChains::new(alloc, buckets)?;
+    'text: for at in 0..texts.len() {
+        chains.push(hash_of(texts.get(at)))?;
+    }
+    Ok(chains)
+}
+
+/// Makes room for one name more. Answers `Memory` where there is none.
+fn make_room(alloc: Global, texts: &Texts, chains: &mut HashChains) -> Result<(), Memory>
+    requires table { IsTable texts.now chains.old }
+    requires few { length texts.now < 2 ^ 32 - 1 }
+    ensures table { IsTable texts.now chains.new }
+    ensures more { OnOk result (length texts.now < length chains.new.lasts.items) }
+    ensures room { OnOk result (vec_len chains.new.befores < vec_capacity chains.new.befores) }
+{
+    let count = texts.len();
+    if count == chains.buckets() {
+        let buckets = if count == 0 { FIRST_BUCKETS } else { 2 * count };
+        *chains = chain(alloc, texts, buckets)?;
+    }
+    chains.reserve()?;
+    Ok(())
+}
+
+impl Names {
+    /// No names.
+    pub fn new(alloc: Global) -> Names
+        ensures { result ≡ [] }
+    {
+        Names {
+            alloc,
+            texts: Texts::new(alloc),
+            chains: HashChains::empty(alloc),
+        }
+    }
+
+    /// No names, with room for about so many, so that they are chained once. Answers `Memory` where there is none.
+    pub fn with_room(alloc: Global, count: usize) -> Result<Names, Memory>
+        ensures { IfOk result (λ names. names ≡ []) }
+    {
+        let buckets = count.min(MOST_ROOM).next_power_of_two();
+        let chains = HashChains::new(alloc, buckets)?;
+        let texts = Texts::new(alloc);
+        Ok(Names {
+            alloc,
+            texts,
+            chains,
+        })
+    }
+
+    /// The same names once more. Answers `Memory` where there is no room.
+    pub fn copy(&self) -> Result<Names, Memory>
+        ensures { IfOk result (λ names. names ≡ self.now) }
+    {
+        let texts = self.texts.copy(self.alloc)?;
+        let chains = self.chains.copy(self.alloc)?;
+        Ok(Names {
+            alloc: self.alloc,
+            texts,
+            chains,
+        })
+    }
+
+    /// A law: no name stands twice.
+    pub fn are_distinct(&self)
+        ensures { AreDistinct self.now }
+    {
+        let _ = &self.chains;
+    }
+
+    /// How many names there are.
+    pub fn len(&self) -> usize
+        ensures { result ≡ length self.now }
+    {
+        self.texts.len()
+    }
+
+    /// Whether there is no name.
+    pub fn is_empty(&self) -> bool
+        ensures { result ≡ (length self.now == 0) }
+    {
+        self.texts.is_empty()
+    }
+
+    /// The number of a name of this hash. `None`: it is not there.
+    fn find_by_hash(&self, name: &[u8], hash: u32) -> Option<u32>
+        requires { hash ≡ hash_of name.now }
+        ensures { result ≡ number_of self.now name.now }
+    {
+        if self.chains.buckets() == 0 {
+            return None;
+        }
+        row_of(&self.texts, &self.chains, name, hash)
+    }
+
+    /// The number of a name. `None`: it is not there.
+    pub fn find(&self, name: &[u8]) -> Option<u32>
+        ensures { result ≡ number_of self.now name.now }
+    {
+        self.find_by_hash(name, hash_of(name))
+    }
+
+    /// The number of a name, which is put last where it is new. Answers `Memory` where there is no room, as where all names
+    /// would have 2^32 bytes or more.
+    pub fn intern(&mut self, name: &[u8]) -> Result<u32, Memory>
+        requires { length self.old < 2 ^ 32 - 1 }
+        ensures number { IfOk result (λ id. id ≡ number_in self.old name.now) }
+        ensures names { IfOk result (λ _. self.new ≡ with_name self.old name.now) }
+        ensures unchanged { OnErr result (self.new ≡ self.old) }
+    {
+        let hash = hash_of(name);
+        if let Some(id) = self.find_by_hash(name, hash) {
+            return Ok(id);
+        }
+        let id = self.texts.len() as u32;
+        make_room(self.alloc, &self.texts, &mut self.chains)?;
+        let Ok(()) = self.texts.push(name) else {
+            return Err(Memory);
+        };
+        self.chains.push(hash)?;
+        Ok(id)
+    }
+
+    /// The name of a number.
+    pub fn name(&self, id: u32) -> &[u8]
+        requires { id < length self.now }
+        ensures { result.now ≡ slice_index_or self.now id [] }
+    {
+        self.texts.get(id as usize)
+    }
+}

@@ -1,0 +1,5 @@
+use Rattle.retime_laws.proofs.RetimeLemmas.{placed_nets_time}
+use Rattle.retime_laws.proofs.laws.placed_nets_time.Goals as goal
+
+pub returns : goal.returns
+returns c = placed_nets_time

@@ -1,9 +1,0 @@
-pub mod StateLemmas
-pub mod SectionLemmas
-pub mod RunLemmas
-pub mod PinLemmas
-pub mod KindLemmas
-pub mod PinTokenLemmas
-pub mod FrameLemmas
-pub mod LawLemmas
-pub mod GrammarLemmas

@@ -1,3 +1,0 @@
-pub mod Declared
-pub mod Links
-pub mod Laws

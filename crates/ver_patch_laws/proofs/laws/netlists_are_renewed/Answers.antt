@@ -1,0 +1,5 @@
+use Rattle.ver_patch_laws.proofs.RenewedLemmas.{netlists_are_renewed as all_renewed}
+use Rattle.ver_patch_laws.proofs.laws.netlists_are_renewed.Goals as goal
+
+pub returns : goal.returns
+returns c = all_renewed

@@ -1,0 +1,11 @@
+pub mod Shapes
+pub mod NewNames
+pub mod InstanceLaws
+pub mod Declared
+pub mod Links
+pub mod LinkLaws
+pub mod Names
+pub mod Consistent
+pub mod Renewed
+pub mod Pins
+pub mod Laws

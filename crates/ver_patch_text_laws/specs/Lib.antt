@@ -1,0 +1,5 @@
+pub mod Words
+pub mod Texts
+pub mod NewWords
+pub mod WordLaws
+pub mod Laws

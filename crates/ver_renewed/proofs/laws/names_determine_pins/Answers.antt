@@ -1,5 +1,0 @@
-use Rattle.ver_renewed.proofs.ShapeLemmas.{pins_differ as all_differ}
-use Rattle.ver_renewed.proofs.laws.names_determine_pins.Goals as goal
-
-pub returns : goal.returns
-returns c = all_differ

@@ -1,5 +1,0 @@
-use Rattle.ver_renewed.proofs.ShapeLemmas.{pins_are_renewed as all_renewed}
-use Rattle.ver_renewed.proofs.laws.pins_are_renewed.Goals as goal
-
-pub returns : goal.returns
-returns c = all_renewed

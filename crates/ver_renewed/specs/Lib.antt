@@ -1,5 +1,0 @@
-pub mod Names
-pub mod Consistent
-pub mod Renewed
-pub mod Pins
-pub mod Laws

@@ -1,3 +1,0 @@
-pub mod Shapes
-pub mod Names
-pub mod Laws

@@ -1,9 +1,0 @@
-pub mod PieceLemmas
-pub mod PlaceLemmas
-pub mod ScanLemmas
-pub mod WordLemmas
-pub mod ReachLemmas
-pub mod OrderLemmas
-pub mod ChainLemmas
-pub mod PatchLemmas
-pub mod TextLemmas

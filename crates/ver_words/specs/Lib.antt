@@ -1,4 +1,0 @@
-pub mod Words
-pub mod Texts
-pub mod NewWords
-pub mod Laws

@@ -1,5 +1,0 @@
-use Rattle.vg_cut.proofs.CutTimeLemmas.{cut_retimes, cut_slack}
-use Rattle.vg_cut.proofs.laws.cut_nets_retime.Goals as goal
-
-pub returns : goal.returns
-returns c = λ p cells pieces is_placed cut x. (cut_retimes p cells pieces is_placed cut x, cut_slack p cells pieces is_placed cut x)

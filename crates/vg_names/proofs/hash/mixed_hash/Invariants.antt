@@ -1,6 +1,0 @@
-use Rattle.std.proofs.Common.{◌≡◌, take}
-use Rattle.vg_names.specs.Hashes.{words_hash}
-use Rattle.vg_names.proofs.hash.mixed_hash.Given as goal
-
-abbrev pub invariant-word : goal.invariant-word
-invariant-word l = l.hash ≡ words_hash (take l.word-index l.words)

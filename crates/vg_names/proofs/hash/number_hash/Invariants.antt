@@ -1,7 +1,0 @@
-use Rattle.std.proofs.Common.{◌≡◌, take}
-use Rattle.std.specs.List.{fold}
-use Rattle.vg_names.specs.Hashes.{number_with}
-use Rattle.vg_names.proofs.hash.number_hash.Given as goal
-
-abbrev pub invariant-digit : goal.invariant-digit
-invariant-digit l = l.hash ≡ fold number_with 0 (take l.digit-index l.digits)

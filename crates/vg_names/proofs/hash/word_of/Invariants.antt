@@ -1,7 +1,0 @@
-use Rattle.std.proofs.Common.{◌≡◌, take}
-use Rattle.std.specs.List.{fold}
-use Rattle.vg_names.specs.Hashes.{byte_with}
-use Rattle.vg_names.proofs.hash.word_of.Given as goal
-
-abbrev pub invariant-byte : goal.invariant-byte
-invariant-byte l = l.word ≡ fold byte_with 0 (take l.byte-index l.bytes)

@@ -1,5 +1,0 @@
-use Rattle.vg_names.proofs.NameTableLemmas.{no_table}
-use Rattle.vg_names.proofs.names.Names.new.Goals as goal
-
-pub invariant_of-result : goal.invariant_of-result
-invariant_of-result c = no_table c.new.result c.empty.result c.new.ensures c.empty.ensures.rows

@@ -1,5 +1,0 @@
-use Rattle.vg_names.proofs.NameTableLemmas.{no_table}
-use Rattle.vg_names.proofs.names.Names.with_room.Goals as goal
-
-pub invariant_of-result : goal.invariant_of-result
-invariant_of-result c = no_table c.new-texts.result c.in_ok-chains.chains c.new-texts.ensures c.in_ok-chains.ensures.rows

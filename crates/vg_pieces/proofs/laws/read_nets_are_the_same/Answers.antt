@@ -1,5 +1,0 @@
-use Rattle.vg_pieces.proofs.AgainLemmas.{read_nets_are_the_same}
-use Rattle.vg_pieces.proofs.laws.read_nets_are_the_same.Goals as goal
-
-pub returns : goal.returns
-returns c = read_nets_are_the_same

@@ -1,5 +1,0 @@
-use Rattle.vg_pieces.proofs.ReadPieceLemmas.{read_stages_have_pieces}
-use Rattle.vg_pieces.proofs.laws.read_stages_have_pieces.Goals as goal
-
-pub returns : goal.returns
-returns c = read_stages_have_pieces

@@ -1,5 +1,0 @@
-use Rattle.vg_pieces.proofs.StagePieceLemmas.{stage_nets_are_pieces}
-use Rattle.vg_pieces.proofs.laws.stage_nets_are_pieces.Goals as goal
-
-pub returns : goal.returns
-returns c = stage_nets_are_pieces

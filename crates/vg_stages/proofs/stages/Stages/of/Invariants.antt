@@ -1,6 +1,0 @@
-use Rattle.vg_cut.specs.CutNets.{forest_of}
-use Rattle.vg_stages.specs.Stages.{AreStagesTo}
-use Rattle.vg_stages.proofs.stages.Stages.of.Given as goal
-
-abbrev pub invariant-node : goal.invariant-node
-invariant-node l = AreStagesTo (forest_of l.p l.cells) l.node l.node l.stages

@@ -1,5 +1,0 @@
-use Rattle.vg_written.proofs.NodeLemmas.{node_again}
-use Rattle.vg_written.proofs.laws.nodes_again.Goals as goal
-
-pub returns : goal.returns
-returns c = λ file node some. node_again file node.owner node.leaf some

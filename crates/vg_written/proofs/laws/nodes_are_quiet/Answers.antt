@@ -1,5 +1,0 @@
-use Rattle.vg_written.proofs.QuietLemmas.{node_quiet}
-use Rattle.vg_written.proofs.laws.nodes_are_quiet.Goals as goal
-
-pub returns : goal.returns
-returns c = λ chars node. node_quiet chars node.owner node.leaf

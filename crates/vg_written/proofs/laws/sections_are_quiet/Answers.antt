@@ -1,5 +1,0 @@
-use Rattle.vg_written.proofs.ShapeLemmas.{sections_are_quiet as law}
-use Rattle.vg_written.proofs.laws.sections_are_quiet.Goals as goal
-
-pub returns : goal.returns
-returns c = law

@@ -1,7 +1,0 @@
-use Rattle.std.proofs.Common.{◌≡◌, ◌++◌, map, take}
-use Rattle.vg_written.specs.Printed.{conn_row}
-use Rattle.vg_written.specs.Texts.{lined}
-use Rattle.vg_written.proofs.write.print_conns.Given as goal
-
-abbrev pub invariant-conn : goal.invariant-conn
-invariant-conn l = l.to.items ≡ l.initial.to.items ++ lined (map (conn_row l.nodes) (take l.conn-index l.conns))

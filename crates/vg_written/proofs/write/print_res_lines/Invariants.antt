@@ -1,8 +1,0 @@
-use Rattle.std.proofs.Common.{◌≡◌, ◌++◌, take}
-use Rattle.vg_written.specs.Printed.{res_row}
-use Rattle.vg_written.specs.Sections.{numbered}
-use Rattle.vg_written.specs.Texts.{lined}
-use Rattle.vg_written.proofs.write.print_res_lines.Given as goal
-
-abbrev pub invariant-res : goal.invariant-res
-invariant-res l = l.to.items ≡ l.initial.to.items ++ lined (numbered (res_row l.header l.nodes) 1 (take l.at l.ress))

@@ -1,5 +1,0 @@
-use Rattle.vginsert_laws.proofs.CertLemmas.{certificates_are_written}
-use Rattle.vginsert_laws.proofs.laws.certificates_are_written.Goals as goal
-
-pub returns : goal.returns
-returns c = certificates_are_written

@@ -1,5 +1,0 @@
-use Rattle.vginsert_laws.proofs.CertLemmas.{valid_certificates_are_best}
-use Rattle.vginsert_laws.proofs.laws.valid_certificates_are_best.Goals as goal
-
-pub returns : goal.returns
-returns c = valid_certificates_are_best

@@ -1,5 +1,0 @@
-use Rattle.vginsert_laws.proofs.RetimeLemmas.{written_files_retime}
-use Rattle.vginsert_laws.proofs.laws.written_files_retime.Goals as goal
-
-pub returns : goal.returns
-returns c = written_files_retime
