@@ -14,14 +14,17 @@ use Rattle.vg_verdict.proofs.TextLemmas.{written_valid}
 use Rattle.vg_words.specs.Laws.{AsksAsIn, AsksForNet}
 use Rattle.vg_words.specs.declared.ask.Mode.{Mode}
 use Rattle.vg_words.proofs.JudgeLemmas.{certs, one_or_all}
-use Rattle.vginsert_top.specs.Answer.{IsAnswerFor, design_texts, one_net}
-use Rattle.vginsert_top.specs.Inputs.{asked_by, cert_in, written_cert}
-use Rattle.vginsert_top.specs.Results.{Certifies, IsCertFor, IsCheckAnswer, IsCheckSaid, kind_judged}
-use Rattle.vginsert_top.specs.Verdicts.{Verdict, bare_verdict, kind_in, text_in}
-use Rattle.vginsert_top.specs.declared.answer.AnswerKind.{AnswerKind}
-use Rattle.vginsert_top.specs.declared.answer.AnswerKind.TheVariants.{Report, Refusal}
-use Rattle.vginsert_top.specs.declared.input.Input.TheVariants.{Cert}
-use Rattle.vginsert_top.proofs.ApartLemmas.{not_refused, one_names, one_posed}
+use Rattle.vg_run.specs.Modes.{IsAnswerIn, design_texts, one_net}
+use Rattle.vg_run.specs.Modes.{best_asked}
+use Rattle.vg_run.specs.Inputs.{cert_in, written_cert}
+use Rattle.mode_best.specs.Answers.{Certifies, IsCertFor}
+use Rattle.mode_check.specs.Answers.{IsCheckAnswer, IsCheckSaid, kind_judged}
+use Rattle.vg_answer.specs.Verdicts.{Verdict, bare_verdict, kind_in, text_in}
+use Rattle.vg_answer.specs.declared.kind.AnswerKind.{AnswerKind}
+use Rattle.vg_answer.specs.declared.kind.AnswerKind.TheVariants.{Report, Refusal}
+use Rattle.vg_answer.specs.declared.input.Input.TheVariants.{Cert}
+use Rattle.vg_answer.proofs.ApartLemmas.{not_refused, one_posed}
+use Rattle.mode_check.proofs.ApartLemmas.{one_names}
 use Rattle.run_laws.specs.Laws.{CertificatesAreWritten, IsFoundAndValid, ShowsOfNet, ValidCertificatesAreBest, WritesCertificate, WrittenCertificatesCheck}
 
 abbrev Bytes : Type 0
@@ -42,7 +45,7 @@ certificates_are_written words ask texts kind said request mode file named answe
     asks : AsksForNet ask
     asks = certs words ask request (λ none. (let e : Some file ≡ None = sym named ∙ none in cc))
 
-    by_cert : IsCertFor answer.design (asked_by ask) kind said.text answer.best_of.cert → WritesCertificate answer
+    by_cert : IsCertFor answer.design (best_asked ask) kind said.text answer.best_of.cert → WritesCertificate answer
     by_cert (IsCertFor.not_asked unwanted none) = (let e : false ≡ true = sym unwanted ∙ ap (λ (o : Option Bytes). is_some o) to_write in absurd cc)
     by_cert (IsCertFor.of_all all none) = absurd (some_net ask.net asks.0 all)
     by_cert (IsCertFor.of_refused refused none) = absurd (accepted refused)
@@ -93,16 +96,16 @@ its_name (Some name) some = refl
 pub valid_certificates_are_best : ValidCertificatesAreBest
 valid_certificates_are_best words ask files out request mode (texts, read, (said, says, gained, written)) =
     let asks : AsksForNet ask = subst (λ (m : Mode). AsksAsIn m ask) mode (one_or_all words ask request) in
-    let answer : IsCheckAnswer (design_texts texts) (texts Cert) (one_net (asked_by ask)) Report said =
-    subst (λ (m : Mode). IsAnswerFor Report m texts (asked_by ask) said) mode says in
+    let answer : IsCheckAnswer (design_texts texts) (texts Cert) (one_net ask) Report said =
+    subst (λ (m : Mode). IsAnswerIn m ask texts Report said) mode says in
     record {
       texts = texts;
       read = read;
       design = answer.design;
       design_of = answer.design_of;
-      name = one_net (asked_by ask);
+      name = one_net ask;
       named = its_name ask.net asks.0;
       line = said.text;
       printed = gained;
-      shows = valid_shows answer.design (one_net (asked_by ask)) (texts Cert) (bare_verdict Report said.text) answer.says refl;
+      shows = valid_shows answer.design (one_net ask) (texts Cert) (bare_verdict Report said.text) answer.says refl;
     }

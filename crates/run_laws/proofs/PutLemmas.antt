@@ -19,9 +19,9 @@ use Rattle.vg_design.specs.Refusals.{IsJoined}
 use Rattle.vg_design.specs.declared.net_problem.PosedNet.{PosedNet}
 use Rattle.spef_patch_laws.proofs.ApartLemmas.{contains_in, in_contains, in_left, in_right}
 use Rattle.vg_report.specs.Reports.{cell_count}
-use Rattle.vginsert_top.specs.Results.{IsBestSaid}
-use Rattle.vginsert_top.specs.Verdicts.{Verdict, put_in}
-use Rattle.vginsert_top.proofs.BestLemmas.{good_is_placed, put_stays}
+use Rattle.mode_best.specs.Answers.{IsBestSaid}
+use Rattle.vg_answer.specs.Verdicts.{Verdict, put_in}
+use Rattle.mode_best.proofs.BestLemmas.{good_is_placed, put_stays}
 
 abbrev Differ : PlacedNet → PlacedNet → Type 0
 Differ p q = p.net.id ≢ q.net.id

@@ -32,13 +32,15 @@ use Rattle.vg_slack.specs.Bests.{HasNoCell}
 use Rattle.vg_slack.specs.declared.answer.Best.{Best}
 use Rattle.vg_words.specs.Request.{IsRequest, prefix_of}
 use Rattle.vg_words.specs.declared.ask.Ask.{Ask}
-use Rattle.vginsert_top.proofs.BestLemmas.{without_cells}
-use Rattle.vginsert_top.proofs.RequestLemmas.{prefix_is}
+use Rattle.mode_best.proofs.BestLemmas.{without_cells}
+use Rattle.vg_run.proofs.RequestLemmas.{prefix_is}
 use Rattle.vg_report.specs.Reports.{cell_count}
-use Rattle.vginsert_top.specs.Results.{Files, IsBestAnswer, IsBestSaid, Said, best_verdict, nets_for, problem_in, put_of}
-use Rattle.vginsert_top.specs.Inputs.{asked_by}
-use Rattle.vginsert_top.specs.Verdicts.{Verdict, put_in}
-use Rattle.vginsert_top.specs.declared.answer.AnswerKind.{AnswerKind}
+use Rattle.mode_best.specs.Answers.{Files, IsBestAnswer, IsBestSaid, best_verdict, put_of}
+use Rattle.vg_answer.specs.Answers.{Said}
+use Rattle.vg_answer.specs.Nets.{nets_for, problem_in}
+use Rattle.vg_run.specs.Modes.{best_asked}
+use Rattle.vg_answer.specs.Verdicts.{Verdict, put_in}
+use Rattle.vg_answer.specs.declared.kind.AnswerKind.{AnswerKind}
 use Rattle.run_laws.proofs.PutLemmas.{HaveOnePlace, IsPutAt, all_keep, in_puts, one_keeps, put_are_placed, put_at, put_differ, puts_of}
 use Rattle.run_laws.specs.Laws.{TellsBest, WrittenFilesRetime, with_files}
 
@@ -61,7 +63,7 @@ retimes_to d prefix name timed none here =
     }
 
 module _ (words : List (List ℕ)) (ask : Ask) (texts : Texts) (kind : AnswerKind) (said : Said) (is : IsRequest words ask)
-    (answer : IsBestAnswer texts (asked_by ask) kind said) where
+    (answer : IsBestAnswer texts (best_asked ask) kind said) where
   abbrev d : Design
   d = answer.design
 

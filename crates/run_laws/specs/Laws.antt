@@ -15,14 +15,18 @@ use Rattle.vg_verdict.specs.Lines.{verdict_line}
 use Rattle.vg_words.specs.Request.{IsRequest, prefix_of}
 use Rattle.vg_words.specs.declared.ask.Mode.TheVariants.{Best as BestMode, Check}
 use Rattle.vg_words.specs.declared.ask.Ask.{Ask}
-use Rattle.vginsert_top.specs.Results.{Asked, Certifies, Files, IsBestAnswer, IsCheckAnswer, Said, best_verdict, found_verdict, nets_for}
-use Rattle.vginsert_top.specs.Answer.{design_texts}
-use Rattle.vginsert_top.specs.Inputs.{asked_by, AreRead, Change}
-use Rattle.vginsert_top.specs.Run.{Prints}
-use Rattle.vginsert_top.specs.declared.input.Input.{Input}
-use Rattle.vginsert_top.specs.declared.input.Input.TheVariants.{Cert}
-use Rattle.vginsert_top.specs.declared.answer.AnswerKind.{AnswerKind}
-use Rattle.vginsert_top.specs.declared.answer.AnswerKind.TheVariants.{Report, Refusal}
+use Rattle.mode_best.specs.Answers.{Asked, Certifies, Files, IsBestAnswer, best_verdict, found_verdict}
+use Rattle.mode_check.specs.Answers.{IsCheckAnswer}
+use Rattle.vg_answer.specs.Answers.{Said}
+use Rattle.vg_answer.specs.Nets.{nets_for}
+use Rattle.vg_run.specs.Modes.{design_texts}
+use Rattle.vg_run.specs.Modes.{best_asked}
+use Rattle.vg_run.specs.Inputs.{AreRead, Change}
+use Rattle.vg_run.specs.Run.{Prints}
+use Rattle.vg_answer.specs.declared.input.Input.{Input}
+use Rattle.vg_answer.specs.declared.input.Input.TheVariants.{Cert}
+use Rattle.vg_answer.specs.declared.kind.AnswerKind.{AnswerKind}
+use Rattle.vg_answer.specs.declared.kind.AnswerKind.TheVariants.{Report, Refusal}
 
 -- the texts with the netlist and the parasitics that were written
 abbrev pub with_files : Texts → Files → Texts
@@ -42,7 +46,7 @@ pub record TellsBest {texts : Texts} {asked : Asked} {kind : AnswerKind} {said :
 -- reported re-times to its reported slack.
 abbrev pub WrittenFilesRetime : Type 0
 WrittenFilesRetime = (words : List (List ℕ)) (ask : Ask) (texts : Texts) (kind : AnswerKind) (said : Said) → IsRequest words ask
-    → (answer : IsBestAnswer texts (asked_by ask) kind said) → (name : List ℕ) (best : Best) → TellsBest answer name best
+    → (answer : IsBestAnswer texts (best_asked ask) kind said) → (name : List ℕ) (best : Best) → TellsBest answer name best
     → RetimesInTexts (with_files texts answer.best_of.files) (prefix_of ask) name best.slack
 
 -- ---- certificates
@@ -58,7 +62,7 @@ pub record WritesCertificate {texts : Texts} {asked : Asked} {kind : AnswerKind}
 -- Where a request in mode `best` names a certificate, and the net is not refused, one is written.
 abbrev pub CertificatesAreWritten : Type 0
 CertificatesAreWritten = (words : List (List ℕ)) (ask : Ask) (texts : Texts) (kind : AnswerKind) (said : Said) → IsRequest words ask → ask.mode ≡ BestMode
-    → (file : List ℕ) → ask.cert ≡ Some file → (answer : IsBestAnswer texts (asked_by ask) kind said) → kind ≢ Refusal → WritesCertificate answer
+    → (file : List ℕ) → ask.cert ≡ Some file → (answer : IsBestAnswer texts (best_asked ask) kind said) → kind ≢ Refusal → WritesCertificate answer
 
 -- of a net this was found, one text reports it, and the other tells that a certificate of it is valid
 pub record IsFoundAndValid (d : Design) (name reported told : List ℕ) : Type 0 where

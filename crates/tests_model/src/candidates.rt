@@ -10,7 +10,7 @@ use elmore::Pair;
 use std::alloc::Global;
 use std::test::Fail;
 
-pub(crate) fn is_rising(pairs: &[Pair]) -> bool
+fn is_rising(pairs: &[Pair]) -> bool
     ensures { result ≡ true → AllPairs IsBelow pairs.now }
 {
     'pairs: for i in 1..pairs.len() {
@@ -101,26 +101,23 @@ fn wired(alloc: Global, r: u64, pairs: &[Pair]) -> Result<Vec<Pair>, Fail> {
     Ok(kept)
 }
 
-#[test]
-fn keeps_rising_lists(rt: HostRuntime) -> Result<(), Fail> {
-    for case in &CASES {
-        assert!(rt; swept(rt.alloc(), case.0)?.as_slice() == case.0);
-    }
-    Ok(())
+/// Whether the first list stays as it is, and both come to what is wanted.
+fn is_so(alloc: Global, case: &Case) -> Result<[bool; 3], Fail> {
+    let (one, two, r, both, above) = *case;
+    let kept = swept(alloc, one)?;
+    let merged = met(alloc, one, two)?;
+    let through = wired(alloc, r, one)?;
+    Ok([
+        kept.as_slice() == one,
+        merged.as_slice() == both,
+        through.as_slice() == above,
+    ])
 }
 
 #[test]
-fn brings_branches_together(rt: HostRuntime) -> Result<(), Fail> {
-    for case in &CASES {
-        assert!(rt; met(rt.alloc(), case.0, case.1)?.as_slice() == case.3);
-    }
-    Ok(())
-}
-
-#[test]
-fn leads_lists_through_wires(rt: HostRuntime) -> Result<(), Fail> {
-    for case in &CASES {
-        assert!(rt; wired(rt.alloc(), case.2, case.0)?.as_slice() == case.4);
+fn works_lists_upward(rt: HostRuntime) -> Result<(), Fail> {
+    for (row, case) in CASES.iter().enumerate() {
+        assert_eq!(rt; is_so(rt.alloc(), case)?, [true; 3], "row {row}");
     }
     Ok(())
 }

@@ -1,26 +1,11 @@
-//! Tests of the public calls of the model: delays, problems and placements of trees, the trees of nets,
-//! and certificates.
+//! Tests of the public calls of the model that no whole run shows: delays at one node, limits beyond those of files, and lists of pairs.
 #![tactic(auto)]
 
 #[cfg(test)]
-mod build;
-#[cfg(test)]
 mod candidates;
-#[cfg(test)]
-mod certificates;
-#[cfg(test)]
-mod fits;
-#[cfg(test)]
-mod legal;
 #[cfg(test)]
 mod limits;
 #[cfg(test)]
-mod nets;
-#[cfg(test)]
-mod plain;
-#[cfg(test)]
 mod problems;
-#[cfg(test)]
-mod slack;
 #[cfg(test)]
 mod wire;

@@ -1,12 +1,11 @@
 //! Worked nets for tests, in mΩ, aF and zs.
 
-ghost use Rattle.std.specs.Prelude.{◌≡◌, ℕ, ◌<◌, true, false, Some, None, is_some, length, slice_index_or, IfOk, IsTrue};
+ghost use Rattle.std.specs.Prelude.{◌≡◌, ℕ, true, false, is_some, length, slice_index_or, IfOk, IsTrue};
 ghost use Rattle.std.specs.List.{list_any};
 ghost use Rattle.elmore.specs.Allowances.{AreAllowances};
-ghost use Rattle.elmore.specs.Placed.{IsPlacementOf};
 ghost use Rattle.elmore.specs.Problems.{is_sink, AreRising};
 
-use elmore::{Allowed, Driver, Node, Placement, Problem, Rep, Scratch, Sink, Tree, first_illegal};
+use elmore::{Allowed, Driver, Node, Problem, Rep, Sink, Tree};
 use std::alloc::Global;
 use std::test::Fail;
 use vg_num::Row;
@@ -30,20 +29,6 @@ pub(crate) const LEAF: Node = Node {
     parent: 1,
     r: 1_000_000,
     c: 102_000,
-};
-
-/// The sink `u3:A` with its pin.
-pub(crate) const LIGHT_LEAF: Node = Node {
-    parent: 1,
-    r: 1_000_000,
-    c: 52_000,
-};
-
-/// A branch that ends at no sink.
-pub(crate) const DEAD_BRANCH: Node = Node {
-    parent: 1,
-    r: 100_000,
-    c: 1_000_000,
 };
 
 pub(crate) const BUF: Rep = Rep {
@@ -160,47 +145,4 @@ fn is_rising(reps: &[Rep]) -> bool
         }
     }
     true
-}
-
-/// The placement of these cells in a net of `n` nodes with so many repeaters to choose from.
-pub(crate) fn worked_placement(
-    alloc: Global,
-    n: usize,
-    reps: usize,
-    cells: &[Option<u32>],
-) -> Result<Placement, Fail>
-    ensures { IfOk result (λ at. IsPlacementOf n reps at.cells) }
-{
-    if cells.len() != n || !are_named(reps, cells) {
-        return Err("no placement".into());
-    }
-    let cells = cells.to_vec(alloc)?;
-    Ok(Placement {
-        cells: Row::from_vec(cells),
-    })
-}
-
-fn are_named(reps: usize, cells: &[Option<u32>]) -> bool
-    ensures { result ≡ true → (v b : ℕ) → slice_index_or cells.now v None ≡ Some b → b < reps }
-{
-    'cells: for cell in cells {
-        if let Some(b) = cell {
-            if *b as usize >= reps {
-                return false;
-            }
-        }
-    }
-    true
-}
-
-/// The first illegal node under the placement of these cells.
-pub(crate) fn illegal_in(
-    alloc: Global,
-    problem: &Problem,
-    cells: &[Option<u32>],
-) -> Result<Option<u32>, Fail> {
-    let n = problem.tree.nodes.len();
-    let at = worked_placement(alloc, n, problem.reps.len(), cells)?;
-    let mut scratch = Scratch::new(alloc, n)?;
-    Ok(first_illegal(problem, &at, &mut scratch))
 }

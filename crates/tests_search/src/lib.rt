@@ -1,9 +1,23 @@
-//! Tests of the public calls of the search for the best placement, from the crates on which it is to stand.
+//! Tests of the search for best placements and for frontiers, on nets at random, against all their placements.
 #![tactic(auto)]
 
 #[cfg(test)]
-mod arena;
+mod best_compare;
 #[cfg(test)]
-mod branches;
+mod best_lent;
 #[cfg(test)]
-mod cells;
+mod best_lists;
+#[cfg(test)]
+mod draft;
+#[cfg(test)]
+mod enumerate;
+#[cfg(test)]
+mod front_compare;
+#[cfg(test)]
+mod front_kinds;
+#[cfg(test)]
+mod front_plain;
+#[cfg(test)]
+mod generate;
+#[cfg(test)]
+mod problems;

@@ -33,7 +33,12 @@ use Rattle.vg_design.specs.Parts.{cells_of, loaded_tree}
 use Rattle.vg_scan.specs.Printed.{IsPrintable, is_solid}
 use Rattle.vg_scan.specs.declared.name.NodeName.{NodeName}
 use Rattle.spef_wire.specs.Nets.{IsNetNamed}
-use Rattle.vg_verdict.specs.Laws.{NamesFit}
+use Rattle.vg_design.specs.Nets.{IsPosedNet}
+use Rattle.vg_design.specs.declared.net_problem.PosedNet.{PosedNet}
+use Rattle.vg_cert.specs.Names.{AreNamesOf}
+use Rattle.vg_scan.specs.declared.name.NetNames.{NetNames}
+use Rattle.vg_verdict.specs.Laws.{AreFitNames, NamesFit, names_in}
+use Rattle.vg_verdict.specs.Lines.{names_for}
 
 -- ---- words
 
@@ -141,3 +146,15 @@ names_fit texts d name posed design is =
       nodes = nodes_are_words net.par order lists;
       cells = repeater_words texts.lib d.library design.library;
     }
+
+-- ---- names that were made
+
+-- the names that were made of a net can stand in its certificate
+pub names_are : (d : Design) (name : List ℕ) (net : PosedNet) (names : NetNames) (repeaters : List Repeater) → repeaters ≡ d.library.repeaters
+    → names ≡ names_for name (cells_of repeaters) (names_of net.ready.pinned.net.par net.ready.order) → names ≡ names_in d name net
+names_are d name net names repeaters all made =
+    made ∙ ap (λ (some : List Repeater). names_for name (cells_of some) (names_of net.ready.pinned.net.par net.ready.order)) all
+
+pub names_stand : (d : Design) (name : List ℕ) (net : PosedNet) (names : NetNames) → AreFitNames d → IsPosedNet d name net → names ≡ names_in d name net
+    → AreNamesOf net.problem names
+names_stand d name net names fit of is = subst (λ (some : NetNames). AreNamesOf net.problem some) (sym is) (fit name net of)

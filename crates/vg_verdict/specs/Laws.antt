@@ -19,6 +19,10 @@ use Rattle.vg_verdict.specs.Lines.{names_for, verdict_line}
 abbrev pub names_in : Design → List ℕ → PosedNet → NetNames
 names_in d name posed = names_for name (cells_of d.library.repeaters) (names_of posed.ready.pinned.net.par posed.ready.order)
 
+-- the names of each posed net of a design can stand in a certificate
+abbrev pub AreFitNames : Design → Type 0
+AreFitNames d = (name : List ℕ) (net : PosedNet) → IsPosedNet d name net → AreNamesOf net.problem (names_in d name net)
+
 -- a certificate of a net of a design can be written with its names
 abbrev pub NamesFit : Type 0
 NamesFit = (texts : Texts) (d : Design) (name : List ℕ) (posed : PosedNet) → IsDesign texts d → IsPosedNet d name posed

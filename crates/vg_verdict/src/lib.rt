@@ -4,6 +4,7 @@
 mod certify;
 mod claim;
 mod count;
+mod counted;
 mod judge;
 mod laws;
 mod lines;
@@ -12,6 +13,7 @@ mod names;
 
 pub use certify::{certified, summed_up};
 pub use claim::certificate;
+pub use counted::search;
 pub use judge::judge_text;
 pub use laws::{
     judgements_are_one, net_names_fit, valid_ones_are_best, written_certificates_are_valid,

@@ -1,0 +1,4 @@
+pub mod BestLemmas
+pub mod CertLemmas
+pub mod AnswerLemmas
+pub mod ApartLemmas

@@ -1,0 +1,39 @@
+use Rattle.std.proofs.Common.{ℕ, List, Some, false, ◌≡◌, ◌∙◌, arith, subst, sym, take}
+use Rattle.std.specs.List.{slice_get}
+use Rattle.std.proofs.lemmas.List.{take_all}
+use Rattle.vg_design.specs.Designs.{Design, net_names}
+use Rattle.mode_best.specs.Steps.{AreJudged}
+use Rattle.mode_best.proofs.BestLemmas.{judged_more, open_more, put_stays}
+use Rattle.vg_answer.proofs.VerdictLemmas.{take_next}
+use Rattle.mode_best.proofs.judging.Judging.with_all.Goals as goal
+
+pub with_net-requires-clause-free : goal.with_net-requires-clause-free
+with_net-requires-clause-free c = λ n joined.
+    let name = c.net_name-name.result.now in
+    let here = subst (λ (d : Design). slice_get (net_names d.spef) c.net.at ≡ Some name) (sym c.net.invariant.design) c.net_name-name.ensures in
+    c.net.invariant.free c.net.at name (omega arith) here n joined
+
+pub net-preserved : goal.net-preserved
+net-preserved c =
+    let d = c.args.design.now in
+    let prefix = c.args.self.changes.prefix in
+    let names = net_names d.spef in
+    let at = c.net.at in
+    let name = c.net_name-name.result.now in
+    let old = c.net.judging in
+    let made = c.in_ok-judged.judged in
+    let one = c.in_ok-judged.ensures in
+    let before = c.net.invariant in
+    record {
+      judged =
+          subst (λ (some : List (List ℕ)). AreJudged d prefix some made.judging) (sym (take_next names at name c.net_name-name.ensures))
+          (judged_more d prefix (take at names) old made false name before.judged one);
+      design = (put_stays old.changes one.verdict.put made.judging.changes one.more.put).0 ∙ before.design;
+      free = open_more d old made false at name before.design before.free c.net_name-name.ensures one;
+    }
+
+pub returns : goal.returns
+returns c =
+    let names = net_names c.args.design.now.spef in
+    subst (λ (some : List (List ℕ)). AreJudged c.args.design.now c.args.self.changes.prefix some c.net.judging)
+    (take_all c.net.at names (omega (arith, c.net-test.false, c.net_count-at-end.ensures))) c.net.invariant.judged

@@ -1,9 +1,0 @@
-use Rattle.sol_arena.specs.Slots.{made_in, IsSolution}
-use Rattle.sol_arena.specs.Meanings.{cells_of, AreBelow}
-use Rattle.tests_best.proofs.lent.first_wrong.Given as goal
-
-abbrev pub invariant-cases : goal.invariant-cases
-invariant-cases g l = record {
-  solution : IsSolution (made_in l.arena.slots.items) l.sol.0;
-  below : AreBelow 3 (cells_of (made_in l.arena.slots.items) l.sol.0);
-}

@@ -1,4 +1,0 @@
-use Rattle.tests_best.proofs.lent.lent_arena_stays.Given as goal
-
-abbrev pub ghosts-first_wrong : goal.ghosts-first_wrong
-ghosts-first_wrong g a = record { name = a.blank.name; parts = a.blank.parts }

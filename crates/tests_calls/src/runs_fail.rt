@@ -1,0 +1,257 @@
+//! Runs in which one call fails: of reading, of writing, and of printing.
+ghost use Rattle.std.specs.Prelude.{◌≤◌};
+
+use crate::runs_files::{
+    BEST, BEST_SAYS, CHECK, CHECK_SAYS, Ending, WIRE, WIRE_SAYS, ends_over, small_files,
+};
+use std::alloc::Global;
+use std::test::Fail;
+use vg_store::MemFiles;
+
+/// What an earlier run left in the files that mode `best` writes.
+const BEFORE: &str = "// from before\n";
+
+/// The files that it writes, in their order.
+const OUTPUTS: [&str; 3] = ["o.v", "o.spef", "o.txt"];
+
+/// How many bytes a call of files moves.
+const CHUNK: usize = 64;
+
+/// The files of the small design, of which these calls fail, and what an earlier run left, where there was one.
+fn files_before(alloc: Global, failing: &[u64], before: Option<&str>) -> Result<MemFiles, Fail> {
+    let mut files = small_files(alloc, CHUNK, failing)?;
+    if let Some(text) = before {
+        for name in &OUTPUTS {
+            files.add(name, text.as_bytes())?;
+        }
+    }
+    Ok(files)
+}
+
+/// The files that a run leaves where a call of this number fails, and whether it ends so.
+fn failed_files(
+    alloc: Global,
+    line: &str,
+    call: usize,
+    before: Option<&str>,
+    wanted: Ending<'_>,
+) -> Result<(MemFiles, bool), Fail> {
+    let mut files = files_before(alloc, &[call as u64], before)?;
+    let ended = ends_over(alloc, line, &mut files, CHUNK, (&[], &[]), wanted)?;
+    Ok((files, ended))
+}
+
+/// Whether a file holds this.
+fn holds(files: &MemFiles, name: &str, text: Option<&[u8]>) -> bool {
+    files.get(name) == text
+}
+
+/// How many calls reading the file of this name takes: one of `open`, one of `next` a piece, and one at the end.
+fn reading_calls(files: &MemFiles, name: &str) -> usize {
+    let bytes = files.get(name).map_or(0, |text| text.len());
+    bytes.div_ceil(CHUNK).saturating_add(2)
+}
+
+/// A run, the files that it reads, in their order, and how it ends where the call behind all of reading fails.
+type Reads = (&'static str, &'static [&'static str], Ending<'static>);
+
+static READS: [Reads; 3] = [
+    (WIRE, &["a.spef"], (0, WIRE_SAYS, "")),
+    (
+        BEST,
+        &["a.spef", "l.lib", "v.v", "c.txt"],
+        (6, "", "vginsert: write failed: o.v\n"),
+    ),
+    (
+        CHECK,
+        &["a.spef", "l.lib", "v.v", "c.txt", "k.txt"],
+        (0, CHECK_SAYS, ""),
+    ),
+];
+
+/// Whether a run in which this call fails tells that reading the file of this name failed, and all outputs are as before.
+fn fails_reading(alloc: Global, line: &str, call: usize, name: &str) -> Result<bool, Fail> {
+    let told = format!(in alloc; "vginsert: read failed: {name}\n")?;
+    let wanted = (5, "", told.as_str());
+    let (files, ended) = failed_files(alloc, line, call, Some(BEFORE), wanted)?;
+    let before = Some(BEFORE.as_bytes());
+    Ok(ended && OUTPUTS.iter().all(|name| holds(&files, name, before)))
+}
+
+/// Whether a run ends so where this call fails.
+fn ends_at(alloc: Global, line: &str, call: usize, wanted: Ending<'_>) -> Result<bool, Fail> {
+    let (_, ended) = failed_files(alloc, line, call, None, wanted)?;
+    Ok(ended)
+}
+
+/// Each call of reading fails once.
+#[test]
+fn reading_fails(rt: HostRuntime) -> Result<(), Fail> {
+    let whole = small_files(rt.alloc(), CHUNK, &[])?;
+    for (line, names, wanted) in &READS {
+        let mut first = 0usize;
+        for name in *names {
+            let next = first.saturating_add(reading_calls(&whole, name));
+            for call in first..next {
+                assert!(rt;
+                    fails_reading(rt.alloc(), line, call, name)?,
+                    "{name} {call}"
+                );
+            }
+            first = next;
+        }
+        assert!(rt; ends_at(rt.alloc(), line, first, *wanted)?, "{line}");
+    }
+    Ok(())
+}
+
+/// How many bytes of a text a file has, if it has some of its first ones.
+fn begun(files: &MemFiles, name: &str, text: &[u8]) -> Option<usize> {
+    let file = files.get(name)?;
+    if text.starts_with(file) {
+        Some(file.len())
+    } else {
+        None
+    }
+}
+
+/// Whether the outputs before one are whole, and those behind it as before.
+fn others_stand(files: &MemFiles, whole: &MemFiles, at: usize, before: Option<&[u8]>) -> bool {
+    OUTPUTS.iter().enumerate().all(|(number, name)| {
+        number == at
+            || (number < at && files.get(name) == whole.get(name))
+            || (at < number && holds(files, name, before))
+    })
+}
+
+/// The most calls of writing one of the files.
+const MOST_CALLS: usize = 1000;
+
+/// How many calls of writing an output fail as they have to, from this number on in a run: the first leaves the file as it was, the second
+/// empty, and each next one with up to 64 bytes more of the text, the last one with all of it. The other outputs are the same all the time.
+fn writing_calls(
+    alloc: Global,
+    whole: &MemFiles,
+    first: usize,
+    output: (usize, &str),
+    before: Option<&str>,
+) -> Result<Option<usize>, Fail> {
+    let (at, name) = output;
+    let told = format!(in alloc; "vginsert: write failed: {name}\n")?;
+    let kept = before.map(|text| text.as_bytes());
+    let text = whole.get(name).unwrap_or(b"");
+    let mut had = 0;
+    for count in 0..MOST_CALLS {
+        let wanted = (6, "", told.as_str());
+        let call = first.saturating_add(count);
+        let (files, ended) = failed_files(alloc, BEST, call, before, wanted)?;
+        if !ended {
+            return Ok(if had == text.len() { Some(count) } else { None });
+        }
+        let has = begun(&files, name, text);
+        let goes_on = match count {
+            0 => holds(&files, name, kept),
+            1 => has == Some(0),
+            _ => has.is_some_and(|has| has > had && has - had <= CHUNK),
+        };
+        if !goes_on || !others_stand(&files, whole, at, kept) {
+            return Ok(None);
+        }
+        had = has.unwrap_or(0);
+    }
+    Ok(None)
+}
+
+/// The files that a run of mode `best` leaves in which no call fails.
+fn whole_files(alloc: Global) -> Result<MemFiles, Fail> {
+    let mut files = files_before(alloc, &[], None)?;
+    let wanted = (0, BEST_SAYS, "");
+    if ends_over(alloc, BEST, &mut files, CHUNK, (&[], &[]), wanted)? {
+        Ok(files)
+    } else {
+        Err("another end".into())
+    }
+}
+
+/// How many calls of reading mode `best` makes.
+fn best_reading_calls(files: &MemFiles) -> usize {
+    let mut calls = 0usize;
+    for name in ["a.spef", "l.lib", "v.v", "c.txt"] {
+        calls = calls.saturating_add(reading_calls(files, name));
+    }
+    calls
+}
+
+/// Each call of writing fails once, over files from before and where there are none.
+#[test]
+fn writing_fails(rt: HostRuntime) -> Result<(), Fail> {
+    let whole = whole_files(rt.alloc())?;
+    for before in [None, Some(BEFORE)] {
+        let mut first = best_reading_calls(&whole);
+        for (at, name) in OUTPUTS.iter().enumerate() {
+            let calls = writing_calls(rt.alloc(), &whole, first, (at, name), before)?;
+            assert!(rt; calls.is_some_and(|calls| calls > 3), "{name}");
+            first = first.saturating_add(calls.unwrap_or(0));
+        }
+    }
+    Ok(())
+}
+
+/// Words, the calls of standard output and of standard error that fail, whether the netlist cannot be created, and how the run ends.
+type Told = (
+    &'static str,
+    &'static [u64],
+    &'static [u64],
+    bool,
+    Ending<'static>,
+);
+
+/// Where standard error fails too, the status stays. All files were written before where standard output fails.
+static TOLD: [Told; 6] = [
+    (
+        WIRE,
+        &[1],
+        &[],
+        false,
+        (6, "net n1 t", "vginsert: write failed: standard output\n"),
+    ),
+    (WIRE, &[1], &[2], false, (6, "net n1 t", "vginsert: write ")),
+    ("--help", &[], &[0], false, (3, "", "")),
+    (
+        BEST,
+        &[1],
+        &[],
+        false,
+        (6, "net n1 s", "vginsert: write failed: standard output\n"),
+    ),
+    (BEST, &[0], &[2], false, (6, "", "vginsert: write ")),
+    (BEST, &[], &[1], true, (6, "", "vginsert")),
+];
+
+/// Whether the outputs of a run of mode `best` are whole.
+fn are_whole(files: &MemFiles, whole: &MemFiles) -> bool {
+    OUTPUTS
+        .iter()
+        .all(|name| files.get(name) == whole.get(name))
+}
+
+/// Whether a run ends so where standard output and standard error move 8 bytes a call.
+fn tells(alloc: Global, whole: &MemFiles, told: &Told) -> Result<bool, Fail> {
+    let (line, out, err, refused, wanted) = *told;
+    let mut fails = Vec::new(alloc);
+    if refused {
+        fails.push(best_reading_calls(whole) as u64)?;
+    }
+    let mut files = files_before(alloc, &fails, None)?;
+    let ended = ends_over(alloc, line, &mut files, 8, (out, err), wanted)?;
+    Ok(ended && are_whole(&files, whole) == (line == BEST && !refused))
+}
+
+#[test]
+fn printing_fails(rt: HostRuntime) -> Result<(), Fail> {
+    let whole = whole_files(rt.alloc())?;
+    for told in &TOLD {
+        assert!(rt; tells(rt.alloc(), &whole, told)?, "{}", told.4.2);
+    }
+    Ok(())
+}

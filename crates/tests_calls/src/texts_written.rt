@@ -1,0 +1,111 @@
+//! Files that are written: what no clause says of them.
+use crate::texts_files::{OLD, TEXT, made_files, reads};
+use std::alloc::Global;
+use std::test::Fail;
+use vg_patch::{Patch, Patched};
+use vg_run::write_patched;
+use vg_scan::Span;
+use vg_store::{Files, RealFiles, write_file};
+
+const NEW: &[u8] = b"newer";
+
+/// Whether the new bytes are written, by this chunk and where these calls fail, and what the file then holds. The other
+/// file has to stay, and a call that fails is not to keep the next write from what it does.
+fn leaves(
+    alloc: Global,
+    chunk: usize,
+    fails: &[u64],
+    name: &str,
+    written: bool,
+    held: Option<&[u8]>,
+) -> Result<bool, Fail> {
+    let mut files = made_files(alloc, chunk, fails)?;
+    let first = write_file(&mut files, name, NEW).is_ok() == written
+        && files.get(name) == held
+        && files.get("full") == Some(TEXT);
+    let again = write_file(&mut files, name, OLD).is_ok() && files.get(name) == Some(OLD);
+    Ok(first && again)
+}
+
+/// How many bytes a call takes, the calls that fail, the file, whether it is written, and what it then holds. By chunks of 2 the
+/// new bytes take five calls: `create`, three of `put`, and `finish`.
+static WRITES: [(usize, &[u64], &str, bool, Option<&[u8]>); 9] = [
+    (64, &[], "old", true, Some(NEW)),
+    (2, &[], "old", true, Some(NEW)),
+    (2, &[], "fresh", true, Some(NEW)),
+    (2, &[0], "old", false, Some(OLD)),
+    (2, &[0], "fresh", false, None),
+    (2, &[1], "old", false, Some(b"")),
+    (2, &[2], "old", false, Some(b"ne")),
+    (2, &[3], "fresh", false, Some(b"newe")),
+    (2, &[4], "old", false, Some(NEW)),
+];
+
+#[test]
+fn writes_whole_files_and_first_pieces(rt: HostRuntime) -> Result<(), Fail> {
+    for (chunk, fails, name, written, held) in &WRITES {
+        assert!(rt;
+            leaves(rt.alloc(), *chunk, fails, name, *written, *held)?,
+            "{name} {fails:?}"
+        );
+    }
+    Ok(())
+}
+
+/// A text of which the first byte, a part, none before a place, and the last byte are replaced.
+fn changed(alloc: Global) -> Result<Patched, Fail> {
+    let text = Vec::from_slice(alloc, b"one two three")?;
+    let mut patch = Patch::new(alloc);
+    patch.replace(Span { from: 0, to: 1 }, b"O")?;
+    patch.replace(Span { from: 4, to: 7 }, b"")?;
+    patch.replace(Span { from: 8, to: 8 }, b"and ")?;
+    patch.replace(Span { from: 12, to: 13 }, b"e!")?;
+    Ok(Patched::new(text, patch))
+}
+
+#[test]
+fn writes_texts_with_replaced_parts(rt: HostRuntime) -> Result<(), Fail> {
+    let text = changed(rt.alloc())?;
+    for chunk in [1, 3, 64] {
+        let mut files = made_files(rt.alloc(), chunk, &[])?;
+        assert!(rt; write_patched(&mut files, "old", &text).is_ok());
+        assert!(rt; files.get("old") == Some(b"One  and three!"));
+    }
+    Ok(())
+}
+
+/// Reads a file while it is written.
+fn reads_on(alloc: Global) -> Result<bool, Fail> {
+    let mut files = made_files(alloc, 2, &[])?;
+    let mut buf = [0u8; 4];
+    files.open("old")?;
+    files.create("old")?;
+    let before = files.next(&mut buf)?;
+    let empty = files.put(b"")?;
+    let put = files.put(NEW)?;
+    let after = files.next(&mut buf)?;
+    Ok(before == 0 && empty == 0 && put == 2 && after == 2 && buf == *b"ne\0\0")
+}
+
+#[test]
+fn reads_what_is_put(rt: HostRuntime) -> Result<(), Fail> {
+    assert!(rt; reads_on(rt.alloc())?);
+    Ok(())
+}
+
+const WRITTEN: &str = "vg_store_whole.tmp";
+
+// The file stands where the test runs, and is removed again. No file can stand at the other paths, or take the bytes.
+#[test]
+fn writes_the_systems_files(rt: HostRuntime) -> Result<(), Fail> {
+    let mut files = RealFiles::new(&rt);
+    for bytes in [NEW, b"", TEXT] {
+        assert!(rt; write_file(&mut files, WRITTEN, bytes).is_ok());
+        assert!(rt; reads(rt.alloc(), &mut files, WRITTEN, bytes));
+    }
+    std::fs::remove_file(&rt, WRITTEN)?;
+    for path in [".", "vg_store_none/whole.tmp", "/dev/full"] {
+        assert!(rt; write_file(&mut files, path, NEW).is_err(), "{path}");
+    }
+    Ok(())
+}

@@ -1,0 +1,2 @@
+pub mod ReadyLaws
+pub mod RowLaws

@@ -1,0 +1,4 @@
+use Rattle.tests_engine.proofs.branches.known_merges.Given as goal
+
+abbrev pub ghosts-known : goal.ghosts-known
+ghosts-known g a = record { name = a.blank.name; parts = a.blank.parts }

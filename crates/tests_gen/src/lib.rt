@@ -1,5 +1,0 @@
-//! Tests of generated designs.
-#![tactic(auto)]
-
-#[cfg(test)]
-mod designs;

@@ -1,6 +1,0 @@
-use Rattle.tests_pool.proofs.RowLaws.{IsMaking}
-use Rattle.tests_pool.specs.declared.rows.Row.{Row}
-use Rattle.tests_pool.proofs.lists.make.Given as goal
-
-abbrev pub invariant-rows : goal.invariant-rows
-invariant-rows l = IsMaking (λ (row : Row). row.q) l.rows l.fn.pool l.pool l.list l.row-index

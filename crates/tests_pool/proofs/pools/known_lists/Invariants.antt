@@ -1,4 +1,0 @@
-use Rattle.tests_pool.proofs.pools.known_lists.Given as goal
-
-abbrev pub ghosts-known : goal.ghosts-known
-ghosts-known g a = record { name = a.blank.name; parts = a.blank.parts }

@@ -1,5 +1,0 @@
-use Rattle.std.proofs.Common.{◌≡◌, vec_len}
-use Rattle.tests_pool.proofs.rows.draw_rising.Given as goal
-
-abbrev pub invariant-rows : goal.invariant-rows
-invariant-rows l = vec_len l.rows ≡ l.at

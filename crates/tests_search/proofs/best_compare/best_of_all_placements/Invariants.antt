@@ -1,0 +1,4 @@
+use Rattle.tests_search.proofs.best_compare.best_of_all_placements.Given as goal
+
+abbrev pub ghosts-first_wrong : goal.ghosts-first_wrong
+ghosts-first_wrong g a = record { name = a.blank.name; parts = a.blank.parts }

@@ -1,6 +1,0 @@
-use Rattle.std.proofs.Common.{lit≤}
-use Rattle.tests_search.proofs.ReadyLaws.{one_ready}
-use Rattle.tests_search.proofs.branches.single.Goals as goal
-
-pub returns-clause-ready : goal.returns-clause-ready
-returns-clause-ready c = one_ready _ c.one.result 7 2 (lit≤ tt) (lit≤ tt) c.one.ensures.list

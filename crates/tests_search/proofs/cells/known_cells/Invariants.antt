@@ -1,4 +1,0 @@
-use Rattle.tests_search.proofs.cells.known_cells.Given as goal
-
-abbrev pub ghosts-known : goal.ghosts-known
-ghosts-known g a = record { name = a.blank.name; parts = a.blank.parts }

@@ -1,5 +1,0 @@
-use Rattle.tests_search.specs.Ready.{IsListed}
-use Rattle.tests_search.proofs.cells.listed.Given as goal
-
-abbrev pub invariant-pairs : goal.invariant-pairs
-invariant-pairs l = IsListed l.fn.pool l.pool l.list l.floor l.pair-index

@@ -1,0 +1,4 @@
+pub mod VerdictLemmas
+pub mod ProblemLemmas
+pub mod AnswerLemmas
+pub mod ApartLemmas

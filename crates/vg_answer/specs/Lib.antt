@@ -1,0 +1,4 @@
+pub mod Verdicts
+pub mod Faults
+pub mod Answers
+pub mod Nets

@@ -1,0 +1,16 @@
+//! The inputs.
+
+/// An input file that words may name.
+#[derive(Clone, Copy, Debug, PartialEq, Eq)]
+pub enum Input {
+    /// The parasitics.
+    Spef,
+    /// The library.
+    Lib,
+    /// The netlist.
+    Verilog,
+    /// The constraints.
+    Cons,
+    /// The certificate.
+    Cert,
+}

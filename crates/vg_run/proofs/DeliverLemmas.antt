@@ -1,0 +1,62 @@
+-- How delivering an answer ends for a request.
+use Rattle.std.proofs.Common.{◌≡◌, inl, inr, ℕ, List, sym, ◌∙◌, subst, Option, Some, None}
+use Rattle.vg_store.specs.Causes.{Rose}
+use Rattle.vg_store.specs.Reading.{FilesState}
+use Rattle.vg_store.specs.Writing.{OutState, StaysOrPrefix, WriteFaultAt}
+use Rattle.vg_words.specs.declared.ask.Ask.{Ask}
+use Rattle.vg_run.specs.Modes.{IsAnswerFor}
+use Rattle.vg_answer.specs.Answers.{said_by, Written}
+use Rattle.vg_run.specs.Inputs.{AreRead, Change}
+use Rattle.vg_run.specs.Outcomes.{Ends, IsDelivered}
+use Rattle.vg_run.specs.Run.{AreWritten, HoldAfter, StaysOrBegins, output_name, OthersStay}
+use Rattle.vg_answer.specs.declared.answer.Answer.{Answer}
+use Rattle.vg_answer.specs.declared.input.Input.{Input}
+use Rattle.vg_run.specs.declared.outcome.Outcome.{Outcome}
+use Rattle.vg_answer.specs.declared.output.Output.{Output}
+
+-- reading the inputs changed no file, and no count of faults of writing
+module _ (old mid new : FilesState) (kept : (file : List ℕ) → mid.holds file ≡ old.holds file) (faults : mid.write_faults ≡ old.write_faults) where
+  begun_since : (name : Option (List ℕ)) (text : List ℕ) → StaysOrBegins (mid, new) name text → StaysOrBegins (old, new) name text
+  begun_since None text stays = tt
+  begun_since (Some file) text stays = subst (λ (held : Option (List ℕ)). StaysOrPrefix held (new.holds file) text) (kept file) stays
+
+  others_since : (ask : Ask) (said : List Written) → OthersStay (mid, new) ask said → OthersStay (old, new) ask said
+  others_since ask said stay file none = stay file none ∙ kept file
+
+  written_since : (ask : Ask) (said : List Written) → AreWritten (mid, new) ask said → AreWritten (old, new) ask said
+  written_since ask said written = record { whole = written.whole; others = others_since ask said written.others }
+
+  held_since : (ask : Ask) (said : List Written) (output : Output) → HoldAfter (mid, new) ask said output → HoldAfter (old, new) ask said output
+  held_since ask said output hold = record {
+    before = hold.before;
+    text = hold.text;
+    behind = hold.behind;
+    said_are = hold.said_are;
+    whole = hold.whole;
+    begins = begun_since (output_name ask output) hold.text hold.begins;
+    later = λ k d low file named. hold.later k d low file named ∙ kept file;
+    others = others_since ask said hold.others;
+  }
+
+  fault_since : (IsBlamed : List ℕ → Type 0) → WriteFaultAt mid new IsBlamed → WriteFaultAt old new IsBlamed
+  fault_since IsBlamed (rose, blamed) = (subst (λ (before : ℕ). Rose before new.write_faults) faults rose, blamed)
+
+  pub delivered : (ask : Ask) (out : Change OutState) (texts : Input → List ℕ) (answer : Answer) (outcome : Outcome) → AreRead old ask texts
+      → IsAnswerFor ask texts answer.kind (said_by answer) → IsDelivered ask (mid, new) out answer outcome → Ends ask (old, new) out outcome
+  delivered ask out texts answer outcome read is (inl (inl (e, gains), written)) =
+      subst (λ (o : Outcome). Ends ask (old, new) out o) (sym e) (texts, read, (said_by answer, is, gains, written_since ask (said_by answer).files written))
+  delivered ask out texts answer outcome read is (inl (inr (e, rose, prefix), written)) =
+      subst (λ (o : Outcome). Ends ask (old, new) out o) (sym e) (rose, (answer.kind, (texts, read, (said_by answer, is, prefix, written_since ask (said_by answer).files written))))
+  delivered ask out texts answer outcome read is (inr (output, e, same, unwritten)) =
+      subst (λ (o : Outcome). Ends ask (old, new) out o) (sym e) (
+        record {
+          texts = texts;
+          read = read;
+          kind = answer.kind;
+          said = said_by answer;
+          is = is;
+          hold = held_since ask (said_by answer).files output unwritten.hold;
+          fault = fault_since _ unwritten.fault;
+        },
+        same,
+      )

@@ -1,0 +1,10 @@
+pub mod GainLemmas
+pub mod InputLemmas
+pub mod PieceLemmas
+pub mod WriteLemmas
+pub mod FileLemmas
+pub mod RequestLemmas
+pub mod ApartLemmas
+pub mod ModeLemmas
+pub mod DeliverLemmas
+pub mod RunLemmas

@@ -1,0 +1,5 @@
+pub mod Inputs
+pub mod Modes
+pub mod Flaws
+pub mod Run
+pub mod Outcomes

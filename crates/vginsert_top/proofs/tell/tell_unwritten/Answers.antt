@@ -1,4 +1,0 @@
-use Rattle.vginsert_top.proofs.tell.tell_unwritten.Goals as goal
-
-pub returns : goal.returns
-returns g c = rw c.as_bytes-name.ensures.value at c.say.ensures

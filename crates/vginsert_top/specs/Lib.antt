@@ -1,9 +1,0 @@
-pub mod Verdicts
-pub mod Results
-pub mod Inputs
-pub mod Answer
-pub mod Run
-pub mod Best
-pub mod Outcomes
-pub mod Gen
-pub mod Check

@@ -1,0 +1,73 @@
+//! The top call: from the words to the bytes that are written.
+
+ghost use Rattle.std.specs.Prelude.{◌≡◌, ◌⊎◌, ℕ, List, IsTrue};
+ghost use Rattle.vg_store.specs.Causes.{Rose};
+ghost use Rattle.vg_words.specs.Request.{texts, IsRequest};
+ghost use Rattle.vg_words.specs.declared.ask.Ask.{Ask as Request};
+ghost use Rattle.vg_answer.specs.declared.kind.AnswerKind.{AnswerKind as Kind};
+ghost use Rattle.vg_run.specs.Run.{AllStay, Answered, AreRefused, EndsFlawed, ErrorLine, ForRequest, IsExact, IsOutput, Says, TellsRefusedInput, TellsWriteFault, is_status, prints_nothing};
+
+use std::alloc::Global;
+use vg_run::{fault_status, run_request, tell_words};
+use vg_store::{Files, Out};
+use vg_words::read_words;
+
+/// Does all that the program does, and answers its status.
+///
+/// The words are those of the command line without the program's own name. What is asked for is read from `files`, written to
+/// `files` where mode `best` names outputs, and printed to `out`; a line on `err` tells of everything but a printed answer.
+///
+/// | status | comes |
+/// |---|---|
+/// | 0 | the report was printed, of all nets that are asked for |
+/// | 1 | modes `best` and `frontier`: it was printed, and tells of some net that no placement on it is good, or none within the cap; no net is refused |
+/// | 2 | it was printed, and some net is refused |
+/// | 3 | the words are no request |
+/// | 4 | an input is not in its form, or has more than 2^28 bytes; or, in mode `best`, a name of the design begins with the prefix |
+/// | 5 | reading an input failed |
+/// | 6 | writing a file or printing failed |
+/// | 7 | out of memory |
+/// | 8 | mode `check`: it was printed, and tells that the certificate is not in its form or not valid |
+///
+/// In mode `best` the netlist is written first, then the parasitics, then the certificate, where it is asked for and the net is not
+/// refused, and then the report is printed. A net without a cell keeps its part of both texts. After 3, 4, 5 and 7 nothing was printed, and no file was created or changed. After 6 the files that were finished before are
+/// whole, the one whose writing failed is as it was or holds a prefix of its text, and later ones are as they were. A fault of `err`
+/// never changes the status. Files that the words do not name as outputs stay.
+pub fn run<F: Files, O: Out, E: Out>(
+    alloc: Global,
+    words: &[String],
+    files: &mut F,
+    out: &mut O,
+    err: &mut E,
+) -> u8
+    ensures done { result ≡ 0 → Answered Kind.Report (texts words.now) (F.state files.old, F.state files.new) (O.state out.old, O.state out.new) }
+    ensures none_good { result ≡ 1 → Answered Kind.NoneGood (texts words.now) (F.state files.old, F.state files.new) (O.state out.old, O.state out.new) }
+    ensures refused { result ≡ 2 → Answered Kind.Refusal (texts words.now) (F.state files.old, F.state files.new) (O.state out.old, O.state out.new) }
+    ensures invalid { result ≡ 8 → Answered Kind.Invalid (texts words.now) (F.state files.old, F.state files.new) (O.state out.old, O.state out.new) }
+    ensures unread { result ≡ 3 → (request : Request) → IsRequest (texts words.now) request → ⊥ }
+    ensures no_request { ((request : Request) → IsRequest (texts words.now) request → ⊥) → (result ≡ 3) ⊎ (result ≡ 7) }
+    ensures unread_line { result ≡ 3 → AreRefused (texts words.now) (Says (E.state err.old) (E.state err.new)) }
+    ensures unreadable { result ≡ 4 → ForRequest (texts words.now)
+        (TellsRefusedInput (F.state files.old, F.state files.new) (Says (E.state err.old) (E.state err.new))) }
+    ensures read_fault { result ≡ 5 → EndsFlawed 5 (texts words.now) (F.state files.old, F.state files.new) (E.state err.old, E.state err.new) }
+    ensures read_cause { result ≡ 5 → Rose (F.state files.old).read_faults (F.state files.new).read_faults }
+    ensures write_fault { result ≡ 6 → ForRequest (texts words.now)
+        (TellsWriteFault (F.state files.old, F.state files.new) (O.state out.old, O.state out.new) (Says (E.state err.old) (E.state err.new))) }
+    ensures statuses { IsTrue (is_status result) }
+    ensures nothing_printed { IsTrue (prints_nothing result) → (O.state out.new).written ≡ (O.state out.old).written }
+    // Standard error has exactly its line, or a prefix of it after a fault of its own.
+    ensures error_line { ErrorLine result (Says (E.state err.old) (E.state err.new)) ((E.state err.new).written ≡ (E.state err.old).written) }
+    ensures nothing_written { IsTrue (prints_nothing result) → AllStay (F.state files.old, F.state files.new) }
+    ensures kept { (file : List ℕ) → ((request : Request) → IsRequest (texts words.now) request → IsOutput request file → ⊥)
+        → (F.state files.new).holds file ≡ (F.state files.old).holds file }
+    // Where nothing failed, the status is exactly the one that the files and the request ask for.
+    ensures exact { IsExact (texts words.now) (F.state files.old) result }
+{
+    match read_words(alloc, words) {
+        Ok(ask) => run_request(alloc, &ask, files, out, err),
+        Err(fault) => {
+            tell_words(err, fault);
+            fault_status(fault)
+        }
+    }
+}
