@@ -1,7 +1,9 @@
 # `make` proves and builds the program, once. `make demo` places repeaters on all nets of the design in examples/, writes the files to
 # out/, prints the report, and times all nets before and after; `make wire` prints the wire delays of a net, and `make check`
 # checks a certificate of the design's worst net. Where the program is not built yet, they run it without a proof. `make test` is the merge gate.
-.PHONY: build demo wire check test
+# `make cases` runs the case files of crates/tests_runs/data without a proof, `make cases WORDS=best/refused.case` one of them, and
+# `make cases WORDS='--print cases/best/refused.case'` prints it with what was found (see crates/tests_runs/data/FORMAT.md).
+.PHONY: build demo wire check cases test
 
 OTHERS = --lib examples/soc.lib --cons examples/soc.cons
 DESIGN = --spef examples/soc.spef --verilog examples/soc.v $(OTHERS)
@@ -24,6 +26,9 @@ wire:
 
 check:
 	@VGINSERT_BUILD=try ./vginsert --mode check $(DESIGN) --net 'acc[3]' --cert examples/acc3.cert
+
+cases:
+	@cd crates/tests_runs && rt try --seconds 600 $$(find data -type f ! -name '*.md' -printf '--data %P=%p ') -- $(WORDS)
 
 test:
 	rt ci
