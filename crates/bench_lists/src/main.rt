@@ -1,5 +1,5 @@
-//! Times the operations on lists of candidates. With no words it shows what each of them gives for a small list, the same
-//! on each run; with the words TASK SIZE ORDER ROUNDS it prints nanoseconds (docs/BENCHMARKS.md).
+//! Times the operations on lists of candidates. With no words it shows what each of them gives for a small list, the
+//! same on each run; with the words TASK SIZE ORDER ROUNDS it prints nanoseconds (docs/BENCHMARKS.md).
 #![tactic(auto)]
 
 mod branches;

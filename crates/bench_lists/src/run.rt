@@ -22,7 +22,8 @@ use std::sync::ledger::{Blank, Ledger};
 use std::time::Instant;
 use vg_num::Memory;
 
-/// Turns in a round. Each moves what was dropped to the other end of the free slots, so that few turns keep them in order.
+/// Turns in a round. Each moves what was dropped to the other end of the free slots, so that few turns keep them in
+/// order.
 const TURNS: u32 = 8;
 
 /// The most repeaters that are added.
@@ -166,7 +167,8 @@ struct Rooms {
     room: Room,
 }
 
-/// A new pool with so many slots and some for what repeaters make, and so many repeaters. Answers `Memory` when out of memory.
+/// A new pool with so many slots and some for what repeaters make, and so many repeaters. Answers `Memory` when out of
+/// memory.
 fn make_rooms(alloc: Global, slots: usize, reps: u32) -> Result<Rooms, Memory>
     requires slots { slots ≤ 10 ^ 7 }
     requires reps { reps ≤ 256 }

@@ -1,5 +1,5 @@
-//! Lists of candidates whose dominated ones are given up with the uses of their solutions, and what that leaves in the words
-//! of the laws.
+//! Lists of candidates whose dominated ones are given up with the uses of their solutions, and what that leaves in the
+//! words of the laws.
 #![tactic(auto)]
 
 mod laws;

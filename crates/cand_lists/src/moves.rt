@@ -12,8 +12,8 @@ use cand_uses::give_up;
 use sol_arena::Arena;
 use std::sync::ledger::Ledger;
 
-/// Charges a wire of this resistance (mΩ) to each candidate of a list, adds a load (aF) beside its upper end, and gives up those
-/// that are then dominated.
+/// Charges a wire of this resistance (mΩ) to each candidate of a list, adds a load (aF) beside its upper end, and gives
+/// up those that are then dominated.
 pub fn wire<L: Ledger>(
     pool: &mut Pool,
     arena: &mut Arena,
@@ -37,7 +37,8 @@ pub fn wire<L: Ledger>(
     give_up(pool, arena, bag);
 }
 
-/// Takes all candidates of another list into a list, and gives up those that are then dominated. Time and load rise in both.
+/// Takes all candidates of another list into a list, and gives up those that are then dominated. Time and load rise in
+/// both.
 pub fn absorb<L: Ledger>(
     pool: &mut Pool,
     arena: &mut Arena,

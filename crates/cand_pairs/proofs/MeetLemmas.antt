@@ -1,5 +1,5 @@
--- The linear merge of two rising lists: each move puts the meet of the first pairs, and goes past each that has no more time than
--- the other.
+-- The linear merge of two rising lists: each move puts the meet of the first pairs, and goes past each that has no more
+-- time than the other.
 use Rattle.std.proofs.Common.{◌≡◌, ◌⊎◌, ℕ, ◌+◌, ◌<◌, ◌≤◌, List, [], ◌∷◌, ◌++◌, length, get_or, refl, ap, ◌∙◌, subst, arith, inl, inr, pos, ◌≤ℤ◌, ◌<ℤ◌}
 use Rattle.std.proofs.lemmas.Bool.{cases_lt, cases_eq}
 use Rattle.std.proofs.lemmas.Int.{ints, clamps}

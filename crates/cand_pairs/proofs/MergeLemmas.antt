@@ -1,5 +1,5 @@
--- The steps by which lists of pairs are worked upward keep them undominated: each step is shown for sets of pairs, and a list
--- for a small set G serves for a greater set S that it dominates.
+-- The steps by which lists of pairs are worked upward keep them undominated: each step is shown for sets of pairs, and
+-- a list for a small set G serves for a greater set S that it dominates.
 use Rattle.std.proofs.Common.{◌≡◌, ◌≢◌, ℕ, ◌+◌, Bool, cond, eqb, List, [], ◌∷◌, refl, sym, ap, ◌∙◌, subst, arith, inl, inr, ◌≤ℤ◌, int_lt, Some, None}
 use Rattle.std.proofs.lemmas.Bool.{cases_Bool, eq-eqb, ne_eqb}
 use Rattle.std.proofs.lemmas.Int.{ints, clamps}

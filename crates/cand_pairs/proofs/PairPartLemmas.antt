@@ -121,7 +121,8 @@ abbrev required_at : Option Sink → ℤ
 required_at None = pos 0
 required_at (Some sink) = sink.required
 
--- a placement with cells only at places, legal at and below a live node, has a pair there if it gives the sinks their polarity
+-- a placement with cells only at places, legal at and below a live node, has a pair there if it gives the sinks their
+-- polarity
 pub pair_exists : (p : Problem) (cells : List (Option ℕ)) (v : ℕ) (odd : Bool) → IsPlacement p cells → IsPlaced p cells → AreWantedBelow p v odd cells → AreFit p v cells
     → IsLive p v → (x : Pair) × IsPairOf p v odd cells x
 pair_exists p cells v odd placement placed wanted fits live =

@@ -1,5 +1,6 @@
--- How the pairs at a node come from pairs at its children, and sets of pairs that cover them (van Ginneken 1990; a set for
--- each polarity: Lillis, Cheng and Lin 1996). A set of pairs for each node and class says for which signals its pairs are.
+-- How the pairs at a node come from pairs at its children, and sets of pairs that cover them (van Ginneken 1990; a set
+-- for each polarity: Lillis, Cheng and Lin 1996). A set of pairs for each node and class says for which signals its
+-- pairs are.
 use Rattle.std.specs.Prelude.{◌≡◌, ◌⊎◌, ℕ, ◌+◌, ◌*◌, Bool, true, false, not, cond, List, ℤ, pos, ◌-ℤ◌, ◌≤ℤ◌, Option, Some, None}
 use Rattle.std.specs.List.{Contains, filter, sum_by}
 use Rattle.elmore.specs.Cells.{rep_of}
@@ -49,7 +50,8 @@ wired r x = record { q = x.q -ℤ pos (r * x.c); c = x.c }
 abbrev pub carried : Problem → ℕ → Pair → Pair
 carried p u x = wired (resistance p.tree.nodes u) x
 
--- a node with some of its children, and what else of capacitance is there: its own, and that of branches that were left out
+-- a node with some of its children, and what else of capacitance is there: its own, and that of branches that were left
+-- out
 pub record Fork : Type 0 where
   pub node : ℕ
   pub own : ℕ

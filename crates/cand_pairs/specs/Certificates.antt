@@ -1,5 +1,5 @@
--- Certificates: a placement with its slack, or none, and a list of pairs for each node and class that shows that no good
--- placement has more. The lists of a certificate need not be those of any method: a cover is enough.
+-- Certificates: a placement with its slack, or none, and a list of pairs for each node and class that shows that no
+-- good placement has more. The lists of a certificate need not be those of any method: a cover is enough.
 use Rattle.std.specs.Prelude.{◌↔◌, ℕ, Bool, List, ℤ, Option, Some, None}
 use Rattle.elmore.specs.Best.{IsGood, IsBest}
 use Rattle.elmore.specs.Pairs.{IsUndominated}
@@ -9,7 +9,8 @@ use Rattle.cand_pairs.specs.Merging.{Owns, AreCoveredBy}
 use Rattle.elmore.specs.declared.pair.Pair.{Pair}
 use Rattle.elmore.specs.declared.problem.Problem.{Problem}
 
--- the placement is good with this slack, the lists cover what comes from them, and no even pair at the root is worth more
+-- the placement is good with this slack, the lists cover what comes from them, and no even pair at the root is worth
+-- more
 pub record IsValidBest (p : Problem) (cells : List (Option ℕ)) (lists : NodeLists) (x : ℤ) : Type 0 where
   pub good : IsGood p cells
   pub slack : IsSlack p cells x

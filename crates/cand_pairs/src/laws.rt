@@ -1,5 +1,5 @@
-//! Laws of the pairs at a node and of lists that cover them. Their functions do nothing: each one's contract is the law,
-//! which a proof may cite.
+//! Laws of the pairs at a node and of lists that cover them. Their functions do nothing: each one's contract is the
+//! law, which a proof may cite.
 
 ghost use Rattle.cand_pairs.specs.Certificates.{JoinsDecide, ValidShows};
 ghost use Rattle.cand_pairs.specs.Priced.{PricedFrontier, PricedStep};

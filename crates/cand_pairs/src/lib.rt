@@ -1,5 +1,5 @@
-//! Laws of candidates: how the pairs at a node of a net come from those at its children, which lists of them bound every
-//! placement, and what they are worth at the driver.
+//! Laws of candidates: how the pairs at a node of a net come from those at its children, which lists of them bound
+//! every placement, and what they are worth at the driver.
 #![tactic(auto)]
 
 mod choice;

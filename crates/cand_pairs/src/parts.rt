@@ -34,8 +34,8 @@ fn join_class(alloc: Global, r: u64, upper: &[Pair], lower: &[Pair]) -> Result<V
     Ok(joined)
 }
 
-/// Both classes of two live branches: the node comes in, with its pairs, to its parent. Answers `Memory` where there is no
-/// room.
+/// Both classes of two live branches: the node comes in, with its pairs, to its parent. Answers `Memory` where there is
+/// no room.
 pub fn join_live(
     alloc: Global,
     p: &Problem,

@@ -83,6 +83,7 @@ abbrev pub RisesInLoad : List Candidate → Type 0
 RisesInLoad [] = Unit {0}
 RisesInLoad (x ∷ xs) = HeavierThan x.c xs
 
--- of two lists in order of c, of equal c by falling q, what stays of the union rises in c, so no one of it dominates another
+-- of two lists in order of c, of equal c by falling q, what stays of the union rises in c, so no one of it dominates
+-- another
 abbrev pub UnionRises : Type 0
 UnionRises = (xs ys : Candidates) → IsInOrder xs → IsInOrder ys → RisesInLoad (undominated (union xs ys))

@@ -77,8 +77,8 @@ IsLive s list = Holds s list (items_of s list)
 abbrev pub IsLiveBag : Block → Bag → Type 0
 IsLiveBag s bag = HoldsBag s bag (bag_of s bag)
 
--- each live list and bag but the old ones stays as it is, and has none of the new names; the empty ones, which have no name,
--- stay as long as the slots are few enough for links
+-- each live list and bag but the old ones stays as it is, and has none of the new names; the empty ones, which have no
+-- name, stay as long as the slots are few enough for links
 pub record KeepsOthers (s : Block) (old : List ℕ) (s' : Block) (new : List ℕ) : Type 0 where
   pub few : length s.links ≤ none → length s'.links ≤ none
   pub stays : (first last : ℕ) (xs : List Candidate) → IsHeld s first last xs → first ≢ none → (IsIn first old → ⊥) → IsHeld s' first last xs

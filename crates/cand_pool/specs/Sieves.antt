@@ -10,7 +10,8 @@ use Rattle.cand_pool.specs.declared.sieve.Sieve.{Sieve}
 abbrev pub IsAt : Block → Ends → Candidates → Type 0
 IsAt s ends xs = IsHeld s ends.first ends.last xs
 
--- of all candidates, in order, these were kept and these dropped, `best` is the greatest q that was kept, and `more` are to come
+-- of all candidates, in order, these were kept and these dropped, `best` is the greatest q that was kept, and `more`
+-- are to come
 pub record IsSplit (all ks ds more : Candidates) (best : ℤ) : Type 0 where
   pub kept_is : ks ++ kept best more ≡ undominated all
   pub dropped_is : ds ++ dropped best more ≡ dominated all

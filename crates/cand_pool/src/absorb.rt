@@ -90,8 +90,9 @@ impl Pool {
         }
     }
 
-    /// Takes all candidates of another list into a list, and moves those that are then dominated to a bag. The time of both lists
-    /// rises, so where one of them is used up and a candidate of the other is kept, so are all after it, and stay linked.
+    /// Takes all candidates of another list into a list, and moves those that are then dominated to a bag. The time of
+    /// both lists rises, so where one of them is used up and a candidate of the other is kept, so are all after it, and
+    /// stay linked.
     pub fn absorb<L: Ledger>(&mut self, list: &mut List, other: List, steps: &mut Steps<L>) -> Bag
         requires live { IsLive self.old list.old }
         requires other { IsLive self.old other }

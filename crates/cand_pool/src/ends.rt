@@ -15,8 +15,9 @@ pub(crate) const EMPTY: Ends = Ends {
     last: NONE,
 };
 
-/// A list of candidates by rising q and c. It names slots of its pool, and is used up by the calls that take it. It may stand in
-/// a vector, so it may be let go like any value; its slots are then lost to the pool, which contracts on `spare` exclude.
+/// A list of candidates by rising q and c. It names slots of its pool, and is used up by the calls that take it. It may
+/// stand in a vector, so it may be let go like any value; its slots are then lost to the pool, which contracts on
+/// `spare` exclude.
 #[derive(Drop)]
 pub struct List {
     pub(crate) ends: Ends,

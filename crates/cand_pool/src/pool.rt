@@ -93,8 +93,8 @@ impl Pool {
         Ok(())
     }
 
-    /// Makes room for `n` candidates, with new slots where there are too few: then for twice as many, so that the next calls need not
-    /// count. All lists and bags stay, also when out of memory.
+    /// Makes room for `n` candidates, with new slots where there are too few: then for twice as many, so that the next
+    /// calls need not count. All lists and bags stay, also when out of memory.
     pub fn reserve(&mut self, n: usize) -> Result<(), Memory>
         ensures others { KeepsOthers self.old [] self.new [] }
         ensures room { IfOk result (λ _. n ≤ spare self.new) }

@@ -18,7 +18,8 @@ pub(crate) struct Sieve {
 }
 
 impl Pool {
-    /// Puts the first of the rest, with this q and c, after the kept ones if its q is over the best, else after the dropped ones.
+    /// Puts the first of the rest, with this q and c, after the kept ones if its q is over the best, else after the
+    /// dropped ones.
     pub(crate) fn turn(&mut self, at: &mut Sieve, q: i128, c: u64)
         requires three { Sifts self.old at.old (items self.old at.old.rest.first) (items self.old at.old.kept.first) (items self.old at.old.dropped.first) }
         requires some { at.old.rest.first ≢ NONE }
@@ -37,7 +38,8 @@ impl Pool {
         }
     }
 
-    /// Puts the first of the rest, which has this q, after the kept ones if its q is over the best, else after the dropped ones.
+    /// Puts the first of the rest, which has this q, after the kept ones if its q is over the best, else after the
+    /// dropped ones.
     pub(crate) fn pass(&mut self, at: &mut Sieve, q: i128)
         requires three { Sifts self.old at.old (items self.old at.old.rest.first) (items self.old at.old.kept.first) (items self.old at.old.dropped.first) }
         requires some { at.old.rest.first ≢ NONE }

@@ -5,7 +5,8 @@ ghost use Rattle.std.specs.Prelude.{◌≡◌, ℕ, suc, ◌<◌};
 use std::marker::Model;
 use std::sync::ledger::{Blank, Book, Ledger, Share};
 
-/// How often the numbers of a candidate were looked at, or those of two that had been told were compared. It takes no bytes.
+/// How often the numbers of a candidate were looked at, or those of two that had been told were compared. It takes no
+/// bytes.
 #[derive(Drop)]
 pub struct Steps<L: Ledger> {
     book: Book<L>,

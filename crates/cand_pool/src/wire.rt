@@ -60,8 +60,8 @@ impl Pool {
         self.turn(at, q, load);
     }
 
-    /// Charges a wire to each candidate of a list, adds a load beside the upper end of the wire, and moves those that are then
-    /// dominated to a bag.
+    /// Charges a wire to each candidate of a list, adds a load beside the upper end of the wire, and moves those that
+    /// are then dominated to a bag.
     pub fn wire<L: Ledger>(&mut self, list: &mut List, r: u64, c: u64, steps: &mut Steps<L>) -> Bag
         requires live { IsLive self.old list.old }
         requires modest { AreModest (items_of self.old list.old) }

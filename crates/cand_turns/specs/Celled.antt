@@ -12,7 +12,8 @@ use Rattle.cand_pool.specs.Candidates.{Candidates}
 use Rattle.cand_uses.specs.Pairs.{pairs_of}
 use Rattle.cand_turns.specs.Solved.{AreSolved}
 
--- the class of the signal behind a repeater that is reached in a class: behind a buffer the same, behind an inverter the other
+-- the class of the signal behind a repeater that is reached in a class: behind a buffer the same, behind an inverter
+-- the other
 abbrev pub behind : Bool → Bool → Bool
 behind inverts odd = cond inverts (not odd) odd
 

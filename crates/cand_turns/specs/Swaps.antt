@@ -42,14 +42,15 @@ abbrev pub all_of : Block → Lists → Candidates
 all_of s [] = []
 all_of s (list ∷ lists) = items_of s list ++ all_of s lists
 
--- all are live, no two have one name but for empty ones, and callers hold a use of the solution of each of their candidates
+-- all are live, no two have one name but for empty ones, and callers hold a use of the solution of each of their
+-- candidates
 pub record AreHeld (at : Search) (lists : Lists) : Type 0 where
   pub live : All (IsLive at.pool) lists
   pub apart : (k : ℕ) → k ≢ none → named k lists ≤ 1
   pub uses : HoldsFor at.slots (all_of at.pool lists)
 
--- lists were given for others: the uses of their solutions for those of the others, no slot is lost, and each other list and use
--- that callers hold stays
+-- lists were given for others: the uses of their solutions for those of the others, no slot is lost, and each other
+-- list and use that callers hold stays
 pub record IsSwap (old : Search) (given : Lists) (new : Search) (made : Lists) : Type 0 where
   pub uses : IsExchange old.slots (all_of old.pool given) new.slots (all_of new.pool made)
   pub others : KeepsOthers old.pool (names given) new.pool (names made)

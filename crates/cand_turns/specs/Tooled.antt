@@ -13,7 +13,8 @@ use Rattle.cand_turns.specs.declared.tools.Tools.{Tools}
 pub record AreToolsOf (p : Problem) (tools : Tools) : Type 0 where
   pub shelf : IsShelf p.reps tools.shelf
 
--- one work has what the buffers make of a class's own list at node v, and the other one what the inverters make of the other list
+-- one work has what the buffers make of a class's own list at node v, and the other one what the inverters make of the
+-- other list
 abbrev pub HaveFoundAt : Problem → ℕ → Bool → (Bool → Candidates) → Work → Work → Type 0
 HaveFoundAt p v odd classes own other = HaveFoundOf (allowed_at p.allowed v) p.reps (λ inverts. classes (behind inverts odd)) own other
 

@@ -37,7 +37,8 @@ pub struct Branch {
 }
 
 impl Branch {
-    /// The branch of a sink alone, at a node of this capacitance (aF): one candidate, for the signal that the sink wants.
+    /// The branch of a sink alone, at a node of this capacitance (aF): one candidate, for the signal that the sink
+    /// wants.
     pub(crate) fn of_sink(pool: &mut Pool, arena: &Arena, sink: Sink, c: u64) -> Branch
         requires room { 0 < spare pool.old }
         ensures classes { (odd : Bool) → classes_in pool.new result odd ≡ sink_classes sink c odd }
@@ -68,8 +69,8 @@ impl Branch {
         end_list(pool, arena, odd);
     }
 
-    /// Charges the wire of the branch's node to both lists, adds a load (aF) beside its upper end, and gives up what is then
-    /// dominated.
+    /// Charges the wire of the branch's node to both lists, adds a load (aF) beside its upper end, and gives up what is
+    /// then dominated.
     pub fn carry<L: Ledger>(
         &mut self,
         pool: &mut Pool,
@@ -107,8 +108,9 @@ impl Branch {
         pool.load(&mut self.odd, c, steps);
     }
 
-    /// The candidates of this branch and of the one below `node`, a child of this branch's node, together, where those of the
-    /// other are above the wire of `node`. Answers `Memory` where there is no room; both branches are given up then.
+    /// The candidates of this branch and of the one below `node`, a child of this branch's node, together, where those
+    /// of the other are above the wire of `node`. Answers `Memory` where there is no room; both branches are given up
+    /// then.
     pub fn meet<L: Ledger>(
         self,
         pool: &mut Pool,

@@ -28,8 +28,8 @@ use std::sync::ledger::Ledger;
 use vg_convex::{Kept, Shelf, Work, add_cells, find_each};
 use vg_num::Memory;
 
-/// Finds for each repeater that a place allows the greatest time that it makes of a list there, and keeps it in the work. Answers
-/// `Memory` where there is no room.
+/// Finds for each repeater that a place allows the greatest time that it makes of a list there, and keeps it in the
+/// work. Answers `Memory` where there is no room.
 fn find_at<L: Ledger>(
     pool: &Pool,
     p: &Problem,
@@ -50,9 +50,9 @@ fn find_at<L: Ledger>(
     Ok(())
 }
 
-/// The candidates with a cell of one class of a place, where one work has what was found for the list of that class, which the
-/// buffers drive there, and the other one for the list of the other class, which the inverters drive. Answers `Memory` where there
-/// is no room.
+/// The candidates with a cell of one class of a place, where one work has what was found for the list of that class,
+/// which the buffers drive there, and the other one for the list of the other class, which the inverters drive. Answers
+/// `Memory` where there is no room.
 fn add_at(
     pool: &mut Pool,
     arena: &mut Arena,
@@ -91,8 +91,8 @@ fn add_at(
 }
 
 impl Branch {
-    /// Finds for each repeater that a place allows the greatest time that it makes of either class, and keeps it in the tools. Answers
-    /// `Memory` where there is no room.
+    /// Finds for each repeater that a place allows the greatest time that it makes of either class, and keeps it in the
+    /// tools. Answers `Memory` where there is no room.
     fn find<L: Ledger>(
         &self,
         pool: &Pool,
@@ -119,8 +119,8 @@ impl Branch {
         Ok(())
     }
 
-    /// The candidates with a cell at a place, where these are those without one; these stay. Answers `Memory` where there is no
-    /// room.
+    /// The candidates with a cell at a place, where these are those without one; these stay. Answers `Memory` where
+    /// there is no room.
     fn with_cells<L: Ledger>(
         &self,
         pool: &mut Pool,
@@ -164,7 +164,8 @@ impl Branch {
         }
     }
 
-    /// Takes all candidates of another branch into this one, class by class, and gives up those that are then dominated.
+    /// Takes all candidates of another branch into this one, class by class, and gives up those that are then
+    /// dominated.
     fn absorb<L: Ledger>(
         &mut self,
         pool: &mut Pool,
@@ -184,8 +185,8 @@ impl Branch {
         absorb(pool, arena, &mut self.odd, odd, steps);
     }
 
-    /// The candidates of a node with and without a cell there, where these are those without one. Answers `Memory` where there
-    /// is no room; the branch is given up then.
+    /// The candidates of a node with and without a cell there, where these are those without one. Answers `Memory`
+    /// where there is no room; the branch is given up then.
     pub fn close<L: Ledger>(
         self,
         pool: &mut Pool,

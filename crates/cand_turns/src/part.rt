@@ -73,8 +73,8 @@ impl Part {
         }
     }
 
-    /// A live node comes in to its parent, whose part this is: with the candidates that it has, above its wire. Answers `Memory`
-    /// where there is no room; the part and the branch are given up then.
+    /// A live node comes in to its parent, whose part this is: with the candidates that it has, above its wire. Answers
+    /// `Memory` where there is no room; the part and the branch are given up then.
     pub fn take_live<L: Ledger>(
         self,
         pool: &mut Pool,
@@ -109,7 +109,8 @@ impl Part {
         }
     }
 
-    /// A node without a sink at it or below comes in to its parent, whose part this is: with the capacitance (aF) of all below.
+    /// A node without a sink at it or below comes in to its parent, whose part this is: with the capacitance (aF) of
+    /// all below.
     pub fn take_dead<L: Ledger>(
         self,
         pool: &mut Pool,

@@ -8,7 +8,8 @@ use std::alloc::Global;
 use vg_convex::{Kept, Shelf, Work};
 use vg_num::Memory;
 
-/// The repeaters of a problem, and room to find for each the candidate of each class that it drives. One serves all nodes.
+/// The repeaters of a problem, and room to find for each the candidate of each class that it drives. One serves all
+/// nodes.
 #[derive(Drop)]
 pub struct Tools {
     pub(crate) shelf: Shelf,

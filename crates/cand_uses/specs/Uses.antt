@@ -21,8 +21,8 @@ HoldsFor slots xs = (s : ℕ) → s ≢ none → uses_by xs s ≤ held_of slots 
 abbrev pub HoldsBeside : List Slot → Candidates → (ℕ → ℕ) → Type 0
 HoldsBeside slots xs others = (s : ℕ) → s ≢ none → held_of slots s ≡ uses_by xs s + others s
 
--- the uses of the candidates xs were given up for those of the candidates zs; whatever others callers hold stay, and what
--- they reach keeps its meaning and what it was made of
+-- the uses of the candidates xs were given up for those of the candidates zs; whatever others callers hold stay, and
+-- what they reach keeps its meaning and what it was made of
 pub record IsExchange (old : List Slot) (xs : Candidates) (new : List Slot) (zs : Candidates) : Type 0 where
   pub held : (others : ℕ → ℕ) → HoldsBeside old xs others → HoldsBeside new zs others
   pub frame : (others : ℕ → ℕ) → HoldsBeside old xs others → IsFrame others (made_in old) (made_in new)

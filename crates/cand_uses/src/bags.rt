@@ -10,7 +10,8 @@ ghost use Rattle.cand_uses.specs.Uses.{HoldsFor, IsExchange};
 use cand_pool::{Bag, List, Pool};
 use sol_arena::{Arena, Sol};
 
-/// Empties a bag and ends it: the slots of its candidates are spare again, and the uses of their solutions are given up.
+/// Empties a bag and ends it: the slots of its candidates are spare again, and the uses of their solutions are given
+/// up.
 pub fn give_up(pool: &mut Pool, arena: &mut Arena, bag: Bag)
     requires live { IsLiveBag pool.old bag }
     requires held { HoldsFor (slots_of arena.old) (bag_of pool.old bag) }

@@ -17,7 +17,7 @@ use Rattle.lib_laws.proofs.NameLemmas.{are_words}
 use Rattle.lib_laws.specs.NameLaws.{HasPrintableNames}
 use Rattle.vg_scan.specs.Printed.{is_solid}
 use Rattle.vg_split.specs.Conditions.{IsNamed}
-use Rattle.vg_words.specs.Request.{is_letter, is_name_byte, is_prefix}
+use Rattle.vg_scan.specs.Prefixes.{is_letter, is_name_byte, is_prefix}
 
 -- the pins of a text's repeaters are what the text says of them
 pub of_cells : (text : List ℕ) (said : Cells) → Denotes text said → AreOfCells said

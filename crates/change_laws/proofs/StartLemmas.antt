@@ -4,7 +4,7 @@ use Rattle.vg_change.specs.Changes.{IsChange, nothing}
 use Rattle.vg_change.specs.Taken.{taken}
 use Rattle.vg_design.specs.Designs.{Design}
 use Rattle.design_read.specs.Designs.{IsDesign, Texts}
-use Rattle.vg_words.specs.Request.{is_prefix}
+use Rattle.vg_scan.specs.Prefixes.{is_prefix}
 use Rattle.change_laws.proofs.LibraryLemmas.{are_named, solid}
 
 module _ (texts : Texts) (d : Design) (prefix : List ℕ) (design : IsDesign texts d) (word : is_prefix prefix ≡ true) (free : taken d prefix ≡ None) where

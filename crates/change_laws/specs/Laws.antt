@@ -32,7 +32,8 @@ PlacedNetsRetimeInTexts = (texts : Texts) (d : Design) (prefix : List ℕ) (nets
 
 -- ---- other nets
 
--- a net that nothing refuses, and into which no cells were put, has the same problem in the new design, by the same name
+-- a net that nothing refuses, and into which no cells were put, has the same problem in the new design, by the same
+-- name
 abbrev pub OtherNetsKeepProblems : Type 0
 OtherNetsKeepProblems = (texts : Texts) (d : Design) (prefix : List ℕ) (nets : List PlacedNet) (new : Texts) → AreWrittenAnew texts d prefix nets new
     → (again : Design) → IsDesign new again → (name : List ℕ) → ((p : PlacedNet) → Contains nets p → name ≢ p.net.par.name)

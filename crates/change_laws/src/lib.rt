@@ -1,7 +1,7 @@
 //! The written files of a design into which cells are put, read and timed again.
 //!
-//! A theory alone: it puts together what `change_spef_laws` says of the parasitics, `change_netlist_laws` of the netlist and `retime_laws` of the
-//! slack.
+//! A theory alone: it puts together what `change_spef_laws` says of the parasitics, `change_netlist_laws` of the
+//! netlist and `retime_laws` of the slack.
 #![tactic(auto)]
 
 mod laws;

@@ -1,4 +1,5 @@
--- The pins on the net of a stage, by its name: those of the net that stand in the stage, and those of the cells that begin or end it.
+-- The pins on the net of a stage, by its name: those of the net that stand in the stage, and those of the cells that
+-- begin or end it.
 use Rattle.std.proofs.Common.{◌≡◌, ◌≢◌, ℕ, ◌<◌, ◌==◌, Bool, true, false, List, length, refl, sym, ap, ◌∙◌, subst, Some}
 use Rattle.std.specs.Prelude.{if◌then◌else◌, slice_get}
 use Rattle.std.proofs.lemmas.Bool.{false≢true, eqb-true}

@@ -1,4 +1,5 @@
--- The nodes of stages: the net's pins and ports, each in one stage, and the cells, each where one stage begins and another ends.
+-- The nodes of stages: the net's pins and ports, each in one stage, and the cells, each where one stage begins and
+-- another ends.
 use Rattle.std.proofs.Common.{◌≡◌, ◌≢◌, ℕ, ◌<◌, ◌≤◌, ◌&&◌, ◌||◌, not, Bool, true, false, cond, List, [], ◌∷◌, length, get_or, slice_index, refl, sym, ap, ◌∙◌, subst, arith, inl, inr}
 use Rattle.std.specs.List.{filter}
 use Rattle.std.proofs.lemmas.Bool.{cases_Bool, cases_eq, false≢true}

@@ -9,7 +9,7 @@ use Rattle.ver_patch_laws.proofs.SetLemmas.{contains_in}
 use Rattle.ver_text.specs.Bytes.{is_letter, is_word_byte}
 use Rattle.vg_change.specs.Changes.{Changes, HasPut, HavePut, nothing, split_behind}
 use Rattle.vg_change.specs.Placed.{PlacedNet}
-use Rattle.vg_words.specs.Request.{is_letter as is_prefix_letter, is_name_byte}
+use Rattle.vg_scan.specs.Prefixes.{is_letter as is_prefix_letter, is_name_byte}
 use Rattle.change_netlist_laws.specs.Laws.{NetsAreSplit, PrefixesAreWords}
 
 letter : (b : ℕ) → is_prefix_letter b ≡ true → is_letter b ≡ true

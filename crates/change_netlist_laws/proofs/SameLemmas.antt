@@ -1,4 +1,5 @@
--- The net of a stage is that of no other stage, by its name; and each pin on a net that is split stands in one of its stages.
+-- The net of a stage is that of no other stage, by its name; and each pin on a net that is split stands in one of its
+-- stages.
 use Rattle.std.proofs.Common.{◌≡◌, ◌≢◌, ℕ, suc, ◌<◌, ◌==◌, Bool, true, false, List, [], ◌∷◌, length, map, get_or, slice_index, refl, sym, ap, ◌∙◌, subst, arith, inl}
 use Rattle.std.specs.Prelude.{if◌then◌else◌}
 use Rattle.std.specs.List.{AllPairs}

@@ -14,7 +14,7 @@ use Rattle.vg_design.specs.Designs.{Design, IsEnd, net_number}
 use Rattle.vg_scan.specs.declared.name.NodeName.{NodeName}
 use Rattle.vg_split.specs.Splits.{Split, forest}
 use Rattle.vg_split.specs.Stages.{heads}
-use Rattle.vg_words.specs.Request.{is_prefix}
+use Rattle.vg_scan.specs.Prefixes.{is_prefix}
 use Rattle.retime_laws.specs.NetlistStages.{IsStageIn, stage_number}
 use Rattle.change_netlist_laws.specs.Others.{IsAsItWas}
 use Rattle.change_netlist_laws.specs.Put.{IsSplitAs, IsWrittenAnew}

@@ -12,8 +12,8 @@ use Rattle.change_spef_laws.specs.Nets.{IsPlacedNet}
 use Rattle.vg_design.specs.Designs.{Design}
 use Rattle.vg_split.specs.Splits.{Split}
 
--- The cells of different nets are put into a design, and `new` is the text of its netlist with these changes. The new names begin with
--- a word, the library's repeaters have names, and their pins are what the library says of them.
+-- The cells of different nets are put into a design, and `new` is the text of its netlist with these changes. The new
+-- names begin with a word, the library's repeaters have names, and their pins are what the library says of them.
 pub record IsWrittenAnew (verilog : List ℕ) (d : Design) (prefix : List ℕ) (nets : List PlacedNet) (c : Changes) (new : List ℕ) : Type 0 where
   pub denotes : Denotes verilog d.netlist
   pub nets_are : All (IsPlacedNet d) nets

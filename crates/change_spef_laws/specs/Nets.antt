@@ -61,8 +61,8 @@ pub record IsStageRead (text : List ℕ) (chars : Chars) (x : Split) (stage : �
   pub again : (other : ParNet) → IsNetNamed text (net_of x stage) other → IsWrittenAgain net other
   pub clear : (fault : LineFault NetKind) → IsFaultNamed text (net_of x stage) fault → ⊥
 
--- A text is a file that says of the header and the name map what another says, and has its nets with these split: without a
--- fault, it has the net of each stage, and of all other names the net that the other has.
+-- A text is a file that says of the header and the name map what another says, and has its nets with these split:
+-- without a fault, it has the net of each stage, and of all other names the net that the other has.
 pub record HasStages (text new : List ℕ) (xs : List Split) : Type 0 where
   pub said : File
   pub file : IsFileOf new said

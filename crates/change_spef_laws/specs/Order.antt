@@ -4,7 +4,8 @@ use Rattle.vg_change.specs.Changes.{Changes, IsBehind, IsFresh}
 use Rattle.vg_design.specs.Designs.{Joined, net_names}
 use Rattle.vg_design.specs.Refusals.{IsJoined}
 
--- cells may be put into the net of this name: its section stands behind those that are replaced, and no pin of it is linked anew
+-- cells may be put into the net of this name: its section stands behind those that are replaced, and no pin of it is
+-- linked anew
 abbrev pub IsOpen : Changes → List ℕ → Type 0
 IsOpen c name = (n : Joined) → IsJoined c.design name n → IsBehind c n.par.name × IsFresh c n.id
 

@@ -1,5 +1,5 @@
--- A search in breadth from 0, where each number is the child of at most one, which is smaller: after n turns at the latest it
--- has found all numbers below n that it reaches, each once.
+-- A search in breadth from 0, where each number is the child of at most one, which is smaller: after n turns at the
+-- latest it has found all numbers below n that it reaches, each once.
 use Rattle.std.proofs.Common.{◌≡◌, ◌≢◌, ◌⊎◌, ℕ, zero, suc, ◌-◌, ◌<◌, ◌≤◌, List, [], ◌∷◌, ◌++◌, refl, sym, ap, ◌∙◌, subst, arith, inl, inr, Option, None, Some, length, get_or, All, AllPairs, Contains, slice_get}
 use Rattle.std.proofs.lemmas.Bool.{cases_eq, cases_lt}
 use Rattle.std.proofs.lemmas.List.{length-append, get_or_append_left, get_or-append_right}

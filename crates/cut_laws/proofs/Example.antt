@@ -1,5 +1,6 @@
--- An example: a driver of 10 ps and 1 kΩ, a wire of 1 kΩ to a node of 100 fF, there a buffer of 20 ps, 0.5 kΩ and 2 fF, and a
--- wire of 1 kΩ on to a sink of 102 fF, which is required at 400 ps and reached after 237 ps. Cut at the buffer it is two nets.
+-- An example: a driver of 10 ps and 1 kΩ, a wire of 1 kΩ to a node of 100 fF, there a buffer of 20 ps, 0.5 kΩ and 2 fF,
+-- and a wire of 1 kΩ on to a sink of 102 fF, which is required at 400 ps and reached after 237 ps. Cut at the buffer it
+-- is two nets.
 use Rattle.std.proofs.Common.{◌≡◌, ℕ, zero, suc, false, [], ◌∷◌, refl, pos, Some, None}
 use Rattle.elmore.specs.Path.{climb, path, is_over, way}
 use Rattle.elmore.specs.Wire.{downstream, wire_delay}

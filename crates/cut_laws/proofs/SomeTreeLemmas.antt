@@ -1,5 +1,5 @@
--- A net whose nodes are all joined to the root has a tree, if it has one resistor fewer than nodes: the search that rc_tree
--- runs, without its code.
+-- A net whose nodes are all joined to the root has a tree, if it has one resistor fewer than nodes: the search that
+-- rc_tree runs, without its code.
 use Rattle.std.proofs.Common.{◌≡◌, ◌≢◌, ℕ, zero, suc, ◌+◌, ◌<◌, ◌≤◌, List, [], ◌∷◌, refl, sym, ap, subst, cond, eqb, arith, inl, inr, length, get_or, replicate, slice_index}
 use Rattle.std.proofs.lemmas.Bool.{cases_eq, cases_lt, eq-eqb, ne_eqb}
 use Rattle.std.proofs.lemmas.List.{length-replicate}

@@ -29,7 +29,8 @@ pub record Begins (p : Problem) (cells : List (Option ℕ)) (v : ℕ) : Type 0 w
   pub node : v < length p.tree.nodes
   pub head : is_head (cell_at p.reps cells) v ≡ true
 
--- the pieces as nets: the piece of v is the net of the number `net_of v`, whose tree's node i stands for the node `at v i`
+-- the pieces as nets: the piece of v is the net of the number `net_of v`, whose tree's node i stands for the node
+-- `at v i`
 pub record Pieces : Type 0 where
   pub nets : ℕ → TimedNet
   pub net_of : ℕ → ℕ
@@ -46,7 +47,8 @@ abbrev pub cell_end : Option Rep → ℕ → End
 cell_end None net = nothing
 cell_end (Some rep) net = passes rep (Some net)
 
--- what stands at the node w in the piece of v: in the stage w's sink, and at its end the cell, which drives w's own piece
+-- what stands at the node w in the piece of v: in the stage w's sink, and at its end the cell, which drives w's own
+-- piece
 abbrev pub end_of : Problem → List (Option ℕ) → Pieces → ℕ → ℕ → End
 end_of p cells pieces v w = cond (is_inside p cells v w) (sink_end (sink_of p.sinks w)) (cell_end (cell_at p.reps cells w) (pieces.net_of w))
 

@@ -26,8 +26,8 @@ pub record IsWireOf (f : Forest) (v : ℕ) (stands : ℕ → ℕ) (w : ℕ) (edg
   pub joins : ((stands edge.0 ≡ f.parent w) × (stands edge.1 ≡ w)) ⊎ ((stands edge.0 ≡ w) × (stands edge.1 ≡ f.parent w))
   pub resistor : edge.2 ≡ f.r w
 
--- the net is the piece of v: its node k stands for the node `stands k` of the forest, and has besides its capacitors the
--- load `loads k` of a pin
+-- the net is the piece of v: its node k stands for the node `stands k` of the forest, and has besides its capacitors
+-- the load `loads k` of a pin
 pub record IsPieceNet (f : Forest) (v : ℕ) (net : NumberedNet) (loads stands : ℕ → ℕ) : Type 0 where
   pub root_node : net.root < net.nodes
   pub root_stands : stands net.root ≡ v

@@ -7,8 +7,8 @@ use Rattle.elmore.specs.Trees.{IsTree, parent_of, resistance, capacitance}
 use Rattle.elmore.specs.declared.tree.Node.{Node}
 use Rattle.elmore.specs.declared.rep.Rep.{Rep}
 
--- a forest of n nodes with resistors, capacitors and cells: a node has a parent, the resistance from there, a capacitance
--- and at most one cell
+-- a forest of n nodes with resistors, capacitors and cells: a node has a parent, the resistance from there, a
+-- capacitance and at most one cell
 pub record Forest : Type 0 where
   pub n : ℕ
   pub parent : ℕ → ℕ
@@ -28,7 +28,8 @@ in_piece f v w = in_stage f.parent f.cell v w || ends_stage f.parent f.cell v w
 abbrev pub piece_capacitance : Forest → ℕ → ℕ → ℕ
 piece_capacitance f v w = cond (in_stage f.parent f.cell v w) (f.c w) (input_capacitance (f.cell w))
 
--- the tree `piece`, whose nodes are numbered anew, is the piece of v: its node i stands for the node `at i` of the forest
+-- the tree `piece`, whose nodes are numbered anew, is the piece of v: its node i stands for the node `at i` of the
+-- forest
 pub record IsPieceOf (f : Forest) (v : ℕ) (piece : List Node) (at : ℕ → ℕ) : Type 0 where
   pub a_tree : IsTree piece
   pub root : at 0 ≡ v

@@ -27,8 +27,8 @@ pub record TimedNet : Type 0 where
 abbrev pub end_at : TimedNet → ℕ → End
 end_at net w = slice_index_or net.ends w nothing
 
--- a signal at the driver of a net: the number of the net, the driver's resistance, when the driver would give it on if it had
--- no load, counted from when the first driver would, and how many inverters the signal has passed
+-- a signal at the driver of a net: the number of the net, the driver's resistance, when the driver would give it on if
+-- it had no load, counted from when the first driver would, and how many inverters the signal has passed
 pub record Signal : Type 0 where
   pub net : ℕ
   pub r : ℕ

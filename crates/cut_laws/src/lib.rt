@@ -1,7 +1,8 @@
 //! A placed net, cut at its cells into nets: one for the driver and one for each cell.
 //!
-//! So a placement stands in a netlist and in parasitics. The laws say which nets these are, that they have trees whatever
-//! the order and the numbers of their nodes, and that they re-time to the slack and the polarities of the placement.
+//! So a placement stands in a netlist and in parasitics. The laws say which nets these are, that they have trees
+//! whatever the order and the numbers of their nodes, and that they re-time to the slack and the polarities of the
+//! placement.
 //!
 //! A theory alone: what writes netlists and parasitics is to stand on it.
 #![tactic(auto)]

@@ -77,9 +77,9 @@ fn constraints_of(alloc: Global, cons: &[u8]) -> Result<Constraints, DesignFault
     }
 }
 
-/// The design of four files, or the first fault. They are read in the order parasitics, library, netlist, constraints; the library, the
-/// netlist and the constraints have at most 2^28 bytes each, and of the parasitics the comments are blank already. Answers `Memory`
-/// where there is no room.
+/// The design of four files, or the first fault. They are read in the order parasitics, library, netlist, constraints;
+/// the library, the netlist and the constraints have at most 2^28 bytes each, and of the parasitics the comments are
+/// blank already. Answers `Memory` where there is no room.
 pub fn read_design(
     alloc: Global,
     text: SpefText,

@@ -24,9 +24,9 @@ required_from p cells v w sink = sink.required -ℤ pos (delay_between p cells v
 abbrev pub class_of : Bool → ℕ
 class_of odd = cond odd 1 0
 
--- the placement has cells only at places, and those at or below v are legal there; it gives the sinks at or below v their
--- polarity when the signal reaches v in the class; and x is its pair: the latest time at which the signal may reach v, and
--- the load that v is seen as
+-- the placement has cells only at places, and those at or below v are legal there; it gives the sinks at or below v
+-- their polarity when the signal reaches v in the class; and x is its pair: the latest time at which the signal may
+-- reach v, and the load that v is seen as
 pub record IsPairOf (p : Problem) (v : ℕ) (odd : Bool) (cells : List (Option ℕ)) (x : Pair) : Type 0 where
   pub placement : IsPlacement p cells
   pub placed : IsPlaced p cells

@@ -1,4 +1,5 @@
--- Trees with cells: their loads, delays, slack and polarity, by their parts: a driver, nodes, repeaters, sinks and cells.
+-- Trees with cells: their loads, delays, slack and polarity, by their parts: a driver, nodes, repeaters, sinks and
+-- cells.
 use Rattle.std.specs.Prelude.{◌≡◌, ℕ, ◌+◌, ◌*◌, ◌<◌, Bool, List, length, slice_index_or, ℤ, pos, ◌+ℤ◌, ◌-ℤ◌, ◌≤ℤ◌, Option, Some, None}
 use Rattle.elmore.specs.Cells.{cell_at}
 use Rattle.elmore.specs.Stage.{load, input_load}

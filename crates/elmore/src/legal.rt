@@ -85,8 +85,8 @@ fn first_illegal_by(p: &Problem, cells: &[Option<u32>], loads: &mut [i128]) -> O
 }
 
 /// The first node, in tree order, at which a placement is not legal: a node that has a cell and is no place, does not
-/// allow this cell, or has a load beyond the cell's limit, or the root, where its load is beyond the driver's. None where
-/// the placement is legal. It walks the whole net, and the scratch has room for its nodes.
+/// allow this cell, or has a load beyond the cell's limit, or the root, where its load is beyond the driver's. None
+/// where the placement is legal. It walks the whole net, and the scratch has room for its nodes.
 pub fn first_illegal(p: &Problem, at: &Placement, scratch: &mut Scratch) -> Option<u32>
     requires placement { IsPlacement p.now at.now.cells }
     requires room { length p.now.tree.nodes ≤ room_of scratch.old }

@@ -54,9 +54,9 @@ fn load_by(p: &Problem, cells: &[Option<u32>], node: u32, sums: &mut [i128]) -> 
     sum_at(sums, node as usize)
 }
 
-/// The load (aF) of a node under a placement whose cells stand only at places: the capacitances of the wire from it down
-/// to the next cells, and the input capacitances of these. It is what a cell at the node, or the driver at the root, has
-/// to charge. It walks the whole net, and the scratch has room for its nodes.
+/// The load (aF) of a node under a placement whose cells stand only at places: the capacitances of the wire from it
+/// down to the next cells, and the input capacitances of these. It is what a cell at the node, or the driver at the
+/// root, has to charge. It walks the whole net, and the scratch has room for its nodes.
 pub fn load_of(p: &Problem, at: &Placement, node: u32, scratch: &mut Scratch) -> u128
     requires placement { IsPlacement p.now at.now.cells }
     requires placed { IsPlaced p.now at.now.cells }

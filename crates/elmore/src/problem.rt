@@ -12,12 +12,13 @@ use crate::tree::Tree;
 use std::alloc::Global;
 use vg_num::{Memory, Row};
 
-/// A routed net with its driver, its sinks, the places where a cell may stand, the repeaters to choose from, and which of
-/// them each node allows.
+/// A routed net with its driver, its sinks, the places where a cell may stand, the repeaters to choose from, and which
+/// of them each node allows.
 ///
-/// The lists have one element for each node of the tree. At least one sink exists. A node is live where a sink is at
-/// it or below it. A place is no sink and not the root, and has a sink strictly below. The repeaters stand by rising
-/// resistance. What a node allows names some of them by rising numbers, or allows all. All limits hold under which no sum is too large to be computed.
+/// The lists have one element for each node of the tree. At least one sink exists. A node is live where a sink is at it
+/// or below it. A place is no sink and not the root, and has a sink strictly below. The repeaters stand by rising
+/// resistance. What a node allows names some of them by rising numbers, or allows all. All limits hold under which no
+/// sum is too large to be computed.
 #[derive(Drop)]
 pub struct Problem {
     pub tree: Tree,

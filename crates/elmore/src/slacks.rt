@@ -126,9 +126,9 @@ fn slack_by(p: &Problem, cells: &[Option<u32>], delays: &mut [i128]) -> i128
     least_slack(p.sinks.as_slice(), delays, start)
 }
 
-/// The slack (zs) of a placement whose cells stand only at places: the least, over the sinks, of the time at which the signal has to be there
-/// less the time at which it is there by Elmore's delay. It walks the whole net, and the scratch has room for its
-/// nodes.
+/// The slack (zs) of a placement whose cells stand only at places: the least, over the sinks, of the time at which the
+/// signal has to be there less the time at which it is there by Elmore's delay. It walks the whole net, and the scratch
+/// has room for its nodes.
 ///
 /// L. P. P. P. van Ginneken, "Buffer placement in distributed RC-tree networks for minimal Elmore delay", ISCAS 1990.
 pub fn slack(p: &Problem, at: &Placement, scratch: &mut Scratch) -> i128

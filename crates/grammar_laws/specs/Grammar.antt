@@ -22,9 +22,9 @@ pub data Derives {N T : Type 0} (rules : N → Part N T) : Part N T → List T �
   by_more : {a : Part N T} {xs ys : List T} → Derives rules a xs → Derives rules (many a) ys → Derives rules (many a) (xs ++ ys)
   by_name : {n : N} {xs : List T} → Derives rules (rules n) xs → Derives rules (named n) xs
 
--- a list of tokens begins a part: the empty list begins every part, and a token the part that is this token; a sequence is
--- begun in its first part, or in its rest after the first part whole; a choice in one of its members; a repetition in a
--- member after whole ones; a name as its rule
+-- a list of tokens begins a part: the empty list begins every part, and a token the part that is this token; a sequence
+-- is begun in its first part, or in its rest after the first part whole; a choice in one of its members; a repetition
+-- in a member after whole ones; a name as its rule
 pub data Begins {N T : Type 0} (rules : N → Part N T) : Part N T → List T → Type 0 where
   at_start : {a : Part N T} → Begins rules a []
   at_one : {test : T → Bool} {t : T} → test t ≡ true → Begins rules (one test) (t ∷ [])
@@ -39,7 +39,8 @@ pub data Begins {N T : Type 0} (rules : N → Part N T) : Part N T → List T �
 abbrev pub IsAllowed : {N T : Type 0} → (N → Part N T) → Part N T → List T → ℕ → Type 0
 IsAllowed rules part tokens place = Begins rules part (take (place + 1) tokens)
 
--- where tokens break a part: they are not the part, and this is the place of the first that is not allowed, else their end
+-- where tokens break a part: they are not the part, and this is the place of the first that is not allowed, else their
+-- end
 pub record IsFault {N T : Type 0} (rules : N → Part N T) (part : Part N T) (tokens : List T) (place : ℕ) : Type 0 where
   pub broken : Derives rules part tokens → ⊥
   pub within : place ≤ length tokens

@@ -1,5 +1,5 @@
--- The cells of a library and their pins. Source: Liberty User Guide, Synopsys: the groups `cell`, `pin` and `timing`, and the
--- attributes of the linear delay model.
+-- The cells of a library and their pins. Source: Liberty User Guide, Synopsys: the groups `cell`, `pin` and `timing`,
+-- and the attributes of the linear delay model.
 use Rattle.std.specs.Prelude.{ℕ, max, Bool, false, true, List, [], ◌∷◌, map, codes, fold, Option, Some, None, option_map, unwrap_or, if◌then◌else◌}
 use Rattle.std.specs.List.{cons_option, flat_map}
 use Rattle.std.specs.Str.{bytes_eq}

@@ -35,8 +35,8 @@ stands_after front text name =
 abbrev pub is_balanced : List ℕ → List ℕ → Bool
 is_balanced text name = (count_by is_open text + count_by is_close name) == (count_by is_close text + count_by is_open name)
 
--- the name stands after as many bytes as the text has more of those that may stand before it than the name: after the name
--- is none of these
+-- the name stands after as many bytes as the text has more of those that may stand before it than the name: after the
+-- name is none of these
 abbrev pub fits : List ℕ → List ℕ → Bool
 fits text name =
     nat_le (count_by is_front name) (count_by is_front text)

@@ -1,5 +1,5 @@
--- The units of a library, and the decimal places that they give. Source: Liberty User Guide, Synopsys, on `time_unit` and
--- `capacitive_load_unit`.
+-- The units of a library, and the decimal places that they give. Source: Liberty User Guide, Synopsys, on `time_unit`
+-- and `capacitive_load_unit`.
 use Rattle.std.specs.Prelude.{ℕ, ◌+◌, ◌-◌, ◌≤◌, ◌^◌, ◌==◌, List, [], ◌∷◌, codes, pos, if◌then◌else◌, Option, Some, None, option_map, option_and_then, unwrap_or, Result, Ok, Err}
 use Rattle.std.specs.Option.{option_map_or}
 use Rattle.std.specs.Str.{str_eq_ignore_ascii_case}

@@ -145,8 +145,8 @@ fn twice_flaw(names: &Names, cell: &Group<'_>) -> Option<Flaw>
     }
 }
 
-/// The names of a library's cells, each once, and the first cell whose name was used before. Answers `Memory` where there is
-/// no room.
+/// The names of a library's cells, each once, and the first cell whose name was used before. Answers `Memory` where
+/// there is no room.
 fn names_of_cells(
     alloc: Global,
     bytes: &[u8],
@@ -164,8 +164,9 @@ fn names_of_cells(
     Ok((names, first))
 }
 
-/// The names of a library's cells, of a text of these bytes, where each number that is used is one, each slope is 0 and no name
-/// is used twice; or the first fault: `CellTwice`, `Number` or `Slope`. Answers `Memory`, at line 1, where there is no room.
+/// The names of a library's cells, of a text of these bytes, where each number that is used is one, each slope is 0 and
+/// no name is used twice; or the first fault: `CellTwice`, `Number` or `Slope`. Answers `Memory`, at line 1, where
+/// there is no room.
 pub fn check_cells(
     alloc: Global,
     bytes: &[u8],

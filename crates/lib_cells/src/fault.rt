@@ -5,8 +5,8 @@ use vg_scan::LineFault;
 /// What is wrong with a line of a library (Liberty User Guide, Synopsys).
 #[derive(Clone, Copy, Debug, PartialEq, Eq, Error)]
 pub enum LibKind {
-    /// The grammar does not allow a token that begins on the line, or the text ends too soon. It allows no group inside 64
-    /// others, and no name of a cell or a pin that is none.
+    /// The grammar does not allow a token that begins on the line, or the text ends too soon. It allows no group inside
+    /// 64 others, and no name of a cell or a pin that is none.
     #[error("not the syntax of a library")]
     Syntax,
     /// The model of delays is not the linear one, `generic_cmos`.

@@ -79,7 +79,8 @@ impl Flaw {
         rank_of_self < rank_of_other || rank_of_self == rank_of_other && self.place < other.place
     }
 
-    /// Whether it comes before another one: on an earlier line; on one line by its kind; of one kind where it stands earlier.
+    /// Whether it comes before another one: on an earlier line; on one line by its kind; of one kind where it stands
+    /// earlier.
     fn is_before(self, bytes: &[u8], other: Flaw) -> bool
         ensures { result ≡ is_before bytes.now self other }
     {

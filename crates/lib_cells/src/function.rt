@@ -92,7 +92,8 @@ fn has_name(text: &[u8], from: usize, name: &[u8]) -> bool
         .all(|(byte, own)| byte == own)
 }
 
-/// Whether the name stands after the first bytes, so many, which may stand before it, and all others may stand after it.
+/// Whether the name stands after the first bytes, so many, which may stand before it, and all others may stand after
+/// it.
 fn stands_after(front: usize, text: &[u8], name: &[u8]) -> bool
     requires { front ≤ length text.now }
     ensures { result ≡ stands_after front (filter is_ink text.now) name.now }
@@ -129,8 +130,8 @@ fn inverts(text: &[u8], name: &[u8]) -> bool
 }
 
 /// Whether the function of a pin inverts, where it reduces to an input: it is the input's name, such a function in
-/// brackets, `!` before such a function, or such a function followed by `'`, and each `!` and each `'` inverts. `None`: it
-/// does not reduce to the input. Blanks in the function are passed over.
+/// brackets, `!` before such a function, or such a function followed by `'`, and each `!` and each `'` inverts. `None`:
+/// it does not reduce to the input. Blanks in the function are passed over.
 pub fn reduces_to(text: &[u8], input: &[u8]) -> Option<bool>
     ensures reduces { MatchOption result ((inverted : Bool) → ReducesTo text.now input.now inverted → ⊥) (ReducesTo text.now input.now) }
     ensures only { IfSome result (λ inverted. (other : Bool) → ReducesTo text.now input.now other → other ≡ inverted) }

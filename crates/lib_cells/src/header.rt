@@ -94,9 +94,9 @@ fn units_of(library: &Group<'_>) -> Units
     }
 }
 
-/// The units of a library, of a text of these bytes; or the first fault of its model and its units: `NotLinear` where it names
-/// another model than the linear one, `Unit` where it gives no unit of loads, or a unit that is none. Neither the model nor the
-/// unit of times need be given: the unit is then a nanosecond.
+/// The units of a library, of a text of these bytes; or the first fault of its model and its units: `NotLinear` where
+/// it names another model than the linear one, `Unit` where it gives no unit of loads, or a unit that is none. Neither
+/// the model nor the unit of times need be given: the unit is then a nanosecond.
 #[tactic(auto, using(crate::proofs::OrderLemmas::first_flaw, crate::proofs::OrderLemmas::no_flaw))]
 pub fn read_units(bytes: &[u8], library: &Group<'_>) -> Result<Units, LibFault>
     ensures units { IfOk result (λ units. units ≡ units_of library.now) }

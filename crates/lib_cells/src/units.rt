@@ -46,8 +46,8 @@ fn is_like(text: &[u8], unit: &[u8]) -> bool
     text.eq_ignore_ascii_case(unit)
 }
 
-/// The power of ten of a unit of times in picoseconds: `1ps`, `10ps`, `100ps` or `1ns`, in letters of either case. `None`:
-/// the text is none of these.
+/// The power of ten of a unit of times in picoseconds: `1ps`, `10ps`, `100ps` or `1ns`, in letters of either case.
+/// `None`: the text is none of these.
 #[tactic(auto, unfolding(crate::specs::Units::time_power))]
 pub fn time_power(text: &[u8]) -> Option<u8>
     ensures power { result ≡ time_power text.now }
@@ -100,8 +100,8 @@ fn farad_power(text: &[u8]) -> Option<u8>
     if is_like(text, b"pf") { Some(3) } else { None }
 }
 
-/// The power of ten of a unit of loads in femtofarads, by the arguments that stand between the brackets: a number that is
-/// 1, 10, 100 or 1000, and `ff` or `pf`, in letters of either case. `None`: they are not two, or no such unit.
+/// The power of ten of a unit of loads in femtofarads, by the arguments that stand between the brackets: a number that
+/// is 1, 10, 100 or 1000, and `ff` or `pf`, in letters of either case. `None`: they are not two, or no such unit.
 pub fn load_power(arguments: &[u8]) -> Option<u8>
     ensures power { result ≡ load_power arguments.now }
     ensures small { IfSome result (λ power. power ≤ 6) }

@@ -8,7 +8,8 @@ use Rattle.lib_text.specs.Grammar.{is_cell, is_pin}
 use Rattle.lib_text.specs.Groups.{is_form, list_of, word_at}
 use Rattle.lib_text.specs.Kinds.{word_kind}
 
--- a group of this name wants names, given the groups around the one that it stands in, and whether the second group is a cell
+-- a group of this name wants names, given the groups around the one that it stands in, and whether the second group is
+-- a cell
 abbrev pub wants_names : List ℕ → Bool → Kind → Bool
 wants_names [] cell k = is_cell k
 wants_names (p ∷ []) cell k = cell && is_pin k
@@ -27,9 +28,9 @@ name_kind text name = word_kind (word_at text name)
 abbrev pub HasWantedNames : List ℕ → List ℕ → Bool → Statement → Type 0
 HasWantedNames text around cell s = wants_names around cell (name_kind text s.name) ≡ true → are_names (list_of text s) ≡ true
 
--- These statements come next inside a library, given the groups that are open, the innermost first, and whether the second of
--- them is a cell: one that opens no group stands in the innermost; one that does has names where it wants them; and the
--- innermost ends. Their names begin here or further on, one after another.
+-- These statements come next inside a library, given the groups that are open, the innermost first, and whether the
+-- second of them is a cell: one that opens no group stands in the innermost; one that does has names where it wants
+-- them; and the innermost ends. Their names begin here or further on, one after another.
 pub data Inside (text : List ℕ) : List ℕ → Bool → ℕ → List Statement → Type 0 where
   ends : {groups : List ℕ} {cell : Bool} {low : ℕ} → Inside text groups cell low []
   adds : {g : ℕ} {gs : List ℕ} {cell : Bool} {low : ℕ} {s : Statement} {ss : List Statement}

@@ -16,8 +16,8 @@ use Rattle.lib_text.specs.Tokens.{token}
 use Rattle.lib_laws.proofs.LawNames.{after_kind, after_kinds, library_leads}
 use Rattle.lib_laws.proofs.TokenSteps.{ByToken, by_tokens}
 
--- These statements come next, where each name from here on begins here or further on: one has the name that was read just
--- before here, for no other statement; and a name is read.
+-- These statements come next, where each name from here on begins here or further on: one has the name that was read
+-- just before here, for no other statement; and a name is read.
 data Named : Bool → ℕ → List Statement → Type 0 where
   ends : {fresh : Bool} {low : ℕ} → Named fresh low []
   adds : {low : ℕ} {s : Statement} {ss : List Statement} → suc s.name ≡ low → Named false low ss → Named true low (s ∷ ss)

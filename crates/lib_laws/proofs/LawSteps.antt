@@ -10,8 +10,8 @@ use Rattle.lib_text.specs.Tokens.{token}
 use Rattle.lib_text.specs.Statements.{top, pop, open_after, statements_from, statements_of}
 use Rattle.lib_laws.proofs.TokenSteps.{ByToken, by_tokens}
 
--- These statements come next, given the groups that are open and the name read last: one stands in the innermost group and
--- has this name; a group of this name opens; the innermost ends; and a name is read that stands further on.
+-- These statements come next, given the groups that are open and the name read last: one stands in the innermost group
+-- and has this name; a group of this name opens; the innermost ends; and a name is read that stands further on.
 pub data Steps : List ℕ → ℕ → List Statement → Type 0 where
   ends : {groups : List ℕ} {name : ℕ} → Steps groups name []
   adds : {groups : List ℕ} {name : ℕ} {s : Statement} {ss : List Statement}

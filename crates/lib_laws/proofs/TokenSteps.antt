@@ -6,8 +6,8 @@ use Rattle.lib_text.specs.declared.token.TokenKind.{TokenKind}
 use Rattle.lib_text.specs.declared.token.TokenKind.TheVariants.{Word, Value, List as IsList, Broken, Mark}
 use Rattle.lib_text.specs.Tokens.{is_space, is_letter, is_word_byte, token, value_at, list_at, content_after, content_at, begun, begun_length, tokens_from}
 
--- It holds of no tokens, and of each token with those after it: an identifier and a byte go on; where a content stands is
--- left open.
+-- It holds of no tokens, and of each token with those after it: an identifier and a byte go on; where a content stands
+-- is left open.
 pub record ByToken (P : ℕ → List Token → Type 0) : Type 0 where
   pub none : (at : ℕ) → P at []
   pub later : (at : ℕ) (ts : List Token) → P (at + 1) ts → P at ts

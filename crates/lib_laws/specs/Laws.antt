@@ -1,5 +1,5 @@
--- Laws of a text's statements, and of its joined lines. Source: Liberty User Guide, Synopsys, on group statements, attributes
--- and statements over several lines.
+-- Laws of a text's statements, and of its joined lines. Source: Liberty User Guide, Synopsys, on group statements,
+-- attributes and statements over several lines.
 use Rattle.std.specs.Prelude.{◌≡◌, ℕ, ◌+◌, ◌<◌, ◌≤◌, ◌==◌, ◌&&◌, ◌⊎◌, nat_lt, Bool, true, false, List, ◌∷◌, ◌++◌, length, get_or}
 use Rattle.std.specs.List.{All, filter, find}
 use Rattle.lib_text.specs.declared.statement.Statement.{Statement}
@@ -29,21 +29,22 @@ NamesAreOwn = (text : List ℕ) (s : Statement) (after : List Statement) → IsL
 abbrev pub stands_in : Statement → Statement → Bool
 stands_in head s = s.group == head.name
 
--- What stands in a group stands inside it: once a statement stands in a group that began earlier, none after that stands
--- in this one.
+-- What stands in a group stands inside it: once a statement stands in a group that began earlier, none after that
+-- stands in this one.
 abbrev pub GroupIsInside : Type 0
 GroupIsInside =
     (text : List ℕ) (head : Statement) (after : List Statement) → StandAfter text head after → HasOwnName head after
     → filter (stands_in head) after ≡ filter (stands_in head) (inside head after)
 
--- An attribute of a group is found inside it: a search through all that follows the group's own statement finds the same.
+-- An attribute of a group is found inside it: a search through all that follows the group's own statement finds the
+-- same.
 abbrev pub FoundInside : Type 0
 FoundInside =
     (text : List ℕ) (head : Statement) (after : List Statement) → StandAfter text head after → HasOwnName head after → (form : Form) (name : List ℕ)
     → find (is_in (group_of text head after) form name) (inside head after) ≡ find (is_in (group_of text head after) form name) after
 
--- The groups in a group are found inside it, each with all its statements: a search through all that follows the group's
--- own statement gives the same.
+-- The groups in a group are found inside it, each with all its statements: a search through all that follows the
+-- group's own statement gives the same.
 abbrev pub GroupsInside : Type 0
 GroupsInside =
     (text : List ℕ) (head : Statement) (after : List Statement) → StandAfter text head after → HasOwnName head after → (name : List ℕ)
@@ -57,7 +58,8 @@ goes_on text at = is_at text at 92 && nat_lt 0 (line_end_length text (at + 1))
 abbrev pub IsContinuation : List ℕ → ℕ → Type 0
 IsContinuation text at = (from : ℕ) × (goes_on text from ≡ true) × (from ≤ at) × (at ≤ from + line_end_length text (from + 1))
 
--- once lines are joined this place is blank: it belongs to where a line goes on, or is a carriage return before a newline
+-- once lines are joined this place is blank: it belongs to where a line goes on, or is a carriage return before a
+-- newline
 abbrev pub IsBlanked : List ℕ → ℕ → Type 0
 IsBlanked text at = IsContinuation text at ⊎ (is_return_at text at ≡ true)
 

@@ -1,5 +1,5 @@
-//! Laws of a text's statements and of its joined lines. Their functions do nothing: each one's contract is the law, which a
-//! proof may cite.
+//! Laws of a text's statements and of its joined lines. Their functions do nothing: each one's contract is the law,
+//! which a proof may cite.
 
 ghost use Rattle.lib_laws.specs.Laws.{FoundInside, GroupIsInside, GroupsInside, InOrder, JoinedByPlace, NamesAreOwn, PlainStays};
 

@@ -1,5 +1,5 @@
-//! Laws of the text of a Liberty library: where its statements stand, what joined lines change, and what the grammar says of the
-//! names of its repeaters.
+//! Laws of the text of a Liberty library: where its statements stand, what joined lines change, and what the grammar
+//! says of the names of its repeaters.
 //!
 //! Theory alone: the definitions and the code are those of `lib_text`, `lib_cells` and `lib_linear`.
 #![tactic(auto)]

@@ -12,8 +12,8 @@ use Rattle.lib_linear.specs.Libraries.{library_in_bytes, plain}
 use Rattle.lib_linear.specs.Repeaters.{IsOver}
 use Rattle.lib_cells.specs.Units.{units_of}
 
--- the text without comments and continued line ends is no library, and this is the line of the first token that the grammar
--- does not allow, or the last line where the text ends before
+-- the text without comments and continued line ends is no library, and this is the line of the first token that the
+-- grammar does not allow, or the last line where the text ends before
 pub record IsFirstSyntaxFault (bytes : List ℕ) (fault : LineFault LibKind) : Type 0 where
   pub place : ℕ
   pub kind : fault.kind ≡ Syntax
@@ -27,8 +27,8 @@ pub record HasTooMany (bytes : List ℕ) (units : Units) (library : Group) (faul
   pub kind : fault.kind ≡ TooManyRepeaters
   pub line : fault.line ≡ line_at bytes place
 
--- This is the fault of a library's statements that is told: the first of its model and its units; where these have none, the
--- first of its cells; where these have none either, the 257th repeater.
+-- This is the fault of a library's statements that is told: the first of its model and its units; where these have
+-- none, the first of its cells; where these have none either, the 257th repeater.
 pub data IsLibraryFault (bytes : List ℕ) (library : Group) (fault : LineFault LibKind) : Type 0 where
   in_header : IsFirst bytes (header_flaws library) fault → IsLibraryFault bytes library fault
   in_cells : header_flaws library ≡ [] → IsFirst bytes (value_flaws (units_of library) library) fault → IsLibraryFault bytes library fault

@@ -1,5 +1,5 @@
--- The cells of a library that are repeaters. Source: Liberty User Guide, Synopsys, on the linear delay model; van Ginneken
--- 1990 and Lillis, Cheng and Lin 1996 on buffers and inverters.
+-- The cells of a library that are repeaters. Source: Liberty User Guide, Synopsys, on the linear delay model; van
+-- Ginneken 1990 and Lillis, Cheng and Lin 1996 on buffers and inverters.
 use Rattle.std.specs.Prelude.{◌≡◌, ◌≢◌, ◌⊎◌, ℕ, ◌≤◌, ◌^◌, Bool, true, false, ◌&&◌, nat_lt, is_some, List, [], ◌∷◌, ◌++◌, length, codes, Some, find, AllPairs, IsPermutation}
 use Rattle.std.specs.List.{list_all}
 use Rattle.std.specs.Str.{bytes_eq}

@@ -10,8 +10,8 @@ use lib_cells::{LibFault, LibKind, OUT_OF_MEMORY};
 use lib_text::{check_syntax, line_at, plain_text};
 use std::alloc::Global;
 
-/// A copy of a library's text whose comments and continued line ends are blank, as of `plain_text`; or the first fault of
-/// its syntax, with the number of its line. Answers `Memory`, at line 1, where there is no room.
+/// A copy of a library's text whose comments and continued line ends are blank, as of `plain_text`; or the first fault
+/// of its syntax, with the number of its line. Answers `Memory`, at line 1, where there is no room.
 pub fn checked_text(alloc: Global, bytes: &[u8]) -> Result<Vec<u8>, LibFault>
     ensures text { IfOk result (λ text. text.items ≡ plain bytes.now) }
     ensures length { IfOk result (λ text. length text.items ≡ length bytes.now) }

@@ -1,5 +1,5 @@
-//! Liberty libraries of the linear delay model: from a text to its cells and to those of them that are repeaters, or to its
-//! first fault.
+//! Liberty libraries of the linear delay model: from a text to its cells and to those of them that are repeaters, or to
+//! its first fault.
 #![tactic(auto)]
 
 mod checked;

@@ -11,8 +11,8 @@ use std::marker::Model;
 use vg_num::Row;
 use vg_scan::Name;
 
-/// The cells of a library, and those of them that are repeaters. Contracts see both as lists: the cells in the order of the
-/// text, the repeaters by rising resistance, then by name.
+/// The cells of a library, and those of them that are repeaters. Contracts see both as lists: the cells in the order of
+/// the text, the repeaters by rising resistance, then by name.
 #[derive(Drop)]
 pub struct Library {
     names: Names,
@@ -88,7 +88,8 @@ fn pin_in<'a>(library: &'a Library, cell: &[u8], pin: &[u8]) -> Option<&'a PinIn
     pin_of(cell, pin)
 }
 
-/// A law: what a library says of the pins of a repeater is what the repeater does, and no two repeaters are of one cell.
+/// A law: what a library says of the pins of a repeater is what the repeater does, and no two repeaters are of one
+/// cell.
 pub fn repeaters_are_of_cells(library: &Library)
     ensures { AreOfCells library.now }
 {
@@ -102,31 +103,33 @@ pub fn repeaters(library: &Library) -> &[Repeater]
     library.repeaters.as_slice()
 }
 
-/// The capacitance of a pin (aF). `None`: the library has no such cell, the cell no such pin, or the pin no capacitance. Of two
-/// pins of one name the first counts. It takes no memory.
+/// The capacitance of a pin (aF). `None`: the library has no such cell, the cell no such pin, or the pin no
+/// capacitance. Of two pins of one name the first counts. It takes no memory.
 pub fn pin_cap(library: &Library, cell: &[u8], pin: &[u8]) -> Option<u64>
     ensures { result ≡ cap_of library.now cell.now pin.now }
 {
     pin_in(library, cell, pin)?.cap
 }
 
-/// The delay without a load (zs) and the resistance (mΩ) of a pin: the greatest that its timing groups give. `None`: no such
-/// cell or pin, the pin is no output, or its timing groups give no intrinsic time or no resistance. It takes no memory.
+/// The delay without a load (zs) and the resistance (mΩ) of a pin: the greatest that its timing groups give. `None`: no
+/// such cell or pin, the pin is no output, or its timing groups give no intrinsic time or no resistance. It takes no
+/// memory.
 pub fn pin_drive(library: &Library, cell: &[u8], pin: &[u8]) -> Option<(u64, u64)>
     ensures { result ≡ drive_in library.now cell.now pin.now }
 {
     pin_in(library, cell, pin)?.drive
 }
 
-/// The greatest load that a pin may charge (aF). `None`: no such cell or pin, or it has no such limit. It takes no memory.
+/// The greatest load that a pin may charge (aF). `None`: no such cell or pin, or it has no such limit. It takes no
+/// memory.
 pub fn pin_limit(library: &Library, cell: &[u8], pin: &[u8]) -> Option<u64>
     ensures { result ≡ limit_of library.now cell.now pin.now }
 {
     pin_in(library, cell, pin)?.max
 }
 
-/// The pins that the timing groups of an output name as related, each once, in the order of the text; none of any other pin.
-/// It takes no memory.
+/// The pins that the timing groups of an output name as related, each once, in the order of the text; none of any other
+/// pin. It takes no memory.
 pub fn related<'a>(library: &'a Library, cell: &[u8], pin: &[u8]) -> &'a [Name]
     ensures { result.now ≡ related_to library.now cell.now pin.now }
 {

@@ -55,13 +55,14 @@ fn read_statements(alloc: Global, bytes: &[u8], library: &Group<'_>) -> Result<L
     Ok(Library::new(names, cells, repeaters))
 }
 
-/// The library of a text; or the text's first fault, with the number of its line. Answers `Memory`, at line 1, where there is
-/// no room.
+/// The library of a text; or the text's first fault, with the number of its line. Answers `Memory`, at line 1, where
+/// there is no room.
 ///
-/// The text is a library of the Liberty User Guide, Synopsys, with the linear delay model `generic_cmos`. Its syntax is read
-/// first, then its model and its units, then its cells with their names, numbers and slopes, and then the repeaters are
-/// counted. The first of these passes that finds a fault decides, and of its faults that on the earliest line. On one line
-/// `NotLinear` comes before `Unit`, and `CellTwice` before `Number`, and this before `Slope`; of one kind the first in the text.
+/// The text is a library of the Liberty User Guide, Synopsys, with the linear delay model `generic_cmos`. Its syntax is
+/// read first, then its model and its units, then its cells with their names, numbers and slopes, and then the
+/// repeaters are counted. The first of these passes that finds a fault decides, and of its faults that on the earliest
+/// line. On one line `NotLinear` comes before `Unit`, and `CellTwice` before `Number`, and this before `Slope`; of one
+/// kind the first in the text.
 pub fn read_library(alloc: Global, bytes: &[u8]) -> Result<Library, LibFault>
     requires { length bytes.now ≤ 2 ^ 28 }
     ensures library { IfOk result (Denotes bytes.now) }

@@ -150,8 +150,8 @@ fn are_small(delay: u64, resistance: u64, cost: u64) -> bool
     delay <= 1_000_000_000_000_000_000 && resistance <= 1_000_000_000 && cost <= 1_000_000_000_000
 }
 
-/// What a cell does to a net between an input and an output, where it follows the input, and all is given and within what is
-/// computed with.
+/// What a cell does to a net between an input and an output, where it follows the input, and all is given and within
+/// what is computed with.
 fn rep_of(
     units: Units,
     cell: &Group<'_>,

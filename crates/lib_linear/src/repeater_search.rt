@@ -91,8 +91,8 @@ fn repeaters_in_text(
     Ok(found)
 }
 
-/// The repeaters of a library, by rising resistance and then by the names of their cells; or the place of the cell that is
-/// the 257th.
+/// The repeaters of a library, by rising resistance and then by the names of their cells; or the place of the cell that
+/// is the 257th.
 pub(crate) fn find_repeaters(
     alloc: Global,
     units: Units,

@@ -49,8 +49,8 @@ is_name text = nat_lt 0 (length text) && list_all is_name_byte text
 abbrev pub are_names : List ℕ → Bool
 are_names list = list_all is_name (arguments_of list)
 
--- the first argument from a place on is a name and ends at this place: the list is names where that is its end, and else
--- where those after the comma are
+-- the first argument from a place on is a name and ends at this place: the list is names where that is its end, and
+-- else where those after the comma are
 pub record EndsName (list : List ℕ) (at end : ℕ) : Type 0 where
   pub from : at ≤ end
   pub within : end ≤ length list

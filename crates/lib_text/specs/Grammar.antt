@@ -127,8 +127,8 @@ is_no_cell k = is_word k && not (is_cell k)
 abbrev pub is_no_pin : Kind → Bool
 is_no_pin k = is_word k && not (is_pin k)
 
--- The statements of a group. One `;` alone is a statement that says nothing, so that one after an attribute may stand or
--- not. A cell of the library has one name, and a pin of a cell one or more.
+-- The statements of a group. One `;` alone is a statement that says nothing, so that one after an attribute may stand
+-- or not. A cell of the library has one name, and a pin of a cell one or more.
 abbrev pub rules : Name → Part Name Kind
 rules in_library =
     any (one is_semicolon ∷ simple ∷ complex ∷ group is_cell is_single in_cell 1 ∷ group is_no_cell is_list (inside 2) 1 ∷ [])

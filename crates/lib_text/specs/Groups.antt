@@ -51,7 +51,8 @@ list_of text s = part text s.from s.to
 abbrev pub value_in : Group → List ℕ → Option (List ℕ)
 value_in group name = option_map (value_of group.text) (attribute group name)
 
--- the statements inside a group, of those after its own: those before the first that stands in a group that began earlier
+-- the statements inside a group, of those after its own: those before the first that stands in a group that began
+-- earlier
 abbrev pub inside : Statement → List Statement → List Statement
 inside head after = before_first (λ s. nat_lt s.group head.name) after
 

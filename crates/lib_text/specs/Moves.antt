@@ -1,4 +1,5 @@
--- How the machine goes on, token by token, and which ways of the grammar each place stands for: for the functions between.
+-- How the machine goes on, token by token, and which ways of the grammar each place stands for: for the functions
+-- between.
 use Rattle.std.specs.Prelude.{ℕ, zero, suc, ltb, Bool, true, false, List, [], ◌∷◌, Option, Some, None, if◌then◌else◌}
 use Rattle.grammar_laws.specs.Grammar.{Part}
 use Rattle.grammar_laws.specs.Grammar.Part.{one, many, named}

@@ -1,6 +1,6 @@
 -- The statements of a text in their order, each with the group around it: of any text, be it a library or not. Source:
--- Liberty User Guide, Synopsys: a group has a name, arguments and statements, a simple attribute a name and a value, and a
--- complex attribute a name and arguments.
+-- Liberty User Guide, Synopsys: a group has a name, arguments and statements, a simple attribute a name and a value,
+-- and a complex attribute a name and arguments.
 use Rattle.std.specs.Prelude.{ℕ, ◌==◌, ◌&&◌, Bool, false, List, [], ◌∷◌, ◌++◌, if◌then◌else◌}
 use Rattle.lib_text.specs.declared.token.Token.{Token}
 use Rattle.lib_text.specs.declared.token.TokenKind.{TokenKind}

@@ -1,5 +1,5 @@
--- Strings in the text of a library. A string runs from a quote to the next quote, else to its line's end; outside strings a
--- backslash hides the byte after it, so that a quote there begins none. Source: Liberty User Guide, Synopsys.
+-- Strings in the text of a library. A string runs from a quote to the next quote, else to its line's end; outside
+-- strings a backslash hides the byte after it, so that a quote there begins none. Source: Liberty User Guide, Synopsys.
 use Rattle.std.specs.Prelude.{ℕ, suc, Bool, true, false, ◌||◌, List, [], ◌∷◌, if◌then◌else◌}
 use Rattle.vg_scan.specs.Lines.{is_newline}
 use Rattle.vg_scan.specs.Names.{is_backslash, is_quote}

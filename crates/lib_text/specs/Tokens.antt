@@ -93,8 +93,8 @@ begun at b bs =
 abbrev pub begun_length : ℕ → List ℕ → ℕ
 begun_length b bs = if is_space b then 0 else (if is_letter b then prefix_len is_word_byte bs else content_length (content_after b) bs)
 
--- The tokens from a place on, where the first bytes belong to a token that began before: each other byte is a blank or a
--- line's end, or begins a token.
+-- The tokens from a place on, where the first bytes belong to a token that began before: each other byte is a blank or
+-- a line's end, or begins a token.
 unfoldable pub tokens_from : ℕ → ℕ → List ℕ → List Token
 tokens_from skip at [] = []
 tokens_from (suc skip) at (b ∷ bs) = tokens_from skip (at + 1) bs

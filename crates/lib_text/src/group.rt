@@ -94,8 +94,8 @@ fn first_statement(statements: &[Statement]) -> Statement
 }
 
 impl<'a> Group<'a> {
-    /// The group that a library is: the first of the text's statements, with all that follow. Where there is none, a group
-    /// without arguments and statements.
+    /// The group that a library is: the first of the text's statements, with all that follow. Where there is none, a
+    /// group without arguments and statements.
     pub fn library(text: &'a [u8], statements: &'a [Statement]) -> Group<'a>
         ensures { result ≡ library_in text.now statements.now }
     {

@@ -1,4 +1,5 @@
-//! The text of a Liberty library: its tokens, whether they are a library, and its statements with the groups around them.
+//! The text of a Liberty library: its tokens, whether they are a library, and its statements with the groups around
+//! them.
 //!
 //! The text is read in place, token by token: nothing is copied, and no token is kept.
 #![tactic(auto)]

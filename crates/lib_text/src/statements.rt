@@ -131,8 +131,8 @@ fn take_token(
     Ok(())
 }
 
-/// The statements of a text, where its comments and its continued line ends are blank. Answers `Memory` where there is no
-/// room.
+/// The statements of a text, where its comments and its continued line ends are blank. Answers `Memory` where there is
+/// no room.
 pub fn statements_of(alloc: Global, text: &[u8]) -> Result<Vec<Statement>, Memory>
     requires { length text.now ≤ 2 ^ 28 }
     ensures { IfOk result (λ statements. statements.items ≡ statements_of text.now) }

@@ -96,8 +96,8 @@ fn kind_for(text: &[u8], token: Token, state: State) -> Kind
 /// Whether a text is a library, where its comments and its continued line ends are blank. If not, where the first token
 /// begins that the grammar does not allow, or the text's end.
 ///
-/// The grammar is that of the Liberty User Guide, Synopsys: groups, simple attributes and complex attributes. At most 64
-/// groups are open at once; a cell of the library has one name, a pin of a cell one or more.
+/// The grammar is that of the Liberty User Guide, Synopsys: groups, simple attributes and complex attributes. At most
+/// 64 groups are open at once; a cell of the library has one name, a pin of a cell one or more.
 pub fn check_syntax(text: &[u8]) -> Result<(), usize>
     ensures syntax { MatchResult result (λ _. IsLibrary text.now) (IsSyntaxFault text.now) }
     ensures within { IfErr result (λ at. at ≤ length text.now) }

@@ -10,8 +10,8 @@ use std::alloc::Global;
 use vg_num::Memory;
 use vg_scan::{Comments, skip_comments};
 
-/// A copy of a library's text whose comments and continued line ends are blank. A byte keeps its place. Answers `Memory`
-/// where there is no room.
+/// A copy of a library's text whose comments and continued line ends are blank. A byte keeps its place. Answers
+/// `Memory` where there is no room.
 pub fn plain_text(alloc: Global, bytes: &[u8]) -> Result<Vec<u8>, Memory>
     ensures text { IfOk result (λ text. text.items ≡ joined (without_comments Liberty bytes.now)) }
     ensures length { IfOk result (λ text. length text.items ≡ length bytes.now) }

@@ -24,8 +24,8 @@ use Rattle.vg_answer.specs.Answers.{Written, Said}
 use Rattle.vg_answer.specs.Nets.{nets_for, problem_in}
 use Rattle.vg_answer.specs.declared.output.Output.TheVariants.{Netlist, Parasitics, Certificate}
 
--- What is asked: one net by its name, or all nets of the parasitics; what the names of new cells and nets begin with; and whether a certificate is
--- to be written.
+-- What is asked: one net by its name, or all nets of the parasitics; what the names of new cells and nets begin with;
+-- and whether a certificate is to be written.
 pub record Asked : Type 0 where
   pub net : Option (List ℕ)
   pub prefix : List ℕ
@@ -57,7 +57,8 @@ best_verdict d name net best = record {
   put = put_of net best.placement.cells;
 }
 
--- a best placement of the net is reported, without a cell where one without a cell is best; or no placement is good; or the net is refused
+-- a best placement of the net is reported, without a cell where one without a cell is best; or no placement is good; or
+-- the net is refused
 pub data IsBestSaid (d : Design) (name : List ℕ) (said : Verdict) : Type 0 where
   told_best : (net : PosedNet) → IsPosedNet d name net → (best : Best) → IsFound net.problem best → said ≡ best_verdict d name net best → IsBestSaid d name said
   told_none : (net : PosedNet) → IsPosedNet d name net → HasNoGood net.problem → said ≡ bare_verdict NoneGood (none_line name) → IsBestSaid d name said
@@ -89,8 +90,8 @@ pub record Certifies (d : Design) (name : List ℕ) (kind : AnswerKind) (said te
   pub said_is : said ≡ (found_verdict d name net found).text
   pub cert_of : IsCertificateOf net.problem (names_in d name net) found text
 
--- which certificate is written beside what is said: that of the one net that is asked for, where a certificate is asked for and the net is not
--- refused; else none
+-- which certificate is written beside what is said: that of the one net that is asked for, where a certificate is asked
+-- for and the net is not refused; else none
 pub data IsCertFor (d : Design) (asked : Asked) (kind : AnswerKind) (said : List ℕ) (cert : Option (List ℕ)) : Type 0 where
   not_asked : asked.certified ≡ false → cert ≡ None → IsCertFor d asked kind said cert
   of_all : asked.net ≡ None → cert ≡ None → IsCertFor d asked kind said cert
@@ -107,7 +108,8 @@ abbrev pub written_files : Files → Option (List ℕ) → List Written
 written_files files cert =
     record { output = Netlist; text = files.verilog } ∷ record { output = Parasitics; text = files.spef } ∷ cert_files cert
 
--- this is said of the nets that are asked for, the files have the new cells of all of them, and a certificate is written where one is asked for
+-- this is said of the nets that are asked for, the files have the new cells of all of them, and a certificate is
+-- written where one is asked for
 pub record IsBestOf (read : Files) (design : Design) (asked : Asked) (kind : AnswerKind) (said : Said) : Type 0 where
   pub nets : AreSaid (IsBestSaid design) (nets_for design asked.net) kind said.text
   pub files : Files

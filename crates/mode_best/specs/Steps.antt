@@ -1,5 +1,5 @@
--- What is said of the best placements of nets, one after another, and what is replaced in the texts of their design: for the functions
--- between.
+-- What is said of the best placements of nets, one after another, and what is replaced in the texts of their design:
+-- for the functions between.
 use Rattle.std.specs.Prelude.{◌≡◌, ℕ, ◌||◌, option_map, Bool, true, false, List, [], ◌∷◌, ◌++◌, Option, Some, None, Result, Ok, Err, length}
 use Rattle.std.specs.List.{flat_map}
 use Rattle.std.specs.declared.alloc.Global.{Global}

@@ -45,8 +45,8 @@ fn no_patches(alloc: Global) -> Patches
     }
 }
 
-/// What was said of nets, with their certificate, and what is to be replaced in the texts of their design, where nothing is unless a net got
-/// a cell.
+/// What was said of nets, with their certificate, and what is to be replaced in the texts of their design, where
+/// nothing is unless a net got a cell.
 fn finish(alloc: Global, all: Certified<'_>) -> Result<Judged, Memory>
     requires read { (verilog : List ℕ) × DenotesModule verilog all.judging.changes.design.netlist }
     ensures { IfOk result (AreFinished all.entry) }
@@ -149,8 +149,8 @@ fn new_files(
 }
 
 impl Judged {
-    /// The answer, with the files that are written: these texts of the design, with what is replaced in them. Answers `Memory` where there is
-    /// no room for their list.
+    /// The answer, with the files that are written: these texts of the design, with what is replaced in them. Answers
+    /// `Memory` where there is no room for their list.
     fn into_answer(self, alloc: Global, verilog: Vec<u8>, spef: Vec<u8>) -> Result<Answer, Memory>
         requires verilog { Rise 0 (length verilog.items) self.patches.verilog }
         requires spef { Rise 0 (length spef.items) self.patches.spef }
@@ -170,11 +170,13 @@ impl Judged {
     }
 }
 
-/// What is said of the best placement of a net, or of those of all nets, in the design of four files, with the netlist and the parasitics in
-/// which their cells are put, whose names begin with the prefix, and, of one net, a certificate where one is asked for; or the first fault
-/// of the files, or a name of the design that begins with the prefix. Answers `Memory` where there is no room.
+/// What is said of the best placement of a net, or of those of all nets, in the design of four files, with the netlist
+/// and the parasitics in which their cells are put, whose names begin with the prefix, and, of one net, a certificate
+/// where one is asked for; or the first fault of the files, or a name of the design that begins with the prefix.
+/// Answers `Memory` where there is no room.
 ///
-/// The comments of the parasitics are taken out of their text and put back in it, so that the files that are written need no copy of it.
+/// The comments of the parasitics are taken out of their text and put back in it, so that the files that are written
+/// need no copy of it.
 pub fn best_for(
     alloc: Global,
     texts: DesignTexts,

@@ -26,7 +26,8 @@ use vg_scan::Name;
 use vg_slack::{Best, Room};
 use vg_verdict::{certified, net_names, search};
 
-/// What is said of the best placements of nets, one after another, and what changes in their design when the cells are put in.
+/// What is said of the best placements of nets, one after another, and what changes in their design when the cells are
+/// put in.
 #[derive(Drop)]
 pub struct Judging<'a> {
     pub changes: Changes<'a>,
@@ -38,7 +39,8 @@ pub struct Judging<'a> {
     pub text: Vec<u8>,
 }
 
-/// What is said of nets, and the text of a certificate of the last one, where it is asked for and the net is not refused.
+/// What is said of nets, and the text of a certificate of the last one, where it is asked for and the net is not
+/// refused.
 #[derive(Drop)]
 pub struct Certified<'a> {
     pub judging: Judging<'a>,
@@ -263,7 +265,8 @@ impl<'a> Judging<'a> {
         }
     }
 
-    /// With the one net that is asked for, where nothing was said before, and with a certificate, where that is asked for too.
+    /// With the one net that is asked for, where nothing was said before, and with a certificate, where that is asked
+    /// for too.
     pub fn with_asked(
         self,
         alloc: Global,

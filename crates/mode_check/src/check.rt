@@ -56,8 +56,9 @@ fn check_net(alloc: Global, design: &Design, name: &[u8], cert: &[u8]) -> Result
     }
 }
 
-/// What is said of a certificate of the net of this name in the design of four files: that it is valid, with its slack, or the first thing that
-/// is wrong with it, or why the net is refused; or the first fault of the four files. Answers `Memory` where there is no room.
+/// What is said of a certificate of the net of this name in the design of four files: that it is valid, with its slack,
+/// or the first thing that is wrong with it, or why the net is refused; or the first fault of the four files. Answers
+/// `Memory` where there is no room.
 pub fn check_for(
     alloc: Global,
     texts: DesignTexts,

@@ -29,8 +29,8 @@ IsPosedIn d name net = (posed : PosedNet) × IsPosedNet d name posed × (net ≡
 abbrev pub HasNoneWithin : Problem → Option ℕ → Type 0
 HasNoneWithin p cap = (cells : List (Option ℕ)) → IsGood p cells → IsWithin cap (cost_of p cells) → ⊥
 
--- the points of the net's frontier within the cap are reported, each with a placement; or no good placement is within the cap; or the net is
--- refused
+-- the points of the net's frontier within the cap are reported, each with a placement; or no good placement is within
+-- the cap; or the net is refused
 pub data IsFrontSaid (d : Design) (cap : Option ℕ) (name : List ℕ) (said : Verdict) : Type 0 where
   told_front : (net : PosedNet) → IsPosedNet d name net → (points : List Point) → IsFrontierOf net.problem cap points → points ≢ []
       → said ≡ bare_verdict Report (front_report name (cells_of d.library.repeaters) (problem_in net) points) → IsFrontSaid d cap name said

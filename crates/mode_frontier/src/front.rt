@@ -19,8 +19,9 @@ use vg_num::Memory;
 use vg_report::{print_none, print_refusal, report_front};
 use vg_scan::Name;
 
-/// Appends the frontier of a net with this problem within a cap of the cost (thousandths), if there is one, or that no good placement
-/// is within it. Answers its kind. The search has its solutions in the arena, which afterwards is as before.
+/// Appends the frontier of a net with this problem within a cap of the cost (thousandths), if there is one, or that no
+/// good placement is within it. Answers its kind. The search has its solutions in the arena, which afterwards is as
+/// before.
 fn front_posed(
     alloc: Global,
     arena: &mut Arena,
@@ -101,8 +102,9 @@ fn front_nets(
     Ok(answer_text(alloc, kind, text))
 }
 
-/// What is said of the frontier of a net, or of those of all nets, in the design of four files: the points whose costs (thousandths) are at most
-/// the cap, if there is one; or the first fault of the files. Answers `Memory` where there is no room.
+/// What is said of the frontier of a net, or of those of all nets, in the design of four files: the points whose costs
+/// (thousandths) are at most the cap, if there is one; or the first fault of the files. Answers `Memory` where there is
+/// no room.
 pub fn front_for(
     alloc: Global,
     texts: DesignTexts,

@@ -30,8 +30,8 @@ made_up size = record {
   cons = constraints_text (branch_count size);
 }
 
--- four texts are a design whose net has these places, this slack without a cell, this best placement, and so many undominated pairs at its nodes;
--- the text tells of them
+-- four texts are a design whose net has these places, this slack without a cell, this best placement, and so many
+-- undominated pairs at its nodes; the text tells of them
 pub record IsSummary (texts : Texts) (text : List ℕ) : Type 0 where
   pub design : Design
   pub design_of : IsDesign texts design

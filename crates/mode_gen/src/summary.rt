@@ -78,7 +78,8 @@ fn print_summary(
     Ok(())
 }
 
-/// The summary of a posed net that has this timing without a cell: a best placement of it, whose certificate is made and checked.
+/// The summary of a posed net that has this timing without a cell: a best placement of it, whose certificate is made
+/// and checked.
 fn sum_up(alloc: Global, timed: &Timed, net: &PosedNet) -> Result<Answer, Memory>
     ensures { IfOk result (SumsUpNet timed.now net.now) }
 {
@@ -125,8 +126,8 @@ fn made_texts(alloc: Global, size: u32) -> Result<DesignTexts, Memory>
     })
 }
 
-/// What is said of the made-up design of a size: its places, its slack without a cell, a best placement, and how many undominated pairs its
-/// certificate has. Answers `Memory` where there is no room.
+/// What is said of the made-up design of a size: its places, its slack without a cell, a best placement, and how many
+/// undominated pairs its certificate has. Answers `Memory` where there is no room.
 pub fn gen_for(alloc: Global, size: u32) -> Result<Answer, NoAnswer>
     requires least { 1 ≤ size }
     requires most { size ≤ 4000 }

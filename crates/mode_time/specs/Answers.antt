@@ -23,7 +23,8 @@ pub data IsTimeSaid (d : Design) (prefix name : List ℕ) (said : Verdict) : Typ
   told_stop : (refusal : Refusal) → IsFirstOnWay d prefix name refusal → said ≡ bare_verdict Refused (refusal_line name refusal)
       → IsTimeSaid d prefix name said
 
--- the four texts are a design, and this is said of the nets that are asked for, through cells whose names begin with the prefix
+-- the four texts are a design, and this is said of the nets that are asked for, through cells whose names begin with
+-- the prefix
 pub record IsTimeAnswer (texts : Texts) (net : Option (List ℕ)) (prefix : List ℕ) (kind : AnswerKind) (said : Said) : Type 0 where
   pub design : Design
   pub design_of : IsDesign texts design

@@ -17,8 +17,8 @@ use vg_report::{print_refusal, report_timed};
 use vg_retime::retime;
 use vg_scan::Name;
 
-/// Appends what is said of the slack of the net of this name in a design, through the cells that were put in, whose names begin with
-/// the prefix. Answers its kind.
+/// Appends what is said of the slack of the net of this name in a design, through the cells that were put in, whose
+/// names begin with the prefix. Answers its kind.
 fn time_net(
     alloc: Global,
     design: &Design,
@@ -79,8 +79,9 @@ fn time_nets(
     Ok(answer_text(alloc, kind, text))
 }
 
-/// What is said of the slack of a net, or of those of all nets, in the design of four files, through the cells that were put in, whose
-/// names begin with the prefix; or the first fault of the files. Answers `Memory` where there is no room.
+/// What is said of the slack of a net, or of those of all nets, in the design of four files, through the cells that
+/// were put in, whose names begin with the prefix; or the first fault of the files. Answers `Memory` where there is no
+/// room.
 pub fn time_for(
     alloc: Global,
     texts: DesignTexts,

@@ -26,8 +26,9 @@ fn wire_in(alloc: Global, file: &SpefText, name: &[u8]) -> Result<Answer, NoAnsw
     }
 }
 
-/// What is said of the wire delays of the net of this name in a file of parasitics: its total capacitance and the delay from its driver to each
-/// sink (Elmore 1948), or why it is refused; or the fault of the file. Answers `Memory` where there is no room.
+/// What is said of the wire delays of the net of this name in a file of parasitics: its total capacitance and the delay
+/// from its driver to each sink (Elmore 1948), or why it is refused; or the fault of the file. Answers `Memory` where
+/// there is no room.
 pub fn wire_for(alloc: Global, spef: InputText, name: &[u8]) -> Result<Answer, NoAnswer>
     ensures { AnswersBy (IsWireAnswer spef.bytes.items name.now) (IsWireFault spef.bytes.items) NoneTaken result }
 {

@@ -2,7 +2,8 @@
 use Rattle.std.specs.Prelude.{◌≡◌, ◌≢◌, ℕ, suc, ◌<◌, ◌≤◌, List, length, slice_index}
 use Rattle.name_tables.specs.declared.chains.Chains.{Chains}
 
--- the link leads to the last of the first n rows that is in this bucket: none from there on is, and it is itself, if it is one
+-- the link leads to the last of the first n rows that is in this bucket: none from there on is, and it is itself, if it
+-- is one
 pub record IsLastBelow (rows : List ℕ) (n bucket link : ℕ) : Type 0 where
   pub within : link ≤ n
   pub later : (row : ℕ) → link ≤ row → row < n → slice_index rows row ≢ bucket

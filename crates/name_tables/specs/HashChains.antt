@@ -7,8 +7,8 @@ use Rattle.name_tables.specs.declared.hash_chains.Link.{Link}
 abbrev pub bucket_of : ℕ → ℕ → ℕ
 bucket_of buckets hash = bit_and (bit_xor hash (hash / 2 ^ 16)) (buckets - 1)
 
--- the link leads to the last of the first n rows that is in the bucket of this hash: none from there on is, and it is itself,
--- if it is one; the link holds that row's hash
+-- the link leads to the last of the first n rows that is in the bucket of this hash: none from there on is, and it is
+-- itself, if it is one; the link holds that row's hash
 pub record LeadsTo (buckets : ℕ) (hashes : List ℕ) (n hash : ℕ) (link : Link) : Type 0 where
   pub within : link.next ≤ n
   pub later : (row : ℕ) → link.next ≤ row → row < n → bucket_of buckets (slice_index hashes row) ≢ bucket_of buckets hash

@@ -7,8 +7,8 @@ ghost use Rattle.name_tables.specs.Chains.{IsLastBelow, AreChains};
 use std::alloc::Global;
 use vg_num::Memory;
 
-/// Rows that are each in a bucket: the rows of one bucket are found from the last one to the first, and no others. A link is
-/// one more than the number of a row, or 0 for none.
+/// Rows that are each in a bucket: the rows of one bucket are found from the last one to the first, and no others. A
+/// link is one more than the number of a row, or 0 for none.
 #[derive(Debug, Drop)]
 pub struct Chains {
     /// For each bucket the link to its last row.

@@ -18,7 +18,8 @@ fn number_hash(digits: &[u8]) -> u32
     hash
 }
 
-/// A hash with one word more. The upper bits of a product depend on the most, and so they are mixed into the lower ones.
+/// A hash with one word more. The upper bits of a product depend on the most, and so they are mixed into the lower
+/// ones.
 fn hash_with(hash: u64, word: u64) -> u64
     ensures { result ≡ hash_with hash word }
 {
@@ -78,9 +79,9 @@ fn without_close(text: &[u8]) -> &[u8]
     }
 }
 
-/// The hash of a text, of 32 bits. Names that differ in the number at their end alone have hashes that follow one another as
-/// those numbers do: their buckets are then beside one another, where memory is fast. So it is with the indices of a name map,
-/// the bits of a bus and most nets of a netlist.
+/// The hash of a text, of 32 bits. Names that differ in the number at their end alone have hashes that follow one
+/// another as those numbers do: their buckets are then beside one another, where memory is fast. So it is with the
+/// indices of a name map, the bits of a bus and most nets of a netlist.
 #[tactic(auto, unfolding(crate::specs::Hashes::hash_of))]
 pub(crate) fn hash_of(text: &[u8]) -> u32
     ensures { result ≡ hash_of text.now }

@@ -27,8 +27,8 @@ pub(crate) struct HashChains {
     pub(crate) befores: Vec<Link>,
 }
 
-/// The bucket of a hash among so many; each of them is used where they are a power of two. The upper half of the hash counts
-/// too, so that numbers that are multiples of a power of two are not all in one bucket.
+/// The bucket of a hash among so many; each of them is used where they are a power of two. The upper half of the hash
+/// counts too, so that numbers that are multiples of a power of two are not all in one bucket.
 fn bucket_of(buckets: usize, hash: u32) -> usize
     requires { 0 < buckets }
     ensures bucket { result ≡ bucket_of buckets hash }

@@ -21,8 +21,8 @@ const FIRST_BUCKETS: usize = 32;
 /// The most names that room is made for at first.
 const MOST_ROOM: usize = 1 << 24;
 
-/// Distinct names, numbered from 0 in the order in which they came first. Contracts see the list of names. They stand in one
-/// buffer; a look-up hashes the name, and takes no memory.
+/// Distinct names, numbered from 0 in the order in which they came first. Contracts see the list of names. They stand
+/// in one buffer; a look-up hashes the name, and takes no memory.
 #[derive(Drop)]
 pub struct Names {
     alloc: Global,
@@ -178,8 +178,8 @@ impl Names {
         self.find_by_hash(name, hash_of(name))
     }
 
-    /// The number of a name, which is put last where it is new. Answers `Memory` where there is no room, as where all names
-    /// would have 2^32 bytes or more.
+    /// The number of a name, which is put last where it is new. Answers `Memory` where there is no room, as where all
+    /// names would have 2^32 bytes or more.
     pub fn intern(&mut self, name: &[u8]) -> Result<u32, Memory>
         requires { length self.old < 2 ^ 32 - 1 }
         ensures number { IfOk result (λ id. id ≡ number_in self.old name.now) }

@@ -8,8 +8,8 @@ use std::marker::Model;
 use vg_num::Memory;
 use vg_scan::{Span, text_at};
 
-/// Texts that stand one after another in one buffer, so that none of them takes memory of its own. Contracts see the list
-/// of texts.
+/// Texts that stand one after another in one buffer, so that none of them takes memory of its own. Contracts see the
+/// list of texts.
 #[derive(Debug, Drop)]
 pub struct Texts {
     bytes: Vec<u8>,

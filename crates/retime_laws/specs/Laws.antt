@@ -51,8 +51,8 @@ abbrev pub NewNetsAreCut : Type 0
 NewNetsAreCut = (d : Design) (n : Joined) (x : Split) (new : Design) → IsPut d n x → HasStages d n x new
     → (nets : Nets) → AreNetsOf x new nets → AreCut x.problem x.cells (pieces_of x (stages_of x new nets))
 
--- From the net of each stage one re-times to the slack of a placement that gives each sink the polarity that it wants, and comes to no sink
--- of the wrong polarity.
+-- From the net of each stage one re-times to the slack of a placement that gives each sink the polarity that it wants,
+-- and comes to no sink of the wrong polarity.
 abbrev pub StagesRetime : Type 0
 StagesRetime = (d : Design) (n : Joined) (x : Split) (new : Design) → IsPut d n x → HasStages d n x new
     → (slack : ℤ) → IsSlack x.problem x.cells slack → ((w : ℕ) → HasPolarity x.problem x.cells w)

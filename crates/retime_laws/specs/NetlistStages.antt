@@ -18,7 +18,8 @@ use Rattle.vg_split.specs.Stages.{heads}
 abbrev pub stage_number : Split → Netlist → ℕ → ℕ
 stage_number x new k = unwrap_or (net_number new (net_of x k)) 0
 
--- an instance is the cell at a node: its input is on the net of the stage that it ends, its output on that of its own stage
+-- an instance is the cell at a node: its input is on the net of the stage that it ends, its output on that of its own
+-- stage
 pub record IsCellAt (x : Split) (new : Netlist) (w : ℕ) (instance : Instance) : Type 0 where
   pub name : instance.name ≡ cell_name x.prefix (number_of x (stage_from x w))
   pub cell : instance.cell ≡ (repeater_at x w).cell
@@ -36,8 +37,9 @@ pub record HasCellPin (x : Split) (new : Netlist) (k w : ℕ) : Type 0 where
 abbrev pub HasNoPort : Split → ℕ → Type 0
 HasNoPort x k = (w : ℕ) → Contains (ends_in x k) w → kind_of x w ≡ Port → ⊥
 
--- The net of a stage in a new netlist, where it was the net of a number: its ends are those of the stage. Old pins are of the cells that
--- they were of, and each cell that begins or ends the stage has its pin there. It is the port that the net was, or none.
+-- The net of a stage in a new netlist, where it was the net of a number: its ends are those of the stage. Old pins are
+-- of the cells that they were of, and each cell that begins or ends the stage has its pin there. It is the port that
+-- the net was, or none.
 pub record IsStageIn (old : Netlist) (id : ℕ) (x : Split) (new : Netlist) (k : ℕ) : Type 0 where
   pub named : net_number new (net_of x k) ≡ Some (stage_number x new k)
   pub ends : (at : NodeName) → (has_node (map (name_in x k) (ends_in x k)) at ≡ true) ↔ IsEnd new (stage_number x new k) at

@@ -1,5 +1,5 @@
--- A net that is split, and what a new design says of the nets of its stages, by their names: its parasitics and its netlist, as they
--- are read again.
+-- A net that is split, and what a new design says of the nets of its stages, by their names: its parasitics and its
+-- netlist, as they are read again.
 use Rattle.std.specs.Prelude.{◌≡◌, ℕ, ◌<◌, List, length}
 use Rattle.lib_linear.specs.Libraries.{AreOfCells}
 use Rattle.spef_net.specs.declared.net.ParNet.{ParNet}
@@ -12,7 +12,8 @@ use Rattle.vg_split.specs.Splits.{Split, forest, net_of}
 use Rattle.vg_split.specs.Stages.{heads}
 use Rattle.spef_wire.specs.Nets.{IsNetNamed}
 
--- The net of a name, which nothing refuses but perhaps its size, is split by a placement into cells of the design's library.
+-- The net of a name, which nothing refuses but perhaps its size, is split by a placement into cells of the design's
+-- library.
 pub record IsPut (d : Design) (n : Joined) (x : Split) : Type 0 where
   pub split : IsSplitOf d n x
   pub name : List ℕ

@@ -1,10 +1,11 @@
-//! Laws of a net that is split, in a new design that has a net for each of its stages. Their functions do nothing: each one's
-//! contract is the law, which a proof may cite.
+//! Laws of a net that is split, in a new design that has a net for each of its stages. Their functions do nothing: each
+//! one's contract is the law, which a proof may cite.
 
 ghost use Rattle.retime_laws.specs.Laws.{NewNetsAreCut, PlacedNetsAreRefused, PlacedNetsRetime, PlacedNetsTime, StagesAreAccepted, StagesAreTimed, StagesHaveLoads, StagesHaveNets, StagesRetime};
 
-/// Let a net that is accepted be split by the cells of a placement, and let a new design have a net for each stage, with the
-/// stage's parasitics and the stage's ends. Then nothing refuses the net of a stage on a walk, but perhaps its size.
+/// Let a net that is accepted be split by the cells of a placement, and let a new design have a net for each stage,
+/// with the stage's parasitics and the stage's ends. Then nothing refuses the net of a stage on a walk, but perhaps its
+/// size.
 pub fn stages_are_accepted()
     ensures { StagesAreAccepted }
 {}
@@ -19,8 +20,8 @@ pub fn stages_have_nets()
     ensures { StagesHaveNets }
 {}
 
-/// Then such nets are timed as the stages' pieces: with the tree and the sinks of the stage, with the cells that end it,
-/// each before the net of its own stage, and under the net of the stage that its own cell ends.
+/// Then such nets are timed as the stages' pieces: with the tree and the sinks of the stage, with the cells that end
+/// it, each before the net of its own stage, and under the net of the stage that its own cell ends.
 pub fn stages_are_timed()
     ensures { StagesAreTimed }
 {}
@@ -30,10 +31,10 @@ pub fn new_nets_are_cut()
     ensures { NewNetsAreCut }
 {}
 
-/// Let a net that is accepted be split by the cells of a placement that gives each sink the polarity that it wants, and let
-/// a new design have a net for each stage. Then the net of each stage re-times in the new design to exactly the slack of
-/// the placement, and no sink that the walk comes to has the wrong polarity. No net on the way is refused, but perhaps for
-/// its size.
+/// Let a net that is accepted be split by the cells of a placement that gives each sink the polarity that it wants, and
+/// let a new design have a net for each stage. Then the net of each stage re-times in the new design to exactly the
+/// slack of the placement, and no sink that the walk comes to has the wrong polarity. No net on the way is refused, but
+/// perhaps for its size.
 pub fn stages_retime()
     ensures { StagesRetime }
 {}
@@ -43,8 +44,8 @@ pub fn placed_nets_retime()
     ensures { PlacedNetsRetime }
 {}
 
-/// So whatever slack and wrong sink mode `time` tells of the net of the old name in the new design, are the slack of the
-/// placement, and no sink.
+/// So whatever slack and wrong sink mode `time` tells of the net of the old name in the new design, are the slack of
+/// the placement, and no sink.
 pub fn placed_nets_time()
     ensures { PlacedNetsTime }
 {}

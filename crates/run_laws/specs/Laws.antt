@@ -42,8 +42,8 @@ pub record TellsBest {texts : Texts} {asked : Asked} {kind : AnswerKind} {said :
   pub found : IsFound net.problem best
   pub told : slice_get answer.best_of.nets.verdicts place ≡ Some (best_verdict answer.design name net best)
 
--- Where best placements are reported, of one net or of all, the written files are a design, in which each net of which one is
--- reported re-times to its reported slack.
+-- Where best placements are reported, of one net or of all, the written files are a design, in which each net of which
+-- one is reported re-times to its reported slack.
 abbrev pub WrittenFilesRetime : Type 0
 WrittenFilesRetime = (words : List (List ℕ)) (ask : Ask) (texts : Texts) (kind : AnswerKind) (said : Said) → IsRequest words ask
     → (answer : IsBestAnswer texts (best_asked ask) kind said) → (name : List ℕ) (best : Best) → TellsBest answer name best
@@ -73,14 +73,15 @@ pub record IsFoundAndValid (d : Design) (name reported told : List ℕ) : Type 0
   pub reported_is : reported ≡ (found_verdict d name net found).text
   pub told_is : told ≡ verdict_line (names_in d name net) (option_map (λ best. best.slack) found) Yes
 
--- Where mode `best` has written a certificate, mode `check` tells of it, with the same four files, that it is valid, with the slack that was
--- reported, or none.
+-- Where mode `best` has written a certificate, mode `check` tells of it, with the same four files, that it is valid,
+-- with the slack that was reported, or none.
 abbrev pub WrittenCertificatesCheck : Type 0
 WrittenCertificatesCheck = (texts : Texts) (asked : Asked) (kind also : AnswerKind) (said told : Said) → (answer : IsBestAnswer texts asked kind said)
     → (made : WritesCertificate answer) → IsCheckAnswer texts made.text made.name also told
     → (also ≡ Report) × IsFoundAndValid answer.design made.name said.text told.text
 
--- a line says that a text is a valid certificate of the net of this name, and the text shows that its placement is best, or that none is good
+-- a line says that a text is a valid certificate of the net of this name, and the text shows that its placement is
+-- best, or that none is good
 pub record ShowsOfNet (d : Design) (name cert line : List ℕ) : Type 0 where
   pub net : PosedNet
   pub net_of : IsPosedNet d name net
@@ -98,8 +99,8 @@ pub record ShowsInFiles (files : FilesState) (out : Change OutState) (ask : Ask)
   pub printed : Gains out.0 out.1 line
   pub shows : ShowsOfNet design name (texts Cert) line
 
--- Where a request in mode `check` is answered by a report, the certificate is valid, and shows that its placement is best, or that none is good,
--- whoever made it.
+-- Where a request in mode `check` is answered by a report, the certificate is valid, and shows that its placement is
+-- best, or that none is good, whoever made it.
 abbrev pub ValidCertificatesAreBest : Type 0
 ValidCertificatesAreBest = (words : List (List ℕ)) (ask : Ask) (files : Change FilesState) (out : Change OutState) → IsRequest words ask
     → ask.mode ≡ Check → Prints Report files (Gains out.0 out.1) ask → ShowsInFiles files.0 out ask

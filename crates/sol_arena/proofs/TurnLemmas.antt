@@ -78,8 +78,8 @@ no_solution_owes (Owed to next) is owed = cc
 no_solution_owes (Cell node rep below) is owed = cc
 no_solution_owes (Join a b) is owed = cc
 
--- The slot i, which was no free one, has no solution any more. Its last use was given up, and of what it was made of one
--- use is to be given up next, of `next`. Free slots are still chained.
+-- The slot i, which was no free one, has no solution any more. Its last use was given up, and of what it was made of
+-- one use is to be given up next, of `next`. Free slots are still chained.
 pub record IsGone (old : List Slot) (free free' sol next i : ℕ) (slot : Slot) : Type 0 where
   pub within : i < length old
   pub gone : is_solution slot.made ≡ false

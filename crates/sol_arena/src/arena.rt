@@ -21,9 +21,9 @@ use vg_num::{Memory, Row};
 #[derive(Clone, Copy, Debug, PartialEq, Eq)]
 pub struct Sol(pub u64);
 
-/// Solutions that share their parts. Each is a set of cells, at most one for each node, and was made of one or two others.
-/// A solution is live as long as it has a use: callers hold some, and each solution has one of each that it was made of.
-/// The empty solution is always live, and its uses are not counted.
+/// Solutions that share their parts. Each is a set of cells, at most one for each node, and was made of one or two
+/// others. A solution is live as long as it has a use: callers hold some, and each solution has one of each that it was
+/// made of. The empty solution is always live, and its uses are not counted.
 #[derive(Drop)]
 pub struct Arena {
     slots: Vec<Slot>,
@@ -53,8 +53,8 @@ impl Arena {
         Sol(NONE)
     }
 
-    /// A new solution with one cell more than another, which has none at this node. The caller holds a use of it. Answers
-    /// `Memory` where there is no room; nothing changes then.
+    /// A new solution with one cell more than another, which has none at this node. The caller holds a use of it.
+    /// Answers `Memory` where there is no room; nothing changes then.
     pub fn cell(&mut self, node: u32, rep: u32, below: Sol) -> Result<Sol, Memory>
         requires live { IsLive (made_of self.old) below.0 }
         requires apart { cells_of (made_of self.old) below.0 node ≡ None }
@@ -70,8 +70,8 @@ impl Arena {
         Ok(Sol(sol))
     }
 
-    /// A new solution with the cells of two others, which share no node. The caller holds a use of it. Of two empty ones it is
-    /// the empty one, and none is new. Answers `Memory` where there is no room; nothing changes then.
+    /// A new solution with the cells of two others, which share no node. The caller holds a use of it. Of two empty
+    /// ones it is the empty one, and none is new. Answers `Memory` where there is no room; nothing changes then.
     pub fn join(&mut self, a: Sol, b: Sol) -> Result<Sol, Memory>
         requires live_a { IsLive (made_of self.old) a.0 }
         requires live_b { IsLive (made_of self.old) b.0 }
@@ -99,8 +99,8 @@ impl Arena {
         use_once(&mut self.slots, sol.0);
     }
 
-    /// Gives up a use that the caller holds. A solution without uses is freed, and gives up its own uses of others. It takes
-    /// no memory.
+    /// Gives up a use that the caller holds. A solution without uses is freed, and gives up its own uses of others. It
+    /// takes no memory.
     pub fn release(&mut self, sol: Sol)
         requires live { IsLive (made_of self.old) sol.0 }
         requires held { sol.0 ≢ none → 0 < held_of (slots_of self.old) sol.0 }
@@ -116,7 +116,8 @@ impl Arena {
         count_solutions(&self.slots)
     }
 
-    /// Puts the cell of a solution, if it has one, among those that were found, and what it was made of to what is left.
+    /// Puts the cell of a solution, if it has one, among those that were found, and what it was made of to what is
+    /// left.
     fn visit(&self, cells: &mut Vec<Option<u32>>, left: &mut Vec<u64>, s: u64) -> Result<(), Memory>
         requires live { AreLive (made_of self.now) (left.old.items ++ s ∷ []) }
         requires below { AreBelow (length cells.old.items) (cell_so_far (made_of self.now) cells.old.items (left.old.items ++ s ∷ [])) }
@@ -139,8 +140,8 @@ impl Arena {
         Ok(())
     }
 
-    /// The placement of a solution's cells over `n` nodes, of which its nodes are some. Answers `Memory` where there is no
-    /// room.
+    /// The placement of a solution's cells over `n` nodes, of which its nodes are some. Answers `Memory` where there is
+    /// no room.
     pub fn places(&self, alloc: Global, sol: Sol, n: usize) -> Result<Placement, Memory>
         requires live { IsLive (made_of self.now) sol.0 }
         requires below { AreBelow n (cells_of (made_of self.now) sol.0) }

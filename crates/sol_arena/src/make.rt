@@ -11,9 +11,9 @@ use crate::slot::{Made, NONE, Slot};
 use vg_num::Memory;
 
 /// No memory holds so many slots, each of which has more than eight bytes. This bounds the uses that solutions have of
-/// one another, two for each slot at most, so that a count of uses never wraps. A vector tells no more of its length than
-/// that it is below 2^63: then the count would be safe only because the parts of a join differ, and the type would have
-/// to keep that they do. One comparison where memory is asked for is simpler.
+/// one another, two for each slot at most, so that a count of uses never wraps. A vector tells no more of its length
+/// than that it is below 2^63: then the count would be safe only because the parts of a join differ, and the type would
+/// have to keep that they do. One comparison where memory is asked for is simpler.
 const MOST_SLOTS: usize = 1 << 61;
 
 /// Puts a solution with one use into the first free slot, or into a new one, and answers its number. Answers `Memory`

@@ -1,8 +1,8 @@
 //! Uses that are given up, down chains of solutions of any length, without recursion and without memory.
 //!
-//! A solution whose last use is given up gives up its own. A cell has one of these, which is next. A join has two: the first
-//! is next, and the join's slot keeps the second in a chain of slots that owe a use. When nothing more is to be given up,
-//! the first slot of that chain pays, and is free.
+//! A solution whose last use is given up gives up its own. A cell has one of these, which is next. A join has two: the
+//! first is next, and the join's slot keeps the second in a chain of slots that owe a use. When nothing more is to be
+//! given up, the first slot of that chain pays, and is free.
 
 ghost use Rattle.std.specs.Prelude.{◌≡◌, ◌≢◌, ◌<◌, length, MatchOption};
 ghost use Rattle.sol_arena.specs.Slots.{none, made_in};
@@ -76,8 +76,8 @@ fn lessen(slots: &mut Vec<Slot>, sol: u64)
     }
 }
 
-/// Gives up a use of a solution; where others are left, the first slot of the chain pays too. Answers the solution of which
-/// a use is to be given up next. `None`: no more is to be given up.
+/// Gives up a use of a solution; where others are left, the first slot of the chain pays too. Answers the solution of
+/// which a use is to be given up next. `None`: no more is to be given up.
 fn turn(slots: &mut Vec<Slot>, free: &mut u64, owed: &mut u64, sol: u64) -> Option<u64>
     requires { IsGiving slots.old.items free.old owed.old sol }
     ensures { MatchOption result
@@ -94,7 +94,8 @@ fn turn(slots: &mut Vec<Slot>, free: &mut u64, owed: &mut u64, sol: u64) -> Opti
     Some(pay_first(slots, free, owed))
 }
 
-/// Gives up a use that callers hold of a solution. What has no use any more is freed, and gives up its own uses of others.
+/// Gives up a use that callers hold of a solution. What has no use any more is freed, and gives up its own uses of
+/// others.
 pub(crate) fn give_up(slots: &mut Vec<Slot>, free: &mut u64, sol: u64)
     requires arena { IsArena slots.old.items free.old }
     requires held { sol ≢ none → inner_uses (made_in slots.old.items) sol < uses_of slots.old.items sol }

@@ -82,8 +82,8 @@ breaks before line later NetTwice = is_net_twice before line
 breaks before line later Unsupported = is_foreign_head before line
 breaks before line later Memory = false
 
--- the kinds, in their order
--- of two faults of a head the first is told: `NoEnd` where it has no name either, `MapUnknown` where it has no `*END` either
+-- the kinds, in their order of two faults of a head the first is told: `NoEnd` where it has no name either,
+-- `MapUnknown` where it has no `*END` either
 abbrev pub kinds : List SpefKind
 kinds = Header ∷ UnitKind ∷ MapTwice ∷ MapUnknown ∷ NoEnd ∷ Stray ∷ NetTwice ∷ Unsupported ∷ []
 

@@ -13,7 +13,8 @@ use Rattle.spef_file.specs.HeaderLines.{spoken, chars_of, c_places_of, r_places_
 use Rattle.spef_file.specs.Statements.{rows_of, nets_of}
 use Rattle.spef_file.specs.Faults.{fault_at}
 
--- what a file says: how its names and numbers are meant, the digits and the name of each index, and the heads of its nets
+-- what a file says: how its names and numbers are meant, the digits and the name of each index, and the heads of its
+-- nets
 pub record File : Type 0 where
   pub chars : Chars
   pub c_places : ℤ

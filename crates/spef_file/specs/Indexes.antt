@@ -24,8 +24,8 @@ IsSectionOf text section = IsSpan (without_comments Spef text) (file_lines text)
 abbrev pub between : List (List ℕ) → List (List ℕ)
 between lines = drop 1 (take (length lines - 1) lines)
 
--- the lines of a file after the line of this number, up to the next whose first word is `*END`, as texts without comments:
--- where a net's head has this number, they are the net's
+-- the lines of a file after the line of this number, up to the next whose first word is `*END`, as texts without
+-- comments: where a net's head has this number, they are the net's
 abbrev pub lines_after : List ℕ → ℕ → List (List ℕ)
 lines_after text line =
     let later = drop line (lines (without_comments Spef text)) in

@@ -1,5 +1,5 @@
--- What the functions that read a file say between its lines: a state, what each line makes of it, and the fault that it has
--- there. `Faults` and `Files` say what a file says, by its lines alone.
+-- What the functions that read a file say between its lines: a state, what each line makes of it, and the fault that it
+-- has there. `Faults` and `Files` say what a file says, by its lines alone.
 use Rattle.std.specs.Prelude.{ℕ, pos, ◌+◌, ◌&&◌, not, nat_lt, Bool, true, false, List, [], ◌∷◌, ◌++◌, if◌then◌else◌, codes, Option, Some, None, unwrap_or, is_some, Result, Ok, Err}
 use Rattle.std.specs.Str.{bytes_eq}
 use Rattle.vg_scan.specs.Lines.{Line}

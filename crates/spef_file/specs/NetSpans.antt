@@ -26,8 +26,8 @@ abbrev pub net_lines : List Line → List Line
 net_lines [] = []
 net_lines (head ∷ later) = head ∷ up_to_end later
 
--- a section of a text without comments: it begins with the first word of the line of its number, a net's head, and ends with
--- the word `*END` of that net
+-- a section of a text without comments: it begins with the first word of the line of its number, a net's head, and ends
+-- with the word `*END` of that net
 pub record IsSpan (clear : List ℕ) (lines : List Line) (section : Section) : Type 0 where
   pub first : IsFirstSolid clear section.from
   pub line : lines_of (drop section.from clear) ≡ drop (section.line - 1) lines
@@ -39,7 +39,8 @@ pub record IsSpan (clear : List ℕ) (lines : List Line) (section : Section) : T
 abbrev pub AreSpans : List ℕ → List Line → List NetRow → Type 0
 AreSpans clear lines nets = All (λ (net : NetRow). IsSpan clear lines net.1) nets
 
--- where these lines follow so many others, the sections before a line is taken and after it are right, and so is the count of the lines
+-- where these lines follow so many others, the sections before a line is taken and after it are right, and so is the
+-- count of the lines
 abbrev pub StaysRight : List ℕ → ℕ → ℕ → ℕ → ℕ → List NetRow → List NetRow → Line → Type 0
 StaysRight clear next to count new_count sections new_sections line =
     (lines : List Line) → drop count lines ≡ line ∷ lines_of (drop next clear) → AreSpans clear lines sections

@@ -24,7 +24,8 @@ power_in (Err _) = None
 unfoldable pub unit_power : List ℕ → Option ℕ
 unit_power word = power_in (scaled (pos 3) (10 ^ 15) word)
 
--- the decimal places of a value of this power of ten, counted in thousandths of the small unit; the large unit is 1000 of it
+-- the decimal places of a value of this power of ten, counted in thousandths of the small unit; the large unit is 1000
+-- of it
 abbrev pub places_of : List ℕ → List ℕ → List ℕ → ℕ → Option ℕ
 places_of small large unit power =
     if str_eq_ignore_ascii_case unit small then Some power

@@ -156,7 +156,8 @@ fn take_other_line(
     }
 }
 
-/// Puts the name of a net's head, by its second word, in place of what a list holds, and says whether the word is a name.
+/// Puts the name of a net's head, by its second word, in place of what a list holds, and says whether the word is a
+/// name.
 ///
 /// Answers `MapUnknown` where the word refers to an index that is not mapped, and `Memory` where there is no room.
 fn head_name(
@@ -350,7 +351,8 @@ fn take_words(
     }
 }
 
-/// Takes a line, and a net with its head, and says where the next line begins. The lists are to hold a name and the line's words.
+/// Takes a line, and a net with its head, and says where the next line begins. The lists are to hold a name and the
+/// line's words.
 pub(crate) fn take_line(
     name: &mut Vec<u8>,
     reader: &mut Reader,

@@ -9,8 +9,8 @@ use std::alloc::Global;
 use std::marker::Model;
 use vg_num::Memory;
 
-/// The rows of a name map: the digits of an index, and its canonical name. Contracts see the list of rows, in the order of
-/// the file. All digits stand in one buffer, and all names in another.
+/// The rows of a name map: the digits of an index, and its canonical name. Contracts see the list of rows, in the order
+/// of the file. All digits stand in one buffer, and all names in another.
 #[derive(Drop)]
 pub struct NameMap {
     indices: Names,

@@ -92,9 +92,9 @@ fn finish(reader: Reader) -> SpefIndex
     }
 }
 
-/// The index of a SPEF file (IEEE Std 1481), or its first fault. The doc of each `SpefKind` says when it is answered; of
-/// two kinds on one line the first in the order of the enum is. A header line that is missing is reported at the last
-/// line, or at line 1 of an empty file.
+/// The index of a SPEF file (IEEE Std 1481), or its first fault. The doc of each `SpefKind` says when it is answered;
+/// of two kinds on one line the first in the order of the enum is. A header line that is missing is reported at the
+/// last line, or at line 1 of an empty file.
 ///
 /// Answers `Memory` where there is no room, with the line at which it was wanted.
 pub fn index(alloc: Global, text: &SpefText) -> Result<SpefIndex, SpefFault>

@@ -11,8 +11,8 @@ use std::alloc::Global;
 use std::marker::Model;
 use vg_num::Memory;
 
-/// The nets of a file: the canonical name of each, and where it stands. Contracts see the list of them, in the order of the
-/// file. All names stand in one buffer.
+/// The nets of a file: the canonical name of each, and where it stands. Contracts see the list of them, in the order of
+/// the file. All names stand in one buffer.
 #[derive(Drop)]
 pub struct Sections {
     names: Names,

@@ -55,8 +55,8 @@ fn places_of(small: &[u8], large: &[u8], unit: &[u8], power: u8) -> Option<u8>
     }
 }
 
-/// The decimal places of the thousandth of a small unit in a value of a line's unit, which is the small one or the large
-/// one, of 1000 small ones, times a power of ten. `None`: the line gives no such unit.
+/// The decimal places of the thousandth of a small unit in a value of a line's unit, which is the small one or the
+/// large one, of 1000 small ones, times a power of ten. `None`: the line gives no such unit.
 pub(crate) fn unit_places(bytes: &[u8], words: &[Span], small: &[u8], large: &[u8]) -> Option<u8>
     ensures places { result ≡ unit_places small.now large.now (words_at bytes.now words.now) }
     ensures small { IfSome result (λ places. places ≤ 9) }

@@ -52,8 +52,8 @@ fn is_inductance(part: Part) -> bool
 }
 
 impl<'a> NetBuilder<'a> {
-    /// A net of these nodes, before the first line, with room for so many capacitors and resistors. Answers `Memory` where
-    /// there is no room.
+    /// A net of these nodes, before the first line, with room for so many capacitors and resistors. Answers `Memory`
+    /// where there is no room.
     pub fn new(alloc: Global, nodes: NodeReader<'a>, room: usize) -> Result<NetBuilder<'a>, Memory>
         ensures { IfOk result (λ builder. builder ≡ start_of nodes.entry) }
     {
@@ -210,7 +210,8 @@ impl<'a> NetBuilder<'a> {
         }
     }
 
-    /// Adds a resistor between the nodes of two numbers. Answers the fault of its value, and `Memory` where there is no room.
+    /// Adds a resistor between the nodes of two numbers. Answers the fault of its value, and `Memory` where there is no
+    /// room.
     pub fn add_res(&mut self, ends: (u32, u32), value: Result<u64, NumFault>) -> Result<(), NetKind>
         ensures { AddsRes result self.old ends value self.new }
     {

@@ -126,7 +126,8 @@ fn slots_for(bytes: usize) -> usize
     slots
 }
 
-/// The nodes of a section's connections, each once, in a table of so many slots. Answers `Memory` where there is no room.
+/// The nodes of a section's connections, each once, in a table of so many slots. Answers `Memory` where there is no
+/// room.
 fn find_connections(
     alloc: Global,
     index: &SpefIndex,

@@ -31,9 +31,9 @@ fn read_coordinate(word: &[u8]) -> Option<i128>
     }
 }
 
-/// The point (x, y) at which a node lies, by its note, in thousandths: the two words after the first `*C`. `None`: there is no
-/// such word, fewer than two follow it, or one of them is no number whose value times 1,000 is at most 10^23 in size. It takes no
-/// memory.
+/// The point (x, y) at which a node lies, by its note, in thousandths: the two words after the first `*C`. `None`:
+/// there is no such word, fewer than two follow it, or one of them is no number whose value times 1,000 is at most
+/// 10^23 in size. It takes no memory.
 #[tactic(auto, unfolding(crate::specs::Positions::position_of))]
 pub fn position(note: &[u8]) -> Option<(i128, i128)>
     ensures { result ≡ position_of note.now }

@@ -44,10 +44,10 @@ fn finish(alloc: Global, net: &[u8], reduced: bool, builder: NetBuilder) -> Resu
 
 /// The net that a section denotes, or its first fault with the number of its line.
 ///
-/// `bytes` are the lines between the section's head and its `*END`, without comments; `first` is the number of the first
-/// of them, `net` the canonical name that the head gives, and `reduced` whether it is the head of a reduced net. Answers
-/// `Conn`, `Cap`, `Res`, `Number`, `Foreign` and `SelfCoupled` as `NetKind` says, and `Memory` where there is no room, with
-/// the line at which it was wanted.
+/// `bytes` are the lines between the section's head and its `*END`, without comments; `first` is the number of the
+/// first of them, `net` the canonical name that the head gives, and `reduced` whether it is the head of a reduced net.
+/// Answers `Conn`, `Cap`, `Res`, `Number`, `Foreign` and `SelfCoupled` as `NetKind` says, and `Memory` where there is
+/// no room, with the line at which it was wanted.
 pub(crate) fn read_section(
     alloc: Global,
     index: &SpefIndex,

@@ -32,7 +32,8 @@ pub struct ParConn {
     pub direction: Direction,
 }
 
-/// A net with its parasitics. Nodes are numbered from 0: connections in order, then inner nodes as they come in the text.
+/// A net with its parasitics. Nodes are numbered from 0: connections in order, then inner nodes as they come in the
+/// text.
 #[derive(Drop)]
 pub struct ParNet {
     pub name: Name,

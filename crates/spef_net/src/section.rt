@@ -40,10 +40,10 @@ fn read_part(
 
 /// The net of a section of a SPEF file (IEEE Std 1481), or its first fault, with the number of its line in the file.
 ///
-/// `index` is the index of the file's text, and `at` the place of the section in it. Other sections are not read. The lines
-/// of a reduced net are not read either: it has no nodes, connections, capacitors and resistors. Answers `Conn`, `Cap`,
-/// `Res`, `Number`, `Foreign` and `SelfCoupled` as `NetKind` says, and `Memory` where there is no room, with the line at
-/// which it was wanted.
+/// `index` is the index of the file's text, and `at` the place of the section in it. Other sections are not read. The
+/// lines of a reduced net are not read either: it has no nodes, connections, capacitors and resistors. Answers `Conn`,
+/// `Cap`, `Res`, `Number`, `Foreign` and `SelfCoupled` as `NetKind` says, and `Memory` where there is no room, with the
+/// line at which it was wanted.
 pub fn read_net(
     alloc: Global,
     text: &SpefText,

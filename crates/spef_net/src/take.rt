@@ -123,7 +123,8 @@ fn take_res<'a>(builder: &mut NetBuilder<'a>, mut words: Words<'a>) -> Result<()
 
 /// A line with words that is no head, in this part, by its first word and the others.
 ///
-/// Answers `Conn`, `Cap`, `Res`, `Foreign`, `SelfCoupled` and `Number` as they say, and `Memory` where there is no room.
+/// Answers `Conn`, `Cap`, `Res`, `Foreign`, `SelfCoupled` and `Number` as they say, and `Memory` where there is no
+/// room.
 pub(crate) fn take_in<'a>(
     builder: &mut NetBuilder<'a>,
     part: Part,

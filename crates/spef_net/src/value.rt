@@ -49,8 +49,8 @@ fn read_middle(low: &[u8], typical: &[u8], high: &[u8], places: i32) -> Result<u
     Ok(value)
 }
 
-/// A value, in units of ten to the minus places. Answers the fault of its first number that has one, and `Form` where it
-/// has two parts, or more than three.
+/// A value, in units of ten to the minus places. Answers the fault of its first number that has one, and `Form` where
+/// it has two parts, or more than three.
 ///
 /// Most values are one number, so that is tried first: no number has a colon.
 pub(crate) fn read_value(text: &[u8], places: i32) -> Result<u64, NumFault>

@@ -13,7 +13,8 @@ use Rattle.spef_nodes.specs.declared.node.Node.{Node}
 abbrev pub is_bare : ℕ → Bool
 is_bare b = not (is_backslash b || is_quote b)
 
--- a byte that stands for itself in a name where nothing escapes it: the divider is `/` there, and the bus delimiters `[` and `]`
+-- a byte that stands for itself in a name where nothing escapes it: the divider is `/` there, and the bus delimiters
+-- `[` and `]`
 abbrev pub is_itself : Chars → ℕ → Bool
 is_itself chars b =
     if is_backslash b || is_quote b then not true

@@ -27,9 +27,9 @@ pub(crate) struct Known<'a> {
     pub id: u32,
 }
 
-/// The nodes of a net while its lines are read. Most texts name an inner node: they begin as the first such text did, and go
-/// on with digits. The number that the digits write leads to the node, where it came before. Of the other texts those that
-/// were read last are known by their bytes.
+/// The nodes of a net while its lines are read. Most texts name an inner node: they begin as the first such text did,
+/// and go on with digits. The number that the digits write leads to the node, where it came before. Of the other texts
+/// those that were read last are known by their bytes.
 #[derive(Drop)]
 pub struct NodeReader<'a> {
     alloc: Global,
@@ -90,8 +90,8 @@ fn slot_of(text: &[u8]) -> usize
 }
 
 impl<'a> NodeReader<'a> {
-    /// These nodes, before the first text; inner nodes whose number is less than a count are found by it. Answers `Memory`
-    /// where there is no room.
+    /// These nodes, before the first text; inner nodes whose number is less than a count are found by it. Answers
+    /// `Memory` where there is no room.
     pub fn new(
         alloc: Global,
         index: &'a SpefIndex,
@@ -179,7 +179,8 @@ impl<'a> NodeReader<'a> {
         }
     }
 
-    /// The number of the inner node of a leaf, which is put last where it is new. Answers `Memory` where there is no room.
+    /// The number of the inner node of a leaf, which is put last where it is new. Answers `Memory` where there is no
+    /// room.
     fn see_inner(&mut self, leaf: &[u8], number: usize) -> Result<Option<u32>, NameFault>
         requires { Writes leaf.now number }
         ensures seen { SeesNode result self.old.net self.old.nodes (Some (node_named self.old.net leaf.now)) self.new.nodes }
@@ -206,8 +207,8 @@ impl<'a> NodeReader<'a> {
         Ok(Some(id))
     }
 
-    /// The number of a node, which is put last where it is new. Answers `Memory` where there is no room; nothing changes
-    /// then.
+    /// The number of a node, which is put last where it is new. Answers `Memory` where there is no room; nothing
+    /// changes then.
     pub fn intern(&mut self, node: &Node) -> Result<u32, Memory>
         ensures nodes { OnOk result (self.new ≡ record self.old { nodes = with_node self.old.nodes (named_by node.now) }) }
         ensures number { IfOk result (λ id. slice_get self.new.nodes id ≡ Some (named_by node.now)) }
@@ -217,8 +218,8 @@ impl<'a> NodeReader<'a> {
             .intern(node.owner.as_bytes(), node.leaf.as_bytes())
     }
 
-    /// The number of a node of the net, which is put last where it is new. `None`: it is another net's. Answers `Memory`
-    /// where there is no room; nothing changes then.
+    /// The number of a node of the net, which is put last where it is new. `None`: it is another net's. Answers
+    /// `Memory` where there is no room; nothing changes then.
     fn own(&mut self, node: &Node) -> Result<Option<u32>, Memory>
         ensures owned { Owns result self.old.net self.old.nodes (named_by node.now) self.new.nodes }
         ensures rest { self.new ≡ record self.old { nodes = self.new.nodes } }

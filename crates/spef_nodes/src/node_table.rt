@@ -20,7 +20,8 @@ struct Table {
     pub chains: Chains,
 }
 
-/// Distinct nodes, numbered from 0 in the order in which they came first, in one buffer. Contracts see the list of nodes.
+/// Distinct nodes, numbered from 0 in the order in which they came first, in one buffer. Contracts see the list of
+/// nodes.
 #[derive(Drop)]
 pub struct NodeTable {
     table: Table,
@@ -38,8 +39,8 @@ impl Model for NodeTable {
     ghost invariant = { λ nodes. IsTable nodes.table.owners nodes.table.leaves nodes.table.chains };
 }
 
-/// The hash of a text: texts that end with numbers close to each other have hashes as close. The factor is odd, so that each
-/// byte of a long text counts in the low bits.
+/// The hash of a text: texts that end with numbers close to each other have hashes as close. The factor is odd, so that
+/// each byte of a long text counts in the low bits.
 fn hash_of(text: &[u8]) -> u64
     ensures hash { result ≡ fold hash_with 0 text.now }
     ensures within { result < 2 ^ 32 }
@@ -169,8 +170,8 @@ impl NodeTable {
         self.table.find_in(bucket, owner, leaf)
     }
 
-    /// The number of a node of the net of this name: one that is there, or one inside the net, which is put last where it is
-    /// new. `None`: it is another net's. Answers `Memory` as `intern` does.
+    /// The number of a node of the net of this name: one that is there, or one inside the net, which is put last where
+    /// it is new. `None`: it is another net's. Answers `Memory` as `intern` does.
     pub fn own(&mut self, net: &[u8], owner: &[u8], leaf: &[u8]) -> Result<Option<u32>, Memory>
         ensures owned { Owns result net.now self.old (node_named owner.now leaf.now) self.new }
         ensures unchanged { OnErr result (self.new ≡ self.old) }

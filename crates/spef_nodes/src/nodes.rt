@@ -11,9 +11,10 @@ use std::marker::Model;
 use vg_num::Memory;
 use vg_scan::{Name, NodeName};
 
-/// The nodes of a net, numbered from 0, each with its name, whether it is no connection, and its note: the text after the
-/// direction of its connection, or after the node of its first `*N` line, without blanks and carriage returns at its ends;
-/// empty where there is none. They stand in few buffers, so that no node takes memory of its own. Contracts see the list.
+/// The nodes of a net, numbered from 0, each with its name, whether it is no connection, and its note: the text after
+/// the direction of its connection, or after the node of its first `*N` line, without blanks and carriage returns at
+/// its ends; empty where there is none. They stand in few buffers, so that no node takes memory of its own. Contracts
+/// see the list.
 #[derive(Drop)]
 pub struct Nodes {
     owners: Texts,

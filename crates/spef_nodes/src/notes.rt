@@ -21,8 +21,8 @@ pub(crate) enum Mark {
     Starred(u32),
 }
 
-/// What is noted of nodes by their numbers: nothing, the note of a connection, or that of a `*N` line. Contracts see a list;
-/// past its end nothing is noted.
+/// What is noted of nodes by their numbers: nothing, the note of a connection, or that of a `*N` line. Contracts see a
+/// list; past its end nothing is noted.
 #[derive(Drop)]
 pub struct Notes {
     marks: Vec<Mark>,

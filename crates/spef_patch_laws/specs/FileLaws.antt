@@ -20,8 +20,8 @@ pub record HasSplices (text new : List ℕ) (front : List (List ℕ)) (splices :
   pub some : 0 < length splices
   pub splices_are : AreSplices (map words front) splices
 
--- A text says what a file says but for its nets. These, each as its name and its lines, are those of the file in their order,
--- with others in place of some.
+-- A text says what a file says but for its nets. These, each as its name and its lines, are those of the file in their
+-- order, with others in place of some.
 pub record IsFileWith (text new : List ℕ) (file : File) (all : List Place) : Type 0 where
   pub nets : List NetHead
   pub said : IsFileOf new (record file { nets = nets })

@@ -36,8 +36,8 @@ pub record HaveFreeNames (index : SpefIndex) (rs : List Replacement) : Type 0 wh
   pub apart : AreNew [] (written_names rs)
   pub free : All (λ name. is_section index.sections name ≡ true → Contains (replaced_names rs) name) (written_names rs)
 
--- a written net has the name of the section in whose place it stands, or one that no net of the file has; no two nets in
--- place of one section have one name, nor have two in place of different sections a new one
+-- a written net has the name of the section in whose place it stands, or one that no net of the file has; no two nets
+-- in place of one section have one name, nor have two in place of different sections a new one
 pub record HaveOwnNames (index : SpefIndex) (rs : List Replacement) : Type 0 where
   pub own : All (λ r. All (λ net. is_section index.sections net.name ≡ true → net.name ≡ r.row.0) r.nets) rs
   pub inside : All (λ r. AreNew [] (names_in r)) rs
@@ -62,9 +62,9 @@ pub record IsReadAgain (text : List ℕ) (net : ParNet) : Type 0 where
   pub again : (other : ParNet) → IsNetNamed text net.name other → IsWrittenAgain net other
   pub clear : (fault : LineFault NetKind) → IsFaultNamed text net.name fault → ⊥
 
--- A text has the nets of another with these sections replaced, by their names: the written ones are read again, all others
--- are as they were, and no net has the name of one that is replaced, where no written net has it. Of the header and the name
--- map the texts say the same.
+-- A text has the nets of another with these sections replaced, by their names: the written ones are read again, all
+-- others are as they were, and no net has the name of one that is replaced, where no written net has it. Of the header
+-- and the name map the texts say the same.
 pub record HasReplacements (text new : List ℕ) (index : SpefIndex) (rs : List Replacement) : Type 0 where
   pub nets : List NetHead
   pub said : IsFileOf new (record (file_of index) { nets = nets })

@@ -31,7 +31,8 @@ pub record AreKept (old new lines later : List Line) : Type 0 where
   pub alike : IsAlike (old ++ lines) (new ++ lines)
   pub run : AreNew (names_of (nets_of new)) (names_of heads) → IsRun new lines later
 
--- lines without a fault have none elsewhere, where no net there has the name of one that they add, and they add the same nets
+-- lines without a fault have none elsewhere, where no net there has the name of one that they add, and they add the
+-- same nets
 abbrev pub LinesAreReadElsewhere : Type 0
 LinesAreReadElsewhere = (old new lines later later_new : List Line) → IsAlike old new → IsRun old lines later → end_at later_new ≡ end_at later
     → AreKept old new lines later_new

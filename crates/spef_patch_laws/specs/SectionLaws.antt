@@ -27,7 +27,8 @@ pub record MayChange (text : List ℕ) (header : Header) (changes : List Change)
   pub quiet : All (IsQuietEdit text) (map (edit_of header) changes)
   pub changes_are : All (IsChange (without_comments Spef text) header) changes
 
--- another text has these nets in place of those whose heads stand where the changes begin, and all other lines of the text
+-- another text has these nets in place of those whose heads stand where the changes begin, and all other lines of the
+-- text
 pub record HasChanges (text new : List ℕ) (header : Header) (changes : List Change) : Type 0 where
   pub front : List (List ℕ)
   pub splices : List Splice

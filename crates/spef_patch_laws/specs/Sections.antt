@@ -16,8 +16,8 @@ use Rattle.spef_patch_laws.specs.NetTexts.{NetText}
 abbrev pub AreBlanks : List ℕ → ℕ → ℕ → Type 0
 AreBlanks text from to = (k : ℕ) → from ≤ k → k < to → is_blank (slice_index text k) ≡ true
 
--- Where a section of a text, from its head to its `*END`, stands in the text: the places where its first and its last line
--- begin, and the lines before the last one.
+-- Where a section of a text, from its head to its `*END`, stands in the text: the places where its first and its last
+-- line begin, and the lines before the last one.
 pub record SectionLines (text : List ℕ) (from to : ℕ) : Type 0 where
   pub start : ℕ
   pub last : ℕ

@@ -109,8 +109,8 @@ pub record IsPastLimits (net : ParNet) : Type 0 where
   pub a_tree : IsNetTree net tree order
   pub past : IsWithinNetLimits net tree → ⊥
 
--- the condition of a refusal by the parasitics alone, for a net that is there and whose lines have no fault; the other refusals
--- need the other files of a design
+-- the condition of a refusal by the parasitics alone, for a net that is there and whose lines have no fault; the other
+-- refusals need the other files of a design
 abbrev pub Refuses : ParNet → Refusal → Type 0
 Refuses net Mismatch = ⊥
 Refuses net Tied = ⊥

@@ -20,7 +20,8 @@ fn mark(conn: ParConn, marks: &mut [bool])
     }
 }
 
-/// For each node of a net whether a sink is there; in one walk over the connections. Answers `Memory` where there is no room.
+/// For each node of a net whether a sink is there; in one walk over the connections. Answers `Memory` where there is no
+/// room.
 pub fn sink_marks(alloc: Global, net: &ParNet) -> Result<Vec<bool>, Memory>
     ensures { IfOk result (λ marks. AreMarks net.now marks.items) }
 {

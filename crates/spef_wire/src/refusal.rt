@@ -6,8 +6,9 @@ use spef_net::NetFault;
 use vg_num::Memory;
 use vg_scan::NodeName;
 
-/// Why a net is refused. Of several reasons the first counts, in the order of their numbers. By its SPEF file alone a net is
-/// refused for the reasons 1 to 7, 12 to 14 and 16; the others need the other files of a design, which add to 1, 5 and 16.
+/// Why a net is refused. Of several reasons the first counts, in the order of their numbers. By its SPEF file alone a
+/// net is refused for the reasons 1 to 7, 12 to 14 and 16; the others need the other files of a design, which add to 1,
+/// 5 and 16.
 #[derive(Debug, Drop)]
 pub enum Refusal {
     /// 1: the SPEF file has no section for a net of this name, or the module no such net.
@@ -24,15 +25,18 @@ pub enum Refusal {
     NoDriver,
     /// 7: two or more connections are.
     ManyDrivers,
-    /// 8: the connections are not the pins and the port that the module links to the net, or the port has another direction.
+    /// 8: the connections are not the pins and the port that the module links to the net, or the port has another
+    /// direction.
     Mismatch,
     /// 9: the net stands in an assignment or in a link to several nets, or is a supply.
     Tied,
     /// 10: the driver is a pin for which the library gives no delay or no resistance.
     NoDrive,
-    /// 11: the library gives no capacitance for this sink's pin; it is the first such one in the order of the connections.
+    /// 11: the library gives no capacitance for this sink's pin; it is the first such one in the order of the
+    /// connections.
     NoLoad(NodeName),
-    /// 12: no chain of resistors joins this node to the driver's; it is the first such node in the order of the net's nodes.
+    /// 12: no chain of resistors joins this node to the driver's; it is the first such node in the order of the net's
+    /// nodes.
     Floating(NodeName),
     /// 13: each node is joined to the driver's, and the resistors are not one fewer than the nodes.
     Loop,
@@ -40,8 +44,9 @@ pub enum Refusal {
     NoSink,
     /// 15: this sink has no required time; it is the first such one in the order of the connections.
     Unconstrained(NodeName),
-    /// 16: the net has more than 65,536 nodes or 2^20 capacitors, or all its resistors together have more than 10^12 mΩ, or
-    /// all its capacitors more than 10^11 aF; with the other files, also where it passes another limit of problems.
+    /// 16: the net has more than 65,536 nodes or 2^20 capacitors, or all its resistors together have more than 10^12
+    /// mΩ, or all its capacitors more than 10^11 aF; with the other files, also where it passes another limit of
+    /// problems.
     TooLarge,
 }
 

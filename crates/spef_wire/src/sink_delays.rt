@@ -8,8 +8,8 @@ use std::alloc::Global;
 use std::marker::Model;
 use vg_num::Memory;
 
-/// Sinks, each with the wire delay to it (zs). Contracts see the list of names and delays. The names stand in few buffers, so
-/// that no sink takes memory of its own.
+/// Sinks, each with the wire delay to it (zs). Contracts see the list of names and delays. The names stand in few
+/// buffers, so that no sink takes memory of its own.
 #[derive(Drop)]
 pub struct SinkDelays {
     owners: Texts,

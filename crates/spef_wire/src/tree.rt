@@ -28,7 +28,8 @@ pub struct NetTree {
     pub order: Row<u32>,
 }
 
-/// The net of a name in a SPEF file (IEEE Std 1481), or why it is refused: the file has no such net, or the net's lines have a fault.
+/// The net of a name in a SPEF file (IEEE Std 1481), or why it is refused: the file has no such net, or the net's lines
+/// have a fault.
 ///
 /// `index` is the index of the file's text. Answers `Memory` where there is no room.
 pub fn named_net(
@@ -112,8 +113,8 @@ fn tree_of(alloc: Global, net: &ParNet) -> Result<Built, Refused>
 
 /// The net of a name in a SPEF file (IEEE Std 1481), with its tree.
 ///
-/// `index` is the index of the file's text. A net is refused by the first reason of `Refusal` that holds, but for `TooLarge`.
-/// Answers `Memory` where there is no room.
+/// `index` is the index of the file's text. A net is refused by the first reason of `Refusal` that holds, but for
+/// `TooLarge`. Answers `Memory` where there is no room.
 pub fn net_tree(
     alloc: Global,
     spef: &SpefText,

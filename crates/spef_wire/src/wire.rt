@@ -129,8 +129,8 @@ fn wire_of(alloc: Global, found: &NetTree) -> Result<WireNet, Refused>
 
 /// The wire delays of the net of a name in a SPEF file (IEEE Std 1481).
 ///
-/// `index` is the index of the file's text. A net is refused by the first reason of `Refusal` that holds. Answers `Memory`
-/// where there is no room.
+/// `index` is the index of the file's text. A net is refused by the first reason of `Refusal` that holds. Answers
+/// `Memory` where there is no room.
 pub fn wire_net(
     alloc: Global,
     spef: &SpefText,

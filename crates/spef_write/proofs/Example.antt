@@ -1,5 +1,5 @@
--- The lines of the last capacitor and of the first connection in examples/fork.spef, as they are written: the delimiter is `:`,
--- and femtofarads have three decimal places of attofarads.
+-- The lines of the last capacitor and of the first connection in examples/fork.spef, as they are written: the delimiter
+-- is `:`, and femtofarads have three decimal places of attofarads.
 use Rattle.std.proofs.Common.{◌≡◌, [], ◌∷◌, ◌++◌, refl, ap, ◌∙◌, codes}
 use Rattle.std.specs.Fmt.{decimal, digits}
 use Rattle.vg_num.specs.Printed.{scaled_text}

@@ -1,4 +1,5 @@
--- Printed numbers are words, begin no comment, and are read as values; lines of capacitors and resistors are read again.
+-- Printed numbers are words, begin no comment, and are read as values; lines of capacitors and resistors are read
+-- again.
 use Rattle.std.proofs.Common.{◌≡◌, ℕ, zero, suc, ◌+◌, ◌/◌, ◌%◌, ◌^◌, ◌<◌, ◌≤◌, ◌==◌, Bool, true, false, not, ◌||◌, List, [], ◌∷◌, ◌++◌, refl, ap, ◌∙◌, cond, arith, length, pos, Some, Ok}
 use Rattle.std.proofs.lemmas.Bool.Decides.{nat_tests}
 use Rattle.std.proofs.lemmas.List.{length-append}

@@ -1,4 +1,5 @@
--- A text that is cut where the first word of a line begins: there a piece begins, so its comments are those of the two parts.
+-- A text that is cut where the first word of a line begins: there a piece begins, so its comments are those of the two
+-- parts.
 use Rattle.std.proofs.Common.{◌≡◌, ℕ, zero, suc, ◌+◌, ◌-◌, ◌<◌, ◌≤◌, Bool, true, false, cond, eqb, ◌==◌, ◌&&◌, ◌||◌, List, [], ◌∷◌, ◌++◌, map, length, take, drop, get_or, refl, sym, ap, subst, ◌∙◌, arith, inl, inr, codes, length-drop, length-take}
 use Rattle.std.proofs.lemmas.Bool.{false≢true, cases_lt}
 use Rattle.std.proofs.lemmas.Bool.Decides.{nat_tests}

@@ -6,7 +6,8 @@ use Rattle.spef_write.specs.Printed.{printed_all}
 use Rattle.spef_write.specs.Sections.{total}
 use Rattle.spef_write.specs.declared.section.Section.{Section}
 
--- these are the parts of the section of a net: its name and its capacitance, what is printed of its nodes, its connections and its resistors
+-- these are the parts of the section of a net: its name and its capacitance, what is printed of its nodes, its
+-- connections and its resistors
 pub record IsSectionOf (chars : Chars) (net : ParNet) (section : Section) : Type 0 where
   pub name : section.name.now ≡ net.name
   pub charge : section.charge ≡ total net.caps

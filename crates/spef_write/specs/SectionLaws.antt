@@ -80,9 +80,9 @@ is_named net k =
     not (node_at net.nodes k).inner || (not (length (node_at net.nodes k).note == 0)
     || (not (total_at net.caps k == 0) || list_any (λ res. (res.0 == k) || (res.1 == k)) net.ress))
 
--- Another net is this one again, but for the numbers of nodes, nodes that nothing names, and capacitors of one node, which
--- are one. Nodes keep their names and notes; connections, capacitors and resistors are the same by the names of their
--- nodes, in order.
+-- Another net is this one again, but for the numbers of nodes, nodes that nothing names, and capacitors of one node,
+-- which are one. Nodes keep their names and notes; connections, capacitors and resistors are the same by the names of
+-- their nodes, in order.
 pub record IsWrittenAgain (net other : ParNet) : Type 0 where
   pub named : other.name ≡ net.name
   pub conns : map (conn_at (names_of other.nodes)) other.conns ≡ map (conn_at (names_of net.nodes)) net.conns

@@ -14,8 +14,8 @@ pub record IsCutAt (text : List ℕ) (from : ℕ) : Type 0 where
 abbrev pub CutsKeepComments : Type 0
 CutsKeepComments = (text : List ℕ) (from : ℕ) → IsFirstSolid (without_comments Spef text) from → from < length text → IsCutAt text from
 
--- A section, from a line's first word on to the `*END` at `end`, which is a line's first word too, is replaced by a text
--- that is quiet: what stands before it and behind it has the comments that it had.
+-- A section, from a line's first word on to the `*END` at `end`, which is a line's first word too, is replaced by a
+-- text that is quiet: what stands before it and behind it has the comments that it had.
 abbrev pub SectionsSplice : Type 0
 SectionsSplice = (text new : List ℕ) (from end : ℕ)
     → IsFirstSolid (without_comments Spef text) from → from < length text

@@ -1,5 +1,5 @@
--- What is written is read again: words, lines, names of nodes, values, notes, and the lines of capacitors, resistors and
--- connections.
+-- What is written is read again: words, lines, names of nodes, values, notes, and the lines of capacitors, resistors
+-- and connections.
 use Rattle.std.specs.Prelude.{◌≡◌, ℕ, ◌<◌, ◌≤◌, ◌^◌, true, pos, List, [], ◌∷◌, ◌++◌, length, Some, Ok}
 use Rattle.std.specs.List.{All}
 use Rattle.std.specs.Str.Lines.{lines}
@@ -66,8 +66,8 @@ abbrev pub StarsAgain : Type 0
 StarsAgain = (file : File) (node : NodeName) (note : List ℕ) → IsNodePrintable node → IsNote note
     → conn_line file (star_text file.chars node note) (words (star_text file.chars node note)) ≡ Ok (Star node note)
 
--- the lines of a net are quiet, each with its newline, those of connections and inner nodes if their note is so; so is a
--- text of such lines, and a quiet text is such a line
+-- the lines of a net are quiet, each with its newline, those of connections and inner nodes if their note is so; so is
+-- a text of such lines, and a quiet text is such a line
 pub record HasQuietLines (chars : Chars) : Type 0 where
   pub caps : (id v places : ℕ) (node : NodeName) → id < 10 ^ 64 → v ≤ 10 ^ 15
       → IsQuietLine (spaced (decimal id ∷ printed_node chars node ∷ scaled_text v places ∷ []))

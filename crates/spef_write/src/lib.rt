@@ -1,6 +1,6 @@
-//! The sections of nets, as they are written, and what of it is read again: words and lines, the names of nodes, values,
-//! notes, the lines of capacitors, resistors and connections, and a net as a whole; and a text of which a section is
-//! replaced.
+//! The sections of nets, as they are written, and what of it is read again: words and lines, the names of nodes,
+//! values, notes, the lines of capacitors, resistors and connections, and a net as a whole; and a text of which a
+//! section is replaced.
 #![tactic(auto)]
 
 mod charge;

@@ -34,7 +34,8 @@ pub(crate) struct Place {
     pub inner: bool,
 }
 
-/// Nodes of a net as a section prints them, one after another. Each name is printed once, into one buffer. Contracts see the list.
+/// Nodes of a net as a section prints them, one after another. Each name is printed once, into one buffer. Contracts
+/// see the list.
 #[derive(Drop)]
 pub struct Printed {
     text: Vec<u8>,

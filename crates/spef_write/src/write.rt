@@ -52,8 +52,8 @@ fn print_stars(nodes: &Printed, to: &mut Vec<u8>) -> Result<(), Memory>
     Ok(())
 }
 
-/// Prints the line of the capacitor at the node of this number behind those of so many others; the first one stands behind the head of
-/// its part.
+/// Prints the line of the capacitor at the node of this number behind those of so many others; the first one stands
+/// behind the head of its part.
 fn print_next_cap(
     nodes: &Printed,
     at: usize,
@@ -121,7 +121,8 @@ fn print_ress(
     Ok(())
 }
 
-/// Appends the section of the net that has these parts, without a newline behind its end. Answers `Memory` where there is no room.
+/// Appends the section of the net that has these parts, without a newline behind its end. Answers `Memory` where there
+/// is no room.
 pub fn write_section(section: &Section<'_>, header: &Header, to: &mut Vec<u8>) -> Result<(), Memory>
     requires { (net : ParNet) × IsSectionOf header.now.chars net section.now }
     ensures { OnOk result ((net : ParNet) → IsSectionOf header.now.chars net section.now → to.new.items ≡ to.old.items ++ section_text header.now net) }
@@ -175,8 +176,8 @@ fn section(alloc: Global, net: &ParNet, header: &Header) -> Result<Vec<u8>, Memo
     Ok(text)
 }
 
-/// Appends the section of a net, without a newline behind its end: its connections with their notes, its inner nodes with
-/// notes, the capacitance of each node that has one, and its resistors. What the section says is the net again.
+/// Appends the section of a net, without a newline behind its end: its connections with their notes, its inner nodes
+/// with notes, the capacitance of each node that has one, and its resistors. What the section says is the net again.
 ///
 /// Answers `Memory` where there is no room, and then `to` is as before.
 pub fn write_net(

@@ -13,7 +13,8 @@ use Rattle.split_laws.specs.ReadNets.{node_named, stands_for}
 use Rattle.split_laws.specs.ReadPieces.{IsReadPiece}
 use Rattle.split_laws.specs.StagePieces.{IsSplitOf}
 
--- The nets of a new design by their numbers, with the names of the nodes of each one's tree, and the number of the net of each stage.
+-- The nets of a new design by their numbers, with the names of the nodes of each one's tree, and the number of the net
+-- of each stage.
 pub record StageNets : Type 0 where
   pub nets : ℕ → TimedNet
   pub names : ℕ → List NodeName
@@ -35,14 +36,15 @@ pieces_of x stages = record {
   at = λ v. tree_node x stages (stage_from x v);
 }
 
--- what stands at a node of a stage: the cell that ends the stage there, which drives the net of its own stage; or a sink
+-- what stands at a node of a stage: the cell that ends the stage there, which drives the net of its own stage; or a
+-- sink
 abbrev pub stage_end : Split → StageNets → ℕ → ℕ → End
 stage_end x stages k w =
     if is_celled x w && not (w == head x k) then passes (repeater_at x w).rep (Some (stages.number (stage_from x w)))
     else sink_end (sink_of x.problem.sinks w)
 
--- The net of a stage is timed as the stage's piece: with its tree, with what stands at its nodes, and under the net of the stage that
--- its cell ends.
+-- The net of a stage is timed as the stage's piece: with its tree, with what stands at its nodes, and under the net of
+-- the stage that its cell ends.
 pub record IsTimedStage (x : Split) (new : Design) (stages : StageNets) (k : ℕ) : Type 0 where
   pub net : Joined
   pub tree : List Node

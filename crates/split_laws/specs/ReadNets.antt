@@ -22,7 +22,8 @@ number_named nodes name = unwrap_or (position (λ (node : ParNode). same_node no
 abbrev pub number_in : ParNet → ParNet → ℕ → ℕ
 number_in net other k = number_named net.nodes (name_of other k)
 
--- What is read has the connections of a net, and its nodes but for their numbers: `number_in` takes them there and back, by the names.
+-- What is read has the connections of a net, and its nodes but for their numbers: `number_in` takes them there and
+-- back, by the names.
 pub record IsSameByNames (net read : ParNet) : Type 0 where
   pub conns : read.conns ≡ net.conns
   pub names : (j : ℕ) → j < length read.nodes → name_of net (number_in net read j) ≡ name_of read j

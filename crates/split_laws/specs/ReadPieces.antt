@@ -18,8 +18,8 @@ pub record HasTree (net : ParNet) : Type 0 where
   pub order : List ℕ
   pub a_tree : IsNetTree net tree order
 
--- What is read of a stage's net has the stage's connections, of which the first, where the stage begins, alone drives it. No refusal by
--- the parasitics alone refuses it, but for its size; and it has a tree.
+-- What is read of a stage's net has the stage's connections, of which the first, where the stage begins, alone drives
+-- it. No refusal by the parasitics alone refuses it, but for its size; and it has a tree.
 pub record IsReadStage (x : Split) (k : ℕ) (read : ParNet) : Type 0 where
   pub conns : read.conns ≡ map (conn_in x k) (range_with_len 0 (length (ends_in x k)))
   pub ends : ends_of read ≡ map (name_in x k) (ends_in x k)
@@ -41,8 +41,8 @@ HasLoadsOf d n x k new net =
     (w : ℕ) → w < length x.problem.tree.nodes → in_piece (forest x) (head x k) w ≡ true → is_sink_in x k w ≡ true
     → sink_load new net (name_in x k w) ≡ load_in d n x k w
 
--- The tree of a net of a new design is a stage's piece. Its nodes stand for those of the stage by their names, and the sinks are the
--- stage's.
+-- The tree of a net of a new design is a stage's piece. Its nodes stand for those of the stage by their names, and the
+-- sinks are the stage's.
 pub record IsReadPiece (x : Split) (k : ℕ) (new : Design) (net : Joined) (tree : List Node) (order : List ℕ) : Type 0 where
   pub a_tree : IsNetTree net.par tree order
   pub piece : IsPieceOf (forest x) (head x k) (loaded_tree new net tree order) (λ i. stands_for x k net.par (slice_index order i))

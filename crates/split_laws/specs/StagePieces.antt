@@ -13,7 +13,8 @@ use Rattle.vg_split.specs.Splits.{IsStageNet, Split, forest, head, is_celled, no
 use Rattle.vg_split.specs.Stages.{heads}
 use Rattle.spef_wire.specs.Refusals.{IsNetTree, goes_both_ways}
 
--- A net of a design, of which no connection goes both ways, is split by a placement of its problem, into cells of the design's library.
+-- A net of a design, of which no connection goes both ways, is split by a placement of its problem, into cells of the
+-- design's library.
 pub record IsSplitOf (d : Design) (n : Joined) (x : Split) : Type 0 where
   pub split : IsSplit x
   pub par : x.par ≡ n.par

@@ -1,5 +1,5 @@
-//! The net that is written for a stage of a net with cells is, also when it is read again, the piece of the placed net that
-//! begins where the stage does.
+//! The net that is written for a stage of a net with cells is, also when it is read again, the piece of the placed net
+//! that begins where the stage does.
 //!
 //! A theory alone: what says that written files re-time to a placement's slack is to stand on it.
 #![tactic(auto)]

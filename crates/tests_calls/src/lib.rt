@@ -1,5 +1,5 @@
-//! Tests of public calls that no whole run over files in memory shows: numbers, names, tokens, tables, certificates that are changed,
-//! pieces of files, and calls that fail.
+//! Tests of public calls that no whole run over files in memory shows: numbers, names, tokens, tables, certificates
+//! that are changed, pieces of files, and calls that fail.
 #![tactic(auto)]
 
 #[cfg(test)]

@@ -1,4 +1,5 @@
-//! A certificate with one byte, one number or one line changed: mode `check` finds it valid exactly where a plain reading does.
+//! A certificate with one byte, one number or one line changed: mode `check` finds it valid exactly where a plain
+//! reading does.
 
 use crate::runs_files::{BUFFERED, CHECK, printed, small_files};
 use std::alloc::Global;
@@ -14,8 +15,8 @@ type Lists = (Vec<Entry>, Vec<Entry>);
 /// The nodes of the small net, in the order of its tree.
 const NODES: [&str; 3] = ["u1:Z", "n1:1", "u2:A"];
 
-/// What a certificate of the small net says: its slack, if it has one, the numbers of the nodes that have a buffer, and the lists of the
-/// driver's pin, of the inner node and of the sink.
+/// What a certificate of the small net says: its slack, if it has one, the numbers of the nodes that have a buffer, and
+/// the lists of the driver's pin, of the inner node and of the sink.
 #[derive(Drop)]
 struct Said {
     slack: Option<i128>,
@@ -25,7 +26,8 @@ struct Said {
     sink: Lists,
 }
 
-/// The words of a text from some place on, where each end of a line is a word too. What is read is none where other words stand.
+/// The words of a text from some place on, where each end of a line is a word too. What is read is none where other
+/// words stand.
 #[derive(Drop)]
 struct Reader<'a> {
     words: &'a [&'a str],
@@ -215,7 +217,8 @@ impl Said {
             && covers_driver(&self.inner.1, &self.driver.1)
     }
 
-    /// Whether the driver leaves at most the claimed slack of each pair that is not inverted; where none is claimed there may be none.
+    /// Whether the driver leaves at most the claimed slack of each pair that is not inverted; where none is claimed
+    /// there may be none.
     fn is_bounded(&self) -> bool {
         let mut pairs = self.driver.0.iter();
         pairs.all(|pair| self.slack.is_some_and(|slack| is_within(*pair, slack)))
@@ -275,7 +278,8 @@ fn with_line(alloc: Global, at: usize, times: usize) -> Result<String, Fail> {
 /// How many words the certificate of the buffer has.
 const WORDS: usize = 32;
 
-/// The certificate of the buffer with a word, counted over all lines, that is greater by so much if it is a whole number.
+/// The certificate of the buffer with a word, counted over all lines, that is greater by so much if it is a whole
+/// number.
 fn with_number(alloc: Global, at: usize, by: i128) -> Result<String, Fail> {
     let mut text = String::new(alloc);
     let mut number: usize = 0;
@@ -314,7 +318,8 @@ fn changed_texts(alloc: Global) -> Result<Vec<String>, Fail> {
     Ok(texts)
 }
 
-/// Whether a text is a valid certificate of the small net, or none where mode `check` finds otherwise than a plain reading.
+/// Whether a text is a valid certificate of the small net, or none where mode `check` finds otherwise than a plain
+/// reading.
 fn finds(alloc: Global, text: &str, files: &mut MemFiles) -> Result<Option<bool>, Fail> {
     files.add("k.txt", text.as_bytes())?;
     let (status, said) = printed(alloc, CHECK, files)?;

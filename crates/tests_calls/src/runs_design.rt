@@ -44,7 +44,8 @@ fn bytes_of(alloc: Global, text: &str) -> Result<Vec<u8>, Fail>
     Ok(Vec::from_slice(alloc, text.as_bytes())?)
 }
 
-/// The design of a net, a netlist and rows of constraints. Its library has a buffer and an inverter; the outputs `Z` have a greatest load.
+/// The design of a net, a netlist and rows of constraints. Its library has a buffer and an inverter; the outputs `Z`
+/// have a greatest load.
 fn design(alloc: Global, net: &str, verilog: &str, rows: &str) -> Result<Design, Fail> {
     let spef = format!(in alloc; "{HEADER}{net}")?;
     let lib = LIB.replace(alloc, "cell (BUF)", INV)?;

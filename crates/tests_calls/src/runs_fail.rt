@@ -69,7 +69,8 @@ static READS: [Reads; 3] = [
     ),
 ];
 
-/// Whether a run in which this call fails tells that reading the file of this name failed, and all outputs are as before.
+/// Whether a run in which this call fails tells that reading the file of this name failed, and all outputs are as
+/// before.
 fn fails_reading(alloc: Global, line: &str, call: usize, name: &str) -> Result<bool, Fail> {
     let told = format!(in alloc; "vginsert: read failed: {name}\n")?;
     let wanted = (5, "", told.as_str());
@@ -127,8 +128,9 @@ fn others_stand(files: &MemFiles, whole: &MemFiles, at: usize, before: Option<&[
 /// The most calls of writing one of the files.
 const MOST_CALLS: usize = 1000;
 
-/// How many calls of writing an output fail as they have to, from this number on in a run: the first leaves the file as it was, the second
-/// empty, and each next one with up to 64 bytes more of the text, the last one with all of it. The other outputs are the same all the time.
+/// How many calls of writing an output fail as they have to, from this number on in a run: the first leaves the file as
+/// it was, the second empty, and each next one with up to 64 bytes more of the text, the last one with all of it. The
+/// other outputs are the same all the time.
 fn writing_calls(
     alloc: Global,
     whole: &MemFiles,
@@ -197,7 +199,8 @@ fn writing_fails(rt: HostRuntime) -> Result<(), Fail> {
     Ok(())
 }
 
-/// Words, the calls of standard output and of standard error that fail, whether the netlist cannot be created, and how the run ends.
+/// Words, the calls of standard output and of standard error that fail, whether the netlist cannot be created, and how
+/// the run ends.
 type Told = (
     &'static str,
     &'static [u64],

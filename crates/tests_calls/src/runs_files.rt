@@ -81,9 +81,10 @@ pub(crate) fn words_of(alloc: Global, line: &str) -> Result<Vec<String>, AllocEr
 
 /// The certificate of the buffer that mode `best` puts into the net.
 ///
-/// The sink waits until 400 ps and is 102 fF. Through 1 kΩ of wire it takes 102 ps, and 100 fF are at the inner node: 298 ps and 202 fF are
-/// left there, or behind a buffer, which takes 20 ps and charges them through 0.5 kΩ, 177 ps and its own 2 fF. At the driver's pin these are
-/// 96 ps with 202 fF and 175 ps with 2 fF, of which the second is better in both. The driver takes 10 ps and 2 ps more.
+/// The sink waits until 400 ps and is 102 fF. Through 1 kΩ of wire it takes 102 ps, and 100 fF are at the inner node:
+/// 298 ps and 202 fF are left there, or behind a buffer, which takes 20 ps and charges them through 0.5 kΩ, 177 ps and
+/// its own 2 fF. At the driver's pin these are 96 ps with 202 fF and 175 ps with 2 fF, of which the second is better in
+/// both. The driver takes 10 ps and 2 ps more.
 pub(crate) const BUFFERED: &str = "vgcert 1
 net n1
 slack 163000000000
@@ -142,8 +143,8 @@ pub(crate) fn small_files(alloc: Global, chunk: usize, failing: &[u64]) -> Resul
 /// The status of a run, what it printed and what it told.
 pub(crate) type Ending<'a> = (u8, &'a str, &'a str);
 
-/// Whether a run over these files ends so, where the outputs move so many bytes a call, and these calls of standard output
-/// and of standard error fail.
+/// Whether a run over these files ends so, where the outputs move so many bytes a call, and these calls of standard
+/// output and of standard error fail.
 pub(crate) fn ends_over(
     alloc: Global,
     line: &str,

@@ -73,7 +73,8 @@ fn is_made_right(alloc: Global, size: u32) -> Result<bool, Fail>
     Ok(valid && sums.ends_with(entries.as_str()))
 }
 
-/// Whether the frontier of a made-up net begins with its slack without a cell and ends with that of a best placement, as mode `gen` tells them.
+/// Whether the frontier of a made-up net begins with its slack without a cell and ends with that of a best placement,
+/// as mode `gen` tells them.
 fn ends_at_best(alloc: Global, size: u32) -> Result<bool, Fail>
     requires least { 1 ≤ size }
     requires most { size ≤ 4000 }

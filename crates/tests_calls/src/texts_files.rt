@@ -58,8 +58,8 @@ fn reads_behind(
     )
 }
 
-/// How many bytes a call moves, the calls that fail, and the file that is missed. At a chunk of 4 the file `full` takes one call
-/// of `open` and three of `next`, and `empty` one of each.
+/// How many bytes a call moves, the calls that fail, and the file that is missed. At a chunk of 4 the file `full` takes
+/// one call of `open` and three of `next`, and `empty` one of each.
 static READ: [(usize, &[u64], Option<&str>); 9] = [
     (1, &[], None),
     (4, &[], None),
@@ -112,7 +112,8 @@ fn writes(
     Ok(is_put == all && out.as_bytes() == prefix)
 }
 
-/// How many bytes a call takes, the calls that fail, what is written, and whether it is all. By 3 bytes the text takes two calls.
+/// How many bytes a call takes, the calls that fail, what is written, and whether it is all. By 3 bytes the text takes
+/// two calls.
 static WRITTEN_PARTS: [(usize, &[u64], &[u8], bool); 7] = [
     (1, &[], b"a file!", true),
     (3, &[], b"a file!", true),

@@ -27,8 +27,8 @@ fn leaves(
     Ok(first && again)
 }
 
-/// How many bytes a call takes, the calls that fail, the file, whether it is written, and what it then holds. By chunks of 2 the
-/// new bytes take five calls: `create`, three of `put`, and `finish`.
+/// How many bytes a call takes, the calls that fail, the file, whether it is written, and what it then holds. By chunks
+/// of 2 the new bytes take five calls: `create`, three of `put`, and `finish`.
 static WRITES: [(usize, &[u64], &str, bool, Option<&[u8]>); 9] = [
     (64, &[], "old", true, Some(NEW)),
     (2, &[], "old", true, Some(NEW)),

@@ -104,7 +104,8 @@ fn is_dominated(pairs: &[Pair], at: usize) -> bool
     found
 }
 
-/// What two branches make together, by a plain program: of all pairs of both those that no other one dominates, by rising c.
+/// What two branches make together, by a plain program: of all pairs of both those that no other one dominates, by
+/// rising c.
 fn all_met(alloc: Global, one: &[Pair], two: &[Pair]) -> Result<Vec<Pair>, AllocError> {
     let mut all = Vec::new(alloc);
     for x in one {

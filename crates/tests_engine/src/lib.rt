@@ -1,4 +1,5 @@
-//! Tests of the calls on which a search stands: shared solutions, pools of candidates, where branches meet, and what repeaters make.
+//! Tests of the calls on which a search stands: shared solutions, pools of candidates, where branches meet, and what
+//! repeaters make.
 #![tactic(auto)]
 
 #[cfg(test)]

@@ -54,8 +54,8 @@ fn give_up(pool: &mut Pool, list: List, bag: Bag) -> Split
     Split { kept, dropped }
 }
 
-/// Takes a list of the second rows into one of the first, where the q of both rises. Answers whether it is the wanted one then,
-/// and the tags.
+/// Takes a list of the second rows into one of the first, where the q of both rises. Answers whether it is the wanted
+/// one then, and the tags.
 fn absorbed<L: Ledger>(
     pool: &mut Pool,
     one: &[Row],
@@ -94,8 +94,8 @@ fn wired<L: Ledger>(
     (as_wanted, split)
 }
 
-/// Whether the q of these lists rises, and they become the wanted one when the second is taken into the first, and the bag has
-/// just the other tags.
+/// Whether the q of these lists rises, and they become the wanted one when the second is taken into the first, and the
+/// bag has just the other tags.
 fn absorbs<L: Ledger>(
     pool: &mut Pool,
     one: &[Row],
@@ -181,8 +181,8 @@ fn agrees<L: Ledger>(
     Ok(absorbed && wired)
 }
 
-/// The first of so many pairs of lists at random on which a call gives another answer than the plain program. All slots come
-/// back, so that a last list has each of them.
+/// The first of so many pairs of lists at random on which a call gives another answer than the plain program. All slots
+/// come back, so that a last list has each of them.
 fn first_wrong<L: Ledger>(alloc: Global, blank: Blank, cases: u32) -> Result<Option<u32>, Memory>
     requires name { blank.name ≡ L.name }
     requires parts { blank.parts ≡ L.parts }

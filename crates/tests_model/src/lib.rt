@@ -1,4 +1,5 @@
-//! Tests of the public calls of the model that no whole run shows: delays at one node, limits beyond those of files, and lists of pairs.
+//! Tests of the public calls of the model that no whole run shows: delays at one node, limits beyond those of files,
+//! and lists of pairs.
 #![tactic(auto)]
 
 #[cfg(test)]

@@ -11,8 +11,8 @@ type Last = (u64, u128, bool);
 /// The driver's delay and arrival, and the required time of the sink.
 type Times = (i128, i128, i128);
 
-/// The driver's resistance; the input capacitance, the resistance, the delay and the cost of a repeater; and how many of
-/// these there are behind an inverter.
+/// The driver's resistance; the input capacitance, the resistance, the delay and the cost of a repeater; and how many
+/// of these there are behind an inverter.
 type Cells = (u64, u64, u64, u64, u64, usize);
 
 /// Parts of a problem, and whether they are within the limits.

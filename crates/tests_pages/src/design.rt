@@ -1,5 +1,6 @@
-//! Whether mode `time` finds in the files that mode `best` writes the slack that it printed, for each net of a design, whether a run
-//! over all nets prints what the runs over each of them do, and whether mode `check` finds the certificates of the nets valid.
+//! Whether mode `time` finds in the files that mode `best` writes the slack that it printed, for each net of a design,
+//! whether a run over all nets prints what the runs over each of them do, and whether mode `check` finds the
+//! certificates of the nets valid.
 
 use crate::report::words_of;
 use std::alloc::Global;
@@ -54,7 +55,8 @@ const CHECK: &str =
 /// The most bytes that an output takes at once.
 const CHUNK: usize = 1 << 16;
 
-/// What runs in mode `best` print for nets, one after another, and what is to be printed in mode `time` for what they write.
+/// What runs in mode `best` print for nets, one after another, and what is to be printed in mode `time` for what they
+/// write.
 #[derive(Drop)]
 struct Lines {
     best: String,
@@ -83,7 +85,8 @@ fn no_lines(alloc: Global) -> Lines {
     }
 }
 
-/// What a run with these words prints, with those that tell for which nets; nothing where it does not end with status 0.
+/// What a run with these words prints, with those that tell for which nets; nothing where it does not end with status
+/// 0.
 fn printed<F: Files>(
     alloc: Global,
     files: &mut F,
@@ -100,7 +103,8 @@ fn printed<F: Files>(
     Ok(String::from_utf8_lossy(alloc, out.as_bytes())?)
 }
 
-/// Whether the nets that these words tell re-time to the slacks that were printed for them, and no sink has the wrong polarity.
+/// Whether the nets that these words tell re-time to the slacks that were printed for them, and no sink has the wrong
+/// polarity.
 fn retime<F: Files>(
     alloc: Global,
     files: &mut F,
@@ -126,7 +130,8 @@ fn retimes<F: Files>(
     retime(alloc, files, nets.as_str(), &lines)
 }
 
-/// Tells whether each net of the design re-times to the slack that was printed, or which do not. Adds the lines of the nets.
+/// Tells whether each net of the design re-times to the slack that was printed, or which do not. Adds the lines of the
+/// nets.
 fn report_nets<F: Files>(
     alloc: Global,
     files: &mut F,
@@ -190,8 +195,8 @@ fn report_certificates<F: Files>(
     Ok(all)
 }
 
-/// Tells whether the nets of the design re-time to the slacks that were printed, one by one and all at once, and whether their certificates
-/// are valid.
+/// Tells whether the nets of the design re-time to the slacks that were printed, one by one and all at once, and
+/// whether their certificates are valid.
 pub(crate) fn report_design<F: Files>(
     alloc: Global,
     files: &mut F,

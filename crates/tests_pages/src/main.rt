@@ -1,5 +1,6 @@
-//! Compares the runs that pages show with what the program prints, the options that the manual page lists with those of the program, and
-//! the slacks of a design with those of the files that are written, checks its certificates, and tries outputs that cannot be written.
+//! Compares the runs that pages show with what the program prints, the options that the manual page lists with those of
+//! the program, and the slacks of a design with those of the files that are written, checks its certificates, and tries
+//! outputs that cannot be written.
 #![tactic(auto)]
 
 mod design;

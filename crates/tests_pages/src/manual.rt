@@ -1,7 +1,7 @@
 //! Whether the manual page lists the options of the program, in their order.
 //!
-//! Its section of options begins with the line `.SH OPTIONS` and ends with the next line `.SH`. In it a line `.BI \-\-mode " MODE"` lists
-//! an option: its second word is the name, in which each hyphen is written as `\-`.
+//! Its section of options begins with the line `.SH OPTIONS` and ends with the next line `.SH`. In it a line
+//! `.BI \-\-mode " MODE"` lists an option: its second word is the name, in which each hyphen is written as `\-`.
 ghost use Rattle.std.specs.Prelude.{◌≡◌, ◌≢◌, ◌++◌, ℕ, List, map, IfOk, IfSome, IsTrue, MatchBool, OnOk};
 ghost use Rattle.std.specs.Str.{bytes_eq};
 ghost use Rattle.vg_scan.specs.Lines.{words};
@@ -38,7 +38,8 @@ fn first_words(line: &[u8]) -> (&[u8], &[u8])
     (request, argument)
 }
 
-/// Adds the option that a line lists, where the section of options is open or not, and answers whether it is after the line.
+/// Adds the option that a line lists, where the section of options is open or not, and answers whether it is after the
+/// line.
 fn take_line<'a>(line: &'a [u8], is_open: bool, found: &mut Vec<&'a [u8]>) -> Result<bool, Memory>
     ensures after { IfOk result (λ after. after ≡ is_open_after (words line.now) is_open) }
     ensures found { IfOk result (λ _. map (λ option. option.now) found.new.items

@@ -1,7 +1,7 @@
 //! The runs of the program that a page shows.
 //!
-//! A run stands in a block between two lines that begin with three backquotes. It is a line `$ ./vginsert WORDS`, and below it
-//! the lines that are printed, up to the next line with a command or the end of the block.
+//! A run stands in a block between two lines that begin with three backquotes. It is a line `$ ./vginsert WORDS`, and
+//! below it the lines that are printed, up to the next line with a command or the end of the block.
 ghost use Rattle.std.specs.Prelude.{◌≤◌, length, IfOk, IfSome};
 ghost use Rattle.std.specs.List.{All};
 ghost use Rattle.vg_scan.specs.Spans.{IsIn};

@@ -1,7 +1,7 @@
 //! Runs the cases of `data/cases`, which `data/FORMAT.md` describes, and tells which are not as said.
 //!
-//! With no words it runs the case files that `INDEX` lists; with the names of case files these alone; and with `--print` and the name of
-//! one it prints that with what was found.
+//! With no words it runs the case files that `INDEX` lists; with the names of case files these alone; and with
+//! `--print` and the name of one it prints that with what was found.
 #![tactic(auto)]
 
 mod case;

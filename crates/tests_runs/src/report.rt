@@ -1,4 +1,5 @@
-//! What is told of case files: a line for each, what was found where a run is not as said, and case files with what was found.
+//! What is told of case files: a line for each, what was found where a run is not as said, and case files with what was
+//! found.
 
 use crate::case::{Content, Run, Wanted};
 use crate::fault::Fault;

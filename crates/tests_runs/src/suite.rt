@@ -13,7 +13,8 @@ pub(crate) struct Answer {
     pub(crate) all_right: bool,
 }
 
-/// The list of case files: each line has the name of one, and the word `real` where its cases are run over real files too.
+/// The list of case files: each line has the name of one, and the word `real` where its cases are run over real files
+/// too.
 const INDEX: &str = "INDEX";
 
 /// The name in a line of the list, and whether its cases are run over real files too.

@@ -1,6 +1,7 @@
 //! The words of a line of a case file.
 //!
-//! Words are parted at blanks. A word may stand in quotes, where a backslash begins a byte that is written in another way.
+//! Words are parted at blanks. A word may stand in quotes, where a backslash begins a byte that is written in another
+//! way.
 
 use crate::fault::Fault;
 use std::alloc::Global;

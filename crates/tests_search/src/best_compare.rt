@@ -70,9 +70,9 @@ fn is_right(alloc: Global, p: &Problem, answer: &Answer, top: Option<Top>) -> Re
     Ok(is_best && good.bare == top.has_bare)
 }
 
-/// Of how many problems the answer was wrong; how many had no good placement, how many one without a cell as best, how many only ones with cells, and how many
-/// several of these; of how many a limit, or what nodes allow, lessens the best; and how many have sinks that want an inverted
-/// signal, nodes without a sink at or below them, and six places.
+/// Of how many problems the answer was wrong; how many had no good placement, how many one without a cell as best, how
+/// many only ones with cells, and how many several of these; of how many a limit, or what nodes allow, lessens the
+/// best; and how many have sinks that want an inverted signal, nodes without a sink at or below them, and six places.
 #[derive(Clone, Copy, Debug)]
 struct Kinds {
     wrong: u32,
@@ -140,7 +140,8 @@ impl Kinds {
     }
 }
 
-/// The greatest slack of all placements of a problem, which is counted, as wrong where the search answers something else.
+/// The greatest slack of all placements of a problem, which is counted, as wrong where the search answers something
+/// else.
 fn checked<L: Ledger>(
     alloc: Global,
     draft: &Draft,
@@ -192,8 +193,8 @@ fn check<L: Ledger>(
     Ok(())
 }
 
-/// The first of so many problems at random on which the search answers something else than all placements do, and how many of
-/// each kind there were until then.
+/// The first of so many problems at random on which the search answers something else than all placements do, and how
+/// many of each kind there were until then.
 fn first_wrong<L: Ledger>(
     alloc: Global,
     blank: Blank,

@@ -45,7 +45,8 @@ fn are_alike(one: &Answer, other: &Answer) -> bool {
     is_same(one, other) && are_same(&one.lists, &other.lists)
 }
 
-/// Whether a search in a lent arena, and one in a room that others used before, answer what one in an arena of its own does.
+/// Whether a search in a lent arena, and one in a room that others used before, answer what one in an arena of its own
+/// does.
 fn agrees<L: Ledger>(
     alloc: Global,
     p: &Problem,
@@ -88,8 +89,9 @@ fn held(arena: &mut Arena) -> Result<Sol, Memory>
     Ok(both)
 }
 
-/// Searches so many problems at random in an arena where a solution of someone else stands. Answers the first one for which
-/// another placement or other lists come than in an arena of its own, there or in one room for all of them, or after which the solution is not as before.
+/// Searches so many problems at random in an arena where a solution of someone else stands. Answers the first one for
+/// which another placement or other lists come than in an arena of its own, there or in one room for all of them, or
+/// after which the solution is not as before.
 fn first_wrong<L: Ledger>(alloc: Global, blank: Blank, cases: u32) -> Result<Option<u32>, Fail>
     requires name { blank.name ≡ L.name }
     requires parts { blank.parts ≡ L.parts }

@@ -58,7 +58,8 @@ fn are_plain(alloc: Global, draft: &Draft, v: usize, lists: &NodeLists) -> Resul
     Ok(even.as_slice() == lists.even.as_slice() && odd.as_slice() == lists.odd.as_slice())
 }
 
-/// How long the longest list of a problem is, or none where a node's lists are not those of all placements at or below it.
+/// How long the longest list of a problem is, or none where a node's lists are not those of all placements at or below
+/// it.
 fn longest<L: Ledger>(
     alloc: Global,
     draft: &Draft,
@@ -79,8 +80,8 @@ fn longest<L: Ledger>(
     Ok(Some(most))
 }
 
-/// The first of so many problems at random that have other lists than all placements make, and how many until then had a list
-/// of three or more pairs.
+/// The first of so many problems at random that have other lists than all placements make, and how many until then had
+/// a list of three or more pairs.
 fn first_wrong<L: Ledger>(
     alloc: Global,
     blank: Blank,

@@ -6,7 +6,8 @@ use std::alloc::{AllocError, Global};
 use std::test::Fail;
 use vg_num::Row;
 
-/// The parts of a problem: one element of the nodes, of the sinks, of the free nodes and of what is allowed for each node.
+/// The parts of a problem: one element of the nodes, of the sinks, of the free nodes and of what is allowed for each
+/// node.
 #[derive(Drop)]
 pub struct Draft {
     pub nodes: Vec<Node>,
@@ -131,8 +132,8 @@ impl Draft {
         self.choices.iter().any(|choice| *choice != Choice::All)
     }
 
-    /// For each node its number in the net that begins at node `v`, of which the first below the root is `v` itself. None: the
-    /// node is not below `v`.
+    /// For each node its number in the net that begins at node `v`, of which the first below the root is `v` itself.
+    /// None: the node is not below `v`.
     fn numbers_below(&self, alloc: Global, v: usize) -> Result<Vec<Option<u32>>, AllocError> {
         let mut numbers: Vec<Option<u32>> = Vec::new(alloc);
         let mut next = 1;
@@ -181,9 +182,9 @@ impl Draft {
         Ok(sinks)
     }
 
-    /// The parts of the net that begins at node `v`, at the end of a wire that takes no time behind a driver that takes none:
-    /// the slack of its placements is how late the signal may reach `v`, and the load of its root is what is seen of `v`. With
-    /// `odd`, its sinks want the other polarity.
+    /// The parts of the net that begins at node `v`, at the end of a wire that takes no time behind a driver that takes
+    /// none: the slack of its placements is how late the signal may reach `v`, and the load of its root is what is seen
+    /// of `v`. With `odd`, its sinks want the other polarity.
     pub fn below(&self, alloc: Global, v: usize, odd: bool) -> Result<Draft, Fail> {
         let numbers = self.numbers_below(alloc, v)?;
         let nodes = self.nodes_below(alloc, v, numbers.as_slice())?;

@@ -9,8 +9,8 @@ use elmore::{Placement, Problem, Scratch, cost, first_illegal, first_wrong, load
 use std::alloc::Global;
 use std::test::Fail;
 
-/// What a good placement comes to: its slack (zs), the load of its root (aF), the cost of its cells (thousandths), and whether it
-/// has none.
+/// What a good placement comes to: its slack (zs), the load of its root (aF), the cost of its cells (thousandths), and
+/// whether it has none.
 #[derive(Clone, Copy)]
 pub struct Good {
     pub slack: i128,

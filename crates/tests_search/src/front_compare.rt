@@ -37,7 +37,8 @@ fn found(
     Ok(frontier_in(alloc, p, cap, arena)?)
 }
 
-/// Whether the search answers the points of this frontier within each of these caps, and leaves nothing in the lent arena.
+/// Whether the search answers the points of this frontier within each of these caps, and leaves nothing in the lent
+/// arena.
 fn agrees(
     alloc: Global,
     p: &Problem,
@@ -123,8 +124,8 @@ fn check(
     Ok(())
 }
 
-/// The first of so many problems at random on which the search answers something else than all placements do, and how many of
-/// each kind there were until then.
+/// The first of so many problems at random on which the search answers something else than all placements do, and how
+/// many of each kind there were until then.
 fn first_wrong(alloc: Global, cases: u32) -> Result<(Option<u32>, Kinds), Fail> {
     let mut random = Random::after(4);
     let mut arena = Arena::new(alloc);

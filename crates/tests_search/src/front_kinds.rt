@@ -3,10 +3,10 @@
 use crate::enumerate::Good;
 use elmore::Problem;
 
-/// Of how many problems the frontier was wrong; how many had no point, one of cost 0 with cells, and three or more; how many had placements of
-/// a point's cost with less slack, and of a point's slack that cost more; for how many a limit, or what nodes allow, changes the
-/// frontier; how many had sinks that want an inverted signal, nodes without a sink at or below them, two sinks below one node with
-/// the same wire, and six places.
+/// Of how many problems the frontier was wrong; how many had no point, one of cost 0 with cells, and three or more; how
+/// many had placements of a point's cost with less slack, and of a point's slack that cost more; for how many a limit,
+/// or what nodes allow, changes the frontier; how many had sinks that want an inverted signal, nodes without a sink at
+/// or below them, two sinks below one node with the same wire, and six places.
 #[derive(Clone, Copy, Debug)]
 pub struct Kinds {
     pub wrong: u32,

@@ -1,5 +1,5 @@
--- The netlist that a module is. Source: IEEE Std 1364-2005, clauses 6.1 (continuous assignments) and 12.1.2 (instances),
--- 12.3.6 (connections by name), 5.1.14 (concatenations).
+-- The netlist that a module is. Source: IEEE Std 1364-2005, clauses 6.1 (continuous assignments) and 12.1.2
+-- (instances), 12.3.6 (connections by name), 5.1.14 (concatenations).
 use Rattle.std.specs.Prelude.{ℕ, Bool, ◌&&◌, List, [], ◌∷◌, map, find, Option, Some, None, option_map, unwrap_or, if◌then◌else◌}
 use Rattle.std.specs.List.{flat_map}
 use Rattle.name_tables.specs.Distinct.{number_in}
@@ -60,8 +60,8 @@ is_one text s = is_identifier s.head && is_single (select_before text s.body) (r
 abbrev pub one_named : List ℕ → Section → ℕ
 one_named text s = net_number text s.head (bit_in (select_before text s.body))
 
--- What a pin is linked to: nothing, where it is not connected; one net, where its expression is a scalar or a bit by its
--- number alone; else the nets in the expression, be it one or none.
+-- What a pin is linked to: nothing, where it is not connected; one net, where its expression is a scalar or a bit by
+-- its number alone; else the nets in the expression, be it one or none.
 abbrev pub link_of : List ℕ → List Row → Link
 link_of text [] = Open
 link_of text (r ∷ rows) =

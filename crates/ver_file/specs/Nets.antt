@@ -1,5 +1,5 @@
--- The nets of a module. Source: IEEE Std 1364-2005, clauses 4.2 and 4.5 (implicit declarations): an identifier that is not
--- declared and stands in a connection or an assignment is a scalar.
+-- The nets of a module. Source: IEEE Std 1364-2005, clauses 4.2 and 4.5 (implicit declarations): an identifier that is
+-- not declared and stands in a connection or an assignment is a scalar.
 use Rattle.std.specs.Prelude.{ℕ, Bool, not, ◌&&◌, ◌++◌, List, [], ◌∷◌, map, Option, if◌then◌else◌}
 use Rattle.std.specs.List.{flat_map, list_any}
 use Rattle.std.specs.Str.{bytes_eq}

@@ -130,8 +130,9 @@ pub(crate) struct Body {
     pub end: Option<usize>,
 }
 
-/// What the items of a text hold, and what is wrong with it, where this is the first place at which two nets have one name and
-/// its items may be kept. Nothing more is built once something is wrong. Answers `Memory` where there is no room.
+/// What the items of a text hold, and what is wrong with it, where this is the first place at which two nets have one
+/// name and its items may be kept. Nothing more is built once something is wrong. Answers `Memory` where there is no
+/// room.
 pub(crate) fn read_body(
     alloc: Global,
     scope: &Scope<'_>,

@@ -45,8 +45,8 @@ fn agrees(first: Option<PortDir>, direction: Option<PortDir>) -> bool
     direction.is_none() || direction == first
 }
 
-/// The first flaws, where a token of a declaration may be an identifier that was declared with another range or direction, or
-/// those before it.
+/// The first flaws, where a token of a declaration may be an identifier that was declared with another range or
+/// direction, or those before it.
 fn check_declared(scope: &Scope<'_>, heading: Heading, row: Row, firsts: Firsts) -> Firsts
     requires { HasIdentifiers scope.now }
     ensures clash { result.clash ≡ first_of firsts.clash (other_ranges scope.now.text.now (declared_at scope.now.text.now heading (row ∷ []))) }
@@ -162,7 +162,8 @@ fn is_other(text: &[u8], token: Row, others: &[Row]) -> bool
     true
 }
 
-/// The place of a pin, where its name is that of one of these, or the one before it; the pin is put last where its name is new.
+/// The place of a pin, where its name is that of one of these, or the one before it; the pin is put last where its name
+/// is new.
 fn repeated_among(
     text: &[u8],
     pin: Row,
@@ -179,7 +180,8 @@ fn repeated_among(
     Ok(first)
 }
 
-/// The first identifier in the connection of a pin of which a bit or a part is selected that it has not, or the one before it.
+/// The first identifier in the connection of a pin of which a bit or a part is selected that it has not, or the one
+/// before it.
 fn link_flaws(scope: &Scope<'_>, pin: &Section<'_>, first: Option<usize>) -> Option<usize>
     requires { HasIdentifiers scope.now }
     ensures { result ≡ first_of first (flat_map (select_flaws scope.now.text.now) (identifiers_in pin.now)) }
@@ -192,8 +194,8 @@ fn link_flaws(scope: &Scope<'_>, pin: &Section<'_>, first: Option<usize>) -> Opt
     select_flaws(scope, Begin::Identifier, expression, first)
 }
 
-/// The first flaw in the connections of an instance, or the one before it, by a walk over the pins before each. The list of
-/// tokens is room to work in.
+/// The first flaw in the connections of an instance, or the one before it, by a walk over the pins before each. The
+/// list of tokens is room to work in.
 fn few_pin_flaws(
     scope: &Scope<'_>,
     instance: &Section<'_>,

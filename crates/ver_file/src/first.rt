@@ -62,7 +62,8 @@ fn told(text: &[u8], flaw: Flaw) -> VerFault
     }
 }
 
-/// The first places at which something is wrong, by what it is. Only the first of all tells, so that lines are counted once.
+/// The first places at which something is wrong, by what it is. Only the first of all tells, so that lines are counted
+/// once.
 #[derive(Clone, Copy, Debug, PartialEq, Eq, Drop)]
 pub(crate) struct Firsts {
     pub clash: Option<usize>,

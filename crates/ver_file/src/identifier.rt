@@ -30,8 +30,8 @@ const BYTES_A_SHORT_NAME: usize = 32;
 /// The most names for which room is made as if names were short.
 const MOST_SHORT: usize = 1 << 16;
 
-/// For how many names room is made, where a text has this length. A table that grows chains all its names again; one that is
-/// too large takes memory for nothing, which counts where texts are long.
+/// For how many names room is made, where a text has this length. A table that grows chains all its names again; one
+/// that is too large takes memory for nothing, which counts where texts are long.
 pub(crate) fn room_for_names(text_len: usize) -> usize
     ensures { result ≡ max (text_len / 128) (min (text_len / 32) (2 ^ 16)) }
 {
@@ -39,8 +39,8 @@ pub(crate) fn room_for_names(text_len: usize) -> usize
     (text_len / BYTES_A_NAME).max(few)
 }
 
-/// The most bytes of a text whose items are kept, so that its tokens are cut once. A kept token takes 12 bytes, and is some three
-/// bytes of a text.
+/// The most bytes of a text whose items are kept, so that its tokens are cut once. A kept token takes 12 bytes, and is
+/// some three bytes of a text.
 const MOST_KEPT: usize = 1 << 21;
 
 /// How many bytes a token has, or more: what room is taken for.
@@ -158,8 +158,8 @@ fn with_item(kept: Option<KeptItems>, item: &[Row]) -> Result<Option<KeptItems>,
     }
 }
 
-/// The identifiers of nets in the order in which they come first, each with its first token and what is declared of it; and
-/// where they stand, in the order of the text.
+/// The identifiers of nets in the order in which they come first, each with its first token and what is declared of it;
+/// and where they stand, in the order of the text.
 #[derive(Drop)]
 pub(crate) struct Identifiers {
     names: Names,
@@ -169,7 +169,8 @@ pub(crate) struct Identifiers {
 }
 
 impl Identifiers {
-    /// No identifiers, with room for about as many names as a text of this length has. Answers `Memory` where there is none.
+    /// No identifiers, with room for about as many names as a text of this length has. Answers `Memory` where there is
+    /// none.
     fn new(alloc: Global, text_len: usize) -> Result<Identifiers, Memory>
         ensures count { IfOk result (λ new. length new.said.items ≡ length new.names) }
         ensures read { (text : List ℕ) → IfOk result (AreRead text (rows_of text) []) }
@@ -183,8 +184,8 @@ impl Identifiers {
         })
     }
 
-    /// The number of the identifier of nets that a token is, which is put last where it is new. Answers `Memory` where there is
-    /// no room.
+    /// The number of the identifier of nets that a token is, which is put last where it is new. Answers `Memory` where
+    /// there is no room.
     fn intern(&mut self, text: &[u8], row: Row) -> Result<usize, Memory>
         requires name { is_net_name row ≡ true }
         requires count { length self.old.said.items ≡ length self.old.names }
@@ -205,8 +206,8 @@ impl Identifiers {
         Ok(at)
     }
 
-    /// Reads a token, which stands in a declaration that says this of its identifiers, or in none. Answers `Memory` where there
-    /// is no room.
+    /// Reads a token, which stands in a declaration that says this of its identifiers, or in none. Answers `Memory`
+    /// where there is no room.
     fn read(&mut self, text: &[u8], row: Row, heading: Option<Heading>) -> Result<(), Memory>
         requires { length self.old.said.items ≡ length self.old.names }
         ensures count { OnOk result (length self.new.said.items ≡ length self.new.names) }
@@ -241,8 +242,8 @@ impl Identifiers {
         Ok(())
     }
 
-    /// Those of a text that is a module, and its items, if they are kept. `None`: it is none. Answers `Memory` where there is no
-    /// room.
+    /// Those of a text that is a module, and its items, if they are kept. `None`: it is none. Answers `Memory` where
+    /// there is no room.
     pub fn of(
         alloc: Global,
         text: &[u8],
@@ -300,8 +301,8 @@ impl Identifiers {
         self.said[at]
     }
 
-    /// The number of the identifier that a token is, by a walk over the places of identifiers from one of them back and on; and
-    /// the one after it. `None`: it is not found so.
+    /// The number of the identifier that a token is, by a walk over the places of identifiers from one of them back and
+    /// on; and the one after it. `None`: it is not found so.
     pub fn find_from(&self, start: usize, row: Row) -> (usize, Option<u32>)
         ensures { (text : List ℕ) → AreIdentifiers text self.now → IfSome result.1 (λ id. Some id ≡ number_of self.now.names (name_at text row)) }
     {

@@ -1,4 +1,5 @@
-//! Laws of netlists and of their faults. Their functions do nothing: each one's contract is the law, which a proof may cite.
+//! Laws of netlists and of their faults. Their functions do nothing: each one's contract is the law, which a proof may
+//! cite.
 
 ghost use Rattle.ver_file.specs.Laws.{FaultsOnce, LinksAreOwn, NamesAreDistinct, NetlistsAreFaultless, NetsAreNamed, ReadsOnce};
 

@@ -20,8 +20,8 @@ use ver_syntax::Row;
 use ver_text::is_escaped;
 use vg_num::Memory;
 
-/// Puts a scalar last, where its name is new, by a guess of this name's number, and tells the first place at which a name is not.
-/// Answers `Memory` where there is no room.
+/// Puts a scalar last, where its name is new, by a guess of this name's number, and tells the first place at which a
+/// name is not. Answers `Memory` where there is no room.
 fn push_scalar(
     scalar: &Net<'_>,
     guess: u32,
@@ -37,8 +37,8 @@ fn push_scalar(
     Ok(unless(is_new, place, clash))
 }
 
-/// Puts a bit of an identifier last, where its name is new, and tells the first place at which a name is not. Answers `Memory`
-/// where there is no room.
+/// Puts a bit of an identifier last, where its name is new, and tells the first place at which a name is not. Answers
+/// `Memory` where there is no room.
 fn push_bit(
     alloc: Global,
     scalar: &Net<'_>,
@@ -79,8 +79,8 @@ fn scalar_of<'a>(text: &'a [u8], token: Row, said: Option<Heading>) -> Net<'a>
     }
 }
 
-/// Puts the bits of a vector last, from its left bound on, and tells the first place at which a name is not new. Answers
-/// `Memory` where there is no room.
+/// Puts the bits of a vector last, from its left bound on, and tells the first place at which a name is not new.
+/// Answers `Memory` where there is no room.
 fn push_bits(
     alloc: Global,
     scalar: &Net<'_>,
@@ -99,8 +99,8 @@ fn push_bits(
     Ok(clash)
 }
 
-/// Puts the nets of an identifier last, by its number, its first token and what is said of it, and tells the first place at which a
-/// name is not new. Answers `Memory` where there is no room.
+/// Puts the nets of an identifier last, by its number, its first token and what is said of it, and tells the first
+/// place at which a name is not new. Answers `Memory` where there is no room.
 fn push_nets(
     alloc: Global,
     text: &[u8],
@@ -127,8 +127,8 @@ fn push_nets(
     }
 }
 
-/// The nets of a text, each name once, and the first place at which a name is not new. Answers `Memory` where there is no
-/// room.
+/// The nets of a text, each name once, and the first place at which a name is not new. Answers `Memory` where there is
+/// no room.
 pub(crate) fn nets_of(
     alloc: Global,
     text: &[u8],
@@ -183,7 +183,8 @@ fn first_numbers(
     Ok(numbers)
 }
 
-/// The same, where no two nets have one name: this is the first place at which two have. Answers `Memory` where there is no room.
+/// The same, where no two nets have one name: this is the first place at which two have. Answers `Memory` where there
+/// is no room.
 pub(crate) fn numbers_of(
     alloc: Global,
     text: &[u8],

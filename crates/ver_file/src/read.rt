@@ -27,8 +27,8 @@ const OUT_OF_MEMORY: VerFault = VerFault {
     line: 1,
 };
 
-/// The module of a text that has the grammar of one, with these identifiers, or the first of its flaws. Its items may be kept. Answers `Memory` where
-/// there is no room.
+/// The module of a text that has the grammar of one, with these identifiers, or the first of its flaws. Its items may
+/// be kept. Answers `Memory` where there is no room.
 fn build(
     alloc: Global,
     text: &[u8],
@@ -89,12 +89,12 @@ fn syntax_fault(alloc: Global, text: &[u8]) -> VerFault
     }
 }
 
-/// The module that a text denotes; or the text's first fault, with the number of its line. Answers `Memory`, at line 1, where
-/// there is no room, as where the module would have 2^32 nets or more.
+/// The module that a text denotes; or the text's first fault, with the number of its line. Answers `Memory`, at line 1,
+/// where there is no room, as where the module would have 2^32 nets or more.
 ///
-/// The text is a structural module of IEEE Std 1364-2005: declarations of ports and nets, continuous assignments, and instances
-/// with connections by name. Its tokens are read first, then its grammar, then what its names mean: of several faults the first
-/// of the first of these passes is told, at one place `NameClash` before all else.
+/// The text is a structural module of IEEE Std 1364-2005: declarations of ports and nets, continuous assignments, and
+/// instances with connections by name. Its tokens are read first, then its grammar, then what its names mean: of
+/// several faults the first of the first of these passes is told, at one place `NameClash` before all else.
 pub fn read_module(alloc: Global, bytes: &[u8]) -> Result<Module, VerFault>
     requires { length bytes.now ≤ 2 ^ 28 }
     ensures denoted { IfOk result (Denotes bytes.now) }

@@ -29,7 +29,8 @@ pub(crate) struct Scope<'a> {
     pub nets: &'a Nets,
     /// The number of the first net of each identifier.
     pub numbers: &'a [u32],
-    /// The place of an identifier up to which they were looked up: only a guess, by which the next one is found without its name.
+    /// The place of an identifier up to which they were looked up: only a guess, by which the next one is found without
+    /// its name.
     pub next: Cell<usize>,
 }
 
@@ -169,7 +170,8 @@ impl<'a> Scope<'a> {
         Ok(())
     }
 
-    /// Puts the nets last that an identifier stands for, by what is selected of it. Answers `Memory` where there is no room.
+    /// Puts the nets last that an identifier stands for, by what is selected of it. Answers `Memory` where there is no
+    /// room.
     pub fn push_named(
         &self,
         alloc: Global,
@@ -206,8 +208,8 @@ impl<'a> Scope<'a> {
         Ok(nets)
     }
 
-    /// The net that this is, where it is an identifier and with what follows it one net. `None`: it is not. Answers `Memory` where
-    /// there is no room.
+    /// The net that this is, where it is an identifier and with what follows it one net. `None`: it is not. Answers
+    /// `Memory` where there is no room.
     fn one(&self, alloc: Global, named: &Section<'_>) -> Result<Option<u32>, Memory>
         requires { IsScope self.now }
         ensures one { IfOk result (λ found. is_some found ≡ is_one self.now.text.now named.now) }

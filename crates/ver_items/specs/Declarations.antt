@@ -1,5 +1,6 @@
--- What a module declares. Source: IEEE Std 1364-2005, clauses 4.2 (nets and vectors) and 12.3 (ports): a direction, a type of
--- nets and a range hold for each identifier of a declaration; in a list of ports, for those up to the next direction.
+-- What a module declares. Source: IEEE Std 1364-2005, clauses 4.2 (nets and vectors) and 12.3 (ports): a direction, a
+-- type of nets and a range hold for each identifier of a declaration; in a list of ports, for those up to the next
+-- direction.
 use Rattle.std.specs.Prelude.{ℕ, Bool, ◌&&◌, ◌||◌, List, ◌∷◌, codes, filter, find, map, is_some, Option, Some, None, option_and_then, if◌then◌else◌}
 use Rattle.std.specs.List.{flat_map, list_any}
 use Rattle.std.specs.Str.{bytes_eq}

@@ -21,8 +21,8 @@ use vg_num::Memory;
 /// The most tokens that are read before a machine reads them.
 const MOST: usize = 1024;
 
-/// Puts the tokens up to the next `;`, or all that are left, in place of what the list held. Answers `Memory` where there is no
-/// room.
+/// Puts the tokens up to the next `;`, or all that are left, in place of what the list held. Answers `Memory` where
+/// there is no room.
 fn read_item(rows: &mut Rows<'_>, item: &mut Vec<Row>) -> Result<(), Memory>
     ensures cut { OnOk result (rows.old ≡ item.new.items ++ rows.new) }
     ensures ends { OnOk result (IsItem item.new.items rows.new) }
@@ -37,8 +37,8 @@ fn read_item(rows: &mut Rows<'_>, item: &mut Vec<Row>) -> Result<(), Memory>
     Ok(())
 }
 
-/// Puts the next tokens last, up to the next `;`, but no more than a part has. Whether an item ends with them. Answers `Memory`
-/// where there is no room.
+/// Puts the next tokens last, up to the next `;`, but no more than a part has. Whether an item ends with them. Answers
+/// `Memory` where there is no room.
 fn read_part(rows: &mut Rows<'_>, item: &mut Vec<Row>) -> Result<bool, Memory>
     requires { list_any (λ r. is Semicolon r.kind) item.old.items ≡ false }
     ensures cut { OnOk result (item.old.items ++ rows.old ≡ item.new.items ++ rows.new) }
@@ -125,8 +125,8 @@ impl<'a> Items<'a> {
         }
     }
 
-    /// Puts the tokens of the next item in place of what the list held, up to its `;`. Whether there is one. Answers `Memory`
-    /// where there is no room, and then no item is left.
+    /// Puts the tokens of the next item in place of what the list held, up to its `;`. Whether there is one. Answers
+    /// `Memory` where there is no room, and then no item is left.
     pub fn read(&mut self, item: &mut Vec<Row>) -> Result<bool, Memory>
         ensures next { OnOk result (self.old ≡ section_in item.new.items ++ self.new) }
         ensures more { IfOk result (λ more. more ≡ nat_lt 0 (length item.new.items)) }
@@ -141,8 +141,8 @@ impl<'a> Items<'a> {
         }
     }
 
-    /// The same, where a machine reads the tokens too, and no further than a module can begin so. Answers `Memory` where there is
-    /// no room.
+    /// The same, where a machine reads the tokens too, and no further than a module can begin so. Answers `Memory`
+    /// where there is no room.
     pub fn read_by(&mut self, machine: &mut Machine, item: &mut Vec<Row>) -> Result<Found, Memory>
         ensures next { IfOk result (λ found. found ≡ AnItem → (self.old ≡ section_in item.new.items ++ self.new) × (0 < length item.new.items)) }
         ensures end { IfOk result (λ found. found ≡ AtEnd → (self.old ≡ []) × (item.new.items ≡ [])) }

@@ -53,8 +53,8 @@ impl KeptRow {
     }
 }
 
-/// Puts the tokens of an item last. Answers `Memory` where there is no room, or where one of them stands 2^32 bytes or more behind
-/// the text's beginning; some may stand behind those of before then.
+/// Puts the tokens of an item last. Answers `Memory` where there is no room, or where one of them stands 2^32 bytes or
+/// more behind the text's beginning; some may stand behind those of before then.
 fn keep_rows(kept: &mut Vec<KeptRow>, item: &[Row]) -> Result<(), Memory>
     ensures last { OnOk result (map row_of kept.new.items ≡ map row_of kept.old.items ++ item.now) }
     ensures begun { take (length kept.old.items) kept.new.items ≡ kept.old.items }
@@ -110,8 +110,8 @@ impl KeptItems {
         })
     }
 
-    /// Puts an item last, by its tokens. Answers `Memory` where there is no room, or where a token stands 2^32 bytes or more behind
-    /// the text's beginning; nothing changes then.
+    /// Puts an item last, by its tokens. Answers `Memory` where there is no room, or where a token stands 2^32 bytes or
+    /// more behind the text's beginning; nothing changes then.
     pub fn push(&mut self, item: &[Row]) -> Result<(), Memory>
         requires { 0 < length item.now }
         ensures last { OnOk result (self.new ≡ self.old ++ section_in item.now) }
@@ -169,8 +169,8 @@ impl<'a> ItemsAgain<'a> {
         }
     }
 
-    /// Puts the tokens of the next item in place of what the list held, up to its `;`. Whether there is one. Answers `Memory`
-    /// where there is no room.
+    /// Puts the tokens of the next item in place of what the list held, up to its `;`. Whether there is one. Answers
+    /// `Memory` where there is no room.
     pub fn read(&mut self, item: &mut Vec<Row>) -> Result<bool, Memory>
         ensures next { OnOk result (self.old ≡ section_in item.new.items ++ self.new) }
         ensures more { IfOk result (λ more. more ≡ nat_lt 0 (length item.new.items)) }

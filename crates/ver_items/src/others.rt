@@ -1,4 +1,5 @@
-//! What an item has besides instances. Most items of a netlist have instances alone, which one walk over their tokens finds.
+//! What an item has besides instances. Most items of a netlist have instances alone, which one walk over their tokens
+//! finds.
 
 ghost use Rattle.std.specs.Prelude.{◌≡◌, drop};
 ghost use Rattle.std.specs.List.{list_any};

@@ -26,8 +26,8 @@ net_with name row = record {
 abbrev pub nets_with : List (List ℕ) → List NetRow → List Net
 nets_with names rows = map (λ row. net_with (slice_index_or names row.name []) row) rows
 
--- these rows are nets, no two of which have one name: for the number of each name there is one more than the number of its net,
--- or 0 where no net has it
+-- these rows are nets, no two of which have one name: for the number of each name there is one more than the number of
+-- its net, or 0 where no net has it
 pub record AreNets (names : List (List ℕ)) (rows : List NetRow) (numbers : List ℕ) : Type 0 where
   pub distinct : AreDistinct names
   pub count : length numbers ≡ length names

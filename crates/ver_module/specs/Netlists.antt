@@ -1,5 +1,5 @@
--- The netlist that a module is: its nets, and its instances with their connections. Source: IEEE Std 1364-2005, clauses 3.3 and
--- 4.3 (nets and vectors), 6.1 (continuous assignments), 12.1.2 (instances) and 12.3.6 (connections by name).
+-- The netlist that a module is: its nets, and its instances with their connections. Source: IEEE Std 1364-2005, clauses
+-- 3.3 and 4.3 (nets and vectors), 6.1 (continuous assignments), 12.1.2 (instances) and 12.3.6 (connections by name).
 use Rattle.std.specs.Prelude.{◌≡◌, ℕ, ◌<◌, ◌^◌, Bool, List, [], ◌∷◌, ◌++◌, length, Option, Some, None, ⊤}
 use Rattle.std.specs.Fmt.{decimal}
 use Rattle.std.specs.List.{All}
@@ -69,7 +69,8 @@ IsWithin count (Many nets) = All (λ net. net < count) nets
 abbrev pub AreWithin : ℕ → List Instance → Type 0
 AreWithin count instances = All (λ i. All (λ p. IsWithin count p.link) i.pins) instances
 
--- A netlist links and assigns only nets that it has. Its nets, its instances and the pins of each are numbered below 2^32.
+-- A netlist links and assigns only nets that it has. Its nets, its instances and the pins of each are numbered below
+-- 2^32.
 pub record IsSound (m : Netlist) : Type 0 where
   pub links : AreWithin (length m.nets) m.instances
   pub assigned : All (λ net. net < length m.nets) m.assigned

@@ -19,7 +19,8 @@ use vg_scan::Span;
 #[derive(Drop)]
 pub struct Pin<'a> {
     pub name: &'a [u8],
-    /// Where the expression of its connection stands, without what is around it. Of a pin that is not connected it is empty.
+    /// Where the expression of its connection stands, without what is around it. Of a pin that is not connected it is
+    /// empty.
     pub span: Span,
     pub link: LinkRef<'a>,
 }
@@ -107,8 +108,8 @@ pub(crate) struct InstanceRow {
     pub pins: u32,
 }
 
-/// The instances of a module. Contracts see the list of them. Names stand in one buffer, each name of a cell and of a pin once,
-/// and the pins of all instances in one list; the nets of links to several stand aside.
+/// The instances of a module. Contracts see the list of them. Names stand in one buffer, each name of a cell and of a
+/// pin once, and the pins of all instances in one list; the nets of links to several stand aside.
 #[derive(Drop)]
 pub struct Instances {
     names: Texts,
@@ -155,8 +156,8 @@ fn part(pins: &[PinRow], from: usize, to: usize) -> &[PinRow]
     &pins[from..to]
 }
 
-/// The number of the name of the pin that comes after these. A new name is put last. Answers `Memory` where there is no room;
-/// nothing changes then.
+/// The number of the name of the pin that comes after these. A new name is put last. Answers `Memory` where there is no
+/// room; nothing changes then.
 fn pin_number(names: &mut Names, before: &[PinRow], name: &[u8]) -> Result<u32, Memory>
     ensures number { IfOk result (λ id. slice_get names.new id ≡ Some name.now) }
     ensures names { OnOk result (names.new ≡ with_name names.old name.now) }
@@ -171,8 +172,8 @@ fn pin_number(names: &mut Names, before: &[PinRow], name: &[u8]) -> Result<u32, 
     Ok(id)
 }
 
-/// The number of the name of the cell of the instance that comes after these. A new name is put last. Answers `Memory` where there
-/// is no room; nothing changes then.
+/// The number of the name of the cell of the instance that comes after these. A new name is put last. Answers `Memory`
+/// where there is no room; nothing changes then.
 fn cell_number(names: &mut Names, before: &[InstanceRow], name: &[u8]) -> Result<u32, Memory>
     ensures number { IfOk result (λ id. slice_get names.new id ≡ Some name.now) }
     ensures names { OnOk result (names.new ≡ with_name names.old name.now) }
@@ -258,8 +259,8 @@ impl Instances {
         }
     }
 
-    /// Puts an instance without pins last. Answers `Memory` where there is no room, as where there are 2^32 - 1 instances;
-    /// nothing changes then.
+    /// Puts an instance without pins last. Answers `Memory` where there is no room, as where there are 2^32 - 1
+    /// instances; nothing changes then.
     pub fn push(&mut self, name: &[u8], cell: &[u8]) -> Result<(), Memory>
         ensures last { OnOk result (self.new ≡ self.old ++ (record { name = name.now; cell = cell.now; pins = [] }) ∷ []) }
         ensures unchanged { OnErr result (self.new ≡ self.old) }
@@ -276,8 +277,9 @@ impl Instances {
         Ok(())
     }
 
-    /// Puts a pin last in the last instance, if there is one. Answers `Memory` where there is no room, as where there are 2^32 - 1
-    /// pins, or where the expression stands 2^32 bytes or more behind the text's beginning; nothing changes then.
+    /// Puts a pin last in the last instance, if there is one. Answers `Memory` where there is no room, as where there
+    /// are 2^32 - 1 pins, or where the expression stands 2^32 bytes or more behind the text's beginning; nothing
+    /// changes then.
     pub fn push_pin(&mut self, name: &[u8], span: Span, link: Link) -> Result<(), Memory>
         ensures last { OnOk result (self.new ≡ with_pin self.old (record { name = name.now; span = span; link = link })) }
         ensures unchanged { OnErr result (self.new ≡ self.old) }

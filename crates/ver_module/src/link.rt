@@ -52,8 +52,8 @@ impl LinkRow {
     }
 }
 
-/// What is kept of a link. The nets of one to several are put last among those of all such links. Answers `Memory` where there is
-/// no room; nothing changes then.
+/// What is kept of a link. The nets of one to several are put last among those of all such links. Answers `Memory`
+/// where there is no room; nothing changes then.
 pub(crate) fn keep(many: &mut Vec<Row<u32>>, link: Link) -> Result<LinkRow, Memory>
     ensures kept { IfOk result (IsKept many.new.items) }
     ensures link { IfOk result (λ row. link_with many.new.items row ≡ link) }

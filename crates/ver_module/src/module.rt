@@ -13,8 +13,8 @@ use vg_scan::Name;
 
 /// The module of a structural netlist. Contracts see its nets and its instances as lists.
 ///
-/// Nets stand in the order in which their identifiers come first in the text, the bits of a vector from its left bound on. A net
-/// is named by its number in this order, from 0 on. Instances stand in the order of the text.
+/// Nets stand in the order in which their identifiers come first in the text, the bits of a vector from its left bound
+/// on. A net is named by its number in this order, from 0 on. Instances stand in the order of the text.
 #[derive(Drop)]
 pub struct Module {
     name: Name,
@@ -62,7 +62,8 @@ impl Module {
         }
     }
 
-    /// A law: a module links and assigns only nets that it has, and has fewer than 2^32 nets, instances, and pins of each.
+    /// A law: a module links and assigns only nets that it has, and has fewer than 2^32 nets, instances, and pins of
+    /// each.
     pub fn is_sound(&self)
         ensures { IsSound self.now }
     {

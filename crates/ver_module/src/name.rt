@@ -9,8 +9,8 @@ use vg_num::Memory;
 /// The most names that a table takes.
 pub(crate) const MOST: usize = 0xFFFF_FFFF;
 
-/// The number of a name, which is put last where it is new. Answers `Memory` where there is no room, as where the table has
-/// 2^32 - 1 names; nothing changes then.
+/// The number of a name, which is put last where it is new. Answers `Memory` where there is no room, as where the table
+/// has 2^32 - 1 names; nothing changes then.
 pub fn name_number(names: &mut Names, name: &[u8]) -> Result<u32, Memory>
     ensures number { IfOk result (λ id. id ≡ number_in names.old name.now) }
     ensures names { OnOk result (names.new ≡ with_name names.old name.now) }
@@ -31,9 +31,9 @@ fn is_number(names: &Names, id: u32, name: &[u8]) -> bool
     (id as usize) < names.len() && is_same(names.name(id), name)
 }
 
-/// The number of a name, which is put last where it is new. The names of numbers that it may have are compared with it first: a
-/// good guess spares its hash. Answers `Memory` where there is no room, as where the table has 2^32 - 1 names; nothing changes
-/// then.
+/// The number of a name, which is put last where it is new. The names of numbers that it may have are compared with it
+/// first: a good guess spares its hash. Answers `Memory` where there is no room, as where the table has 2^32 - 1 names;
+/// nothing changes then.
 pub(crate) fn number_by_guess(
     names: &mut Names,
     guesses: &[u32],

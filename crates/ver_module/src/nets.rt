@@ -77,7 +77,8 @@ impl Model for Nets {
     ghost invariant = { λ nets. AreNets nets.names nets.rows.items nets.numbers.items };
 }
 
-/// What is kept of a net whose name has this number. Answers `Memory` where its identifier's name has 2^32 bytes or more.
+/// What is kept of a net whose name has this number. Answers `Memory` where its identifier's name has 2^32 bytes or
+/// more.
 fn row_of(net: &Net<'_>, name: u32) -> Result<NetRow, Memory>
     ensures name { IfOk result (λ row. row.name ≡ name) }
     ensures base { IfOk result (λ row. row.base ≡ length net.now.base) }
@@ -99,8 +100,8 @@ fn row_of(net: &Net<'_>, name: u32) -> Result<NetRow, Memory>
     })
 }
 
-/// The number of a name, by a guess of it. A new name is put last, and no net has it yet. Answers `Memory` where there is no room.
-/// The nets stay as they are.
+/// The number of a name, by a guess of it. A new name is put last, and no net has it yet. Answers `Memory` where there
+/// is no room. The nets stay as they are.
 fn name_by_guess(
     names: &mut Names,
     numbers: &mut Vec<u32>,
@@ -121,7 +122,8 @@ fn name_by_guess(
     Ok(id)
 }
 
-/// Puts a net last, where no net has its name. Whether none has it. Answers `Memory` where there is no room; nothing changes then.
+/// Puts a net last, where no net has its name. Whether none has it. Answers `Memory` where there is no room; nothing
+/// changes then.
 fn push_row(rows: &mut Vec<NetRow>, numbers: &mut Vec<u32>, row: NetRow) -> Result<bool, Memory>
     requires { row.name < length numbers.old.items }
     ensures new { IfOk result (λ new. new ≡ (slice_index numbers.old.items row.name == 0)) }
@@ -215,8 +217,8 @@ impl Nets {
         }
     }
 
-    /// Puts a net last, where its name is new. Whether it is. Answers `Memory` where there is no room, as where there are
-    /// 2^32 - 1 nets; nothing changes then.
+    /// Puts a net last, where its name is new. Whether it is. Answers `Memory` where there is no room, as where there
+    /// are 2^32 - 1 nets; nothing changes then.
     pub fn push(&mut self, net: &Net<'_>) -> Result<bool, Memory>
         requires { IsNamed net.now }
         ensures new { IfOk result (λ new. new ≡ not (list_any (bytes_eq net.now.name) (map (λ n. n.name) self.old))) }

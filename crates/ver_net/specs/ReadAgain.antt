@@ -45,7 +45,8 @@ select_place net at = at + length (identifier_text net.escaped net.base)
 abbrev pub tokens_of_net : Net → ℕ → List Token
 tokens_of_net net at = identifier_at net.escaped at (length net.base) ∷ select_at net.bit (select_place net at)
 
--- In a text stands the net at a place: an identifier that gives the name of its own, and for a bit digits that write its number.
+-- In a text stands the net at a place: an identifier that gives the name of its own, and for a bit digits that write
+-- its number.
 pub record IsReadAt (text : List ℕ) (at : ℕ) (net : Net) : Type 0 where
   pub kind : kind_in text (identifier_at net.escaped at (length net.base)) ≡ Identifier
   pub name : name_of (part text at (identifier_at net.escaped at (length net.base)).to) ≡ net.base

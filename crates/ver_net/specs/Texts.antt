@@ -1,4 +1,5 @@
--- The nets of a module, as Verilog text. Source: IEEE Std 1364-2005, clauses 3.7 (identifiers) and 5.2.1 (selects of bits).
+-- The nets of a module, as Verilog text. Source: IEEE Std 1364-2005, clauses 3.7 (identifiers) and 5.2.1 (selects of
+-- bits).
 use Rattle.std.specs.Prelude.{ℕ, Bool, true, false, List, [], ◌∷◌, ◌++◌, Option, Some, None, slice_get, option_map, unwrap_or}
 use Rattle.std.specs.Fmt.{decimal}
 use Rattle.ver_text.specs.Names.{escaped}

@@ -18,8 +18,8 @@ pub fn tied_nets_are_shared()
     ensures { TiedNetsAreShared }
 {}
 
-/// The text of a net is read again, whatever stands before it and after it: its tokens are an identifier of its name, and for a
-/// bit a `[`, digits that write its number, and a `]`.
+/// The text of a net is read again, whatever stands before it and after it: its tokens are an identifier of its name,
+/// and for a bit a `[`, digits that write its number, and a `]`.
 pub fn nets_are_read_again()
     ensures tokens { NetsAreTokens }
     ensures names { NetsAreNamed }

@@ -43,8 +43,8 @@ fn push_net(net: &Net<'_>, to: &mut Vec<u8>) -> Result<(), Memory>
     Ok(())
 }
 
-/// Prints a net as it is named in the text: its identifier, with a backslash before it and a blank after it where it is escaped
-/// where it first stands, and for a bit its number in `[` and `]` (IEEE Std 1364-2005, 3.7 and 5.2.1).
+/// Prints a net as it is named in the text: its identifier, with a backslash before it and a blank after it where it is
+/// escaped where it first stands, and for a bit its number in `[` and `]` (IEEE Std 1364-2005, 3.7 and 5.2.1).
 ///
 /// Answers `Memory` where there is no room, and then `to` is as before.
 pub fn print_net(net: &Net<'_>, to: &mut Vec<u8>) -> Result<(), Memory>

@@ -2,7 +2,8 @@
 use Rattle.std.specs.Prelude.{ℕ, List}
 use Rattle.ver_patch.specs.declared.cells.CellTexts.{CellTexts}
 
--- An instance that is put in: its cell, its own name, the cell's input and output pin, and the texts of the nets at them.
+-- An instance that is put in: its cell, its own name, the cell's input and output pin, and the texts of the nets at
+-- them.
 pub record NewCell : Type 0 where
   pub cell : List ℕ
   pub name : List ℕ

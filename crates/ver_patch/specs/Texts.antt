@@ -1,4 +1,5 @@
--- New wires and new instances, as text. Source: IEEE Std 1364-2005, clauses 4.2 (nets) and 12.3.6 (connections by name).
+-- New wires and new instances, as text. Source: IEEE Std 1364-2005, clauses 4.2 (nets) and 12.3.6 (connections by
+-- name).
 use Rattle.std.specs.Prelude.{ℕ, List, ◌++◌, codes}
 use Rattle.std.specs.List.{flat_map}
 use Rattle.ver_text.specs.Names.{printed}

@@ -38,8 +38,8 @@ struct Place {
     end: usize,
 }
 
-/// Instances that are put in, one after another. Their texts stand in one buffer, so that none of them takes memory of its own.
-/// Contracts see the list of them.
+/// Instances that are put in, one after another. Their texts stand in one buffer, so that none of them takes memory of
+/// its own. Contracts see the list of them.
 #[derive(Drop)]
 pub struct NewCells {
     text: Vec<u8>,
@@ -76,7 +76,8 @@ fn put_text(text: &[u8], to: &mut Vec<u8>) -> Result<usize, Memory>
     Ok(to.len())
 }
 
-/// Puts the texts of an instance last, and answers their places. Answers `Memory` where there is no room; then some of them may stand there.
+/// Puts the texts of an instance last, and answers their places. Answers `Memory` where there is no room; then some of
+/// them may stand there.
 fn put_texts(cell: &CellTexts<'_>, to: &mut Vec<u8>) -> Result<Place, Memory>
     ensures last { OnOk result (to.new.items ≡ to.old.items ++ all_texts (cell_of cell.now)) }
     ensures places { IfOk result (IsPlaced to.old.items (cell_of cell.now)) }

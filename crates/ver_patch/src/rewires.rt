@@ -17,8 +17,9 @@ struct Place {
     to: usize,
 }
 
-/// Pins that are linked to one net each, and the texts of the nets that they are to be linked to, one after another. These stand in one
-/// buffer, so that none of them takes memory of its own. Contracts see the list of pins, each with its net.
+/// Pins that are linked to one net each, and the texts of the nets that they are to be linked to, one after another.
+/// These stand in one buffer, so that none of them takes memory of its own. Contracts see the list of pins, each with
+/// its net.
 #[derive(Drop)]
 pub struct Rewires {
     text: Vec<u8>,

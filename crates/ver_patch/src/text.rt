@@ -92,10 +92,11 @@ fn put_cells(
     Ok(())
 }
 
-/// What is to be replaced in the text of a netlist, so that wires are declared just behind the module's head, the connections of some pins
-/// are made anew, and instances are put in just before its `endmodule`; all other bytes are kept. The pins differ, and each was linked
-/// to one net; they may come in any order. A new wire's name and an instance's own name stand as they are, a cell's and a pin's
-/// as an identifier, escaped where that is no simple one. Answers `Memory` where there is no room.
+/// What is to be replaced in the text of a netlist, so that wires are declared just behind the module's head, the
+/// connections of some pins are made anew, and instances are put in just before its `endmodule`; all other bytes are
+/// kept. The pins differ, and each was linked to one net; they may come in any order. A new wire's name and an
+/// instance's own name stand as they are, a cell's and a pin's as an identifier, escaped where that is no simple one.
+/// Answers `Memory` where there is no room.
 pub fn patch(
     alloc: Global,
     netlist: &Module,

@@ -34,7 +34,8 @@ use Rattle.ver_patch_laws.proofs.WalkLemmas.{word_at}
 abbrev pub IsWritten : List ℕ → List (List ℕ) → List ℕ → Type 0
 IsWritten text wires name = In name (identifiers_of text) ⊎ In name wires
 
--- a token that is put in: an identifier of nets is one of the text or a new wire, and none is a port or stands in an assignment
+-- a token that is put in: an identifier of nets is one of the text or a new wire, and none is a port or stands in an
+-- assignment
 pub record IsPut (text : List ℕ) (wires : List (List ℕ)) (new : List ℕ) (q : Row) : Type 0 where
   pub name : is_net_name q ≡ true → IsWritten text wires (name_at new q)
   pub port : is_name_in Ports q ≡ false

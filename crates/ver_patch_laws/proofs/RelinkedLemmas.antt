@@ -1,4 +1,5 @@
--- The rows of the text of a changed netlist beside those of the text, with what stands in each connection that is made anew.
+-- The rows of the text of a changed netlist beside those of the text, with what stands in each connection that is made
+-- anew.
 use Rattle.std.proofs.Common.{◌≡◌, ℕ, zero, suc, Bool, true, false, List, [], ◌∷◌, ◌++◌, Some, refl, sym, ◌∙◌, subst, ◌⊎◌, inl, inr}
 use Rattle.std.specs.Prelude.{slice_get}
 use Rattle.std.specs.List.{before_first}

@@ -113,7 +113,8 @@ rows_stay new (t ∷ ts) h = (refl, subst (λ p. EachRow InOne (rows_from new p 
 -- ---- tokens up to the last
 
 module _ (text new : List ℕ) (Free : ℕ → Type 0) (Becomes : List Row → List Row → Type 0) (cells : List NewCell) where
-  -- tokens of a text up to its last, and those that are there in the text of the changed netlist, with the new instances
+  -- tokens of a text up to its last, and those that are there in the text of the changed netlist, with the new
+  -- instances
   pub record AreWalked (p : Place) (ts others : List Token) : Type 0 where
     pub old : List Token
     pub made : List Token

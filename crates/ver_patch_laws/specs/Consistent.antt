@@ -33,8 +33,8 @@ pub record WritesOne (netlist : Netlist) (wires : List (List ℕ)) (text : List 
 abbrev pub taken_in : Netlist → List (List ℕ)
 taken_in netlist = map (λ n. n.name) netlist.nets ++ map (λ n. n.base) netlist.nets
 
--- New wires and new instances have names of their own, what is written are nets that are there, and the two pins of a new instance
--- differ.
+-- New wires and new instances have names of their own, what is written are nets that are there, and the two pins of a
+-- new instance differ.
 pub record IsConsistent (netlist : Netlist) (rewires : List Rewire) (cells : List NewCell) (wires : List (List ℕ)) : Type 0 where
   pub wires_new : AreNew (taken_in netlist) wires
   pub cells_new : HaveNewNames netlist cells

@@ -9,7 +9,8 @@ use Rattle.ver_patch_text_laws.specs.Laws.{IsChanged}
 use Rattle.ver_patch_laws.specs.NewNames.{HaveNewNames}
 use Rattle.ver_patch_laws.specs.Shapes.{new_shape, shape_of}
 
--- the instances of the new text are the old ones, in order, each with its name, its cell and its pins, and then the new ones
+-- the instances of the new text are the old ones, in order, each with its name, its cell and its pins, and then the new
+-- ones
 abbrev pub InstancesStay : Type 0
 InstancesStay =
     (text : List ℕ) (netlist : Netlist) (rewires : List Rewire) (cells : List NewCell) (wires : List (List ℕ)) (new : List ℕ)

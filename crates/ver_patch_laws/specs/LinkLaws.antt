@@ -18,8 +18,8 @@ DeclarationsStay =
     (text : List ℕ) (netlist : Netlist) (rewires : List Rewire) (cells : List NewCell) (wires : List (List ℕ)) (new : List ℕ)
     → IsChanged text netlist rewires cells wires new → AreDeclared text wires new
 
--- What the pins of a changed netlist are linked to: those that are not rewired to what they were, those that are to the net that
--- is written, and those of new instances to the nets that are written.
+-- What the pins of a changed netlist are linked to: those that are not rewired to what they were, those that are to the
+-- net that is written, and those of new instances to the nets that are written.
 pub record LinksAre (text : List ℕ) (rewires : List Rewire) (cells : List NewCell) (new : List ℕ) : Type 0 where
   pub kept : (at : PinRef) (link : NamedLink) → IsLinked text at link → All (λ r. r.at ≢ at) rewires → IsLinked new at link
   pub rewired : (r : Rewire) (t : IsNetText r.net) → Contains rewires r → IsOneNet text t.net → IsLinked new r.at (one (name_of_net t.net))

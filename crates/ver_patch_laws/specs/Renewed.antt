@@ -1,4 +1,5 @@
--- What the netlist of a changed text is, beside the old one: by the names of nets, since their numbers tell nothing of another text.
+-- What the netlist of a changed text is, beside the old one: by the names of nets, since their numbers tell nothing of
+-- another text.
 use Rattle.std.specs.Prelude.{◌≡◌, ◌≢◌, ◌↔◌, ℕ, ◌+◌, List, ◌++◌, map, length, Some, slice_get}
 use Rattle.std.specs.List.{All, Contains}
 use Rattle.ver_module.specs.declared.direction.PortDir.{PortDir}
@@ -20,8 +21,8 @@ new_pin netlist k pin = record { instance = length netlist.instances + k; pin = 
 abbrev pub IsKept : List Rewire → PinRef → Type 0
 IsKept rewires at = All (λ r. r.at ≢ at) rewires
 
--- Why a pin of the new netlist is linked to what it is: it was so and stays, it is rewired, or it is the input or the output of a
--- new instance.
+-- Why a pin of the new netlist is linked to what it is: it was so and stays, it is rewired, or it is the input or the
+-- output of a new instance.
 pub data HasCause (netlist : Netlist) (rewires : List Rewire) (cells : List NewCell) (at : PinRef) (named : NamedLink) : Type 0 where
   stays : HasNamedLink netlist at named → IsKept rewires at → HasCause netlist rewires cells at named
   rewired : (r : Rewire) (name : NetName) → Contains rewires r → r.at ≡ at → Writes r.net name → named ≡ one name
@@ -31,9 +32,9 @@ pub data HasCause (netlist : Netlist) (rewires : List Rewire) (cells : List NewC
   output : (k : ℕ) (c : NewCell) (name : NetName) → slice_get cells k ≡ Some c → at ≡ new_pin netlist k 1 → Writes c.to name
       → named ≡ one name → HasCause netlist rewires cells at named
 
--- The instances are the old ones and then the new ones. Pins that are not rewired are linked to what they were, those that are to
--- the net that is written, those of new instances to the nets that are written, and no other way. The same nets are ports, with the
--- same directions, and the same nets are tied: new wires are neither.
+-- The instances are the old ones and then the new ones. Pins that are not rewired are linked to what they were, those
+-- that are to the net that is written, those of new instances to the nets that are written, and no other way. The same
+-- nets are ports, with the same directions, and the same nets are tied: new wires are neither.
 pub record IsRenewed (netlist : Netlist) (rewires : List Rewire) (cells : List NewCell) (renewed : Netlist) : Type 0 where
   pub instances : map shape_of renewed.instances ≡ map shape_of netlist.instances ++ map new_shape cells
   pub stay : (at : PinRef) (named : NamedLink) → HasNamedLink netlist at named → IsKept rewires at → HasNamedLink renewed at named

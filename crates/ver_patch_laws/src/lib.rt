@@ -1,5 +1,5 @@
-//! The text of a changed netlist denotes the changed netlist: its instances, what it declares, and, by the names of nets, what its
-//! pins are linked to.
+//! The text of a changed netlist denotes the changed netlist: its instances, what it declares, and, by the names of
+//! nets, what its pins are linked to.
 //!
 //! Theory alone: `ver_patch` has the code.
 #![tactic(auto)]

@@ -62,7 +62,8 @@ rewired_words netlist rewire =
 abbrev pub inserted_words : ℕ → List Word → WordEdit
 inserted_words at words = record { from = at; to = at; words = words }
 
--- the declarations of the new wires behind the module's head, the new connections, and the new instances before `endmodule`
+-- the declarations of the new wires behind the module's head, the new connections, and the new instances before
+-- `endmodule`
 abbrev pub changes_of : Netlist → List Rewire → List NewCell → List (List ℕ) → List WordEdit
 changes_of netlist rewires cells wires =
     inserted_words netlist.head_end (flat_map wire_words wires)

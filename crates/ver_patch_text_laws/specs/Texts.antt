@@ -1,5 +1,5 @@
--- Names and nets that may be written into a module. Source: IEEE Std 1364-2005, clauses 3.7 (identifiers) and 5.2.1 (selects
--- of bits).
+-- Names and nets that may be written into a module. Source: IEEE Std 1364-2005, clauses 3.7 (identifiers) and 5.2.1
+-- (selects of bits).
 use Rattle.std.specs.Prelude.{◌≡◌, ℕ, ◌<◌, ◌≤◌, ◌^◌, true, List, length, IfSome}
 use Rattle.std.specs.List.{All, list_all}
 use Rattle.ver_text.specs.Bytes.{is_printable}

@@ -1,4 +1,5 @@
-//! Laws of the texts of changed netlists. Their functions do nothing: each one's contract is the law, which a proof may cite.
+//! Laws of the texts of changed netlists. Their functions do nothing: each one's contract is the law, which a proof may
+//! cite.
 
 ghost use Rattle.ver_patch_text_laws.specs.Laws.{ModulesStay, WordsArePatched};
 

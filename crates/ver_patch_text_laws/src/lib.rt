@@ -1,5 +1,5 @@
-//! The text of a changed netlist is read again: it has the words of the text with the changes, since no byte that is put in joins with
-//! what stands there, and it is a module.
+//! The text of a changed netlist is read again: it has the words of the text with the changes, since no byte that is
+//! put in joins with what stands there, and it is a module.
 //!
 //! Theory alone: `ver_patch` has the code.
 #![tactic(auto)]

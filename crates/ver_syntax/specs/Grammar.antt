@@ -1,5 +1,6 @@
--- The grammar of a structural module, over kinds of tokens. Source: IEEE Std 1364-2005, annex A: a module declaration whose
--- items are declarations of ports and nets, continuous assignments of nets, and instances with connections by name.
+-- The grammar of a structural module, over kinds of tokens. Source: IEEE Std 1364-2005, annex A: a module declaration
+-- whose items are declarations of ports and nets, continuous assignments of nets, and instances with connections by
+-- name.
 use Rattle.std.specs.Prelude.{Bool, true, false, List, [], ◌∷◌}
 use Rattle.grammar_laws.specs.Grammar.{Part}
 use Rattle.grammar_laws.specs.Grammar.Part.{one, nothing, both, either, many, named}

@@ -31,8 +31,8 @@ RowsStandByKinds =
     (text : List ℕ) (front back : List Row) (r : Row) → rows_of text ≡ front ++ r ∷ back
     → r.place ≡ place_after_all Start (map (λ q. q.kind) front)
 
--- after tokens with which a module begins, the next one stands at the start of an item exactly where an item may begin, as
--- an assignment does
+-- after tokens with which a module begins, the next one stands at the start of an item exactly where an item may begin,
+-- as an assignment does
 abbrev pub ItemsStandAtStart : Type 0
 ItemsStandAtStart =
     (before : List Kind) → 0 < length before → Begins rules module_declaration before

@@ -1,4 +1,5 @@
--- How the machine goes on, token by token, and which ways of the grammar each place stands for: for the functions between.
+-- How the machine goes on, token by token, and which ways of the grammar each place stands for: for the functions
+-- between.
 use Rattle.std.specs.Prelude.{Bool, true, false, List, [], ◌∷◌, Option, Some, None, if◌then◌else◌}
 use Rattle.grammar_laws.specs.Grammar.{Part}
 use Rattle.grammar_laws.specs.Grammar.Part.{one, many, named}
@@ -43,8 +44,8 @@ Way = List (Part Name Kind)
 abbrev pub items : Way
 items = many item ∷ the EndModule ∷ []
 
--- what comes after the list of ports, after a port, after an identifier of a declaration, after a connection, and after an
--- instance
+-- what comes after the list of ports, after a port, after an identifier of a declaration, after a connection, and after
+-- an instance
 abbrev pub after_ports : Way
 after_ports = the Semicolon ∷ items
 

@@ -33,8 +33,8 @@ abbrev pub ways_on : Option At → List Brace → List Way
 ways_on None bs = []
 ways_on (Some at) bs = ways_at at bs
 
--- a machine has read tokens of these kinds: a module goes on after them in the ways of its place, and as long as one can,
--- each of them is a token
+-- a machine has read tokens of these kinds: a module goes on after them in the ways of its place, and as long as one
+-- can, each of them is a token
 pub record HasKinds (kinds : List Kind) (machine : Machine) : Type 0 where
   pub ways : IsLeft rules module_declaration kinds (ways_on machine.at machine.braces)
   pub tokens : is_some machine.at ≡ true → list_any (is Stray) kinds ≡ false

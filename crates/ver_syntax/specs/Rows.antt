@@ -1,4 +1,5 @@
--- The tokens of a text with what each stands in: of any text, be it a module or not. Source: IEEE Std 1364-2005, annex A.
+-- The tokens of a text with what each stands in: of any text, be it a module or not. Source: IEEE Std 1364-2005, annex
+-- A.
 use Rattle.std.specs.Prelude.{ℕ, List, [], ◌∷◌, map}
 use Rattle.ver_text.specs.declared.kind.Kind.{Kind}
 use Rattle.ver_text.specs.declared.kind.Kind.TheVariants.{Module, Direction, Wire, NetType, Assign, Open, Close, Semicolon}
@@ -19,7 +20,8 @@ item_after Assign = Assignment
 item_after Semicolon = Start
 item_after _ = Instances
 
--- what the token after one of this kind stands in: brackets lead into the ports, the connections and a connection, and out
+-- what the token after one of this kind stands in: brackets lead into the ports, the connections and a connection, and
+-- out
 abbrev pub place_after : Place → Kind → Place
 place_after Start k = item_after k
 place_after place Semicolon = Start

@@ -29,7 +29,8 @@ is_bad_kind _ = false
 abbrev pub is_bad : Token → Bool
 is_bad token = is_bad_kind token.kind
 
--- where what is no token is told, by where it begins and where the text ends: what does not end is told at the text's end
+-- where what is no token is told, by where it begins and where the text ends: what does not end is told at the text's
+-- end
 abbrev pub told_place : TokenKind → ℕ → ℕ → ℕ
 told_place Unclosed from end = end
 told_place _ from end = from
@@ -72,8 +73,8 @@ pub record OpensPins (before : List Kind) : Type 0 where
   pub bracket : ends_in Open before ≡ true
   pub pin : Begins rules module_declaration (before ++ Dot ∷ [])
 
--- what is wrong with a token that the grammar does not allow after these: values for parameters, connections by order, or
--- neither
+-- what is wrong with a token that the grammar does not allow after these: values for parameters, connections by order,
+-- or neither
 abbrev pub IsWrongIn : List Kind → Kind → VerKind → Type 0
 IsWrongIn before k kind =
     ((kind ≡ IsParameter) × (k ≡ Hash) × NamesInstance before)

@@ -70,8 +70,8 @@ fn bad_token(text: &[u8]) -> Option<Token>
     None
 }
 
-/// Whether the tokens of a text are a module. If not, what is wrong with the first token that the grammar does not allow,
-/// or with the text's end. Answers `Memory`, at line 1, where there is no room.
+/// Whether the tokens of a text are a module. If not, what is wrong with the first token that the grammar does not
+/// allow, or with the text's end. Answers `Memory`, at line 1, where there is no room.
 fn check_grammar(alloc: Global, text: &[u8]) -> Result<(), VerFault>
     ensures tokens { OnOk result (HasTokens text.now) }
     ensures module { OnOk result (IsModule text.now) }
@@ -99,8 +99,8 @@ fn check_grammar(alloc: Global, text: &[u8]) -> Result<(), VerFault>
     }
 }
 
-/// Whether a text is a structural module (IEEE Std 1364-2005), or the first fault of its tokens, or of its grammar where
-/// each of its tokens is one. Answers `Memory`, at line 1, where there is no room.
+/// Whether a text is a structural module (IEEE Std 1364-2005), or the first fault of its tokens, or of its grammar
+/// where each of its tokens is one. Answers `Memory`, at line 1, where there is no room.
 pub fn check_module(alloc: Global, text: &[u8]) -> Result<(), VerFault>
     ensures tokens { OnOk result (HasTokens text.now) }
     ensures module { OnOk result (IsModule text.now) }

@@ -8,8 +8,8 @@ pub fn texts_have_one_first_fault()
     ensures none { ModulesAreFaultless }
 {}
 
-/// What a row stands in is told by the kinds of those before it. In a module the rows that stand at the start of an item
-/// are exactly those where the grammar lets one begin; the first row of all begins the module.
+/// What a row stands in is told by the kinds of those before it. In a module the rows that stand at the start of an
+/// item are exactly those where the grammar lets one begin; the first row of all begins the module.
 pub fn items_stand_at_their_start()
     ensures kinds { RowsStandByKinds }
     ensures items { ItemsStandAtStart }

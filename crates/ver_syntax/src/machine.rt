@@ -15,8 +15,8 @@ use crate::step::{is_done, step};
 use std::alloc::{AllocError, Global};
 use ver_text::Kind;
 
-/// A machine that reads the kinds of a module's tokens, one after another, and tells whether they are a module. Where they are
-/// not, [`check_module`](crate::check_module) tells what is wrong.
+/// A machine that reads the kinds of a module's tokens, one after another, and tells whether they are a module. Where
+/// they are not, [`check_module`](crate::check_module) tells what is wrong.
 #[derive(Drop)]
 pub struct Machine {
     /// Where it stands. `None`: no module begins with what it has read.
@@ -48,8 +48,8 @@ impl Machine {
         Ok(self.at.is_some())
     }
 
-    /// Reads the kinds of the tokens of a phrase, where one comes, or of the first of some tokens. The tokens after them. Answers
-    /// an error where there is no room.
+    /// Reads the kinds of the tokens of a phrase, where one comes, or of the first of some tokens. The tokens after
+    /// them. Answers an error where there is no room.
     fn read_phrase<'a>(&mut self, rows: &'a [Row]) -> Result<&'a [Row], AllocError>
         requires { 0 < length rows.now }
         ensures kinds { (kinds : List KindSpec) → HasKinds kinds self.old → IfOk result (λ left. HasKindsBefore (kinds_in left.now) (kinds ++ kinds_in rows.now) self.new) }

@@ -5,8 +5,8 @@ use ver_text::Kind;
 /// What a token of a module stands in.
 #[derive(Clone, Copy, Debug, PartialEq, Eq, Drop)]
 pub enum Place {
-    /// It is the first token of the module, of one of its items or of its end: a keyword, or the identifier of the module or
-    /// gate of instances.
+    /// It is the first token of the module, of one of its items or of its end: a keyword, or the identifier of the
+    /// module or gate of instances.
     Start,
     /// The head of the module, outside brackets: an identifier here is the module's.
     Head,

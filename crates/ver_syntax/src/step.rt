@@ -235,7 +235,8 @@ fn expr_move(
     }
 }
 
-/// Where the machine stands after a token, and which braces are open there. `None`: the grammar does not allow the token.
+/// Where the machine stands after a token, and which braces are open there. `None`: the grammar does not allow the
+/// token.
 #[inline(always)]
 pub(crate) fn step(at: At, kind: Kind, braces: &mut Braces) -> Result<Option<At>, AllocError>
     ensures { IfOk result (λ found. gives found braces.new ≡ move_of at kind braces.old) }

@@ -1,5 +1,5 @@
--- What the tokens of a text are to the grammar. Source: IEEE Std 1364-2005, clause 3 and annex B: a keyword is no simple
--- identifier, and an escaped identifier is no keyword.
+-- What the tokens of a text are to the grammar. Source: IEEE Std 1364-2005, clause 3 and annex B: a keyword is no
+-- simple identifier, and an escaped identifier is no keyword.
 use Rattle.std.specs.Prelude.{ℕ, ◌==◌, ◌||◌, ◌^◌, nat_lt, Bool, List, map, codes, if◌then◌else◌}
 use Rattle.std.specs.Str.{bytes_eq}
 use Rattle.vg_num.specs.Number.{value_of}

@@ -62,8 +62,8 @@ unsized_before bs = if signed_length bs == 0 then token Stray 0 else token Based
 
 -- ---- identifiers
 
--- the identifier that begins with a backslash: it ends before a blank, a line's end or the text's end, and any other byte
--- after it is no token itself
+-- the identifier that begins with a backslash: it ends before a blank, a line's end or the text's end, and any other
+-- byte after it is no token itself
 abbrev pub escaped_before : List ℕ → Piece
 escaped_before bs = if prefix_len is_printable bs == 0 then token Stray 0 else token Escaped (prefix_len is_printable bs)
 
@@ -99,8 +99,8 @@ directive_length bs = if begins 96 (drop (prefix_len is_blank bs) bs) then prefi
 
 -- ---- the text
 
--- what a byte begins before others that is no blank, letter or digit and ends no line; a carriage return ends a line only
--- before a newline
+-- what a byte begins before others that is no blank, letter or digit and ends no line; a carriage return ends a line
+-- only before a newline
 abbrev pub mark_before : ℕ → List ℕ → Piece
 mark_before b bs =
     if b == 40 then bracket_before bs
@@ -127,8 +127,8 @@ token_of (Some kind) from to = record { kind = kind; from = from; to = to } ∷ 
 abbrev pub token_at : ℕ → Piece → List Token
 token_at at p = token_of p.kind at (at + 1 + p.more)
 
--- The tokens from a place on, where the first bytes belong to what began before: each other byte begins a token, or what
--- is passed over between tokens.
+-- The tokens from a place on, where the first bytes belong to what began before: each other byte begins a token, or
+-- what is passed over between tokens.
 unfoldable pub tokens_from : ℕ → ℕ → List ℕ → List Token
 tokens_from skip at [] = []
 tokens_from (suc skip) at (b ∷ bs) = tokens_from skip (at + 1) bs

@@ -225,7 +225,8 @@ pub(crate) fn directive_length(line: &[u8]) -> usize
     }
 }
 
-/// What a byte begins before a text that few texts have: a comment, a number with no size, a carriage return, or nothing.
+/// What a byte begins before a text that few texts have: a comment, a number with no size, a carriage return, or
+/// nothing.
 #[inline(never)]
 fn rare_before(byte: u8, rest: &[u8]) -> Piece
     ensures piece { result ≡ rare_before byte rest.now }

@@ -31,9 +31,9 @@ fn next_token(text: &[u8], start: usize) -> Option<Token>
 
 /// The tokens of a text in order. Contracts see the list of those that are left.
 ///
-/// They are those of IEEE Std 1364-2005. Blanks are spaces and tabs; a line ends with a newline, or with a carriage return
-/// and a newline. Comments, attributes from `(*` to `*)`, and lines whose first byte but blanks is a backquote are passed
-/// over. Digits are in lower case, as in `8'hff`.
+/// They are those of IEEE Std 1364-2005. Blanks are spaces and tabs; a line ends with a newline, or with a carriage
+/// return and a newline. Comments, attributes from `(*` to `*)`, and lines whose first byte but blanks is a backquote
+/// are passed over. Digits are in lower case, as in `8'hff`.
 #[derive(Debug, Drop)]
 pub struct Tokens<'a> {
     text: &'a [u8],

@@ -42,8 +42,8 @@ is_invalid NoneGood = false
 is_invalid Refusal = false
 is_invalid Invalid = true
 
--- the kind of all answers together: a refusal where one net is refused, else that a certificate is not valid where one is not, else that no
--- placement is good where one net has none, else a report
+-- the kind of all answers together: a refusal where one net is refused, else that a certificate is not valid where one
+-- is not, else that no placement is good where one net has none, else a report
 abbrev pub kind_of : List AnswerKind → AnswerKind
 kind_of kinds =
     if list_any is_refusal kinds then Refusal

@@ -29,8 +29,8 @@ impl AnswerKind {
         }
     }
 
-    /// The kind of two answers together: a refusal where one is, else that a certificate is not valid or that no placement is good where
-    /// one tells that, else a report.
+    /// The kind of two answers together: a refusal where one is, else that a certificate is not valid or that no
+    /// placement is good where one tells that, else a report.
     pub fn worse(self, other: AnswerKind) -> AnswerKind
         ensures { result ≡ worse self other }
     {

@@ -41,8 +41,8 @@ node_inner node old first two new e o t n =
     ∙ append_assoc old (escaped node.owner) (58 ∷ escaped node.leaf)
     ∙ sym (ap (λ l. old ++ (escaped node.owner ++ l)) (leaf_some node.leaf false e))
 
--- what a text spells up to its first colon without a backslash, and what follows that colon; the flag says that a backslash
--- stands before the text
+-- what a text spells up to its first colon without a backslash, and what follows that colon; the flag says that a
+-- backslash stands before the text
 abbrev cut : Bool → List ℕ → List ℕ × List ℕ
 cut marked [] = ([], [])
 cut true (b ∷ bs) = (b ∷ (cut false bs).0, (cut false bs).1)

@@ -131,7 +131,8 @@ is_cut_short p text i = ends_at text (suc i) && not (is_over_role (role_at p (li
 abbrev pub line_fault : Problem → NetNames → List ℕ → ℕ → Option CertKind
 line_fault p names text i = option_or (own_fault p names (lines text) i) (when (is_cut_short p text i) Form)
 
--- what stands after the last newline is no line, and has to be nothing; where no line stands before it, the first one is missing
+-- what stands after the last newline is no line, and has to be nothing; where no line stands before it, the first one
+-- is missing
 abbrev pub rest_fault : List ℕ → ℕ → Option CertKind
 rest_fault text i = when (not (ends_at text i) || (i == 0)) Form
 

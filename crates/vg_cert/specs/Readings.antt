@@ -63,8 +63,8 @@ pub record IsTaken (text line : List ℕ) (old new : Place) : Type 0 where
   pub next : new.count ≡ suc old.count
   pub parted : parts (drop old.at text) ≡ line ∷ parts (drop new.at text)
 
--- the line at which it is told that the line that is due does not stand here, given what is left of the text and how many lines stand
--- before: where nothing is left it is the line before, if there is one
+-- the line at which it is told that the line that is due does not stand here, given what is left of the text and how
+-- many lines stand before: where nothing is left it is the line before, if there is one
 abbrev pub line_told : List ℕ → ℕ → ℕ
 line_told left zero = 1
 line_told left (suc n) = cond (is_empty left) (suc n) (suc (suc n))

@@ -3,8 +3,8 @@ use Rattle.std.specs.Prelude.{ℕ, suc, zero, ◌+◌, cond, Bool, true, false, 
 use Rattle.elmore.specs.declared.problem.Problem.{Problem}
 use Rattle.vg_cert.specs.Lines.{Line, line_at, word, count_in}
 
--- `vgcert 1`, `net NAME`, `slack S`, `cells N`, `at NODE CELL`, `node NODE A B` of this node, a pair of the even and of the odd
--- list, `end`, and what stands after it
+-- `vgcert 1`, `net NAME`, `slack S`, `cells N`, `at NODE CELL`, `node NODE A B` of this node, a pair of the even and of
+-- the odd list, `end`, and what stands after it
 pub data Role : Type 0 where
   heading : Role
   net : Role

@@ -5,9 +5,9 @@ use vg_scan::LineFault;
 /// What is wrong with a line of a certificate.
 #[derive(Clone, Copy, Debug, PartialEq, Eq, Error)]
 pub enum CertKind {
-    /// The line has another shape or number of words than the line that is due here, or is one too many. Or it announces a
-    /// negative number of lines or one over 2^28, or places a cell where there is no slack. Or it has no fault of its own,
-    /// but is the last one, and the line after it is missing; of an empty text the first line is.
+    /// The line has another shape or number of words than the line that is due here, or is one too many. Or it
+    /// announces a negative number of lines or one over 2^28, or places a cell where there is no slack. Or it has no
+    /// fault of its own, but is the last one, and the line after it is missing; of an empty text the first line is.
     #[error("not the line that is due here")]
     Form,
     /// A number cannot be read; it is the first such one of the line.

@@ -11,9 +11,9 @@
 //! end
 //! ```
 //!
-//! Each line ends with a newline, and one blank stands between words, a space or a tab. A NODE is `owner:leaf`, or `owner`
-//! where there is no leaf, and each colon and each backslash inside of these has a backslash before it, so that no two nodes
-//! are written alike.
+//! Each line ends with a newline, and one blank stands between words, a space or a tab. A NODE is `owner:leaf`, or
+//! `owner` where there is no leaf, and each colon and each backslash inside of these has a backslash before it, so that
+//! no two nodes are written alike.
 #![tactic(auto)]
 
 mod certificate;

@@ -14,7 +14,8 @@ fn newline_at(bytes: &[u8]) -> Option<usize>
     bytes.iter().position(|byte| *byte == b'\n')
 }
 
-/// `Form` where the line that is due does not stand at the place: on what stands there, or, where nothing does, on the line before.
+/// `Form` where the line that is due does not stand at the place: on what stands there, or, where nothing does, on the
+/// line before.
 pub(crate) fn not_due(left: &[u8], place: Place) -> CertFault
     requires { suc place.count < 2 ^ 64 }
     ensures { IsNotDue left.now place.count result }

@@ -350,8 +350,8 @@ fn read_lines(alloc: Global, source: &Source<'_>) -> Result<Certificate, CertFau
     })
 }
 
-/// The certificate of a problem that a text writes, or the text's first fault with the number of its line. That a line is
-/// missing is told at the last one.
+/// The certificate of a problem that a text writes, or the text's first fault with the number of its line. That a line
+/// is missing is told at the last one.
 ///
 /// Answers `Memory` where there is no room, with the number of the line at which it was wanted, or of the line before.
 pub fn read_certificate(

@@ -22,8 +22,8 @@ use Rattle.vg_split.specs.Stages.{heads}
 use Rattle.vg_change.specs.Placed.{PlacedNet, split_of, rewires_of, cells_of, wires_of}
 use Rattle.vg_change.specs.Taken.{taken}
 
--- What changes in a design, where new names begin with a prefix: sections of its parasitics, connections of its netlist, new cells
--- and new nets.
+-- What changes in a design, where new names begin with a prefix: sections of its parasitics, connections of its
+-- netlist, new cells and new nets.
 pub record Changes : Type 0 where
   pub design : Design
   pub prefix : List ℕ
@@ -85,8 +85,8 @@ pub record AreTexts (c : Changes) (spef verilog new_spef new_verilog : List ℕ)
 
 -- ---- what a change keeps
 
--- its new names can be words and are no names of the design, nor are those of repeaters other than words; sections stand one after another, and
--- pins that are linked anew differ
+-- its new names can be words and are no names of the design, nor are those of repeaters other than words; sections
+-- stand one after another, and pins that are linked anew differ
 pub record IsChange (c : Changes) : Type 0 where
   pub prefix : AllPass is_solid c.prefix
   pub free : taken c.design c.prefix ≡ None

@@ -17,8 +17,8 @@ use Rattle.vg_split.specs.NewNames.{cell_name, net_name}
 use Rattle.vg_split.specs.Splits.{Split, forest, head, is_celled, is_end, net_of, number_of, repeater_at}
 use Rattle.vg_split.specs.Stages.{heads, members}
 
--- A net in which cells are put: its parasitics and its number in the netlist, the order in which its tree has its nodes, its
--- problem, and for each node of the tree the number of the repeater that is put there, if one is.
+-- A net in which cells are put: its parasitics and its number in the netlist, the order in which its tree has its
+-- nodes, its problem, and for each node of the tree the number of the repeater that is put there, if one is.
 pub record PlacedNet : Type 0 where
   pub net : Joined
   pub order : List ℕ

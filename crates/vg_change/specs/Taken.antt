@@ -4,7 +4,8 @@ use Rattle.std.specs.List.{starts_with}
 use Rattle.spef_file.specs.Files.{file_lines, said_by}
 use Rattle.vg_design.specs.Designs.{Design, net_names}
 
--- the instances and the nets of the netlist, the names that the SPEF file maps, and its nets, each in the order of its file
+-- the instances and the nets of the netlist, the names that the SPEF file maps, and its nets, each in the order of its
+-- file
 abbrev pub names_of : Design → List (List ℕ)
 names_of d =
     map (λ instance. instance.name) d.netlist.instances

@@ -36,8 +36,8 @@ use vg_patch::Patch;
 use vg_scan::Span;
 use vg_split::{Split, Stages};
 
-/// What changes in a design when cells are put into nets: sections of its parasitics (SPEF, IEEE Std 1481), connections of its
-/// netlist (Verilog, IEEE Std 1364), new cells and new nets.
+/// What changes in a design when cells are put into nets: sections of its parasitics (SPEF, IEEE Std 1481), connections
+/// of its netlist (Verilog, IEEE Std 1364), new cells and new nets.
 #[derive(Drop)]
 pub struct Changes<'a> {
     design: &'a Design,
@@ -106,8 +106,9 @@ fn par_of(net: &PosedNet) -> &ParNet
 impl<'a> Changes<'a> {
     /// No change of a design yet. The names of new cells and nets are to begin with this prefix.
     ///
-    /// A name of the design that begins with the prefix is the error, since a new one could be the same: the first one of the
-    /// instances of the netlist, its nets, the names that the SPEF file maps, and its nets, each in the order of its file.
+    /// A name of the design that begins with the prefix is the error, since a new one could be the same: the first one
+    /// of the instances of the netlist, its nets, the names that the SPEF file maps, and its nets, each in the order of
+    /// its file.
     pub fn new(alloc: Global, design: &'a Design, prefix: &'a [u8]) -> Result<Changes<'a>, &'a [u8]>
         requires prefix { AllPass is_solid prefix.now }
         requires repeaters { All IsNamed design.now.library.repeaters }
@@ -167,9 +168,10 @@ impl<'a> Changes<'a> {
         })
     }
 
-    /// Besides what changed before, puts the cells of a placement into a net: its section is replaced by those of its stages, each
-    /// of its pins that is in a stage with a new net is linked to that net, and each cell is put in with its new net. Cells are numbered over
-    /// all nets from 0, those of a net in tree order. Answers `Memory` where there is no room.
+    /// Besides what changed before, puts the cells of a placement into a net: its section is replaced by those of its
+    /// stages, each of its pins that is in a stage with a new net is linked to that net, and each cell is put in with
+    /// its new net. Cells are numbered over all nets from 0, those of a net in tree order. Answers `Memory` where there
+    /// is no room.
     pub fn put(
         self,
         alloc: Global,
@@ -204,9 +206,9 @@ impl<'a> Changes<'a> {
         self.put_split(alloc, &split, &net.ready.pinned)
     }
 
-    /// What is to be replaced in the texts of the design, so that they have this change: in the netlist's new nets stand behind the head of the
-    /// module, connections are replaced, and new cells stand before its end; in the parasitics sections are replaced. All other bytes stay.
-    /// Answers `Memory` where there is no room.
+    /// What is to be replaced in the texts of the design, so that they have this change: in the netlist's new nets
+    /// stand behind the head of the module, connections are replaced, and new cells stand before its end; in the
+    /// parasitics sections are replaced. All other bytes stay. Answers `Memory` where there is no room.
     pub fn patches(self, alloc: Global) -> Result<Patches, Memory>
         requires { (verilog : List ℕ) × Denotes verilog self.design.netlist }
         ensures { IfOk result (ArePatchesOf self.entry) }

@@ -66,8 +66,8 @@ fn section_with<'a>(design: &'a Design, prefix: &[u8]) -> Option<&'a [u8]>
     None
 }
 
-/// The first name of a design that begins with a prefix, so that new names with it could meet others: of the instances of the
-/// netlist, of its nets, of the SPEF file's name map, and of its nets, in this order. It takes no memory.
+/// The first name of a design that begins with a prefix, so that new names with it could meet others: of the instances
+/// of the netlist, of its nets, of the SPEF file's name map, and of its nets, in this order. It takes no memory.
 pub fn taken<'a>(design: &'a Design, prefix: &[u8]) -> Option<&'a [u8]>
     ensures { option_map (λ name. name.now) result ≡ taken design.now prefix.now }
 {

@@ -34,8 +34,8 @@ fn push_section(
 /// The bytes that a stage adds to the section of its net, or more, for most nets: what it takes room for.
 const FOR_A_STAGE: usize = 160;
 
-/// The sections of the stages, one after another, without a newline behind the last one. Room is taken at once for the bytes of the section
-/// that they replace, and some more for each stage.
+/// The sections of the stages, one after another, without a newline behind the last one. Room is taken at once for the
+/// bytes of the section that they replace, and some more for each stage.
 pub(crate) fn sections_text(
     alloc: Global,
     x: &Split<'_>,

@@ -25,7 +25,8 @@ AreWorked lists = (odd : Bool) → IsWorked (lists odd)
 abbrev pub CoversJoins : ClassLists → ClassLists → Type 0
 CoversJoins joins entries = (odd : Bool) → AreCoveredBy (Contains (joins odd)) (entries odd)
 
--- in each class the greatest pair that the repeater makes of the joins, those of the class past it, is dominated by an entry
+-- in each class the greatest pair that the repeater makes of the joins, those of the class past it, is dominated by an
+-- entry
 abbrev pub CoversCell : Rep → ClassLists → ClassLists → Type 0
 CoversCell rep joins entries = (odd : Bool) → AreCoveredBy (IsGreatestBy rep (joins (past_cell (Some rep) odd))) (entries odd)
 

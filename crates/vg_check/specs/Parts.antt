@@ -1,5 +1,5 @@
--- What is known of the nodes of a net while they come in, each to its parent, from the last to the first, where a node that came
--- in is seen by the lists of a certificate.
+-- What is known of the nodes of a net while they come in, each to its parent, from the last to the first, where a node
+-- that came in is seen by the lists of a certificate.
 use Rattle.std.specs.Prelude.{ℕ, ◌<◌, ◌≤◌, Bool, cond, List, [], ◌∷◌, length, slice_index_or}
 use Rattle.std.specs.Bool.{beq}
 use Rattle.elmore.specs.declared.pair.Pair.{Pair}

@@ -42,8 +42,8 @@ fn is_covered(p: &Problem, node: usize, part: &Part, lists: &[NodeLists]) -> boo
     }
 }
 
-/// A node to which all its children came in comes in to its parent, if it has one: its number is that of the parts before it.
-/// Answers `Memory` where there is no room.
+/// A node to which all its children came in comes in to its parent, if it has one: its number is that of the parts
+/// before it. Answers `Memory` where there is no room.
 fn come_in(
     alloc: Global,
     p: &Problem,
@@ -69,8 +69,8 @@ fn come_in(
     Ok(())
 }
 
-/// The node of greatest number that the lists do not cover. None where they cover all nodes. Answers `Memory` where there is no
-/// room.
+/// The node of greatest number that the lists do not cover. None where they cover all nodes. Answers `Memory` where
+/// there is no room.
 pub(crate) fn last_uncovered(
     alloc: Global,
     p: &Problem,

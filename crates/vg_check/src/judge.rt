@@ -16,8 +16,8 @@ use std::alloc::Global;
 use vg_cert::Certificate;
 use vg_num::Memory;
 
-/// What is wrong with the placement of a certificate. None where nothing is, or where no slack is written. Answers `Memory` where
-/// there is no room.
+/// What is wrong with the placement of a certificate. None where nothing is, or where no slack is written. Answers
+/// `Memory` where there is no room.
 fn judge_placement(
     alloc: Global,
     p: &Problem,
@@ -35,7 +35,8 @@ fn judge_placement(
     }
 }
 
-/// Whether the lists leave room at the root for more slack than is written. All else of the certificate is as it should be.
+/// Whether the lists leave room at the root for more slack than is written. All else of the certificate is as it should
+/// be.
 fn judge_bound(p: &Problem, cert: &Certificate) -> Verdict
     requires fits { Fits p.now cert.now }
     requires placement { IsPlacementSound p.now cert.now }
@@ -52,13 +53,13 @@ fn judge_bound(p: &Problem, cert: &Certificate) -> Verdict
     }
 }
 
-/// Checks a certificate: whether its placement is good and has the slack that is written, where one is; whether its lists cover
-/// what comes up to each node; and whether they leave no room for more slack at the root. Answers the first of these that does
-/// not hold, and `Memory` where there is no room. A certificate that is answered `Yes` shows that its placement is best, or that no
-/// placement is good, whoever made it.
+/// Checks a certificate: whether its placement is good and has the slack that is written, where one is; whether its
+/// lists cover what comes up to each node; and whether they leave no room for more slack at the root. Answers the first
+/// of these that does not hold, and `Memory` where there is no room. A certificate that is answered `Yes` shows that
+/// its placement is best, or that no placement is good, whoever made it.
 ///
-/// Each node is judged by the undominated pairs that the lists of its children come to, from the last node to the root, and
-/// its own lists go on to its parent.
+/// Each node is judged by the undominated pairs that the lists of its children come to, from the last node to the root,
+/// and its own lists go on to its parent.
 pub fn check(alloc: Global, p: &Problem, cert: &Certificate) -> Result<Verdict, Memory>
     requires fits { Fits p.now cert.now }
     ensures verdict { IfOk result (IsVerdict p.now cert.now) }

@@ -52,8 +52,8 @@ fn sink_at(p: &Problem, node: usize) -> Option<Sink>
     p.sinks.as_slice()[node]
 }
 
-/// The pairs of a sink alone, at a node of this capacitance (aF): one, for the signal that the sink wants. Answers `Memory`
-/// where there is no room.
+/// The pairs of a sink alone, at a node of this capacitance (aF): one, for the signal that the sink wants. Answers
+/// `Memory` where there is no room.
 fn of_sink(alloc: Global, sink: Sink, c: u64) -> Result<Classes, Memory>
     ensures { IfOk result (λ classes. (odd : Bool) → list_of classes odd ≡ alone sink c odd) }
 {
@@ -104,8 +104,8 @@ fn load(c: u64, classes: &mut Classes)
 }
 
 impl Part {
-    /// The part of a node to which no child came in yet: the pair of its sink, without a cell, or its capacitance. Answers
-    /// `Memory` where there is no room.
+    /// The part of a node to which no child came in yet: the pair of its sink, without a cell, or its capacitance.
+    /// Answers `Memory` where there is no room.
     pub fn start(alloc: Global, p: &Problem, node: usize) -> Result<Part, Memory>
         requires node { node < length p.now.tree.nodes }
         ensures { IfOk result (λ part. (lists : NodeListsSpec) → IsPart p.now lists (length p.now.tree.nodes) node part) }
@@ -120,7 +120,8 @@ impl Part {
         }
     }
 
-    /// A node without a sink at it or below comes in to its parent, whose part this is: with the capacitance (aF) of all below.
+    /// A node without a sink at it or below comes in to its parent, whose part this is: with the capacitance (aF) of
+    /// all below.
     fn take_dead(self, p: &Problem, node: usize, c: u64) -> Part
         requires below_root { 0 < node }
         requires node { node < length p.now.tree.nodes }
@@ -140,8 +141,8 @@ impl Part {
         }
     }
 
-    /// A live node comes in to its parent, whose part this is: with the pairs of its lists, above its wire. Answers `Memory` where
-    /// there is no room.
+    /// A live node comes in to its parent, whose part this is: with the pairs of its lists, above its wire. Answers
+    /// `Memory` where there is no room.
     fn take_live(
         self,
         alloc: Global,
@@ -170,8 +171,8 @@ impl Part {
         }
     }
 
-    /// A node to which all its children came in comes in to its parent, whose part this is. Its own part is given up, and its
-    /// lists stand for it. Answers `Memory` where there is no room.
+    /// A node to which all its children came in comes in to its parent, whose part this is. Its own part is given up,
+    /// and its lists stand for it. Answers `Memory` where there is no room.
     pub fn take(
         self,
         alloc: Global,

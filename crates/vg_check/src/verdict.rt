@@ -11,6 +11,7 @@ pub enum Verdict {
     WrongSlack { written: i128, real: i128 },
     /// The lists do not cover a node: the one of greatest number.
     Uncovered(u32),
-    /// The lists leave room at the root for more slack (zs) than the certificate says: the most that they leave room for.
+    /// The lists leave room at the root for more slack (zs) than the certificate says: the most that they leave room
+    /// for.
     NotBest { written: Option<i128>, bound: i128 },
 }

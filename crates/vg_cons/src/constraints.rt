@@ -18,8 +18,8 @@ use std::marker::Model;
 use vg_num::Memory;
 use vg_scan::Name;
 
-/// The version of a constraints text, and its rows by kind. Contracts see the record `Rows`, with the rows in the order of the
-/// text.
+/// The version of a constraints text, and its rows by kind. Contracts see the record `Rows`, with the rows in the order
+/// of the text.
 pub struct Constraints {
     format: Option<Format>,
     default: Option<i128>,
@@ -204,8 +204,8 @@ pub fn is_blocked(cons: &Constraints, node: NodeRef<'_>) -> bool
     cons.block.contains(node)
 }
 
-/// The cells that a row names for a node, in its order: no other may be placed there. `None`: no row names any, and all may be.
-/// It takes no memory.
+/// The cells that a row names for a node, in its order: no other may be placed there. `None`: no row names any, and all
+/// may be. It takes no memory.
 pub fn allows<'a>(cons: &'a Constraints, node: NodeRef<'_>) -> Option<&'a [Name]>
     ensures { option_copied result ≡ allowed_of cons.now (named node.entry) }
 {

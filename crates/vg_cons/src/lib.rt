@@ -13,11 +13,11 @@
 //! block_box X1 Y1 X2 Y2    nothing is placed at a node in this box; in version 2
 //! ```
 //!
-//! T and K are picoseconds with a sign, R is ohms and C is femtofarads. X1 and Y1, X2 and Y2 are two corners of a box that lie
-//! across from each other, in the coordinates of the SPEF file; the box has its border. A PIN is a port `name` or a node
-//! `owner:leaf`, a PORT is a `name`, and a NODE is an `owner:leaf`: names of SPEF with the divider `/`, the delimiter `:` and
-//! the bus delimiters `[` and `]`, where no name is an index. A CELL is a word as it stands. A row but a box is given once for
-//! its name. What follows a `#` on its line is passed over.
+//! T and K are picoseconds with a sign, R is ohms and C is femtofarads. X1 and Y1, X2 and Y2 are two corners of a box
+//! that lie across from each other, in the coordinates of the SPEF file; the box has its border. A PIN is a port `name`
+//! or a node `owner:leaf`, a PORT is a `name`, and a NODE is an `owner:leaf`: names of SPEF with the divider `/`, the
+//! delimiter `:` and the bus delimiters `[` and `]`, where no name is an index. A CELL is a word as it stands. A row
+//! but a box is given once for its name. What follows a `#` on its line is passed over.
 #![tactic(auto)]
 
 mod boxes;

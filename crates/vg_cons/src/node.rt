@@ -10,7 +10,8 @@ use indexmap::Equivalent;
 use name_tables::is_same;
 use vg_scan::NodeName;
 
-/// A node by the texts of its name, which stand elsewhere: its rows are found without a copy of the name. A port has an empty leaf.
+/// A node by the texts of its name, which stand elsewhere: its rows are found without a copy of the name. A port has an
+/// empty leaf.
 #[derive(Clone, Copy, Debug, PartialEq, Eq, Hash)]
 pub struct NodeRef<'a> {
     pub owner: &'a [u8],

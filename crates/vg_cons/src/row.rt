@@ -1,8 +1,8 @@
 use crate::boxes::Corners;
 use vg_scan::{Name, NodeName};
 
-/// A row, as one line states it. Times are in zeptoseconds, resistances in milliohms, capacitances in attofarads, coordinates
-/// in thousandths.
+/// A row, as one line states it. Times are in zeptoseconds, resistances in milliohms, capacitances in attofarads,
+/// coordinates in thousandths.
 #[derive(Drop)]
 pub(crate) enum Row {
     Default(i128),

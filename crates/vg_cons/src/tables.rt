@@ -59,8 +59,8 @@ impl NodeTimes {
         })
     }
 
-    /// Puts a time last where its node is new, and says whether it was. Answers `Memory` where there is no room; nothing changes
-    /// then.
+    /// Puts a time last where its node is new, and says whether it was. Answers `Memory` where there is no room;
+    /// nothing changes then.
     pub fn insert(&mut self, node: &NodeName, time: i128) -> Result<bool, Memory>
         ensures fresh { IfOk result (λ fresh. fresh ≡ not (is_some (node_value self.old node.now))) }
         ensures last { IfOk result (λ fresh. fresh ≡ true → self.new ≡ self.old ++ (node.now, time) ∷ []) }

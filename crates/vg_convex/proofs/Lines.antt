@@ -65,7 +65,8 @@ follows a b below =
 room_of : (a b : Pair) (s u : ℕ) → Follows a b s u → b.c - a.c ≡ u
 room_of a b s u f = omega (arith, f.room)
 
--- of two pairs that rise the first is worth less just where the further load of the second loses less than its further time
+-- of two pairs that rise the first is worth less just where the further load of the second loses less than its further
+-- time
 pub loses : (r : ℕ) (a b : Pair) (lost : ℤ) → IsBelow a b → lost ≡ pos (r * (b.c - a.c))
     → MatchBool (int_lt lost (b.q -ℤ a.q)) (value r a <ℤ value r b) (value r b ≤ℤ value r a)
 loses r a b lost below lost_is =

@@ -26,7 +26,8 @@ pub record IsTimeOf (rep : Rep) (xs : Candidates) (i : ℕ) (found : Found) : Ty
 abbrev pub IsFoundAmong : Rep → Candidates → ℕ → Option Found → Type 0
 IsFoundAmong rep xs n found = MatchOption found (n ≡ 0) (λ best. (i : ℕ) × IsGreatest (row xs) n rep.r i × IsTimeOf rep xs i best)
 
--- the scan has seen the first candidates, which are within the limit, with a step for each; `before` is what the steps were
+-- the scan has seen the first candidates, which are within the limit, with a step for each; `before` is what the steps
+-- were
 pub record IsScan (s : Block) (xs : Candidates) (rep : Rep) (next : Option Cand) (found : Option Found) (before steps : ℕ) : Type 0 where
   pub seen : ℕ
   pub few : seen ≤ length xs

@@ -21,8 +21,8 @@ abbrev pub left_from : Block → Option Cand → ℕ
 left_from s None = 0
 left_from s (Some place) = length (items s place.slot)
 
--- from candidate n on, those that were seen are within the limit and have come on; `before` is what the steps and the stack
--- were
+-- from candidate n on, those that were seen are within the limit and have come on; `before` is what the steps and the
+-- stack were
 pub record IsGrowing (s : Block) (xs : Candidates) (limit : Option ℕ) (n : ℕ) (stack : List Point) (next : Option Cand) (before steps : ℕ) : Type 0 where
   pub far : IsFurther s xs limit n stack next
   pub cost : steps + length stack + 3 * n ≤ before + 3 * far.seen

@@ -69,7 +69,8 @@ pub record HasFound (allowed : Allowed) (reps : List Rep) (xs : Candidates) (wor
   pub room : length reps ≤ length work.found.items
   pub each : AreFound allowed reps xs work.found.items
 
--- one work has the results for the list that the buffers drive, and the other one those for the list that the inverters drive
+-- one work has the results for the list that the buffers drive, and the other one those for the list that the inverters
+-- drive
 pub record HaveFound (allowed : Allowed) (reps : List Rep) (lists : Bool → Candidates) (buffers inverters : Work) : Type 0 where
   pub by_buffers : HasFound allowed reps (lists false) buffers
   pub by_inverters : HasFound allowed reps (lists true) inverters
@@ -101,8 +102,8 @@ IsKeptAfter old front last made new =
     ((made.pair.q ≤ℤ last.pair.q) × (new ≡ old))
     ⊎ ((last.pair.q <ℤ made.pair.q) × (((made.pair.c ≡ last.pair.c) × (new ≡ front ++ made ∷ [])) ⊎ ((made.pair.c ≢ last.pair.c) × (new ≡ old ++ made ∷ []))))
 
--- a result goes after the last of a list with more time and more input; it takes the place of a last one with less time and
--- as much input, and is left out after one with no less time
+-- a result goes after the last of a list with more time and more input; it takes the place of a last one with less time
+-- and as much input, and is left out after one with no less time
 abbrev pub IsKept : List Made → Made → List Made → Type 0
 IsKept old made new =
     ((old ≡ []) × (new ≡ made ∷ []))

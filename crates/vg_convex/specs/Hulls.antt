@@ -1,5 +1,6 @@
--- The upper hull of a rising row of pairs, on which a repeater finds its best pair (Li and Shi 2005). A row is a function
--- from number to pair, of which the first n count; a stack is a function from place to number, of which the first top count.
+-- The upper hull of a rising row of pairs, on which a repeater finds its best pair (Li and Shi 2005). A row is a
+-- function from number to pair, of which the first n count; a stack is a function from place to number, of which the
+-- first top count.
 use Rattle.std.specs.Prelude.{◌≡◌, ℕ, ◌+◌, ◌-◌, ◌*◌, ◌<◌, ℤ, pos, ◌-ℤ◌, ◌*ℤ◌, ◌≤ℤ◌, ◌<ℤ◌}
 use Rattle.elmore.specs.Pairs.{IsBelow}
 use Rattle.elmore.specs.declared.pair.Pair.{Pair}
@@ -41,7 +42,8 @@ pub record IsHull (x : ℕ → Pair) (n : ℕ) (s : ℕ → ℕ) (top : ℕ) : T
   pub last : s (top - 1) + 1 ≡ n
   pub below : LieBelow x s top
 
--- the same while number n is about to come on: what was taken off lies on or below the line from the stack's last pair to n
+-- the same while number n is about to come on: what was taken off lies on or below the line from the stack's last pair
+-- to n
 pub record IsReady (x : ℕ → Pair) (n : ℕ) (s : ℕ → ℕ) (top : ℕ) : Type 0 where
   pub chain : IsChain x n s top
   pub below : LieBelow x s top

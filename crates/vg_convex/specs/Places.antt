@@ -68,8 +68,8 @@ pub record AreWithin (limit : Option ℕ) (xs : Candidates) (n : ℕ) : Type 0 w
   pub within : (i : ℕ) → i < n → IsWithin limit (row xs i).c
   pub past : IsOver limit xs n
 
--- so many points are left of the hull of all candidates; above a resistance the one that came after them is worth no more than the
--- last of them
+-- so many points are left of the hull of all candidates; above a resistance the one that came after them is worth no
+-- more than the last of them
 pub record IsFrontOf (xs : Candidates) (stack : List Point) (left r : ℕ) : Type 0 where
   pub hull : IsHullOf xs (length xs) stack
   pub some : 0 < left

@@ -31,9 +31,9 @@ use vg_num::Memory;
 /// At most so many repeaters are each tried on each candidate: that takes less time than to build the hull.
 const FEW: usize = 3;
 
-/// Finds for each repeater of a shelf that a node allows the greatest time that it makes of the candidates of a list within its
-/// limit, and keeps it in the work. A few repeaters are tried on each candidate (van Ginneken 1990); more find it on the upper
-/// convex hull of the list (Li and Shi 2005). Answers `Memory` where there is no room.
+/// Finds for each repeater of a shelf that a node allows the greatest time that it makes of the candidates of a list
+/// within its limit, and keeps it in the work. A few repeaters are tried on each candidate (van Ginneken 1990); more
+/// find it on the upper convex hull of the list (Li and Shi 2005). Answers `Memory` where there is no room.
 pub fn find_each<L: Ledger>(
     pool: &Pool,
     from: &List,
@@ -106,11 +106,11 @@ fn list_of(pool: &mut Pool, arena: &mut Arena, node: u32, results: &[Made]) -> R
     }
 }
 
-/// What repeaters make of two lists at a node that allows some of them, where one work has what was found for the list that the
-/// buffers drive, and the other one for the list that the inverters drive: each repeater drives the candidate within its limit that
-/// gives it the most time. The answer has the undominated ones of these pairs, each with the repeater's cell added to the solution
-/// of the candidate that it drives. It is a new list. Answers `Memory` where there is no room; then lists, spare slots and solutions
-/// are as before.
+/// What repeaters make of two lists at a node that allows some of them, where one work has what was found for the list
+/// that the buffers drive, and the other one for the list that the inverters drive: each repeater drives the candidate
+/// within its limit that gives it the most time. The answer has the undominated ones of these pairs, each with the
+/// repeater's cell added to the solution of the candidate that it drives. It is a new list. Answers `Memory` where
+/// there is no room; then lists, spare slots and solutions are as before.
 pub fn add_cells(
     pool: &mut Pool,
     arena: &mut Arena,

@@ -38,8 +38,8 @@ fn bends<L: Ledger>(a: Point, b: Point, c: Point, steps: &mut Steps<L>) -> bool
     is_product_less(c.q - b.q, b.c - a.c, b.q - a.q, c.c - b.c)
 }
 
-/// Puts a point on the hull of those before it. What then no longer bends comes off (Graham 1972). Answers `Memory` where there
-/// is no room.
+/// Puts a point on the hull of those before it. What then no longer bends comes off (Graham 1972). Answers `Memory`
+/// where there is no room.
 pub(crate) fn put_on<L: Ledger>(
     stack: &mut Vec<Point>,
     point: Point,
@@ -71,8 +71,8 @@ fn loss(r: u64, load: u64) -> i128
     i128::from(r) * i128::from(load)
 }
 
-/// Whether the first of two points, which rise, is worth less above a resistance: the further load of the second loses less than
-/// its further time.
+/// Whether the first of two points, which rise, is worth less above a resistance: the further load of the second loses
+/// less than its further time.
 pub(crate) fn is_less<L: Ledger>(a: Point, b: Point, r: u64, steps: &mut Steps<L>) -> bool
     requires a { IsModest (told_by a) }
     requires b { IsModest (told_by b) }
@@ -84,7 +84,8 @@ pub(crate) fn is_less<L: Ledger>(a: Point, b: Point, r: u64, steps: &mut Steps<L
     loss(r, b.c - a.c) < b.q - a.q
 }
 
-/// The point of a hull that is worth the most above a resistance, found by halves: along a hull the worth rises and then falls.
+/// The point of a hull that is worth the most above a resistance, found by halves: along a hull the worth rises and
+/// then falls.
 pub(crate) fn greatest_on<L: Ledger>(stack: &[Point], r: u64, steps: &mut Steps<L>) -> Point
     ghost xs: { Candidates }
     requires hull { (n : ℕ) × IsHullOf xs n stack.now }

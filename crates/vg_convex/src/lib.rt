@@ -1,6 +1,6 @@
-//! Repeaters at a node, each of which drives the candidate that gives it the most time. A few repeaters are tried on each
-//! candidate (van Ginneken 1990); where there are more, each finds its candidate on the upper convex hull of them all (Li and
-//! Shi 2005).
+//! Repeaters at a node, each of which drives the candidate that gives it the most time. A few repeaters are tried on
+//! each candidate (van Ginneken 1990); where there are more, each finds its candidate on the upper convex hull of them
+//! all (Li and Shi 2005).
 #![tactic(auto)]
 
 mod cells;

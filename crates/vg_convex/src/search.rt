@@ -22,8 +22,8 @@ use elmore::{Allowed, Rep};
 use std::sync::ledger::Ledger;
 use vg_num::Memory;
 
-/// Puts the points of the further candidates that are within a limit on the hull, and answers the place of the first that is
-/// not. Answers `Memory` where there is no room.
+/// Puts the points of the further candidates that are within a limit on the hull, and answers the place of the first
+/// that is not. Answers `Memory` where there is no room.
 fn grow<L: Ledger>(
     pool: &Pool,
     limit: Option<u64>,
@@ -78,9 +78,9 @@ fn find<L: Ledger>(rep: &Rep, stack: &[Point], steps: &mut Steps<L>) -> Option<F
     Some(made_of(rep.r, rep.k, point))
 }
 
-/// Goes on along a list as far as a repeater's limit allows, and puts its greatest time into the row of results; nothing is
-/// done for a repeater that is not allowed. Answers the place of the candidate that comes next, or `Memory` where there is
-/// no room.
+/// Goes on along a list as far as a repeater's limit allows, and puts its greatest time into the row of results;
+/// nothing is done for a repeater that is not allowed. Answers the place of the candidate that comes next, or `Memory`
+/// where there is no room.
 fn find_next<L: Ledger>(
     pool: &Pool,
     reps: &[Rep],
@@ -115,8 +115,8 @@ fn find_next<L: Ledger>(
     Ok(after)
 }
 
-/// The greatest time of each repeater of an order by limit that is allowed, in its place of the row. Answers the place of the
-/// candidate that comes next, or `Memory` where there is no room.
+/// The greatest time of each repeater of an order by limit that is allowed, in its place of the row. Answers the place
+/// of the candidate that comes next, or `Memory` where there is no room.
 fn find_limited<L: Ledger>(
     pool: &Pool,
     first: Option<Cand>,
@@ -146,8 +146,8 @@ fn find_limited<L: Ledger>(
     Ok(next)
 }
 
-/// Puts the greatest time of a repeater without a limit into the row of results, where it makes that of this point; nothing is done
-/// for a repeater that is not allowed.
+/// Puts the greatest time of a repeater without a limit into the row of results, where it makes that of this point;
+/// nothing is done for a repeater that is not allowed.
 fn put_free(
     reps: &[Rep],
     driver: Driver,
@@ -171,8 +171,9 @@ fn put_free(
     }
 }
 
-/// Puts the greatest times of the next repeaters of an order by resistance into the row of results: of those to which the last
-/// point that is left of the hull is worth more than the one before it. Answers the first one to which it is worth no more.
+/// Puts the greatest times of the next repeaters of an order by resistance into the row of results: of those to which
+/// the last point that is left of the hull is worth more than the one before it. Answers the first one to which it is
+/// worth no more.
 fn put_served<L: Ledger>(
     reps: &[Rep],
     drivers: &[Driver],
@@ -210,8 +211,8 @@ fn put_served<L: Ledger>(
     at
 }
 
-/// Puts the greatest times of the other repeaters of an order by resistance into the row of results, where the first point of the
-/// hull is left alone.
+/// Puts the greatest times of the other repeaters of an order by resistance into the row of results, where the first
+/// point of the hull is left alone.
 fn put_others(
     reps: &[Rep],
     drivers: &[Driver],
@@ -235,10 +236,10 @@ fn put_others(
     }
 }
 
-/// The greatest time of each repeater of an order by resistance that is allowed, in its place of the row, where the hull is
-/// that of all candidates. None of these repeaters has a limit. From the end of the hull those points come off that are worth no more
-/// than the one before them: they serve no greater resistance either, since the less a candidate's load is, the less worth it loses
-/// there.
+/// The greatest time of each repeater of an order by resistance that is allowed, in its place of the row, where the
+/// hull is that of all candidates. None of these repeaters has a limit. From the end of the hull those points come off
+/// that are worth no more than the one before them: they serve no greater resistance either, since the less a
+/// candidate's load is, the less worth it loses there.
 // Inlined, it would keep less in registers.
 #[inline(never)]
 fn find_each_free<L: Ledger>(
@@ -270,9 +271,9 @@ fn find_each_free<L: Ledger>(
     }
 }
 
-/// The greatest time of each repeater of a shelf that is allowed, in its place of the row: of those with a limit while the
-/// hull grows, and then of those without one on the hull of the whole list, which is found where one of them is allowed.
-/// Answers `Memory` where there is no room.
+/// The greatest time of each repeater of a shelf that is allowed, in its place of the row: of those with a limit while
+/// the hull grows, and then of those without one on the hull of the whole list, which is found where one of them is
+/// allowed. Answers `Memory` where there is no room.
 pub(crate) fn find_all<L: Ledger>(
     pool: &Pool,
     from: &List,

@@ -10,8 +10,8 @@ use crate::work::{Found, Made};
 use elmore::{Pair, Rep};
 use vg_num::Memory;
 
-/// Puts a result after those of an undominated list, none of which has more input capacitance, and answers the pair of the last
-/// one. Answers `Memory` where there is no room.
+/// Puts a result after those of an undominated list, none of which has more input capacitance, and answers the pair of
+/// the last one. Answers `Memory` where there is no room.
 fn keep(kept: &mut Vec<Made>, last: Pair, made: Made) -> Result<Pair, Memory>
     requires { IsLast kept.old.items last }
     ensures kept { OnOk result (IsKept kept.old.items made kept.new.items) }
@@ -57,8 +57,8 @@ fn made_of(pin: Pin, best: Found) -> Made
     }
 }
 
-/// Puts the results of the repeaters of an order from a place on after those of an undominated list, whose last pair this is. Answers
-/// `Memory` where there is no room.
+/// Puts the results of the repeaters of an order from a place on after those of an undominated list, whose last pair
+/// this is. Answers `Memory` where there is no room.
 fn keep_all(
     reps: &[Rep],
     pins: &[Pin],
@@ -88,8 +88,8 @@ fn keep_all(
     Ok(())
 }
 
-/// The undominated ones of the results of these repeaters, which are in the order of their input capacitances: those of buffers
-/// stand in one row, and those of inverters in the other. Answers `Memory` where there is no room.
+/// The undominated ones of the results of these repeaters, which are in the order of their input capacitances: those of
+/// buffers stand in one row, and those of inverters in the other. Answers `Memory` where there is no room.
 // Inlined, it would keep less in registers.
 #[inline(never)]
 pub(crate) fn sweep(

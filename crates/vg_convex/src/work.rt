@@ -31,8 +31,8 @@ pub(crate) struct Made {
     pub(crate) tag: u64,
 }
 
-/// A stack of points, and a row of what was found for each repeater. One serves all nodes; what stands in it before a call does
-/// not matter.
+/// A stack of points, and a row of what was found for each repeater. One serves all nodes; what stands in it before a
+/// call does not matter.
 #[derive(Drop)]
 pub struct Work {
     pub(crate) stack: Vec<Point>,
@@ -74,8 +74,8 @@ impl Work {
         }
     }
 
-    /// Empties the stack, and makes a row with places for so many results, in which nothing is found for a repeater that is not
-    /// allowed.
+    /// Empties the stack, and makes a row with places for so many results, in which nothing is found for a repeater
+    /// that is not allowed.
     pub(crate) fn clear(&mut self, results: usize, allowed: &Allowed) -> Result<(), Memory>
         ensures stack { OnOk result (self.new.stack.items ≡ []) }
         ensures rows { OnOk result (results ≤ length self.new.found.items) }

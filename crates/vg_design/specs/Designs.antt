@@ -129,8 +129,8 @@ cell_on netlist id at = option_map (λ pin. (instance_at netlist pin).cell) (pin
 
 -- ---- the library and the constraints
 
--- what the library gives for a pin on a net: its capacitance (aF), its intrinsic delay (zs) and its resistance (mΩ), its
--- greatest load (aF)
+-- what the library gives for a pin on a net: its capacitance (aF), its intrinsic delay (zs) and its resistance (mΩ),
+-- its greatest load (aF)
 abbrev pub pin_cap_of : Design → Joined → NodeName → Option ℕ
 pin_cap_of d n at = option_and_then (λ cell. cap_of d.library cell at.leaf) (cell_on d.netlist n.id at)
 

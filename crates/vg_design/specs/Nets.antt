@@ -27,8 +27,8 @@ names_of net order = map (name_of net) order
 abbrev pub name_at : List NodeName → ℕ → NodeName
 name_at names i = slice_index_or names i NO_NODE.name
 
--- The net of this name, which nothing refuses, has this problem, whose nodes have these names. Tree node i is the net's node
--- order[i].
+-- The net of this name, which nothing refuses, has this problem, whose nodes have these names. Tree node i is the net's
+-- node order[i].
 pub record IsNetProblem (d : Design) (name : List ℕ) (found : NetProblem) : Type 0 where
   pub accepted : PassesUpTo 17 d name
   pub net : Joined
@@ -50,8 +50,8 @@ pub record IsPosedNet (d : Design) (name : List ℕ) (posed : PosedNet) : Type 0
 abbrev pub sink_nodes : ParNet → List ℕ → List ℕ
 sink_nodes net order = filter (λ i. is_sink_node net (slice_index order i)) (range_with_len 0 (length order))
 
--- the net of this name, which nothing refuses but the constraints, has this tree and driver, whose nodes have these names, and
--- these sinks
+-- the net of this name, which nothing refuses but the constraints, has this tree and driver, whose nodes have these
+-- names, and these sinks
 pub record IsBareNet (d : Design) (name : List ℕ) (bare : BareNet) : Type 0 where
   pub accepted : PassesBareUpTo 17 d name
   pub net : Joined

@@ -16,8 +16,8 @@ use std::alloc::Global;
 use vg_num::{Memory, Row};
 use vg_scan::Name;
 
-/// What a net is whatever the constraints ask for: its tree with the loads of its sinks, its driver, the names of the tree's
-/// nodes, and the nodes of the tree that are sinks, in tree order.
+/// What a net is whatever the constraints ask for: its tree with the loads of its sinks, its driver, the names of the
+/// tree's nodes, and the nodes of the tree that are sinks, in tree order.
 #[derive(Drop)]
 pub struct BareNet {
     pub tree: Tree,
@@ -38,8 +38,8 @@ fn sink_nodes(alloc: Global, sinks: &[Option<Sink>]) -> Result<Vec<u32>, Memory>
     Ok(nodes)
 }
 
-/// The net of a name in a design without its constraints. It is refused by the first reason of `Refusal` that holds, but for
-/// `Unconstrained`, which does not count. Answers `Memory` where there is no room.
+/// The net of a name in a design without its constraints. It is refused by the first reason of `Refusal` that holds,
+/// but for `Unconstrained`, which does not count. Answers `Memory` where there is no room.
 pub fn bare_net(alloc: Global, design: &Design, net: &Name) -> Result<BareNet, Refused>
     ensures net { IfOk result (IsBareNet design.now net.now) }
     ensures refused { IfErr result (IsBareRefused design.now net.now) }

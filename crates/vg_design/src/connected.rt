@@ -79,7 +79,8 @@ fn has_port_end(module_net: &Net<'_>, net: &ParNet) -> bool
     false
 }
 
-/// Whether the connections of a net are the pins and the port that this net of the netlist has, where these are the pins.
+/// Whether the connections of a net are the pins and the port that this net of the netlist has, where these are the
+/// pins.
 fn are_same(module_net: &Net<'_>, net: &ParNet, pins: &[Option<PinRef>]) -> bool
     requires { length pins.now ≡ length net.now.conns }
     ensures { IsTrue result ↔ AreSame module_net.now net.now pins.now }
@@ -89,8 +90,8 @@ fn are_same(module_net: &Net<'_>, net: &ParNet, pins: &[Option<PinRef>]) -> bool
         && has_port_end(module_net, net)
 }
 
-/// Whether the connections of a net are, as a set, its ends in the netlist, and a port has its direction there, where all pins
-/// on the net are connections, and these are they.
+/// Whether the connections of a net are, as a set, its ends in the netlist, and a port has its direction there, where
+/// all pins on the net are connections, and these are they.
 pub(crate) fn is_connected(design: &Design, net: &JoinedNet, pins: &[Option<PinRef>]) -> bool
     requires within { net.now.id < length design.now.netlist.nets }
     requires pins { FindsPins design.now net.now (Some pins.now) }

@@ -17,8 +17,8 @@ use ver_net::{Connections, PinRef, connect};
 use vg_cons::Constraints;
 use vg_num::Memory;
 
-/// What the four files of a design say together: the parasitics of its nets (SPEF), its cells (Liberty), its netlist (Verilog)
-/// and its constraints. Contracts see the SPEF text and what the other three denote.
+/// What the four files of a design say together: the parasitics of its nets (SPEF), its cells (Liberty), its netlist
+/// (Verilog) and its constraints. Contracts see the SPEF text and what the other three denote.
 pub struct Design {
     pub(crate) text: SpefText,
     pub(crate) index: SpefIndex,
@@ -56,8 +56,8 @@ impl Drop for Design {
 impl Design {
     /// The design of these files.
     ///
-    /// `index` is the index of the SPEF text, and the library has at most 256 repeaters, which stand by rising resistance. Answers `Memory` where
-    /// there is no room for the connections of the nets.
+    /// `index` is the index of the SPEF text, and the library has at most 256 repeaters, which stand by rising
+    /// resistance. Answers `Memory` where there is no room for the connections of the nets.
     pub fn new(
         alloc: Global,
         text: SpefText,

@@ -83,8 +83,8 @@ impl Ends {
         Ok(Ends { table, pins })
     }
 
-    /// Sees a pin. Whether an end has its name; of two pins of one name the first counts. Answers `Memory` where there is no
-    /// room.
+    /// Sees a pin. Whether an end has its name; of two pins of one name the first counts. Answers `Memory` where there
+    /// is no room.
     fn see(&mut self, owner: &[u8], leaf: &[u8], pin: PinRef) -> Result<bool, Memory>
         ensures seen { IfOk result (λ found. found ≡ true → IsSeen self.old self.new (node_named owner.now leaf.now) pin) }
         ensures none { IfOk result (λ found. found ≡ false → has_node self.old.ends (node_named owner.now leaf.now) ≡ false) }
@@ -121,8 +121,8 @@ fn is_named(design: &Design, pin: PinRef, net: &ParNet, at: usize) -> bool
         && is_same(instance.pin(pin.pin as usize).name, net.nodes.leaf(at))
 }
 
-/// The pins on a net, where they are its connections one after another. `None`: they come in another order, or are not the same. Answers
-/// `Memory` where there is no room.
+/// The pins on a net, where they are its connections one after another. `None`: they come in another order, or are not
+/// the same. Answers `Memory` where there is no room.
 fn pins_in_order(
     alloc: Global,
     design: &Design,
@@ -147,8 +147,8 @@ fn pins_in_order(
     Ok(Some(pins))
 }
 
-/// For each connection of a net the pin on it that has its name, found by that, whatever order they come in. `None`: some pin on the net
-/// is no connection. Answers `Memory` where there is no room.
+/// For each connection of a net the pin on it that has its name, found by that, whatever order they come in. `None`:
+/// some pin on the net is no connection. Answers `Memory` where there is no room.
 fn pins_by_name(
     alloc: Global,
     design: &Design,
@@ -166,8 +166,8 @@ fn pins_by_name(
     Ok(Some(ends.pins))
 }
 
-/// For each connection of a net the pin on it that has its name, if there is one. `None`: some pin on the net is no connection.
-/// Answers `Memory` where there is no room.
+/// For each connection of a net the pin on it that has its name, if there is one. `None`: some pin on the net is no
+/// connection. Answers `Memory` where there is no room.
 pub(crate) fn pins_of(
     alloc: Global,
     design: &Design,

@@ -30,8 +30,8 @@ impl Model for JoinedNet {
     ghost view = { λ net. record { par = net.par; id = net.id } };
 }
 
-/// The net of a name, or why it is refused: one of the files has no such net, or its parasitics have a fault. Answers `Memory`
-/// where there is no room.
+/// The net of a name, or why it is refused: one of the files has no such net, or its parasitics have a fault. Answers
+/// `Memory` where there is no room.
 pub(crate) fn joined_net(alloc: Global, design: &Design, name: &Name) -> Result<JoinedNet, Refused>
     ensures joined { IfOk result (IsJoined design.now name.now) }
     ensures within { IfOk result (λ net. net.id < length design.now.netlist.nets) }
@@ -53,8 +53,8 @@ pub(crate) fn port_of(design: &Design, id: u32) -> Option<PortDir>
     design.net(id).port
 }
 
-/// The connection that drives a net, or the first reason against it: its parasitics are of a kind that is not read, it goes both
-/// ways, or not one connection alone drives it.
+/// The connection that drives a net, or the first reason against it: its parasitics are of a kind that is not read, it
+/// goes both ways, or not one connection alone drives it.
 pub(crate) fn driver_in(design: &Design, net: &JoinedNet) -> Result<ParConn, Refusal>
     requires { net.now.id < length design.now.netlist.nets }
     ensures driver { IfOk result (λ driver. drivers_of net.now.par ≡ driver ∷ []) }

@@ -2,8 +2,8 @@
 
 ghost use Rattle.vg_design.specs.Laws.{BareAccepts, OneProblem, OneRefusal, ProblemOrRefused};
 
-/// A net of a design has one problem, or one first refusal; and what is refused for a missing required time alone is not
-/// refused without the constraints, or only for its size.
+/// A net of a design has one problem, or one first refusal; and what is refused for a missing required time alone is
+/// not refused without the constraints, or only for its size.
 pub fn one_problem()
     ensures problem { OneProblem }
     ensures either { ProblemOrRefused }

@@ -9,8 +9,8 @@ use std::marker::Model;
 use vg_num::{Memory, Row};
 use vg_scan::NodeName;
 
-/// The names of the nodes of a tree, in tree order. Contracts see the list of them. They stand in few buffers, so that no name
-/// takes memory of its own.
+/// The names of the nodes of a tree, in tree order. Contracts see the list of them. They stand in few buffers, so that
+/// no name takes memory of its own.
 #[derive(Drop)]
 pub struct TreeNames {
     pub(crate) nodes: Nodes,

@@ -91,8 +91,8 @@ fn loaded_tree(
     })
 }
 
-/// The problem of a net of few capacitors, with these parasitics and this tree, where it passes no limit. Answers `Memory` where
-/// there is no room.
+/// The problem of a net of few capacitors, with these parasitics and this tree, where it passes no limit. Answers
+/// `Memory` where there is no room.
 fn problem_within(
     alloc: Global,
     design: &Design,
@@ -151,11 +151,12 @@ impl PosedNet {
     }
 }
 
-/// The net of a name in a design with its pins, its tree and its problem. The net is refused by the first reason of `Refusal` that
-/// holds. Answers `Memory` where there is no room.
+/// The net of a name in a design with its pins, its tree and its problem. The net is refused by the first reason of
+/// `Refusal` that holds. Answers `Memory` where there is no room.
 ///
-/// Resistances are in mΩ, capacitances in aF, times in zs. The sinks' pins and ports are loads beside the capacitors. A node may
-/// have a cell where it is no connection, a sink is strictly below it, and neither a `block` row nor a box blocks it.
+/// Resistances are in mΩ, capacitances in aF, times in zs. The sinks' pins and ports are loads beside the capacitors. A
+/// node may have a cell where it is no connection, a sink is strictly below it, and neither a `block` row nor a box
+/// blocks it.
 pub fn posed_net(alloc: Global, design: &Design, net: &Name) -> Result<PosedNet, Refused>
     ensures posed { IfOk result (IsPosedNet design.now net.now) }
     ensures refused { IfErr result (IsRefused design.now net.now) }

@@ -47,7 +47,8 @@ impl PinnedNet {
         }
     }
 
-    /// The delay without a load (zs) and the resistance (mΩ) of the pin that a connection is, if the library gives both.
+    /// The delay without a load (zs) and the resistance (mΩ) of the pin that a connection is, if the library gives
+    /// both.
     pub fn drive(&self, design: &Design, at: usize) -> Option<(u64, u64)>
         requires pins { ArePins design.now self.now.net self.now.pins }
         requires at { at < length self.now.net.par.conns }

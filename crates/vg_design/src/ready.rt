@@ -48,8 +48,8 @@ impl ReadyNet {
     }
 }
 
-/// A net with the pins that its connections are, or why it is refused: its connections are not its ends in the netlist. Answers
-/// `Memory` where there is no room.
+/// A net with the pins that its connections are, or why it is refused: its connections are not its ends in the netlist.
+/// Answers `Memory` where there is no room.
 fn pinned_net(alloc: Global, design: &Design, net: JoinedNet) -> Result<PinnedNet, Refused>
     requires within { net.id < length design.now.netlist.nets }
     requires accepted { PassesNet 8 design.now net }
@@ -70,8 +70,8 @@ fn pinned_net(alloc: Global, design: &Design, net: JoinedNet) -> Result<PinnedNe
     })
 }
 
-/// Whether the netlist and the library have what a net needs that this connection drives, or the first reason against it. Answers
-/// `Memory` where there is no room.
+/// Whether the netlist and the library have what a net needs that this connection drives, or the first reason against
+/// it. Answers `Memory` where there is no room.
 fn check_pins(
     alloc: Global,
     design: &Design,
@@ -98,7 +98,8 @@ fn check_pins(
     Ok(())
 }
 
-/// The tree of a net that this connection drives, or the first reason against it. Answers `Memory` where there is no room.
+/// The tree of a net that this connection drives, or the first reason against it. Answers `Memory` where there is no
+/// room.
 fn tree_of(
     alloc: Global,
     design: &Design,
@@ -118,8 +119,8 @@ fn tree_of(
     Ok(built)
 }
 
-/// A net with its tree, or the first reason against it, but for those of the constraints and the limits. Answers `Memory` where
-/// there is no room.
+/// A net with its tree, or the first reason against it, but for those of the constraints and the limits. Answers
+/// `Memory` where there is no room.
 fn ready_from(alloc: Global, design: &Design, net: JoinedNet) -> Result<ReadyNet, Refused>
     requires within { net.id < length design.now.netlist.nets }
     requires sized { IsSized net.par }
@@ -143,8 +144,8 @@ fn ready_from(alloc: Global, design: &Design, net: JoinedNet) -> Result<ReadyNet
     }
 }
 
-/// The net of a name with its tree, or the first reason against it, but for those of the constraints and the limits. Answers
-/// `Memory` where there is no room.
+/// The net of a name with its tree, or the first reason against it, but for those of the constraints and the limits.
+/// Answers `Memory` where there is no room.
 pub fn ready_net(alloc: Global, design: &Design, name: &Name) -> Result<ReadyNet, Refused>
     ensures ready { IfOk result (λ ready. IsReady design.now ready.pinned.net ready.pinned.pins ready.tree.nodes ready.order) }
     ensures accepted { IfOk result (λ ready. IsAccepted 15 design.now name.now ready.pinned.net) }

@@ -45,8 +45,8 @@ fn name_in(alloc: Global, names: &TreeNames, node: Option<u32>) -> Result<Option
     }
 }
 
-/// The timing of the net of a name in a design without cells: its slack, and its first sink of the wrong polarity. The net is
-/// refused by the first reason of `Refusal` that holds. Answers `Memory` where there is no room.
+/// The timing of the net of a name in a design without cells: its slack, and its first sink of the wrong polarity. The
+/// net is refused by the first reason of `Refusal` that holds. Answers `Memory` where there is no room.
 pub fn time_net(alloc: Global, design: &Design, net: &Name) -> Result<Timed, Refused>
     ensures timed { IfOk result (IsTimedOf design.now net.now) }
     ensures refused { IfErr result (IsRefused design.now net.now) }

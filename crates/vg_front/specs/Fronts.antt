@@ -1,5 +1,5 @@
--- What the candidates of a node are worth: they beat all that placements come to there within the cap, each with a solution that
--- comes to it.
+-- What the candidates of a node are worth: they beat all that placements come to there within the cap, each with a
+-- solution that comes to it.
 use Rattle.std.specs.Prelude.{◌≡◌, ℕ, Bool, List, length, Option, Some}
 use Rattle.std.specs.List.{Contains, sum_by}
 use Rattle.elmore.specs.Cells.{rep_of, cell_cost}
@@ -32,7 +32,8 @@ pub record IsSolved (p : Problem) (Is : (ℕ → Option ℕ) → Pair → Type 0
 abbrev pub AreSolved : Problem → ((ℕ → Option ℕ) → Pair → Type 0) → List Made → List Candidate → Type 0
 AreSolved p Is ms xs = (x : Candidate) → Contains xs x → IsSolved p Is ms x
 
--- the candidates of each class of node v, with those of its children from number i on that came in, and without a cell at v
+-- the candidates of each class of node v, with those of its children from number i on that came in, and without a cell
+-- at v
 pub record IsOpenAt (p : Problem) (cap : Option ℕ) (i v : ℕ) (ms : List Made) (classes : Bool → List Candidate) : Type 0 where
   pub end : HasEnd p v (live_from p v i)
   pub part : (odd : Bool) → IsPricedPart cap (In (classes odd)) (IsPricedOpenWith p (IsPricedAt p) odd (fork_from p v i))

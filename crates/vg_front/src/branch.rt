@@ -59,7 +59,8 @@ impl Branch {
         prune(&mut self.odd, arena, stairs);
     }
 
-    /// Drops what stands in both lists, and makes room for so many candidates in each. Answers `Memory` where there is none.
+    /// Drops what stands in both lists, and makes room for so many candidates in each. Answers `Memory` where there is
+    /// none.
     fn reserve(&mut self, even: usize, odd: usize) -> Result<(), Memory>
         ensures even { OnOk result (even ≤ vec_capacity self.new.even) }
         ensures odd { OnOk result (odd ≤ vec_capacity self.new.odd) }
@@ -71,8 +72,9 @@ impl Branch {
         Ok(())
     }
 
-    /// The candidates of this branch and of another one together, class by class, but those that others beat, in the room of a third
-    /// one, whose room is that of this branch afterwards. Answers `Memory` where there is no room; both branches are given up then.
+    /// The candidates of this branch and of another one together, class by class, but those that others beat, in the
+    /// room of a third one, whose room is that of this branch afterwards. Answers `Memory` where there is no room; both
+    /// branches are given up then.
     pub fn absorb(
         self,
         arena: &mut Arena,

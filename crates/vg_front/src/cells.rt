@@ -43,8 +43,8 @@ fn is_usable(p: &Problem, node: usize, odd: bool, below: bool, number: usize) ->
     behind(&p.reps.as_slice()[number], odd) == below
 }
 
-/// The numbers of the repeaters that a node allows and that are reached in one class with the class `below` behind them, by rising
-/// resistance. Answers `Memory` where there is no room.
+/// The numbers of the repeaters that a node allows and that are reached in one class with the class `below` behind
+/// them, by rising resistance. Answers `Memory` where there is no room.
 fn usable(
     alloc: Global,
     p: &Problem,
@@ -66,8 +66,8 @@ fn usable(
 }
 
 impl Branch {
-    /// Proposes the repeaters that a place allows before the candidates of the class `below` behind them, for one class before
-    /// the cells. Answers `Memory` where there is no room.
+    /// Proposes the repeaters that a place allows before the candidates of the class `below` behind them, for one class
+    /// before the cells. Answers `Memory` where there is no room.
     fn propose_behind(
         &self,
         alloc: Global,
@@ -99,8 +99,8 @@ impl Branch {
         Ok(())
     }
 
-    /// Proposes all repeaters that a place allows before the candidates of both classes, for one class before the cells. Answers
-    /// `Memory` where there is no room.
+    /// Proposes all repeaters that a place allows before the candidates of both classes, for one class before the
+    /// cells. Answers `Memory` where there is no room.
     pub fn propose_cells(
         &self,
         alloc: Global,

@@ -33,8 +33,8 @@ pub(crate) fn start(
     Ok(())
 }
 
-/// What the part of a node comes to when a child comes in to it, whose part has all that is below the child. Answers `Memory`
-/// where there is no room; both parts are given up then.
+/// What the part of a node comes to when a child comes in to it, whose part has all that is below the child. Answers
+/// `Memory` where there is no room; both parts are given up then.
 fn take_in(
     upper: Part,
     part: Part,
@@ -96,7 +96,8 @@ fn turn(
     Ok(())
 }
 
-/// All nodes but the root come in, each to its parent, from the last to the first. Answers `Memory` where there is no room.
+/// All nodes but the root come in, each to its parent, from the last to the first. Answers `Memory` where there is no
+/// room.
 pub(crate) fn climb(
     alloc: Global,
     arena: &mut Arena,

@@ -14,8 +14,8 @@ use std::alloc::Global;
 use vg_num::Memory;
 
 impl Branch {
-    /// The candidates of a node with and without a cell there, where these are those without one. Answers `Memory` where there
-    /// is no room; the branch is given up then.
+    /// The candidates of a node with and without a cell there, where these are those without one. Answers `Memory`
+    /// where there is no room; the branch is given up then.
     pub fn close(
         self,
         alloc: Global,

@@ -16,8 +16,8 @@ use sol_arena::Arena;
 use std::alloc::Global;
 use vg_num::Memory;
 
-/// The points that the part of the root comes to when all other nodes came in. The part is given up. Answers `Memory` where there
-/// is no room.
+/// The points that the part of the root comes to when all other nodes came in. The part is given up. Answers `Memory`
+/// where there is no room.
 fn points_at_root(
     alloc: Global,
     arena: &mut Arena,
@@ -62,10 +62,10 @@ fn points_of_parts(
     points_at_root(alloc, arena, p, cap, root)
 }
 
-/// The frontier of cost and slack of the good placements of a problem within a cap of the cost (thousandths), if there is one
-/// (Lillis, Cheng and Lin 1996): by rising cost, each point with a placement. It is empty where no good placement is within
-/// the cap. The solutions of the search stand in the lent arena, which afterwards is as before. Answers `Memory` when out of
-/// memory.
+/// The frontier of cost and slack of the good placements of a problem within a cap of the cost (thousandths), if there
+/// is one (Lillis, Cheng and Lin 1996): by rising cost, each point with a placement. It is empty where no good
+/// placement is within the cap. The solutions of the search stand in the lent arena, which afterwards is as before.
+/// Answers `Memory` when out of memory.
 pub fn frontier_in(
     alloc: Global,
     p: &Problem,
@@ -81,8 +81,8 @@ pub fn frontier_in(
     points_of_parts(alloc, arena, p, &mut parts, cap, &mut desk)
 }
 
-/// The frontier of cost and slack of the good placements of a problem within a cap of the cost (thousandths), if there is one.
-/// Answers `Memory` when out of memory.
+/// The frontier of cost and slack of the good placements of a problem within a cap of the cost (thousandths), if there
+/// is one. Answers `Memory` when out of memory.
 pub fn frontier(alloc: Global, p: &Problem, cap: Option<u64>) -> Result<Vec<Point>, Memory>
     ensures frontier { IfOk result (λ points. IsFrontierOf p.now cap points.items) }
 {

@@ -43,8 +43,8 @@ fn meet_all(
 }
 
 impl Branch {
-    /// The candidates of this branch and of another one together within the cap; these stay. Answers `Memory` where there is no
-    /// room.
+    /// The candidates of this branch and of another one together within the cap; these stay. Answers `Memory` where
+    /// there is no room.
     fn met_with(
         &self,
         alloc: Global,
@@ -72,8 +72,8 @@ impl Branch {
         }
     }
 
-    /// The candidates of a node, of which these are those with the children that came in before, together with those of one more
-    /// child, above its wire. Both branches are given up. Answers `Memory` where there is no room.
+    /// The candidates of a node, of which these are those with the children that came in before, together with those of
+    /// one more child, above its wire. Both branches are given up. Answers `Memory` where there is no room.
     pub fn meet(
         self,
         alloc: Global,

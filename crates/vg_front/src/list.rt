@@ -91,8 +91,8 @@ fn next_of(xs: &[Candidate], ys: &[Candidate], i: &mut usize, j: &mut usize) -> 
     }
 }
 
-/// Puts the candidates of two lists into another one, but those that others of them beat, which give up the uses of their
-/// solutions. What the other list had before is dropped; it takes no memory.
+/// Puts the candidates of two lists into another one, but those that others of them beat, which give up the uses of
+/// their solutions. What the other list had before is dropped; it takes no memory.
 pub(crate) fn blend(
     xs: &[Candidate],
     ys: &[Candidate],

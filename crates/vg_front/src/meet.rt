@@ -51,7 +51,8 @@ fn met(a: Offer, b: Offer) -> Offer
     }
 }
 
-/// Goes on to the next candidates of two lists: past the one with the lesser time, or past both where the times are equal.
+/// Goes on to the next candidates of two lists: past the one with the lesser time, or past both where the times are
+/// equal.
 fn advance(x: Offer, y: Offer, i: &mut usize, j: &mut usize)
     requires i { i.old + 1 < 2 ^ 64 }
     requires j { j.old + 1 < 2 ^ 64 }
@@ -69,7 +70,8 @@ fn advance(x: Offer, y: Offer, i: &mut usize, j: &mut usize)
     *j += 1;
 }
 
-/// Proposes the pairs of two runs, but those that others beat (van Ginneken 1990). Answers `Memory` where there is no room.
+/// Proposes the pairs of two runs, but those that others beat (van Ginneken 1990). Answers `Memory` where there is no
+/// room.
 fn meet_runs(xs: &[Candidate], ys: &[Candidate], desk: &mut Desk) -> Result<(), Memory>
     requires first { IsRun xs.now }
     requires second { IsRun ys.now }
@@ -90,7 +92,8 @@ fn meet_runs(xs: &[Candidate], ys: &[Candidate], desk: &mut Desk) -> Result<(), 
     Ok(())
 }
 
-/// Proposes the pairs of a run of each of two lists, but those that others beat. Answers `Memory` where there is no room.
+/// Proposes the pairs of a run of each of two lists, but those that others beat. Answers `Memory` where there is no
+/// room.
 fn meet_one(
     xs: &[Candidate],
     ys: &[Candidate],
@@ -112,8 +115,8 @@ fn meet_one(
     Ok(())
 }
 
-/// Where another cost begins, keeps what no others beat of what was proposed at the cost before. Answers `Memory` where there is no
-/// room.
+/// Where another cost begins, keeps what no others beat of what was proposed at the cost before. Answers `Memory` where
+/// there is no room.
 fn turn_to(cost: u64, at: &mut u64, desk: &mut Desk) -> Result<(), Memory>
     requires reached { AreReached desk.old.stairs (proposed_by desk.old.made.items) }
     ensures kept { OnOk result (IsPartOf (Contains (all_in desk.old)) (all_in desk.new)) }
@@ -127,8 +130,9 @@ fn turn_to(cost: u64, at: &mut u64, desk: &mut Desk) -> Result<(), Memory>
     Ok(())
 }
 
-/// Proposes the pairs of all runs of two lists within the cap, turn by turn, but those that others beat: the pairs of one cost after
-/// those of another, so that only pairs of one cost are to be put in order. Answers `Memory` where there is no room.
+/// Proposes the pairs of all runs of two lists within the cap, turn by turn, but those that others beat: the pairs of
+/// one cost after those of another, so that only pairs of one cost are to be put in order. Answers `Memory` where there
+/// is no room.
 fn meet_by_turns(
     xs: &[Candidate],
     ys: &[Candidate],

@@ -8,8 +8,8 @@ ghost use Rattle.vg_front.specs.Offers.{priced};
 use sol_arena::Sol;
 use std::cmp::Ordering;
 
-/// What a candidate comes to: the latest time at which the signal may reach the node (zs), the cost of its cells (thousandths),
-/// and the load that is seen of it from above (aF).
+/// What a candidate comes to: the latest time at which the signal may reach the node (zs), the cost of its cells
+/// (thousandths), and the load that is seen of it from above (aF).
 #[derive(Clone, Copy)]
 pub(crate) struct Offer {
     pub q: i128,

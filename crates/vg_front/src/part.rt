@@ -67,8 +67,8 @@ fn sink_offer(sink: Sink, c: u64) -> Offer
 }
 
 impl Branch {
-    /// The branch of a sink alone, at a node of this capacitance (aF): one candidate, for the signal that the sink wants. Answers
-    /// `Memory` where there is no room.
+    /// The branch of a sink alone, at a node of this capacitance (aF): one candidate, for the signal that the sink
+    /// wants. Answers `Memory` where there is no room.
     fn of_sink(alloc: Global, arena: &Arena, sink: Sink, c: u64) -> Result<Branch, Memory>
         ensures alone { IfOk result (λ branch. (odd : Bool) → IsSinkAlone sink c odd (list_of branch odd)) }
         ensures given { IfOk result (λ branch. (slots : List Slot) → IsGiven slots [] slots (all_of branch)) }
@@ -109,8 +109,8 @@ impl Branch {
 }
 
 impl Part {
-    /// The part of a node to which no child came in yet: the candidate of its sink, without a cell, or its capacitance. Answers
-    /// `Memory` where there is no room.
+    /// The part of a node to which no child came in yet: the candidate of its sink, without a cell, or its capacitance.
+    /// Answers `Memory` where there is no room.
     pub fn start(alloc: Global, arena: &Arena, p: &Problem, node: usize) -> Result<Part, Memory>
         requires node { node < length p.now.tree.nodes }
         ensures part { IfOk result (λ part. (cap : Option ℕ) → IsPart p.now cap (length p.now.tree.nodes) node (made_of arena.now) part) }
@@ -136,8 +136,8 @@ impl Part {
         }
     }
 
-    /// A live node comes in to its parent, whose part this is: with the candidates that it has, above its wire. Answers `Memory`
-    /// where there is no room; the part and the branch are given up then.
+    /// A live node comes in to its parent, whose part this is: with the candidates that it has, above its wire. Answers
+    /// `Memory` where there is no room; the part and the branch are given up then.
     pub fn take_live(
         self,
         alloc: Global,
@@ -169,7 +169,8 @@ impl Part {
         }
     }
 
-    /// A node without a sink at it or below comes in to its parent, whose part this is: with the capacitance (aF) of all below.
+    /// A node without a sink at it or below comes in to its parent, whose part this is: with the capacitance (aF) of
+    /// all below.
     pub fn take_dead(self, p: &Problem, node: usize, c: u64) -> Part
         requires below_root { 0 < node }
         requires node { node < length p.now.tree.nodes }

@@ -19,8 +19,8 @@ use std::alloc::Global;
 use vg_num::Memory;
 
 impl Branch {
-    /// The candidates of one class at a place with a cell there, where these are those without one; these stay. Answers `Memory`
-    /// where there is no room.
+    /// The candidates of one class at a place with a cell there, where these are those without one; these stay. Answers
+    /// `Memory` where there is no room.
     fn cells(
         &self,
         alloc: Global,
@@ -47,8 +47,8 @@ impl Branch {
         Ok(cells)
     }
 
-    /// The candidates of both classes at a place with a cell there, where these are those without one; these stay. Answers `Memory`
-    /// where there is no room.
+    /// The candidates of both classes at a place with a cell there, where these are those without one; these stay.
+    /// Answers `Memory` where there is no room.
     pub fn with_cells(
         &self,
         alloc: Global,

@@ -9,7 +9,8 @@ use crate::offer::Candidate;
 use std::alloc::Global;
 use vg_num::Memory;
 
-/// The candidates of a list from number `from` to before number `end`: all have this cost (thousandths), and rise by load.
+/// The candidates of a list from number `from` to before number `end`: all have this cost (thousandths), and rise by
+/// load.
 #[derive(Clone, Copy, PartialEq, Eq, PartialOrd, Ord)]
 pub(crate) struct Run {
     pub cost: u64,

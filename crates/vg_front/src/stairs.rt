@@ -15,8 +15,8 @@ struct Stair {
     c: u64,
 }
 
-/// The times that candidates reach with each load, at no more than some cost (thousandths): they rise with the load. They are
-/// parted at the load of the last candidate, so that what is put in or dropped there stands at an end.
+/// The times that candidates reach with each load, at no more than some cost (thousandths): they rise with the load.
+/// They are parted at the load of the last candidate, so that what is put in or dropped there stands at an end.
 #[derive(Drop)]
 pub(crate) struct Stairs {
     /// Those of at most this load, by rising load.
@@ -158,7 +158,8 @@ impl Stairs {
         }
     }
 
-    /// Puts the stair of an offer where the stairs are parted, in place of those that have no less load and no more time.
+    /// Puts the stair of an offer where the stairs are parted, in place of those that have no less load and no more
+    /// time.
     fn put(&mut self, offer: Offer)
         ensures among { AreOf (stairs_of self.old) (stair_of offer) (stairs_of self.new) }
         ensures cost { self.new.cost ≡ self.old.cost }
@@ -181,8 +182,9 @@ impl Stairs {
         self.cost <= offer.cost && self.refuses(offer)
     }
 
-    /// Whether a candidate is beaten by none that was seen before, as far as the stairs tell; then it is seen too. Where the
-    /// candidates come by rising cost, and by rising load among those of one cost, nothing that was seen is forgotten.
+    /// Whether a candidate is beaten by none that was seen before, as far as the stairs tell; then it is seen too.
+    /// Where the candidates come by rising cost, and by rising load among those of one cost, nothing that was seen is
+    /// forgotten.
     pub fn admits(&mut self, offer: Offer) -> bool
         ensures { (zs : List Priced) → AreReached self.old zs → MatchBool result (AreReached self.new (zs ++ priced offer ∷ []))
             (IsBeaten zs (priced offer) × AreReached self.new zs) }

@@ -1,8 +1,8 @@
 //! Repeaters that are tried at a node before candidates of one class.
 //!
-//! Of the candidates of a run, the best one for a repeater has no more load than the best one for a repeater of less resistance.
-//! So the repeaters of a node are tried by halves: once the best candidate of the middle one is known, those of more resistance look
-//! no further than there, and those of less resistance begin there.
+//! Of the candidates of a run, the best one for a repeater has no more load than the best one for a repeater of less
+//! resistance. So the repeaters of a node are tried by halves: once the best candidate of the middle one is known,
+//! those of more resistance look no further than there, and those of less resistance begin there.
 
 ghost use Rattle.std.specs.Prelude.{◌≡◌, ◌+◌, ◌*◌, ◌^◌, ◌<◌, ◌≤◌, ◌-ℤ◌, pos, ℕ, List, length, slice_index_or, IfOk, OnOk, IsTrue};
 ghost use Rattle.std.specs.List.{All, Contains};
@@ -61,8 +61,8 @@ fn is_beaten(best: Option<Offer>, x: Offer) -> bool
     }
 }
 
-/// Proposes a repeater for a candidate, if it may drive it within the cap, unless what was proposed for it last beats that. Answers
-/// `Memory` where there is no room.
+/// Proposes a repeater for a candidate, if it may drive it within the cap, unless what was proposed for it last beats
+/// that. Answers `Memory` where there is no room.
 fn drive_one(
     site: Site,
     number: u32,
@@ -94,8 +94,8 @@ fn drive_one(
     Ok(())
 }
 
-/// Proposes a repeater for each of these candidates that it may drive within the cap, but those that others beat. Answers `Memory`
-/// where there is no room.
+/// Proposes a repeater for each of these candidates that it may drive within the cap, but those that others beat.
+/// Answers `Memory` where there is no room.
 fn drive(
     site: Site,
     number: u32,
@@ -174,8 +174,8 @@ fn try_each(
     Ok(())
 }
 
-/// Tries a repeater before a run of candidates all of which it may charge, and answers the number of the best one for it. Answers
-/// `Memory` where there is no room.
+/// Tries a repeater before a run of candidates all of which it may charge, and answers the number of the best one for
+/// it. Answers `Memory` where there is no room.
 fn try_one(
     site: Site,
     reps: &[Rep],
@@ -202,8 +202,8 @@ fn try_one(
     Ok(at)
 }
 
-/// Tries repeaters by rising resistance before a run of candidates all of which they may charge, by halves. Answers `Memory` where
-/// there is no room.
+/// Tries repeaters by rising resistance before a run of candidates all of which they may charge, by halves. Answers
+/// `Memory` where there is no room.
 fn try_halves(
     site: Site,
     reps: &[Rep],
@@ -257,7 +257,8 @@ fn try_run(
     Ok(())
 }
 
-/// Tries repeaters by rising resistance before all candidates of a list, run by run. Answers `Memory` where there is no room.
+/// Tries repeaters by rising resistance before all candidates of a list, run by run. Answers `Memory` where there is no
+/// room.
 pub(crate) fn try_all(
     site: Site,
     reps: &[Rep],

@@ -12,7 +12,8 @@ use std::cmp::Reverse;
 use std::collections::BinaryHeap;
 use vg_num::Memory;
 
-/// A run of one list, and the number of the run of the other list that it meets next, with the cost of both (thousandths).
+/// A run of one list, and the number of the run of the other list that it meets next, with the cost of both
+/// (thousandths).
 #[derive(Clone, Copy, PartialEq, Eq, PartialOrd, Ord)]
 pub(crate) struct Turn {
     pub cost: u64,
@@ -20,8 +21,8 @@ pub(crate) struct Turn {
     pub second: usize,
 }
 
-/// Puts the turn of a run with the first of the others, from number `from` on, that it meets within the cap, if there is one. Answers
-/// `Memory` where there is no room.
+/// Puts the turn of a run with the first of the others, from number `from` on, that it meets within the cap, if there
+/// is one. Answers `Memory` where there is no room.
 pub(crate) fn put(
     turns: &mut BinaryHeap<Reverse<Turn>, Global>,
     first: Run,

@@ -8,8 +8,8 @@ use Rattle.vg_gen.specs.Texts.{cap_lines, res_lines, spef_text, library_text, ne
 abbrev pub line_at : List (List ℕ) → ℕ → List ℕ
 line_at lines k = slice_index_or lines k []
 
--- line k of the capacitors is that of capacitor k, and line k of the resistors that of resistor k: first those of the line, then the last one, then
--- those of the branches
+-- line k of the capacitors is that of capacitor k, and line k of the resistors that of resistor k: first those of the
+-- line, then the last one, then those of the branches
 pub record LinesAreNumbered (size : ℕ) : Type 0 where
   pub caps : length (cap_lines size) ≡ size + 1
   pub cap : (k : ℕ) → 1 ≤ k → k ≤ size → line_at (cap_lines size) k ≡ cap_line k (capacitance size k)
@@ -18,7 +18,8 @@ pub record LinesAreNumbered (size : ℕ) : Type 0 where
   pub last : line_at (res_lines size) (size + 1) ≡ res_line (size + 1) (last_resistor size)
   pub branch : (j : ℕ) → 1 ≤ j → j ≤ branch_count size → line_at (res_lines size) (size + 1 + j) ≡ res_line (size + 1 + j) (branch_resistor j)
 
--- a resistor of the line has 100 to 199 ohms, a capacitor 10 to 19 fF, and all capacitors are together so many times that
+-- a resistor of the line has 100 to 199 ohms, a capacitor 10 to 19 fF, and all capacitors are together so many times
+-- that
 pub record ValuesAreSmall (size : ℕ) : Type 0 where
   pub resistors : (i : ℕ) → (100 ≤ resistance size i) × (resistance size i < 200)
   pub capacitors : (i : ℕ) → (10 ≤ capacitance size i) × (capacitance size i < 20)

@@ -24,9 +24,9 @@ pub struct Generated {
 }
 
 /// The design of this size. Its one net has as many resistors in a line from the driver to a sink, of 100 to 199 ohms,
-/// behind each of them a capacitor of 10 to 19 fF to the ground, and from every hundredth node a branch to a sink of its
-/// own. The sinks of the branches 1, 3, 5 and so on want the inverted signal. The values are random numbers that begin with
-/// the size, so one size always gives the same texts.
+/// behind each of them a capacitor of 10 to 19 fF to the ground, and from every hundredth node a branch to a sink of
+/// its own. The sinks of the branches 1, 3, 5 and so on want the inverted signal. The values are random numbers that
+/// begin with the size, so one size always gives the same texts.
 ///
 /// Answers `Memory` where there is no room.
 pub fn generate(alloc: Global, size: u32) -> Result<Generated, Memory>

@@ -36,8 +36,8 @@ IsFirst (x ∷ xs) sol = x.tag ≡ sol
 abbrev pub taken_from : Candidate → Candidate → Candidates
 taken_from x y = cond (int_lt y.q x.q) [] (x ∷ [])
 
--- x and y were joined with the solution `sol`: it has the cells of both, and the uses of what was taken off the branches were
--- given up for one of it
+-- x and y were joined with the solution `sol`: it has the cells of both, and the uses of what was taken off the
+-- branches were given up for one of it
 pub record IsJoined (old new : List Slot) (x y : Candidate) (sol : ℕ) : Type 0 where
   pub cells : cells_of (made_in new) sol ≡ joined (cells_of (made_in old) x.tag) (cells_of (made_in old) y.tag)
   pub uses : IsExchange old (taken_from x y ++ taken_from y x) new (formed x y sol ∷ [])

@@ -11,8 +11,8 @@ use Rattle.cand_pool.specs.Candidates.{Candidate, Candidates, AreModest}
 use Rattle.cand_uses.specs.Pairs.{pair_of, pairs_of}
 use Rattle.cand_uses.specs.Uses.{HoldsFor}
 
--- The candidates of two branches, as a merge needs them: q and c rise strictly, numbers are within the limits of a pool,
--- callers hold their solutions, and those of the one branch share no node with those of the other.
+-- The candidates of two branches, as a merge needs them: q and c rise strictly, numbers are within the limits of a
+-- pool, callers hold their solutions, and those of the one branch share no node with those of the other.
 pub record CanMeet (slots : List Slot) (xs ys : Candidates) : Type 0 where
   pub xs_rise : AllPairs IsBelow (pairs_of xs)
   pub ys_rise : AllPairs IsBelow (pairs_of ys)
@@ -30,8 +30,8 @@ pub record IsMeetOf (old new : List Made) (x y z : Candidate) : Type 0 where
 abbrev pub IsMet : List Made → List Made → Candidates → Candidates → Candidate → Type 0
 IsMet old new xs ys z = (x : Candidate) × (y : Candidate) × Contains xs x × Contains ys y × IsMeetOf old new x y z
 
--- The candidates zs are what two branches make together: of all pairs of both those that no other one dominates, each with
--- the cells of the two candidates that it is made of.
+-- The candidates zs are what two branches make together: of all pairs of both those that no other one dominates, each
+-- with the cells of the two candidates that it is made of.
 pub record IsMergeOf (old new : List Made) (xs ys zs : Candidates) : Type 0 where
   pub pairs : IsUndominated (Meets (pairs_of xs) (pairs_of ys)) (pairs_of zs)
   pub solutions : All (IsMet old new xs ys) zs

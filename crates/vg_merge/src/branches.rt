@@ -55,8 +55,8 @@ fn release_taken(arena: &mut Arena, tag: Option<u64>)
     }
 }
 
-/// Joins the first candidates of both branches, which have these solutions. Answers `Memory` when out of memory; nothing
-/// changes then.
+/// Joins the first candidates of both branches, which have these solutions. Answers `Memory` when out of memory;
+/// nothing changes then.
 fn turn<L: Ledger>(
     pool: &mut Pool,
     arena: &mut Arena,
@@ -88,8 +88,8 @@ fn turn<L: Ledger>(
     Ok(())
 }
 
-/// Joins first candidates until one of the branches is empty. Answers `Memory` when out of memory; what was made and what is
-/// left stay then.
+/// Joins first candidates until one of the branches is empty. Answers `Memory` when out of memory; what was made and
+/// what is left stay then.
 fn join_firsts<L: Ledger>(
     pool: &mut Pool,
     arena: &mut Arena,
@@ -129,9 +129,9 @@ fn end_branches(pool: &mut Pool, arena: &mut Arena, at: Branches) -> List
 }
 
 /// Merges two branches of a net: of all pairs of their candidates those together that no other ones dominate, with the
-/// lesser time (zs) and the sum of the loads (aF), by rising load, each with the cells of both solutions. The lists of both
-/// branches end, and the uses of their solutions are given up. Answers `Memory` when out of memory; both lists end then too, and
-/// nothing is made.
+/// lesser time (zs) and the sum of the loads (aF), by rising load, each with the cells of both solutions. The lists of
+/// both branches end, and the uses of their solutions are given up. Answers `Memory` when out of memory; both lists end
+/// then too, and nothing is made.
 pub fn merge<L: Ledger>(
     pool: &mut Pool,
     arena: &mut Arena,

@@ -4,8 +4,8 @@ ghost use Rattle.std.specs.Prelude.{◌≡◌, ◌*◌, ◌^◌, ◌≤◌, true
 ghost use Rattle.std.specs.List.{list_all};
 ghost use Rattle.vg_num.specs.Number.{is_digit, value_after, IsScaled};
 
-/// The number that a text's first digits write after those of `front`, and how many digits they are. Digits that would pass
-/// eighteen are left.
+/// The number that a text's first digits write after those of `front`, and how many digits they are. Digits that would
+/// pass eighteen are left.
 fn leading_digits(front: u64, text: &[u8]) -> (u64, usize)
     requires { front ≤ 10 ^ 18 }
     ensures value { result.0 ≡ value_after front (take result.1 text.now) }
@@ -44,8 +44,8 @@ fn small_product(value: u64, power: usize) -> Option<u64>
     Some(product)
 }
 
-/// The text's value times ten to the places, where the text is digits, or digits, a point and no more digits than places,
-/// and the value is small. `None`: it is another text.
+/// The text's value times ten to the places, where the text is digits, or digits, a point and no more digits than
+/// places, and the value is small. `None`: it is another text.
 pub(crate) fn plain_value(text: &[u8], places: i32) -> Option<u64>
     ensures { IfSome result (IsScaled places (10 ^ 15) text.now) }
 {

@@ -8,7 +8,8 @@ use crate::Patch;
 use std::marker::Model;
 use vg_scan::Span;
 
-/// Comments that were taken out of a text, and where they stood. Contracts see them as edits of the text without comments.
+/// Comments that were taken out of a text, and where they stood. Contracts see them as edits of the text without
+/// comments.
 #[derive(Drop)]
 pub struct KeptComments {
     comments: Patch,

@@ -1,4 +1,5 @@
-//! Texts of which parts are replaced, while all other bytes stay; comments that are taken out of a text, and later put back in place.
+//! Texts of which parts are replaced, while all other bytes stay; comments that are taken out of a text, and later put
+//! back in place.
 #![tactic(auto)]
 
 mod kept;

@@ -16,8 +16,8 @@ struct Row {
     to: usize,
 }
 
-/// Parts of a text that are to be replaced, one after another, each with what is to stand in its place. These texts stand in one buffer.
-/// Contracts see the list of parts.
+/// Parts of a text that are to be replaced, one after another, each with what is to stand in its place. These texts
+/// stand in one buffer. Contracts see the list of parts.
 #[derive(Drop)]
 pub struct Patch {
     text: Vec<u8>,

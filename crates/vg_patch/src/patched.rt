@@ -8,8 +8,8 @@ use crate::patch::Patch;
 use std::marker::Model;
 use vg_scan::{Span, text_at, text_from};
 
-/// A text with parts of it replaced. It is not copied: its pieces are parts of the text that it comes of, and what stands in place
-/// of the others. Contracts see its bytes.
+/// A text with parts of it replaced. It is not copied: its pieces are parts of the text that it comes of, and what
+/// stands in place of the others. Contracts see its bytes.
 #[derive(Drop)]
 pub struct Patched {
     text: Vec<u8>,

@@ -25,8 +25,8 @@ fn keep(text: &mut [u8], comment: Span, kept: &mut Patch) -> Result<(), Memory>
     Ok(())
 }
 
-/// Takes the comments out of a text: makes them blank, as `clear_comments` does, and keeps them. Answers `Memory` where there
-/// is no room for them.
+/// Takes the comments out of a text: makes them blank, as `clear_comments` does, and keeps them. Answers `Memory` where
+/// there is no room for them.
 pub fn take_comments(
     alloc: Global,
     text: Vec<u8>,

@@ -56,8 +56,8 @@ one_net _ = None
 abbrev pub net_at : Instance → List ℕ → Option ℕ
 net_at instance pin = option_and_then (λ p. one_net p.link) (find (λ p. bytes_eq pin p.name) instance.pins)
 
--- what stands at a node: nothing where there is no sink; the input of a cell that was put in, which leads to the net at its
--- output; or a sink
+-- what stands at a node: nothing where there is no sink; the input of a cell that was put in, which leads to the net at
+-- its output; or a sink
 abbrev pub end_by : Option Passage → Option Sink → End
 end_by passage None = nothing
 end_by None (Some goal) = sink goal

@@ -18,7 +18,8 @@ use Rattle.vg_retime.specs.declared.walk_net.Above.TheVariants.{Net}
 
 -- ---- sizes
 
--- what stands at a node leads to one of so many nets, by a repeater that is within the limits; a sink's required time is small
+-- what stands at a node leads to one of so many nets, by a repeater that is within the limits; a sink's required time
+-- is small
 abbrev pub IsSizedEnd : ℕ → End → Type 0
 IsSizedEnd count nothing = Unit {0}
 IsSizedEnd count (sink goal) = IsSmall goal.required

@@ -16,8 +16,8 @@ use Rattle.vg_retime.specs.declared.walk_net.Above.TheVariants.{First, Net, Open
 use Rattle.vg_retime.specs.declared.walk_net.End.{End as EndHere}
 use Rattle.vg_retime.specs.declared.walk_net.End.TheVariants.{Nothing, Sink, Passes}
 
--- A net as a walk comes to it: its tree with the loads of its sinks, what stands at each node of the tree and how it is named,
--- what drives the net, and what is above it.
+-- A net as a walk comes to it: its tree with the loads of its sinks, what stands at each node of the tree and how it is
+-- named, what drives the net, and what is above it.
 pub record WalkNet : Type 0 where
   pub tree : List Node
   pub ends : List End

@@ -18,7 +18,8 @@ Nets = ℕ → WalkNet
 abbrev pub timed_nets : Nets → ℕ → TimedNet
 timed_nets nets id = timed (nets id)
 
--- from net number id one climbs to this first net, over no net twice; no refusal of a number below k refuses a net on the way
+-- from net number id one climbs to this first net, over no net twice; no refusal of a number below k refuses a net on
+-- the way
 pub record IsFirstNet (k : ℕ) (d : Design) (prefix : List ℕ) (id : ℕ) (first : First) : Type 0 where
   pub nets : Nets
   pub path : List ℕ

@@ -21,8 +21,8 @@ pub(crate) struct First {
     pub driver: Driver,
 }
 
-/// What is above the net of this number, and what drives the net, or the first reason of `Refusal` against it. Answers `Memory`
-/// where there is no room.
+/// What is above the net of this number, and what drives the net, or the first reason of `Refusal` against it. Answers
+/// `Memory` where there is no room.
 fn look_up(
     alloc: Global,
     design: &Design,
@@ -37,9 +37,9 @@ fn look_up(
     Ok((net.above, net.driver))
 }
 
-/// The first net above the net of this number: as long as a cell that was put in drives a net, the net at its input is next. Or
-/// the first reason against a net on the way: it is refused, its cell's input is at no net, or it came before. Answers `Memory`
-/// where there is no room.
+/// The first net above the net of this number: as long as a cell that was put in drives a net, the net at its input is
+/// next. Or the first reason against a net on the way: it is refused, its cell's input is at no net, or it came before.
+/// Answers `Memory` where there is no room.
 pub(crate) fn climb(
     alloc: Global,
     design: &Design,

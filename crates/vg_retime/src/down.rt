@@ -51,7 +51,8 @@ fn begin(alloc: Global, first: First) -> Result<Walk, Memory>
     })
 }
 
-/// Notes the first sink of the wrong polarity in a net, where none was noted before. Answers `Memory` where there is no room.
+/// Notes the first sink of the wrong polarity in a net, where none was noted before. Answers `Memory` where there is no
+/// room.
 fn note_wrong(
     alloc: Global,
     net: &WalkNet,
@@ -80,8 +81,8 @@ fn visit(alloc: Global, net: &WalkNet, signal: &Signal, walk: &mut Walk) -> Resu
     Ok(())
 }
 
-/// Passes on the signal of this number, or tells the first reason against its net: it came before, or is refused. Answers
-/// `Memory` where there is no room.
+/// Passes on the signal of this number, or tells the first reason against its net: it came before, or is refused.
+/// Answers `Memory` where there is no room.
 fn turn(
     alloc: Global,
     design: &Design,

@@ -1,9 +1,10 @@
-//! Laws of nets that are timed through cells. Their functions do nothing: each one's contract is the law, which a proof may cite.
+//! Laws of nets that are timed through cells. Their functions do nothing: each one's contract is the law, which a proof
+//! may cite.
 
 ghost use Rattle.vg_retime.specs.Laws.{OneTiming, RetimedNotRefused};
 
-/// A net that re-times, where no refusal of a number below k refuses a net on the way, is refused by none of these: where all
-/// sixteen are asked, by none at all.
+/// A net that re-times, where no refusal of a number below k refuses a net on the way, is refused by none of these:
+/// where all sixteen are asked, by none at all.
 pub fn retimed_or_refused()
     ensures { RetimedNotRefused }
 {}

@@ -1,4 +1,5 @@
-//! A net timed through the cells that were put in: those instances whose names begin with a prefix and whose cells are repeaters.
+//! A net timed through the cells that were put in: those instances whose names begin with a prefix and whose cells are
+//! repeaters.
 //!
 //! Resistances are whole milliohms (mΩ), capacitances whole attofarads (aF), times whole zeptoseconds (zs).
 #![tactic(auto)]

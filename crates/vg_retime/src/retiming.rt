@@ -10,15 +10,15 @@ use std::alloc::Global;
 use vg_design::{Design, Timed};
 use vg_scan::Name;
 
-/// Times the net of a name in a design through the cells that were put in: the instances whose names begin with the prefix and
-/// whose cells are repeaters.
+/// Times the net of a name in a design through the cells that were put in: the instances whose names begin with the
+/// prefix and whose cells are repeaters.
 ///
-/// A walk climbs from the net over such cells to the first net, whose driver is another, and goes down from there, breadth first.
-/// Answers the least slack (zs) of the sinks that it comes to, and the first of them that has the wrong polarity. A sink's delay
-/// is the sum, over the nets on its way, of the net's delay behind the cell that drives it. The walk is refused by the first
-/// reason against a net that it comes to: one of `Refusal`, where only a sink that is not passed needs a required time;
-/// `NoDriver` where it climbs to a cell whose input is at no net; `Loop` where it comes to a net again; and at its end by
-/// `NoSink` where it came to no sink. Answers `Memory` where there is no room.
+/// A walk climbs from the net over such cells to the first net, whose driver is another, and goes down from there,
+/// breadth first. Answers the least slack (zs) of the sinks that it comes to, and the first of them that has the wrong
+/// polarity. A sink's delay is the sum, over the nets on its way, of the net's delay behind the cell that drives it.
+/// The walk is refused by the first reason against a net that it comes to: one of `Refusal`, where only a sink that is
+/// not passed needs a required time; `NoDriver` where it climbs to a cell whose input is at no net; `Loop` where it
+/// comes to a net again; and at its end by `NoSink` where it came to no sink. Answers `Memory` where there is no room.
 pub fn retime(alloc: Global, design: &Design, net: &Name, prefix: &[u8]) -> Result<Timed, Refused>
     ensures timed { IfOk result (Retimes 17 design.now prefix.now net.now) }
     ensures refused { IfErr result (IsRefused design.now prefix.now net.now) }

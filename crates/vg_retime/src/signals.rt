@@ -135,7 +135,8 @@ fn left_of(required: i128, late: u128) -> i128
     required - late as i128
 }
 
-/// The least of what was least before, and of what the net's sinks have left of their required times when the signal comes (zs).
+/// The least of what was least before, and of what the net's sinks have left of their required times when the signal
+/// comes (zs).
 pub(crate) fn least_in(net: &WalkNet, lates: &[u128], before: Option<i128>) -> Option<i128>
     requires net { IsSizedNet (2 ^ 32) net.now }
     requires small { (i : ℕ) → slice_index lates.now i ≤ 2 ^ 33 * 10 ^ 24 }
@@ -162,8 +163,8 @@ fn is_wrong(inverted: bool, end: End) -> bool
     }
 }
 
-/// The name of the first sink of the net, in tree order, that wants the other polarity than the signal has. Answers `Memory`
-/// where there is no room.
+/// The name of the first sink of the net, in tree order, that wants the other polarity than the signal has. Answers
+/// `Memory` where there is no room.
 pub(crate) fn wrong_in(
     alloc: Global,
     net: &WalkNet,

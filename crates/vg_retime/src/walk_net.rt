@@ -41,8 +41,8 @@ pub(crate) enum Above {
     Open,
 }
 
-/// A net as a walk comes to it: its tree with the loads of its sinks, what stands at each node of the tree and how it is named,
-/// what drives the net, and what is above it.
+/// A net as a walk comes to it: its tree with the loads of its sinks, what stands at each node of the tree and how it
+/// is named, what drives the net, and what is above it.
 #[derive(Drop)]
 pub(crate) struct WalkNet {
     pub tree: Tree,
@@ -92,8 +92,8 @@ fn first_unconstrained(design: &Design, prefix: &[u8], net: &PinnedNet) -> Optio
     None
 }
 
-/// The name of the first sink that is not passed and has no required time, if there is one. Answers `Memory` where there is no
-/// room.
+/// The name of the first sink that is not passed and has no required time, if there is one. Answers `Memory` where
+/// there is no room.
 fn unconstrained_sink(
     alloc: Global,
     design: &Design,
@@ -159,8 +159,8 @@ fn above_of(design: &Design, prefix: &[u8], net: &PinnedNet, driver: usize) -> A
     }
 }
 
-/// The net of a name as a walk comes to it, or the first reason of `Refusal` against it, where only a sink that is not passed
-/// needs a required time. Answers `Memory` where there is no room.
+/// The net of a name as a walk comes to it, or the first reason of `Refusal` against it, where only a sink that is not
+/// passed needs a required time. Answers `Memory` where there is no room.
 fn net_named(alloc: Global, design: &Design, prefix: &[u8], name: &Name) -> Result<WalkNet, Refused>
     ensures net { IfOk result (IsNetOf 17 design.now prefix.now name.now) }
     ensures sized { IfOk result (IsSizedNet (length design.now.netlist.nets)) }
@@ -197,8 +197,8 @@ fn name_of_net(alloc: Global, design: &Design, id: u32) -> Result<Name, Memory>
     Ok(name)
 }
 
-/// The net of this number as a walk comes to it, or the first reason of `Refusal` against it, where only a sink that is not
-/// passed needs a required time. Answers `Memory` where there is no room.
+/// The net of this number as a walk comes to it, or the first reason of `Refusal` against it, where only a sink that is
+/// not passed needs a required time. Answers `Memory` where there is no room.
 pub(crate) fn walk_net(
     alloc: Global,
     design: &Design,

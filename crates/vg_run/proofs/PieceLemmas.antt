@@ -23,7 +23,8 @@ gains_both old mid new xs ys same first second = record {
 front_of : (xs ys rest : List ℕ) (k : ℕ) → k ≤ length ys → xs ++ take k ys ≡ take (length xs + k) (xs ++ (ys ++ rest))
 front_of xs ys rest k short = ap (λ (zs : List ℕ). xs ++ zs) (sym (take-append-le k ys rest short)) ∙ sym (take-append-add xs (ys ++ rest) k)
 
--- one that gains these bytes and then some first ones of those, which come next in a text, gains some first bytes of the text
+-- one that gains these bytes and then some first ones of those, which come next in a text, gains some first bytes of
+-- the text
 pub gains_front : (old mid new : FilesState) (xs ys rest text : List ℕ) → mid.target ≡ old.target → xs ++ (ys ++ rest) ≡ text → FileGains old mid xs
     → FileGainsPrefix mid new ys → FileGainsPrefix old new text
 gains_front old mid new xs ys rest text same is first (k, short, second) =

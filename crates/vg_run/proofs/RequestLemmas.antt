@@ -8,7 +8,8 @@ use Rattle.std.proofs.lemmas.List.Sums.{AllPass-from_list_all}
 use Rattle.std.proofs.lemmas.Bool.Decides.{nat_tests}
 use Rattle.vg_scan.specs.Printed.{is_solid}
 use Rattle.vg_words.specs.Options.{names_file}
-use Rattle.vg_words.specs.Request.{IsRequest, has_bad_value, is_letter, is_name_byte, is_prefix, prefix_of, value}
+use Rattle.vg_scan.specs.Prefixes.{is_letter, is_name_byte, is_prefix}
+use Rattle.vg_words.specs.Request.{IsRequest, has_bad_value, prefix_of, value}
 use Rattle.vg_words.specs.declared.ask.Ask.{Ask}
 use Rattle.vg_words.specs.declared.ask.Mode.{Mode as ModeSpec}
 use Rattle.vg_words.specs.declared.ask.Mode.TheVariants.{Wire, Time, Best, Frontier, Check, Gen}

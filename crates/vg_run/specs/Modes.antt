@@ -41,8 +41,8 @@ IsAnswerIn Frontier ask texts kind said = IsFrontAnswer (design_texts texts) ask
 IsAnswerIn Check ask texts kind said = IsCheckAnswer (design_texts texts) (texts Cert) (one_net ask) kind said
 IsAnswerIn Gen ask texts kind said = IsGenAnswer (size_of ask) kind said
 
--- the first fault of the texts that it judges: mode `gen` judges those of the design that it makes up, and mode `check` judges the certificate
--- when all others are in their form
+-- the first fault of the texts that it judges: mode `gen` judges those of the design that it makes up, and mode `check`
+-- judges the certificate when all others are in their form
 abbrev pub IsFaultIn : Mode → Ask → (Input → List ℕ) → List ℕ → Input → Type 0
 IsFaultIn Wire ask texts line input = IsWireFault (texts Spef) line input
 IsFaultIn Gen ask texts line input = IsDesignFault (made_up (size_of ask)) line input

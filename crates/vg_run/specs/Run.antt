@@ -119,8 +119,8 @@ PrintsSome files Gained ask = (kind : AnswerKind) × Prints kind files Gained as
 abbrev pub StaysOrBegins : Change FilesState → Option (List ℕ) → List ℕ → Type 0
 StaysOrBegins files name text = IfSome name (λ file. StaysOrPrefix (files.0.holds file) (files.1.holds file) text)
 
--- Of a list of files writing the one of this output failed: those before it hold their texts, it stays or holds a prefix of its text, and those
--- behind it, and all other files, are as they were.
+-- Of a list of files writing the one of this output failed: those before it hold their texts, it stays or holds a
+-- prefix of its text, and those behind it, and all other files, are as they were.
 pub record HoldAfter (files : Change FilesState) (ask : Ask) (said : List Written) (output : Output) : Type 0 where
   pub before : List Written
   pub text : List ℕ

@@ -1,4 +1,5 @@
-//! A request: its inputs are read in order, its mode answers, the files of the answer are written in order, and the answer is printed.
+//! A request: its inputs are read in order, its mode answers, the files of the answer are written in order, and the
+//! answer is printed.
 #![tactic(auto)]
 
 mod inputs;

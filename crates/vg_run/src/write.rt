@@ -13,8 +13,8 @@ use vg_store::{Failed, Files, append, write_file};
 /// How many bytes of small pieces are gathered before they are written.
 const ROOM: usize = 8192;
 
-/// Puts a piece behind those that wait. Where there is no room for it, what waits is written first, and a piece of more bytes than the
-/// room has is written after it, by itself. So the file and what waits together gain the piece.
+/// Puts a piece behind those that wait. Where there is no room for it, what waits is written first, and a piece of more
+/// bytes than the room has is written after it, by itself. So the file and what waits together gain the piece.
 fn append_gathered<F: Files>(
     files: &mut F,
     waiting: &mut ArrayVec<u8, ROOM>,
@@ -42,7 +42,8 @@ fn append_gathered<F: Files>(
     Ok(())
 }
 
-/// Appends a text to the file that is being written, piece by piece. Small pieces are gathered, so that many of them are one write.
+/// Appends a text to the file that is being written, piece by piece. Small pieces are gathered, so that many of them
+/// are one write.
 fn append_pieces<F: Files>(files: &mut F, text: &Patched) -> Result<(), Failed>
     requires is_created { (F.state files.old).writing ≡ true }
     ensures all { OnOk result (FileGains (F.state files.old) (F.state files.new) text.now) }
@@ -63,9 +64,10 @@ fn append_pieces<F: Files>(files: &mut F, text: &Patched) -> Result<(), Failed>
     Ok(())
 }
 
-/// Writes a file whole: creates it, puts all of the text and finishes it. At the first `Failed` it stops and answers it: the count of
-/// write faults rose in this call, at this file, which is as it was or holds a prefix of the text. It takes no memory.
-/// Of the text it copies small pieces alone, which it gathers in a fixed buffer so that many of them are one write.
+/// Writes a file whole: creates it, puts all of the text and finishes it. At the first `Failed` it stops and answers
+/// it: the count of write faults rose in this call, at this file, which is as it was or holds a prefix of the text. It
+/// takes no memory. Of the text it copies small pieces alone, which it gathers in a fixed buffer so that many of them
+/// are one write.
 pub fn write_patched<F: Files>(files: &mut F, name: &str, text: &Patched) -> Result<(), Failed>
     ensures whole { OnOk result (IfSome ((F.state files.new).holds name.now) (λ file. file ≡ text.now)) }
     ensures prefix { OnErr result (StaysOrPrefix ((F.state files.old).holds name.now) ((F.state files.new).holds name.now) text.now) }

@@ -10,7 +10,8 @@ pub data Scan : Type 0 where
   InLine : Scan
   InBlock : Scan
 
--- What a text becomes whose bytes go on in this. A mark of two bytes is taken at once, so that `/*/` does not close itself.
+-- What a text becomes whose bytes go on in this. A mark of two bytes is taken at once, so that `/*/` does not close
+-- itself.
 unfoldable pub cleared_in : Scan → List ℕ → List ℕ
 cleared_in scan [] = []
 cleared_in Outside (b ∷ []) = b ∷ []

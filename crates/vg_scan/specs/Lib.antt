@@ -13,3 +13,4 @@ pub mod Nodes
 pub mod Faults
 pub mod Blocks
 pub mod LibertyComments
+pub mod Prefixes

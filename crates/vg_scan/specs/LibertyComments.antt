@@ -1,5 +1,5 @@
--- Comments in the text of a library, made blank. A text is its pieces, as in SPEF; but only `/*` begins a comment, and a
--- string goes on after a backslash just before its line's end. Source: Liberty User Guide, Synopsys.
+-- Comments in the text of a library, made blank. A text is its pieces, as in SPEF; but only `/*` begins a comment, and
+-- a string goes on after a backslash just before its line's end. Source: Liberty User Guide, Synopsys.
 use Rattle.std.specs.Prelude.{ℕ, zero, suc, ◌+◌, ◌==◌, ◌&&◌, ◌||◌, not, Bool, false, List, [], ◌∷◌, map, length, take, drop, if◌then◌else◌}
 use Rattle.std.specs.List.{flat_map}
 use Rattle.vg_scan.specs.Blocks.{is_block_mark, through_block, blanked}
@@ -11,8 +11,8 @@ abbrev pub begins_newline : List ℕ → Bool
 begins_newline [] = false
 begins_newline (b ∷ bs) = is_newline b
 
--- a line's end that comes after this byte is continued: the byte is a backslash, or a carriage return between a backslash
--- and a newline
+-- a line's end that comes after this byte is continued: the byte is a backslash, or a carriage return between a
+-- backslash and a newline
 abbrev pub continues : Bool → ℕ → List ℕ → Bool
 continues continued b bs = is_backslash b || (continued && ((b == 13) && begins_newline bs))
 

@@ -19,8 +19,8 @@ plain chars b =
 abbrev pub before : ℕ → Option (List ℕ) → Option (List ℕ)
 before b name = option_map (λ bytes. b ∷ bytes) name
 
--- What the bytes spell from left to right, where the flag says that a backslash escapes the first of them.
--- A backslash is dropped and the byte after it is kept. A bare quote, or a backslash that escapes nothing, spells no name.
+-- What the bytes spell from left to right, where the flag says that a backslash escapes the first of them. A backslash
+-- is dropped and the byte after it is kept. A bare quote, or a backslash that escapes nothing, spells no name.
 unfoldable pub spelled : Chars → Bool → List ℕ → Option (List ℕ)
 spelled chars true [] = None
 spelled chars true (b ∷ bs) = before b (spelled chars false bs)

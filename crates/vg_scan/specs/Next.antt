@@ -5,8 +5,8 @@ use Rattle.vg_scan.specs.Comments.{blanked, without_comments}
 use Rattle.vg_scan.specs.Lines.{part}
 use Rattle.vg_scan.specs.Pieces.{first_length, begins_comment}
 
--- This part is the text's next comment from a place on. Without its comments the text is the bytes up to this part as they
--- are, then the part made blank, then what comes after it without its comments.
+-- This part is the text's next comment from a place on. Without its comments the text is the bytes up to this part as
+-- they are, then the part made blank, then what comes after it without its comments.
 pub record IsNextComment (kind : Comments) (text : List ℕ) (at from to : ℕ) : Type 0 where
   pub after : at ≤ from
   pub some : from < to

@@ -19,12 +19,13 @@ pub enum Comments {
     /// Those of SPEF (IEEE Std 1481).
     ///
     /// One runs from `//` to its line's end, or from `/*` to the next `*/`, else to the text's end. None begins in a
-    /// string, which ends at its second quote or at its line's end. Outside strings a backslash hides the byte after it.
+    /// string, which ends at its second quote or at its line's end. Outside strings a backslash hides the byte after
+    /// it.
     Spef,
     /// Those of Liberty (Liberty User Guide, Synopsys).
     ///
-    /// One runs from `/*` to the next `*/`, else to the text's end; `//` begins none. None begins in a string, which ends
-    /// at its second quote or at its line's end, unless a backslash stands just before that end. Outside strings a
+    /// One runs from `/*` to the next `*/`, else to the text's end; `//` begins none. None begins in a string, which
+    /// ends at its second quote or at its line's end, unless a backslash stands just before that end. Outside strings a
     /// backslash hides the byte after it.
     Liberty,
 }
@@ -40,8 +41,8 @@ pub fn skip_comments(alloc: Global, bytes: &[u8], kind: Comments) -> Result<Vec<
     Ok(text)
 }
 
-/// The next comment of a text, from a place on at which a piece of the text begins: the text's first byte, or the byte behind
-/// a comment. `None`: there is none.
+/// The next comment of a text, from a place on at which a piece of the text begins: the text's first byte, or the byte
+/// behind a comment. `None`: there is none.
 pub fn next_comment(text: &[u8], at: usize, kind: Comments) -> Option<Span>
     requires { at ≤ length text.now }
     ensures none { result ≡ None → without_comments kind (drop at text.now) ≡ drop at text.now }

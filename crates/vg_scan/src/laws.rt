@@ -28,8 +28,8 @@ pub fn texts_are_pieces()
     ensures { (text : List ℕ) → concat (pieces text) ≡ text }
 {}
 
-/// A part of a text, from the first word of a line to the end of a word, has the comments that it has in the text: it may
-/// be read alone.
+/// A part of a text, from the first word of a line to the end of a word, has the comments that it has in the text: it
+/// may be read alone.
 pub fn parts_keep_comments()
     ensures { PartsKeepComments }
 {}

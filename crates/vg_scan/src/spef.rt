@@ -52,7 +52,8 @@ fn read_byte(chars: &Chars, escaped: bool, byte: u8) -> Reading
     }
 }
 
-/// Puts the canonical name of a text in place of what a list holds, as `spef_name` does, in memory that may be used again.
+/// Puts the canonical name of a text in place of what a list holds, as `spef_name` does, in memory that may be used
+/// again.
 ///
 /// Answers `Bad` where `spef_name` does, and `Memory` where there is no room; the list then holds no name.
 pub fn spell_name(text: &[u8], chars: &Chars, name: &mut Vec<u8>) -> Result<(), NameFault>

@@ -46,8 +46,8 @@ fn low_from(line: &[u8], start: usize) -> usize
     at
 }
 
-/// Where the first blank stands from a place on, or the end. Nearly all bytes of words are above the space, so these are
-/// passed over by one comparison.
+/// Where the first blank stands from a place on, or the end. Nearly all bytes of words are above the space, so these
+/// are passed over by one comparison.
 fn blank_from(line: &[u8], start: usize) -> usize
     requires { start ≤ length line.now }
     ensures { result ≡ start + position_or_len is_blank (drop start line.now) }

@@ -10,8 +10,8 @@ use Rattle.cand_pool.specs.declared.ends.Cand.{Cand}
 use Rattle.cand_uses.specs.Pairs.{pair_of, pairs_of}
 use Rattle.vg_convex.proofs.Walks.{left_from, fewer_left, IsAfter}
 
--- the pairs of the first of the candidates were put after those that were there before; a step for each of the others makes no
--- more than `most`
+-- the pairs of the first of the candidates were put after those that were there before; a step for each of the others
+-- makes no more than `most`
 pub record IsCopy (s : Block) (xs : Candidates) (before : List Pair) (next : Option Cand) (items : List Pair) (steps most : ℕ) : Type 0 where
   pub seen : Candidates
   pub rest : Candidates

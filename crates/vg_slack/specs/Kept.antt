@@ -25,8 +25,8 @@ kept_in kept odd = cond odd kept.odd.items kept.even.items
 abbrev pub lists_at : Lists → ℕ → Classes
 lists_at lists v = get_or (map kept_in lists.nodes.items) v (λ odd. [])
 
--- of a node with a sink at or below it all undominated pairs, and of another none; in each class at most one pair for each sink at
--- or below it, and one for each repeater at each place there
+-- of a node with a sink at or below it all undominated pairs, and of another none; in each class at most one pair for
+-- each sink at or below it, and one for each repeater at each place there
 pub record IsKeptAt (p : Problem) (v : ℕ) (lists : Classes) : Type 0 where
   pub live : IsLive p v → (odd : Bool) → IsUndominated (IsPairAt p v odd) (lists odd)
   pub dead : is_live p.tree.nodes p.sinks v ≡ false → AreEmpty lists

@@ -27,7 +27,8 @@ abbrev pub IsChoice : Problem → Candidates → Option Choice → Type 0
 IsChoice p xs choice =
     MatchOption choice (DrivesNone p (Contains (pairs_of xs))) (λ (choice : Choice). IsChosen p xs choice.slack choice.sol.0)
 
--- this was chosen of the candidates of the root: all undominated pairs there, each with a solution in use that comes to it
+-- this was chosen of the candidates of the root: all undominated pairs there, each with a solution in use that comes to
+-- it
 pub record IsRootChoice (p : Problem) (arena : Arena) (choice : Option Choice) : Type 0 where
   pub candidates : Candidates
   pub exact : IsUndominated (IsPairAt p 0 false) (pairs_of candidates)

@@ -58,9 +58,9 @@ fn bare_with(alloc: Global, p: &Problem, most: i128) -> Result<Option<Placement>
     Ok(None)
 }
 
-/// The best placement that the candidates of the root come to, where this one of them was chosen: the one without a cell
-/// where it is best, and else that of the candidate's solution. `None`: no placement is good. Answers `Memory` where there is
-/// no room.
+/// The best placement that the candidates of the root come to, where this one of them was chosen: the one without a
+/// cell where it is best, and else that of the candidate's solution. `None`: no placement is good. Answers `Memory`
+/// where there is no room.
 pub(crate) fn best_placement(
     alloc: Global,
     arena: &Arena,

@@ -63,8 +63,8 @@ fn give_up_part(part: Part, pool: &mut Pool, arena: &mut Arena)
     }
 }
 
-/// The candidates of a node to which all its children came in, with and without a cell there. They are kept, where lists are
-/// kept at all. Answers `Memory` when out of memory; the branch is given up then.
+/// The candidates of a node to which all its children came in, with and without a cell there. They are kept, where
+/// lists are kept at all. Answers `Memory` when out of memory; the branch is given up then.
 pub(crate) fn close<L: Ledger>(
     branch: Branch,
     pool: &mut Pool,
@@ -99,8 +99,9 @@ pub(crate) fn close<L: Ledger>(
     Ok(branch)
 }
 
-/// What the part of a node comes to when a child comes in to it, whose part has all that is below the child. The candidates of
-/// the child are kept, where lists are kept at all. Answers `Memory` when out of memory; both parts are given up then.
+/// What the part of a node comes to when a child comes in to it, whose part has all that is below the child. The
+/// candidates of the child are kept, where lists are kept at all. Answers `Memory` when out of memory; both parts are
+/// given up then.
 fn take_in<L: Ledger>(
     upper: Part,
     part: Part,
@@ -178,8 +179,8 @@ fn turn<L: Ledger>(
     Ok(())
 }
 
-/// All nodes but the root come in, each to its parent, depth first: a node as soon as all nodes below it are in. Answers `Memory`
-/// where there is no room.
+/// All nodes but the root come in, each to its parent, depth first: a node as soon as all nodes below it are in.
+/// Answers `Memory` where there is no room.
 pub(crate) fn climb<L: Ledger>(
     pool: &mut Pool,
     arena: &mut Arena,

@@ -16,8 +16,9 @@ use std::alloc::Global;
 use std::sync::ledger::Ledger;
 use vg_num::Memory;
 
-/// Room for searches, which one search after another uses: the lists of a search stand in a pool, and its solutions in an arena.
-/// What a search took is free again for the next one, so that many small nets take no more memory than the one that needs most.
+/// Room for searches, which one search after another uses: the lists of a search stand in a pool, and its solutions in
+/// an arena. What a search took is free again for the next one, so that many small nets take no more memory than the
+/// one that needs most.
 #[derive(Drop)]
 pub struct Room {
     pub(crate) arena: Arena,
@@ -33,9 +34,9 @@ impl Room {
         }
     }
 
-    /// A best placement of a problem, or none where no placement is good. With `keep`, the undominated candidates of each node
-    /// come with it. The room is then free for the next search: no solution is left in its arena, and no list in its pool. Answers
-    /// `Memory` when out of memory.
+    /// A best placement of a problem, or none where no placement is good. With `keep`, the undominated candidates of
+    /// each node come with it. The room is then free for the next search: no solution is left in its arena, and no list
+    /// in its pool. Answers `Memory` when out of memory.
     pub fn best<L: Ledger>(
         &mut self,
         alloc: Global,

@@ -24,8 +24,8 @@ use std::alloc::Global;
 use std::sync::ledger::Ledger;
 use vg_num::Memory;
 
-/// What the part of the root comes to when all other nodes came in: a best placement, or none. The part is given up. Answers
-/// `Memory` when out of memory.
+/// What the part of the root comes to when all other nodes came in: a best placement, or none. The part is given up.
+/// Answers `Memory` when out of memory.
 fn answer_at_root<L: Ledger>(
     alloc: Global,
     pool: &mut Pool,
@@ -56,7 +56,8 @@ fn answer_at_root<L: Ledger>(
     found
 }
 
-/// What the parts of all nodes come to: a best placement, or none. The parts are given up. Answers `Memory` when out of memory.
+/// What the parts of all nodes come to: a best placement, or none. The parts are given up. Answers `Memory` when out of
+/// memory.
 fn answer_of_parts<L: Ledger>(
     alloc: Global,
     pool: &mut Pool,
@@ -86,8 +87,8 @@ fn answer_of_parts<L: Ledger>(
     answer_at_root(alloc, pool, arena, p, root, tools, lists, steps)
 }
 
-/// A best placement of a problem, or none, by a search whose lists stand in a lent pool, and its solutions in a lent arena. Answers
-/// `Memory` when out of memory.
+/// A best placement of a problem, or none, by a search whose lists stand in a lent pool, and its solutions in a lent
+/// arena. Answers `Memory` when out of memory.
 fn answer_in<L: Ledger>(
     alloc: Global,
     p: &Problem,
@@ -120,9 +121,9 @@ fn answer_in<L: Ledger>(
     )
 }
 
-/// A best placement of a problem, or none where no placement is good. With `keep`, the undominated candidates of each node come
-/// with it. The lists of the search stand in a lent pool, which loses no slot to them, and its solutions in a lent arena, which
-/// afterwards is as before. Answers `Memory` when out of memory.
+/// A best placement of a problem, or none where no placement is good. With `keep`, the undominated candidates of each
+/// node come with it. The lists of the search stand in a lent pool, which loses no slot to them, and its solutions in a
+/// lent arena, which afterwards is as before. Answers `Memory` when out of memory.
 pub(crate) fn best_with<L: Ledger>(
     alloc: Global,
     p: &Problem,
@@ -142,9 +143,9 @@ pub(crate) fn best_with<L: Ledger>(
     Ok(Answer { found, lists })
 }
 
-/// A best placement of a problem (van Ginneken 1990; Lillis, Cheng and Lin 1996), or none where no placement is good. With
-/// `keep`, the undominated candidates of each node come with it. The solutions of the search stand in the lent arena, which
-/// afterwards is as before. Answers `Memory` when out of memory.
+/// A best placement of a problem (van Ginneken 1990; Lillis, Cheng and Lin 1996), or none where no placement is good.
+/// With `keep`, the undominated candidates of each node come with it. The solutions of the search stand in the lent
+/// arena, which afterwards is as before. Answers `Memory` when out of memory.
 pub fn best_in<L: Ledger>(
     alloc: Global,
     p: &Problem,
@@ -160,8 +161,8 @@ pub fn best_in<L: Ledger>(
     best_with(alloc, p, keep, &mut pool, arena, steps)
 }
 
-/// A best placement of a problem, or none where no placement is good. With `keep`, the undominated candidates of each node come
-/// with it. Answers `Memory` when out of memory.
+/// A best placement of a problem, or none where no placement is good. With `keep`, the undominated candidates of each
+/// node come with it. Answers `Memory` when out of memory.
 pub fn best<L: Ledger>(
     alloc: Global,
     p: &Problem,

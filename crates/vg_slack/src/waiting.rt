@@ -8,8 +8,8 @@ use elmore::Problem;
 use std::alloc::Global;
 use vg_num::Memory;
 
-/// The nodes of a net that have not come in, each to its parent. A node comes in after all nodes below it, and after all greater
-/// children of its parent: so the lists of few nodes are there at a time.
+/// The nodes of a net that have not come in, each to its parent. A node comes in after all nodes below it, and after
+/// all greater children of its parent: so the lists of few nodes are there at a time.
 #[derive(Drop)]
 pub(crate) struct Waiting {
     /// Of each node the last child that has not come in, or the node itself where none is left.

@@ -21,8 +21,9 @@ use Rattle.vg_split.specs.Stages.{heads, heads_to, members}
 use Rattle.vg_split.specs.NewNames.{cell_name, net_name}
 use Rattle.spef_write.specs.Sections.{node_at, total_at}
 
--- A net with cells at nodes of its tree, whose node i is node order[i] of the net. Its cells are numbered from `first` on, in tree order;
--- their names and those of the new nets begin with `prefix`. The stage `keeper` keeps the net's name.
+-- A net with cells at nodes of its tree, whose node i is node order[i] of the net. Its cells are numbered from `first`
+-- on, in tree order; their names and those of the new nets begin with `prefix`. The stage `keeper` keeps the net's
+-- name.
 pub record Split : Type 0 where
   pub par : ParNet
   pub order : List ℕ
@@ -50,8 +51,8 @@ stage_from x w = length (heads_to (forest x) w)
 abbrev pub number_of : Split → ℕ → ℕ
 number_of x k = x.first + (k - 1)
 
--- the net of a stage: one stage keeps the net's name, and each other has the new net of its cell; where that of a cell keeps the net's
--- name, the root's has the new net of that cell
+-- the net of a stage: one stage keeps the net's name, and each other has the new net of its cell; where that of a cell
+-- keeps the net's name, the root's has the new net of that cell
 abbrev pub net_of : Split → ℕ → List ℕ
 net_of x k = if k == x.keeper then x.par.name else net_name x.prefix (number_of x (if k == 0 then x.keeper else k))
 

@@ -1,4 +1,5 @@
--- The stages of a forest with cells, by their numbers: they begin at the root and at each cell, in the order of the nodes.
+-- The stages of a forest with cells, by their numbers: they begin at the root and at each cell, in the order of the
+-- nodes.
 use Rattle.std.specs.Prelude.{◌≡◌, ℕ, ◌<◌, true, List, length, map, slice_index}
 use Rattle.std.specs.List.{filter}
 use Rattle.elmore.specs.Path.{nodes}

@@ -1,5 +1,5 @@
-//! A net with cells, split into a net for each stage, as parasitics name their parts (IEEE Std 1481-1999); what each stage drives, from
-//! node to node.
+//! A net with cells, split into a net for each stage, as parasitics name their parts (IEEE Std 1481-1999); what each
+//! stage drives, from node to node.
 //!
 //! Resistances are whole milliohms (mΩ), capacitances whole attofarads (aF).
 #![tactic(auto)]

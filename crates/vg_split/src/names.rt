@@ -30,7 +30,8 @@ fn push_name(prefix: &[u8], letter: u8, number: u64, to: &mut Vec<u8>) -> Result
     done
 }
 
-/// Puts the name of the cell of a number behind a text. Answers `Memory` where there is no room, and then `to` is as before.
+/// Puts the name of the cell of a number behind a text. Answers `Memory` where there is no room, and then `to` is as
+/// before.
 pub fn push_cell_name(prefix: &[u8], number: u64, to: &mut Vec<u8>) -> Result<(), Memory>
     ensures pushed { OnOk result (to.new.items ≡ to.old.items ++ cell_name prefix.now number) }
     ensures unchanged { OnErr result (to.new.items ≡ to.old.items) }
@@ -38,7 +39,8 @@ pub fn push_cell_name(prefix: &[u8], number: u64, to: &mut Vec<u8>) -> Result<()
     push_name(prefix, b'u', number, to)
 }
 
-/// Puts the name of the new net of a number behind a text. Answers `Memory` where there is no room, and then `to` is as before.
+/// Puts the name of the new net of a number behind a text. Answers `Memory` where there is no room, and then `to` is as
+/// before.
 pub fn push_net_name(prefix: &[u8], number: u64, to: &mut Vec<u8>) -> Result<(), Memory>
     ensures pushed { OnOk result (to.new.items ≡ to.old.items ++ net_name prefix.now number) }
     ensures unchanged { OnErr result (to.new.items ≡ to.old.items) }

@@ -14,8 +14,8 @@ use spef_net::{ParConn, ParNet};
 use std::marker::Model;
 use vg_num::Memory;
 
-/// A net with cells at nodes of its tree, split into stages: that of the root and, in tree order, those of the cells. The cells are
-/// numbered from `first` on. One stage keeps the net's name, and each other gets a new net.
+/// A net with cells at nodes of its tree, split into stages: that of the root and, in tree order, those of the cells.
+/// The cells are numbered from `first` on. One stage keeps the net's name, and each other gets a new net.
 #[derive(Drop)]
 pub struct Split<'a> {
     pub par: &'a ParNet,
@@ -200,7 +200,8 @@ impl<'a> Split<'a> {
         self.stages.stage_of[node] as usize
     }
 
-    /// Puts the name of the net of a stage behind a text. Answers `Memory` where there is no room, and then `to` is as before.
+    /// Puts the name of the net of a stage behind a text. Answers `Memory` where there is no room, and then `to` is as
+    /// before.
     pub fn push_net(&self, stage: usize, to: &mut Vec<u8>) -> Result<(), Memory>
         requires { stage < length (heads (forest self.now)) }
         ensures pushed { OnOk result (to.new.items ≡ to.old.items ++ net_of self.now stage) }

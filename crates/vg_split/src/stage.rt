@@ -251,7 +251,8 @@ fn push_inner(
     nodes.push(&node, chars)
 }
 
-/// Puts the inner nodes of a stage last, in tree order, and notes their numbers. The name of the stage's net stands in the scratch.
+/// Puts the inner nodes of a stage last, in tree order, and notes their numbers. The name of the stage's net stands in
+/// the scratch.
 fn push_inners(
     x: &Split<'_>,
     stage: usize,
@@ -340,10 +341,10 @@ fn make_parts(x: &Split<'_>, stage: usize, chars: &Chars, room: &mut Room) -> Re
     Ok(())
 }
 
-/// Appends the section of the net of a stage of a net with cells, without a newline behind its end. The stage's net has the stage's part of
-/// the parasitics: its connections, those of the net and the pins of the cells at which it begins and ends; its inner nodes; the capacitance
-/// of each node, where that of a cell's node is behind the cell; and its resistors, from each node's parent to the node. Answers `Memory`
-/// where there is no room.
+/// Appends the section of the net of a stage of a net with cells, without a newline behind its end. The stage's net has
+/// the stage's part of the parasitics: its connections, those of the net and the pins of the cells at which it begins
+/// and ends; its inner nodes; the capacitance of each node, where that of a cell's node is behind the cell; and its
+/// resistors, from each node's parent to the node. Answers `Memory` where there is no room.
 pub fn write_stage(
     x: &Split<'_>,
     stage: usize,

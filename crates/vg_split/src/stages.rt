@@ -12,11 +12,12 @@ use elmore::Problem;
 use std::alloc::Global;
 use vg_num::Memory;
 
-/// How many nodes a stage has room for at first. Most stages have no more, and a block of memory for fewer would not be smaller.
+/// How many nodes a stage has room for at first. Most stages have no more, and a block of memory for fewer would not be
+/// smaller.
 const FIRST_ROOM: usize = 6;
 
-/// The stages that cells divide a net into, by their numbers: that of the root is 0, and those of the cells follow, as the cells do in
-/// tree order.
+/// The stages that cells divide a net into, by their numbers: that of the root is 0, and those of the cells follow, as
+/// the cells do in tree order.
 #[derive(Drop)]
 pub struct Stages {
     /// For each stage its nodes, and those whose cells end it, in tree order. The first is the one where it begins.
@@ -73,7 +74,8 @@ impl Stages {
         Ok(())
     }
 
-    /// Puts a node into the stage above it, and begins its own, where it has a cell. Answers `Memory` where there is no room.
+    /// Puts a node into the stage above it, and begins its own, where it has a cell. Answers `Memory` where there is no
+    /// room.
     fn put(
         &mut self,
         alloc: Global,

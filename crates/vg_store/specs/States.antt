@@ -1,9 +1,10 @@
 -- What contracts see of files.
 use Rattle.std.specs.Prelude.{◌≡◌, ℕ, List, Bool, Option, Some, None}
 
--- the bytes of each file by its name, where they are told. Of reading: how often it failed, and the file at which it failed
--- last; the file that was opened last, how many of its bytes were taken, and whether it is open. Of writing: how often it
--- failed, and the file at which it failed last; the file that was created last, and whether it is being written
+-- the bytes of each file by its name, where they are told. Of reading: how often it failed, and the file at which it
+-- failed last; the file that was opened last, how many of its bytes were taken, and whether it is open. Of writing: how
+-- often it failed, and the file at which it failed last; the file that was created last, and whether it is being
+-- written
 pub record FilesState : Type 0 where
   pub holds : List ℕ → Option (List ℕ)
   pub read_faults : ℕ

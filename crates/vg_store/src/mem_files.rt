@@ -16,8 +16,8 @@ use vg_num::Memory;
 /// Files in memory, which tell all that they hold. Calls of given numbers fail, and a call moves no more bytes than
 /// a given number.
 ///
-/// The files are numbered in the order in which they were added or created. The files that are read, written and to blame
-/// are kept by their numbers, so that no call but `create` of a new file and `put` takes memory.
+/// The files are numbered in the order in which they were added or created. The files that are read, written and to
+/// blame are kept by their numbers, so that no call but `create` of a new file and `put` takes memory.
 #[derive(Drop)]
 pub struct MemFiles {
     alloc: Global,

@@ -5,8 +5,9 @@ ghost use Rattle.vg_store.specs.Writing.{FileGains, FileGainsPrefix, StaysOrPref
 
 use crate::files::{Failed, Files};
 
-/// Appends all of the bytes to the file that is being written, in as many calls of `put` as it takes. At the first `Failed` it stops and
-/// answers it: the count of write faults rose in this call, at this file, to which a prefix of the bytes was appended. It takes no memory.
+/// Appends all of the bytes to the file that is being written, in as many calls of `put` as it takes. At the first
+/// `Failed` it stops and answers it: the count of write faults rose in this call, at this file, to which a prefix of
+/// the bytes was appended. It takes no memory.
 pub fn append<F: Files>(files: &mut F, bytes: &[u8]) -> Result<(), Failed>
     requires is_created { (F.state files.old).writing ≡ true }
     ensures all { OnOk result (FileGains (F.state files.old) (F.state files.new) bytes.now) }

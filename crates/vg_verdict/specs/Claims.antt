@@ -13,6 +13,7 @@ IsClaimOf found cert =
     MatchOption found ((cert.slack ≡ None) × HasNoCell cert.placement.cells)
     (λ (best : Best). (cert.slack ≡ Some best.slack) × (cert.placement ≡ best.placement))
 
--- of a node with a sink at or below it its lists are all undominated pairs, and of another none; and they are not too long
+-- of a node with a sink at or below it its lists are all undominated pairs, and of another none; and they are not too
+-- long
 abbrev pub HasKept : Problem → Certificate → Type 0
 HasKept p cert = (v : ℕ) → v < length p.tree.nodes → IsKeptAt p v (lists_of cert v)

@@ -33,8 +33,9 @@ pub record Writes (p : Problem) (names : NetNames) (text : List ℕ) (cert : Cer
   pub faultless : IsFaultless p names text
   pub denotes : Denotes p names (lines text) cert
 
--- The line tells the first fault of a text, or the verdict on the certificate that the text is; and whether it is a valid one. Whoever made it, a
--- valid one shows that its placement is best, with its slack, or, where it has none, that no placement is good.
+-- The line tells the first fault of a text, or the verdict on the certificate that the text is; and whether it is a
+-- valid one. Whoever made it, a valid one shows that its placement is best, with its slack, or, where it has none, that
+-- no placement is good.
 pub data IsJudged (p : Problem) (names : NetNames) (text : List ℕ) (valid : Bool) (line : List ℕ) : Type 0 where
   told_fault : (fault : LineFault CertKind) → IsFaultIn p names text fault → valid ≡ false → line ≡ fault_line names fault
       → IsJudged p names text valid line

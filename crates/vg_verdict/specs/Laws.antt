@@ -43,8 +43,8 @@ OneJudgement = (p : Problem) (names : NetNames) (text : List ℕ) (valid again :
 abbrev pub IsCalledValid : NetNames → Bool → List ℕ → Type 0
 IsCalledValid names valid line = (valid ≡ true) ⊎ ((slack : Option ℤ) × (line ≡ verdict_line names slack Yes))
 
--- The text is a certificate, and the line says that it is a valid one, with its slack. Its placement is good, has this slack, and no good placement
--- has more; or, where it has no slack, no placement is good.
+-- The text is a certificate, and the line says that it is a valid one, with its slack. Its placement is good, has this
+-- slack, and no good placement has more; or, where it has no slack, no placement is good.
 pub record ShowsBest (p : Problem) (names : NetNames) (text line : List ℕ) : Type 0 where
   pub cert : Certificate
   pub writes : Writes p names text cert

@@ -32,8 +32,8 @@ abbrev pub valid_text : Option ℤ → List ℕ
 valid_text None = codes "valid none"
 valid_text (Some slack) = codes "valid slack " ++ signed_decimal slack
 
--- `valid ..`, `illegal NODE`, `polarity NODE`, `slack WRITTEN REAL`, `uncovered NODE` or `bound WRITTEN BOUND`, with times in zs; the
--- slack is the certificate's
+-- `valid ..`, `illegal NODE`, `polarity NODE`, `slack WRITTEN REAL`, `uncovered NODE` or `bound WRITTEN BOUND`, with
+-- times in zs; the slack is the certificate's
 abbrev pub verdict_text : NetNames → Option ℤ → Verdict → List ℕ
 verdict_text names slack Yes = valid_text slack
 verdict_text names slack (Illegal v) = codes "illegal " ++ node_text names v

@@ -33,8 +33,8 @@ fn claim(cert: Certificate) -> Option<Best>
     }
 }
 
-/// What a search found that kept the lists of all nodes, and the text of its certificate, with these names. Nothing is copied.
-/// Answers `Memory` where there is no room for the text.
+/// What a search found that kept the lists of all nodes, and the text of its certificate, with these names. Nothing is
+/// copied. Answers `Memory` where there is no room for the text.
 pub fn certified(
     alloc: Global,
     problem: &Problem,
@@ -56,8 +56,9 @@ pub fn certified(
     })
 }
 
-/// What a search found that kept the lists of all nodes, and how many pairs its certificate has: all that are undominated at the
-/// nodes of the net. The certificate is checked, and proved to pass. Answers `Memory` where there is no room.
+/// What a search found that kept the lists of all nodes, and how many pairs its certificate has: all that are
+/// undominated at the nodes of the net. The certificate is checked, and proved to pass. Answers `Memory` where there is
+/// no room.
 pub fn summed_up(alloc: Global, problem: &Problem, answer: Answer) -> Result<Summed, Memory>
     requires found { IsAnswer problem.now answer.found }
     requires lists { AreListsOf problem.now true answer.lists }

@@ -13,8 +13,8 @@ use vg_cert::{Certificate, NodeLists};
 use vg_num::Memory;
 use vg_slack::{Answer, Lists};
 
-/// The lists that a search kept, as those of a certificate. Their pairs are moved and not copied. Answers `Memory` where there is
-/// no room for one element for each node.
+/// The lists that a search kept, as those of a certificate. Their pairs are moved and not copied. Answers `Memory`
+/// where there is no room for one element for each node.
 fn moved(alloc: Global, lists: Lists) -> Result<Vec<NodeLists>, Memory>
     ensures { IfOk result (λ moved. map list_of moved.items ≡ map kept_in lists.nodes.items) }
 {
@@ -28,10 +28,10 @@ fn moved(alloc: Global, lists: Lists) -> Result<Vec<NodeLists>, Memory>
     Ok(moved)
 }
 
-/// The certificate of what a search answered that kept the lists of all nodes: the slack and the placement that it found, or none
-/// and no cell; and for each node with a sink at it or below it, and each class, all pairs that no other pair there dominates. It
-/// shows that the placement is best, or that no placement is good. The pairs are moved and not copied. Answers `Memory` where there
-/// is no room for one element for each node.
+/// The certificate of what a search answered that kept the lists of all nodes: the slack and the placement that it
+/// found, or none and no cell; and for each node with a sink at it or below it, and each class, all pairs that no other
+/// pair there dominates. It shows that the placement is best, or that no placement is good. The pairs are moved and not
+/// copied. Answers `Memory` where there is no room for one element for each node.
 pub fn certificate(alloc: Global, p: &Problem, answer: Answer) -> Result<Certificate, Memory>
     requires found { IsAnswer p.now answer.found }
     requires lists { AreListsOf p.now true answer.lists }

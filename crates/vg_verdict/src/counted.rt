@@ -30,7 +30,8 @@ fn counted_search<L: Ledger>(
     room.best(alloc, problem, keep, &mut steps)
 }
 
-/// A best placement of a problem, or none where no placement is good; with `keep`, the undominated candidates of each node come with it.
+/// A best placement of a problem, or none where no placement is good; with `keep`, the undominated candidates of each
+/// node come with it.
 pub fn search(
     alloc: Global,
     room: &mut Room,

@@ -31,8 +31,9 @@ fn judge_certificate(
     Ok(matches!(verdict, Verdict::Yes))
 }
 
-/// Reads the text of a certificate of a net with this problem and these names, checks it, and appends one line: of the text's first
-/// fault, or of the verdict. Answers whether the text is a valid certificate; and `Memory` where there is no room.
+/// Reads the text of a certificate of a net with this problem and these names, checks it, and appends one line: of the
+/// text's first fault, or of the verdict. Answers whether the text is a valid certificate; and `Memory` where there is
+/// no room.
 pub fn judge_text(
     alloc: Global,
     problem: &Problem,

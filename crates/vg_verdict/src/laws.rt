@@ -17,8 +17,9 @@ pub fn judgements_are_one()
     ensures { OneJudgement }
 {}
 
-/// Let `judge_text` answer that a text is a valid certificate, or append the line that says so. Then, whoever made it, its placement is
-/// good and has the slack of the line, and no good placement has more; or the line says that there is none, and no placement is good.
+/// Let `judge_text` answer that a text is a valid certificate, or append the line that says so. Then, whoever made it,
+/// its placement is good and has the slack of the line, and no good placement has more; or the line says that there is
+/// none, and no placement is good.
 pub fn valid_ones_are_best()
     ensures { ValidAreBest }
 {}

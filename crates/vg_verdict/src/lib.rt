@@ -1,4 +1,5 @@
-//! Certificates of the nets of a design, as text: written of what a search for a best placement found, and judged, whoever wrote them.
+//! Certificates of the nets of a design, as text: written of what a search for a best placement found, and judged,
+//! whoever wrote them.
 #![tactic(auto)]
 
 mod certify;

@@ -37,8 +37,8 @@ fn cell_names(alloc: Global, repeaters: &[Repeater]) -> Result<Vec<Name>, Memory
     Ok(names)
 }
 
-/// The names that a certificate of a posed net of this name speaks of, where these are the library's repeaters. Answers `Memory` where
-/// there is no room.
+/// The names that a certificate of a posed net of this name speaks of, where these are the library's repeaters. Answers
+/// `Memory` where there is no room.
 pub fn net_names(
     alloc: Global,
     name: &[u8],

@@ -32,7 +32,8 @@ AsksAsIn Frontier ask = AsksForNet ask ⊎ AsksForAll ask
 AsksAsIn Check ask = AsksForNet ask
 AsksAsIn Gen ask = AsksForNone ask
 
--- in modes `wire` and `check` a request asks for one net, in modes `time`, `best` and `frontier` for one or for all, and in mode `gen` for none
+-- in modes `wire` and `check` a request asks for one net, in modes `time`, `best` and `frontier` for one or for all,
+-- and in mode `gen` for none
 abbrev pub OneOrAll : Type 0
 OneOrAll = (words : List (List ℕ)) (ask : Ask) → IsRequest words ask → AsksAsIn ask.mode ask
 

@@ -5,6 +5,7 @@ use Rattle.std.specs.Str.{bytes_eq}
 use Rattle.std.specs.Str.Parse.{starts_with_minus}
 use Rattle.std.specs.declared.alloc.Global.{Global}
 use Rattle.vg_num.specs.Number.{are_digits, value_of as number_of}
+use Rattle.vg_scan.specs.Prefixes.{is_prefix}
 use Rattle.vg_words.specs.Options.{name_of, mode_of, mode_name, is_flag, is_same, options, file_options, required, allowed}
 use Rattle.vg_words.specs.declared.option.Opt.{Opt}
 use Rattle.vg_words.specs.declared.option.Opt.TheVariants.{Mode, Spef, Lib, Verilog, Cons, Net, All, OutSpef, OutVerilog, Cert, Cap, Prefix, Size}
@@ -21,7 +22,8 @@ texts words = map string_bytes words
 abbrev pub Setting : Type 0
 Setting = Opt × List ℕ
 
--- the first words are the option and its value: `--name value`, where the value does not begin with `-`, or `--name=value`
+-- the first words are the option and its value: `--name value`, where the value does not begin with `-`, or
+-- `--name=value`
 abbrev pub SpellsValue : List (List ℕ) → Setting → List (List ℕ) → Type 0
 SpellsValue words (option, value) rest =
     ((words ≡ name_of option ∷ value ∷ rest) × (starts_with_minus value ≡ false))
@@ -88,18 +90,6 @@ has_no_use_beside values option = false
 -- the option is given, and the mode has no use for it, or has none beside what else is given
 abbrev pub is_excluded : ModeSpec → Values → Opt → Bool
 is_excluded mode values option = is_given values option && (not (may_be_given mode option) || has_no_use_beside values option)
-
--- a letter or `_`
-abbrev pub is_letter : ℕ → Bool
-is_letter b = (nat_le 65 b && nat_le b 90) || ((nat_le 97 b && nat_le b 122) || (b == 95))
-
-abbrev pub is_name_byte : ℕ → Bool
-is_name_byte b = is_letter b || (nat_le 48 b && nat_le b 57)
-
--- a letter or `_`, followed by at most 31 letters, digits or `_`
-abbrev pub is_prefix : List ℕ → Bool
-is_prefix [] = false
-is_prefix (b ∷ bytes) = nat_le (length bytes) 31 && (is_letter b && list_all is_name_byte bytes)
 
 -- one to four digits, which write 1 to 4000
 abbrev pub is_size : List ℕ → Bool

@@ -16,12 +16,14 @@ use vg_num::{Memory, Text};
 pub enum Mode {
     /// Prints the wire delays of one net.
     Wire,
-    /// Prints the slack of one net or of all through the cells that were put in, and whether the sinks have their wanted polarity.
+    /// Prints the slack of one net or of all through the cells that were put in, and whether the sinks have their
+    /// wanted polarity.
     Time,
-    /// Prints a best placement of repeaters on one net or on each, and the slack, and writes the netlist and the parasitics with the cells.
-    /// Of one net it writes a certificate too, where one is named.
+    /// Prints a best placement of repeaters on one net or on each, and the slack, and writes the netlist and the
+    /// parasitics with the cells. Of one net it writes a certificate too, where one is named.
     Best,
-    /// Prints the costs and slacks of which no placement of repeaters on one net, or on each, has both better, each with such a placement.
+    /// Prints the costs and slacks of which no placement of repeaters on one net, or on each, has both better, each
+    /// with such a placement.
     Frontier,
     /// Checks a certificate of one net: that its placement is best, or that no placement is good.
     Check,
@@ -204,12 +206,14 @@ impl Ask {
 pub enum WordFault {
     /// Some word is neither an option with its value, nor its value, nor a flag alone, or an option is given twice.
     Unread,
-    /// The mode asks for this option, or it is the mode, and neither it is given nor, for `--net`, `--all` in its place.
+    /// The mode asks for this option, or it is the mode, and neither it is given nor, for `--net`, `--all` in its
+    /// place.
     Missing(Opt),
-    /// The option is given, and the mode has no use for it, or it is `--all` and `--net` is given too, or it is `--cert` and `--all` is.
+    /// The option is given, and the mode has no use for it, or it is `--all` and `--net` is given too, or it is
+    /// `--cert` and `--all` is.
     Excluded(Opt),
-    /// The option's value is empty, or is no mode; or a cap is not 1 to 18 digits; or a prefix is not a letter or `_`, followed by at most
-    /// 31 letters, digits or `_`; or a size is not one to four digits, which write 1 to 4000.
+    /// The option's value is empty, or is no mode; or a cap is not 1 to 18 digits; or a prefix is not a letter or `_`,
+    /// followed by at most 31 letters, digits or `_`; or a size is not one to four digits, which write 1 to 4000.
     BadValue(Opt),
     /// Both options name one file.
     Equal(Opt, Opt),

@@ -2,7 +2,8 @@
 ghost use Rattle.std.specs.Prelude.{◌≡◌, Some, None, IfOk, option_map};
 ghost use Rattle.std.specs.List.{find, list_all};
 ghost use Rattle.vg_words.specs.Options.{mode_of, options, file_options, required};
-ghost use Rattle.vg_words.specs.Request.{texts, flag_value, has_stand_in, has_no_use_beside, is_given, is_missing, is_excluded, is_letter, is_name_byte, is_prefix, is_bad_value, is_bad, are_equal, first_equal, fault_in, Judges, ReadsWords};
+ghost use Rattle.vg_scan.specs.Prefixes.{is_letter, is_name_byte, is_prefix};
+ghost use Rattle.vg_words.specs.Request.{texts, flag_value, has_stand_in, has_no_use_beside, is_given, is_missing, is_excluded, is_bad_value, is_bad, are_equal, first_equal, fault_in, Judges, ReadsWords};
 ghost use Rattle.vg_words.specs.declared.option.Opt.{Opt};
 ghost use Rattle.vg_words.specs.Views.{given_by};
 
@@ -57,7 +58,8 @@ fn is_missing(mode: Mode, given: &Given<'_>, option: Opt) -> bool
     !(is_given(given, option) || has_stand_in(mode, given, option))
 }
 
-/// Whether an option has no use beside another that is given: `--all` has none beside `--net`, and `--cert` none beside `--all`.
+/// Whether an option has no use beside another that is given: `--all` has none beside `--net`, and `--cert` none beside
+/// `--all`.
 fn has_no_use_beside(given: &Given<'_>, option: Opt) -> bool
     ensures { result ≡ has_no_use_beside (given_by given.now) option }
 {
@@ -281,12 +283,13 @@ fn ask_of(alloc: Global, mode: Mode, given: &Given<'_>) -> Result<Ask, Memory>
 
 /// Reads the words of the command line, without the program's own name.
 ///
-/// Each option is `--name value` or `--name=value`, in any order, at most once; a value that stands in a word of its own does not begin
-/// with `-`. The option `--all` is that word alone. Mode `wire` asks for `--spef` and `--net`, modes `time` and `frontier` for `--lib`,
-/// `--verilog` and `--cons` too, mode `best` besides for `--out-spef` and `--out-verilog`, and mode `check` in place of these two for
-/// `--cert`. Modes `time` and `best` may be given `--prefix`, mode `frontier` may be given `--cap`, and all three `--all` in the place of
-/// `--net`; mode `best` may be given `--cert` too, but not beside `--all`. Mode `gen` asks for `--size` alone. The faults come in the order
-/// of `WordFault`, and of one kind the first option in the order of `Opt`. Answers `Memory` where there is no room.
+/// Each option is `--name value` or `--name=value`, in any order, at most once; a value that stands in a word of its
+/// own does not begin with `-`. The option `--all` is that word alone. Mode `wire` asks for `--spef` and `--net`, modes
+/// `time` and `frontier` for `--lib`, `--verilog` and `--cons` too, mode `best` besides for `--out-spef` and
+/// `--out-verilog`, and mode `check` in place of these two for `--cert`. Modes `time` and `best` may be given
+/// `--prefix`, mode `frontier` may be given `--cap`, and all three `--all` in the place of `--net`; mode `best` may be
+/// given `--cert` too, but not beside `--all`. Mode `gen` asks for `--size` alone. The faults come in the order of
+/// `WordFault`, and of one kind the first option in the order of `Opt`. Answers `Memory` where there is no room.
 pub fn read_words(alloc: Global, words: &[String]) -> Result<Ask, WordFault>
     ensures { ReadsWords result (texts words.now) }
 {

@@ -5,29 +5,32 @@ pub fn one_request()
     ensures { OneRequest }
 {}
 
-/// A request asks for one net in modes `wire` and `check`, for one net or for all nets in modes `time`, `best` and `frontier`, and for none
-/// in mode `gen`. The function does nothing: its contract is the law, which a proof may cite.
+/// A request asks for one net in modes `wire` and `check`, for one net or for all nets in modes `time`, `best` and
+/// `frontier`, and for none in mode `gen`. The function does nothing: its contract is the law, which a proof may cite.
 pub fn one_or_all()
     ensures { OneOrAll }
 {}
 
-/// A request that names a certificate names a net, and does not ask for all. The function does nothing: its contract is the law, which a
-/// proof may cite.
+/// A request that names a certificate names a net, and does not ask for all. The function does nothing: its contract is
+/// the law, which a proof may cite.
 pub fn certs_are_of_one_net()
     ensures { CertsAreOfOneNet }
 {}
 
-/// In a request no two options name one file. The function does nothing: its contract is the law, which a proof may cite.
+/// In a request no two options name one file. The function does nothing: its contract is the law, which a proof may
+/// cite.
 pub fn files_differ()
     ensures { FilesDiffer }
 {}
 
-/// A request with a cap asks for the number that it writes. The function does nothing: its contract is the law, which a proof may cite.
+/// A request with a cap asks for the number that it writes. The function does nothing: its contract is the law, which a
+/// proof may cite.
 pub fn caps_are_read()
     ensures { CapsAreRead }
 {}
 
-/// In mode `gen` a request asks for a size of 1 to 4000. The function does nothing: its contract is the law, which a proof may cite.
+/// In mode `gen` a request asks for a size of 1 to 4000. The function does nothing: its contract is the law, which a
+/// proof may cite.
 pub fn sizes_are_small()
     ensures { SizesAreSmall }
 {}

@@ -13,9 +13,9 @@ const NO_WORDS: u8 = 9;
 /// The status when out of memory.
 const NO_MEMORY: u8 = 7;
 
-/// The size of a block that is given back before anything is read. The system's allocator (glibc, mallopt(3): M_MMAP_THRESHOLD) then
-/// takes blocks of up to this size from its heap, where what one file took serves the next step, in place of pages of their own
-/// that the system has to clear.
+/// The size of a block that is given back before anything is read. The system's allocator (glibc, mallopt(3):
+/// M_MMAP_THRESHOLD) then takes blocks of up to this size from its heap, where what one file took serves the next step,
+/// in place of pages of their own that the system has to clear.
 const FIRST_BLOCK: usize = 1 << 24;
 
 /// Takes a block and gives it back, if there is room.

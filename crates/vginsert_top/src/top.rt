@@ -14,8 +14,9 @@ use vg_words::read_words;
 
 /// Does all that the program does, and answers its status.
 ///
-/// The words are those of the command line without the program's own name. What is asked for is read from `files`, written to
-/// `files` where mode `best` names outputs, and printed to `out`; a line on `err` tells of everything but a printed answer.
+/// The words are those of the command line without the program's own name. What is asked for is read from `files`,
+/// written to `files` where mode `best` names outputs, and printed to `out`; a line on `err` tells of everything but a
+/// printed answer.
 ///
 /// | status | comes |
 /// |---|---|
@@ -29,10 +30,11 @@ use vg_words::read_words;
 /// | 7 | out of memory |
 /// | 8 | mode `check`: it was printed, and tells that the certificate is not in its form or not valid |
 ///
-/// In mode `best` the netlist is written first, then the parasitics, then the certificate, where it is asked for and the net is not
-/// refused, and then the report is printed. A net without a cell keeps its part of both texts. After 3, 4, 5 and 7 nothing was printed, and no file was created or changed. After 6 the files that were finished before are
-/// whole, the one whose writing failed is as it was or holds a prefix of its text, and later ones are as they were. A fault of `err`
-/// never changes the status. Files that the words do not name as outputs stay.
+/// In mode `best` the netlist is written first, then the parasitics, then the certificate, where it is asked for and
+/// the net is not refused, and then the report is printed. A net without a cell keeps its part of both texts. After 3,
+/// 4, 5 and 7 nothing was printed, and no file was created or changed. After 6 the files that were finished before are
+/// whole, the one whose writing failed is as it was or holds a prefix of its text, and later ones are as they were. A
+/// fault of `err` never changes the status. Files that the words do not name as outputs stay.
 pub fn run<F: Files, O: Out, E: Out>(
     alloc: Global,
     words: &[String],
