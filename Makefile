@@ -3,11 +3,14 @@
 # checks a certificate of the design's worst net. Where the program is not built yet, they run it without a proof. `make test` is the merge gate.
 # `make cases` runs the case files of crates/tests_runs/data without a proof, `make cases WORDS=best/refused.case` one of them, and
 # `make cases WORDS='--print cases/best/refused.case'` prints it with what was found (see crates/tests_runs/data/FORMAT.md).
-.PHONY: build demo wire check cases test
+# `make pages` copies what the program of crates/tests_pages reads of the pages and examples into its data; the gate compares the copies.
+.PHONY: build demo wire check cases pages test
 
 OTHERS = --lib examples/soc.lib --cons examples/soc.cons
 DESIGN = --spef examples/soc.spef --verilog examples/soc.v $(OTHERS)
 WRITTEN = $(CURDIR)/out/soc
+PAGES = README.md docs/TUTORIAL.md docs/CERTIFICATES.md docs/vginsert.1 $(wildcard examples/*)
+COPIES = crates/tests_pages/data
 WORST = awk 'NR == 1 || $$4 < least { least = $$4; line = $$0 } END { print line }'
 
 build:
@@ -29,6 +32,9 @@ check:
 
 cases:
 	@cd crates/tests_runs && rt try --seconds 600 $$(find data -type f ! -name '*.md' -printf '--data %P=%p ') -- $(WORDS)
+
+pages:
+	@for page in $(PAGES); do mkdir -p "$(COPIES)/$$(dirname $$page)" && cp "$$page" "$(COPIES)/$$page"; done
 
 test:
 	rt ci

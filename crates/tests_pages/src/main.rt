@@ -17,7 +17,12 @@ use std::process::ExitCode;
 use vg_store::RealFiles;
 
 /// The pages, by their paths.
-const PAGES: [&str; 3] = ["README.md", "docs/CERTIFICATES.md", "examples/README.md"];
+const PAGES: [&str; 4] = [
+    "README.md",
+    "docs/TUTORIAL.md",
+    "docs/CERTIFICATES.md",
+    "examples/README.md",
+];
 
 /// The manual page.
 const MANUAL: &str = "docs/vginsert.1";
