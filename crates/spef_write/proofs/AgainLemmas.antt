@@ -6,7 +6,6 @@ use Rattle.std.specs.Option.{option_or, option_map}
 use Rattle.std.proofs.lemmas.Bool.{cases_lt, cases_Bool}
 use Rattle.std.proofs.lemmas.Bool.Decides.{nat_tests}
 use Rattle.std.proofs.lemmas.List.{length-map, get_or-map}
-use Rattle.std.proofs.lemmas.List.FromFn.{get_or-map-range_with_len, length-map-range_with_len}
 use Rattle.std.proofs.lemmas.List.Elements.{All-nil, All-cons, All-head, All-tail, All-weaker, All-append, All-map, All-push, Contains-get_or, Contains-append_left, Contains-append_right}
 use Rattle.std.proofs.lemmas.Option.{slice_get-get_or, slice_get-map}
 use Rattle.vg_scan.specs.declared.name.NodeName.{NodeName}
@@ -25,10 +24,11 @@ use Rattle.spef_net.specs.Nets.{IsResOf}
 use Rattle.spef_net.specs.Statements.{Stated}
 use Rattle.spef_net.specs.Rows.{joined_of, starred_of, connected_of, named_in}
 use Rattle.spef_net.specs.Denoted.{IsNet, described, all_nodes, conn_at, cap_at, res_at}
-use Rattle.spef_write.specs.Sections.{NO_NODE, node_at, total_at, sums, is_charged, charged, has_star}
+use Rattle.spef_write.specs.Sections.{NO_NODE, node_at, total_at, cap_nodes, sums, is_charged, charged, has_star}
 use Rattle.spef_write.specs.SectionLaws.{WrittenNetsAgain, names_of, is_named, said_conn, said_star, said_cap, said_res, said_by, opens, opened}
 use Rattle.spef_write.proofs.ChargeLemmas.{IsRowOf, rows_are}
 use Rattle.spef_write.proofs.NetLemmas.{conns_are, IsConnOf}
+use Rattle.spef_write.proofs.OnceLemmas.{cap_nodes_have, contains_filter, contains_later}
 use Rattle.spef_write.proofs.SaidLemmas.{row_name, conn_note, star_note, conn_row, cap_row, res_row, joined_said, starred_said, conns_said, caps_said, ress_said, connected_said, plain_said}
 use Rattle.spef_write.proofs.ClearLemmas.{one_node, conn_number, value_absent, StarAt, stars_at}
 
@@ -45,22 +45,6 @@ map_twice f g (x ∷ xs) = ap (λ ys. f (g x) ∷ ys) (map_twice f g xs)
 
 contains_map : {X Y : Type 0} (f : X → Y) (xs : List X) (x : X) → Contains xs x → Contains (map f xs) (f x)
 contains_map f xs x (k, l, e) = (k, omega (arith, l, length-map xs f), get_or-map f xs k x (f x) l ∙ ap f e)
-
-contains_later : {X : Type 0} (y : X) (xs : List X) (x : X) → Contains xs x → Contains (y ∷ xs) x
-contains_later y xs x (k, l, e) = (suc k, omega (arith, l), e)
-
-contains_filter : {X : Type 0} (p : X → Bool) (xs : List X) (x : X) → Contains xs x → p x ≡ true → Contains (filter p xs) x
-contains_filter p [] x (k, l, e) t = absurd (omega (arith, l))
-contains_filter p (y ∷ ys) x (zero, l, e) t = first (p y) (ap p e ∙ t)
-  where
-    first : (b : Bool) → b ≡ true → Contains (cond b (y ∷ filter p ys) (filter p ys)) x
-    first true h = (0, omega arith, e)
-    first false h = absurd (cc)
-contains_filter p (y ∷ ys) x (suc k, l, e) t = later (p y) (contains_filter p ys x (k, omega (arith, l), e) t)
-  where
-    later : (b : Bool) → Contains (filter p ys) x → Contains (cond b (y ∷ filter p ys) (filter p ys)) x
-    later true h = contains_later y (filter p ys) x h
-    later false h = h
 
 contains_flat : {X Y : Type 0} (f : X → List Y) (xs : List X) (x : X) (y : Y) → Contains xs x → Contains (f x) y → Contains (flat_map f xs) y
 contains_flat f [] x y (k, l, e) h = absurd (omega (arith, l))
@@ -170,7 +154,7 @@ module _ (net : ParNet) where
       one k l = All-cons (NameIn net) (node_at net.nodes k).name [] (record { at = k; within = l; is = refl }) (All-nil (NameIn net))
 
       rows_within : (k : ℕ) (d : ℕ × ℕ) → k < length (charged net) → (get_or (charged net) k d).0 < length net.nodes
-      rows_within k d l = (rows_are net.caps (length net.nodes) k d l).within
+      rows_within k d l = (rows_are net k d l).within
 
 -- ---- a node keeps its name and its note
 
@@ -353,14 +337,10 @@ module _ (net : ParNet) where
 
   by_charge : (k : ℕ) → k < length net.nodes → not (total_at net.caps k == 0) ≡ true → has_node (all_nodes net.name (said_by net)) (node_at net.nodes k).name ≡ true
   by_charge k l some =
-      let row : ℕ × ℕ = (k, total_at net.caps k) in
-      let all = sums (length net.nodes) net.caps in
-      let here : Contains all row = (
-        k,
-        omega (arith, l, length-map-range_with_len {X = ℕ × ℕ} (λ j. (j, total_at net.caps j)) 0 (length net.nodes)),
-        get_or-map-range_with_len (λ j. (j, total_at net.caps j)) 0 (length net.nodes) k k row l (omega arith),
-      ) in
-      named_by (said_cap net.nodes row) (node_at net.nodes k).name (said_cap_in row (contains_filter is_charged all row here some)) (0, omega arith, refl)
+      let row : ℕ → ℕ × ℕ = λ j. (j, total_at net.caps j) in
+      let here : Contains (sums net.caps) (row k) = contains_map row (cap_nodes net.caps) k (cap_nodes_have net.caps k some) in
+      named_by (said_cap net.nodes (row k)) (node_at net.nodes k).name
+      (said_cap_in (row k) (contains_filter is_charged (sums net.caps) (row k) here some)) (0, omega arith, refl)
 
   by_resistor : (k : ℕ) → list_any (λ (res : ℕ × ℕ × ℕ). (res.0 == k) || (res.1 == k)) net.ress ≡ true → has_node (all_nodes net.name (said_by net)) (node_at net.nodes k).name ≡ true
   by_resistor k e =
@@ -433,7 +413,7 @@ module _ (net other : ParNet) (is : IsNet net.name false (said_by net) other) wh
       ∙ map_agree (λ cap. row (cap_row net.nodes cap)) (cap_at (names_of net.nodes)) (charged net)
       (All-weaker (IsRowOf net.caps (length net.nodes)) (λ cap. row (cap_row net.nodes cap) ≡ cap_at (names_of net.nodes) cap)
       (λ cap at. ap (λ o. (o, cap.1)) (sym (name_at net cap.0 at.within)))
-      (charged net) (rows_are net.caps (length net.nodes)))
+      (charged net) (rows_are net))
 
   again_ress : map (res_at (names_of other.nodes)) other.ress ≡ map (res_at (names_of net.nodes)) net.ress
   again_ress =

@@ -3,12 +3,14 @@ use Rattle.std.proofs.Common.{◌≡◌, ◌≢◌, ℕ, ◌+◌, ◌<◌, ◌�
 use Rattle.std.proofs.lemmas.Bool.{cases_eq, eq-eqb}
 use Rattle.std.proofs.lemmas.Bool.Decides.{nat_tests}
 use Rattle.std.proofs.lemmas.List.{length-set, length-replicate, get_or-replicate, get_or-set_same, get_or-set_other}
-use Rattle.std.proofs.lemmas.List.Elements.{All-from_get_or, All-filter, filter_more}
-use Rattle.std.proofs.lemmas.List.FromFn.{get_or-map-range_with_len, length-map-range_with_len}
+use Rattle.std.proofs.lemmas.List.Elements.{All-filter, All-map, All-weaker, filter_more}
 use Rattle.std.proofs.lemmas.List.Sums.{sum_by-cons, sum_by-append, sum_by_more_le}
 use Rattle.std.specs.List.{All, sum_by}
-use Rattle.spef_write.specs.Sections.{total, total_at, is_charged, sums}
+use Rattle.spef_net.specs.Nets.{IsCapOf}
+use Rattle.spef_net.specs.declared.net.ParNet.{ParNet}
+use Rattle.spef_write.specs.Sections.{cap_nodes, charged, total, total_at, is_charged, sums}
 use Rattle.spef_write.specs.Charges.{AreSums}
+use Rattle.spef_write.proofs.OnceLemmas.{cap_nodes_all}
 
 -- no capacitors
 pub none_summed : (count : ℕ) (sums : List ℕ) → sums ≡ replicate count 0 → AreSums count [] sums
@@ -76,16 +78,20 @@ one_summed count caps sums i d l in_range is = record {
         ∙ is.each k h
         ∙ sym (total_at_more caps i k d l ∙ ap (λ t. total_at (take i caps) k + cond t cap.1 0) none ∙ (let z : total_at (take i caps) k + 0 ≡ total_at (take i caps) k = omega arith in z))
 
+-- the nodes of a net's capacitors are nodes of the net
+pub cap_nodes_low : (net : ParNet) → All (λ k. k < length net.nodes) (cap_nodes net.caps)
+cap_nodes_low net =
+    cap_nodes_all (λ k. k < length net.nodes) net.caps
+    (All-weaker (IsCapOf (length net.nodes)) (λ cap. cap.0 < length net.nodes) (λ cap is. is.0) net.caps net.sound.caps_at)
+
 -- each row is of a node, and has what is there
 pub record IsRowOf (caps : List (ℕ × ℕ)) (count : ℕ) (row : ℕ × ℕ) : Type 0 where
   pub within : row.0 < count
   pub sum : row.1 ≡ total_at caps row.0
 
-pub rows_are : (caps : List (ℕ × ℕ)) (n : ℕ) → All (IsRowOf caps n) (filter is_charged (sums n caps))
-rows_are caps n =
-    All-filter is_charged (IsRowOf caps n) (sums n caps) (All-from_get_or (IsRowOf caps n) (sums n caps) (0, 0) (λ i l. row i (omega (arith, l, length-map-range_with_len {X = ℕ × ℕ} (λ k. (k, total_at caps k)) 0 n))))
-  where
-    row : (i : ℕ) → i < n → IsRowOf caps n (get_or (sums n caps) i (0, 0))
-    row i l =
-        let e : get_or (sums n caps) i (0, 0) ≡ (i, total_at caps i) = get_or-map-range_with_len (λ k. (k, total_at caps k)) 0 n i i (0, 0) l (omega arith) in
-        rw e (record { within = l; sum = refl })
+pub rows_are : (net : ParNet) → All (IsRowOf net.caps (length net.nodes)) (charged net)
+rows_are net =
+    All-filter is_charged (IsRowOf net.caps (length net.nodes)) (sums net.caps)
+    (All-map (IsRowOf net.caps (length net.nodes)) (λ k. (k, total_at net.caps k)) (cap_nodes net.caps)
+    (All-weaker (λ k. k < length net.nodes) (λ k. IsRowOf net.caps (length net.nodes) (k, total_at net.caps k)) (λ k l. record { within = l; sum = refl })
+    (cap_nodes net.caps) (cap_nodes_low net)))

@@ -8,6 +8,7 @@ pub mod NoteLemmas
 pub mod LineLemmas
 pub mod Example
 pub mod PrintLemmas
+pub mod OnceLemmas
 pub mod ChargeLemmas
 pub mod NetLemmas
 pub mod SayLemmas

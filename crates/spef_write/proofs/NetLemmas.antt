@@ -1,19 +1,20 @@
 -- What the type of a net keeps, as its section needs it.
-use Rattle.std.proofs.Common.{◌≡◌, ℕ, ◌<◌, ◌≤◌, ◌^◌, true, false, List, length, ap, ◌∙◌, arith}
-use Rattle.std.proofs.lemmas.List.Elements.{All-get_or, All-weaker}
-use Rattle.std.proofs.lemmas.List.FromFn.{length-map-range_with_len}
+use Rattle.std.proofs.Common.{◌≡◌, ℕ, ◌<◌, ◌≤◌, ◌^◌, true, false, List, length, map, ap, ◌∙◌, arith}
+use Rattle.std.proofs.lemmas.List.{length-map}
+use Rattle.std.proofs.lemmas.List.Elements.{All-get_or, All-map, All-weaker}
 use Rattle.std.proofs.lemmas.List.Sums.{length-filter, count_by-le-length}
 use Rattle.std.proofs.lemmas.Option.{slice_get-get_or, slice_get_within}
 use Rattle.std.specs.List.{All}
 use Rattle.spef_nodes.specs.Nodes.{ParNode}
 use Rattle.spef_net.specs.declared.net.ParConn.{ParConn}
 use Rattle.spef_net.specs.declared.net.ParNet.{ParNet}
-use Rattle.spef_net.specs.Nets.{IsNamed, IsNote, IsEnd}
+use Rattle.spef_net.specs.Nets.{IsCapOf, IsNamed, IsNote, IsEnd}
 use Rattle.spef_net.specs.Statements.{is_at}
 use Rattle.spef_net.proofs.JoinedLemmas.{all_from}
-use Rattle.spef_write.specs.Sections.{NO_NODE, node_at, total, total_at, is_charged, sums, charged}
+use Rattle.spef_write.specs.Sections.{NO_NODE, node_at, total, total_at, is_charged, cap_nodes, sums, charged}
 use Rattle.spef_write.specs.Texts.{IsNodePrintable}
 use Rattle.spef_write.proofs.ChargeLemmas.{IsRowOf, rows_are, total_at-le}
+use Rattle.spef_write.proofs.OnceLemmas.{once_few}
 
 pub node_printable : (net : ParNet) (k : ℕ) → k < length net.nodes → IsNodePrintable (node_at net.nodes k).name
 node_printable net k l =
@@ -49,14 +50,17 @@ pub charges_are : (net : ParNet) → total net.caps ≤ 10 ^ 15 → All (IsCharg
 charges_are net few =
     All-weaker (IsRowOf net.caps (length net.nodes)) (IsChargeOf net.nodes)
     (λ row is. record { within = is.within; small = omega (arith, is.sum, total_at-le net.caps row.0, few) })
-    (charged net) (rows_are net.caps (length net.nodes))
+    (charged net) (rows_are net)
 
 -- at most one charge for each node
 pub charged_few : (net : ParNet) → length (charged net) ≤ length net.nodes
 charged_few net =
     omega (
       arith,
-      length-filter is_charged (sums (length net.nodes) net.caps),
-      count_by-le-length is_charged (sums (length net.nodes) net.caps),
-      length-map-range_with_len {X = ℕ × ℕ} (λ k. (k, total_at net.caps k)) 0 (length net.nodes),
+      length-filter is_charged (sums net.caps),
+      count_by-le-length is_charged (sums net.caps),
+      length-map {B = ℕ × ℕ} (cap_nodes net.caps) (λ k. (k, total_at net.caps k)),
+      once_few (length net.nodes) (map (λ (cap : ℕ × ℕ). cap.0) net.caps)
+          (All-map (λ k. k < length net.nodes) (λ (cap : ℕ × ℕ). cap.0) net.caps
+          (All-weaker (IsCapOf (length net.nodes)) (λ cap. cap.0 < length net.nodes) (λ cap is. is.0) net.caps net.sound.caps_at)),
     )

@@ -1,7 +1,7 @@
 -- The section of a net, and the parts of which it is made.
 use Rattle.std.proofs.Common.{◌≡◌, ℕ, zero, suc, ◌+◌, ◌<◌, Bool, true, false, cond, List, [], ◌∷◌, ◌++◌, length, get_or, map, filter, codes, refl, sym, subst, ap, ◌∙◌, arith, append_assoc}
 use Rattle.std.specs.Prelude.{unsigned_abs}
-use Rattle.std.specs.List.{All, range_with_len}
+use Rattle.std.specs.List.{All}
 use Rattle.std.specs.Fmt.{decimal}
 use Rattle.std.proofs.lemmas.List.Elements.{All-weaker}
 use Rattle.vg_num.specs.Printed.{scaled_text}
@@ -13,11 +13,12 @@ use Rattle.spef_net.specs.declared.net.ParNet.{ParNet}
 use Rattle.spef_net.specs.Nets.{IsResOf}
 use Rattle.spef_net.proofs.NetLemmas.{conns_within}
 use Rattle.vg_scan.specs.Printed.{IsPrintable}
-use Rattle.spef_write.specs.Sections.{cap_lines, cap_text, charged, conn_line_of, conn_lines, has_star, head_line, headed, inner_lines, is_charged, node_at, numbered, res_lines, res_text, section_text, star_line_of, star_lines, total_at}
+use Rattle.spef_write.specs.Sections.{cap_lines, cap_nodes, cap_text, charged, conn_line_of, conn_lines, has_star, head_line, headed, inner_lines, is_charged, node_at, numbered, res_lines, res_text, section_text, star_line_of, star_lines, total_at}
 use Rattle.spef_write.specs.Texts.{conn_tag, direction_word, ended, lined, noted, printed_node, spaced}
 use Rattle.spef_write.specs.Printed.{PrintedNode, cap_row, cap_rows, conn_row, head_row, is_loaded, is_starred, printed_all, printed_at, printed_of, res_row, res_rows, star_row, star_rows}
 use Rattle.spef_write.specs.Made.{IsSectionOf}
 use Rattle.spef_write.specs.declared.section.Section.{Section}
+use Rattle.spef_write.proofs.ChargeLemmas.{cap_nodes_low}
 use Rattle.spef_write.proofs.PrintLemmas.{parts_printed, section_lined}
 
 pub printed_none : (chars : Chars) (caps : List (ℕ × ℕ)) (k : ℕ) → printed_all chars caps k [] ≡ []
@@ -76,6 +77,12 @@ map_same : {X : Type 0} (f g : X → List ℕ) (xs : List X) → All (λ x. f x 
 map_same f g [] same = refl
 map_same f g (x ∷ xs) same = ap (λ l. l ∷ map f xs) (same 0 x (omega arith)) ∙ ap (λ ls. g x ∷ ls) (map_same f g xs (λ i d low. same (suc i) d (omega (arith, low))))
 
+rows_same : (f g : ℕ → PrintedNode) (ks : List ℕ) → All (λ k. f k ≡ g k) ks → map f ks ≡ map g ks
+rows_same f g [] same = refl
+rows_same f g (k ∷ ks) same =
+    ap (λ (row : PrintedNode). row ∷ map f ks) (same 0 k (omega arith))
+    ∙ ap (λ (rows : List PrintedNode). g k ∷ rows) (rows_same f g ks (λ i d low. same (suc i) d (omega (arith, low))))
+
 numbered_same : {X : Type 0} (f g : ℕ → X → List ℕ) (n : ℕ) (xs : List X) → All (λ x. (id : ℕ) → f id x ≡ g id x) xs → numbered f n xs ≡ numbered g n xs
 numbered_same f g n [] same = refl
 numbered_same f g n (x ∷ xs) same =
@@ -121,42 +128,41 @@ stars_same chars caps k (node ∷ nodes) = either (has_star node) (stars_same ch
     either true e = ap (λ ls. star_line_of chars node ∷ ls) e
     either false e = e
 
--- the capacitances of the nodes from k on
-charges_from : (header : Header) (caps : List (ℕ × ℕ)) (all : List ParNode) (n k : ℕ) (nodes : List ParNode) → ((i : ℕ) → i < length nodes → node_at all (k + i) ≡ node_at nodes i)
-    → numbered (cap_row header) n (filter is_loaded (printed_all header.chars caps k nodes))
-    ≡ numbered (cap_text header all) n (filter is_charged (map (λ i. (i, total_at caps i)) (range_with_len k (length nodes))))
-unfolding printed_all
-charges_from header caps all n k [] same = refl
-charges_from header caps all n k (node ∷ nodes) same =
-    either (is_charged (k, total_at caps k)) (λ m. charges_from header caps all m (k + 1) nodes (λ i low.
-    let next : k + 1 + i ≡ k + suc i = omega arith in
-    ap (node_at all) next ∙ same (suc i) (omega (arith, low))))
-  where
-    rows : List PrintedNode
-    rows = filter is_loaded (printed_all header.chars caps (k + 1) nodes)
+-- the capacitances of the net's capacitors, at their nodes
+module _ (header : Header) (net : ParNet) where
+  abbrev printed_row : ℕ → PrintedNode
+  printed_row k = printed_of header.chars (node_at net.nodes k) (total_at net.caps k)
 
-    charges : List (ℕ × ℕ)
-    charges = filter is_charged (map (λ i. (i, total_at caps i)) (range_with_len (k + 1) (length nodes)))
+  charges_same : (n : ℕ) (ks : List ℕ) → numbered (cap_row header) n (filter is_loaded (map printed_row ks))
+      ≡ numbered (cap_text header net.nodes) n (filter is_charged (map (λ k. (k, total_at net.caps k)) ks))
+  charges_same n [] = refl
+  charges_same n (k ∷ ks) = either (is_charged (k, total_at net.caps k)) (λ m. charges_same m ks)
+    where
+      rows : List PrintedNode
+      rows = filter is_loaded (map printed_row ks)
 
-    name : printed_node header.chars node.name ≡ printed_node header.chars (node_at all k).name
-    name =
-        let here : k + 0 ≡ k = omega arith in
-        ap (λ (at : ParNode). printed_node header.chars at.name) (sym (same 0 (omega arith)) ∙ ap (node_at all) here)
+      charges : List (ℕ × ℕ)
+      charges = filter is_charged (map (λ j. (j, total_at net.caps j)) ks)
 
-    either : (t : Bool) → ((m : ℕ) → numbered (cap_row header) m rows ≡ numbered (cap_text header all) m charges)
-        → numbered (cap_row header) n (cond t (printed_of header.chars node (total_at caps k) ∷ rows) rows)
-        ≡ numbered (cap_text header all) n (cond t ((k, total_at caps k) ∷ charges) charges)
-    either true later =
-        let value = scaled_text (total_at caps k) (unsigned_abs header.c_places) in
-        ap (λ word. spaced (decimal n ∷ word ∷ value ∷ []) ∷ numbered (cap_row header) (n + 1) rows) name
-        ∙ ap (λ ls. cap_text header all n (k, total_at caps k) ∷ ls) (later (n + 1))
-    either false later = later n
+      either : (t : Bool) → ((m : ℕ) → numbered (cap_row header) m rows ≡ numbered (cap_text header net.nodes) m charges)
+          → numbered (cap_row header) n (cond t (printed_row k ∷ rows) rows)
+          ≡ numbered (cap_text header net.nodes) n (cond t ((k, total_at net.caps k) ∷ charges) charges)
+      either true later = ap (λ ls. cap_text header net.nodes n (k, total_at net.caps k) ∷ ls) (later (n + 1))
+      either false later = later n
 
-pub caps_same : (header : Header) (net : ParNet)
-    → cap_rows header (printed_all header.chars net.caps 0 net.nodes) ≡ headed (codes "*CAP") (numbered (cap_text header net.nodes) 1 (charged net))
-caps_same header net =
-    ap (headed (codes "*CAP"))
-    (charges_from header net.caps net.nodes 1 0 net.nodes (λ i low. let here : 0 + i ≡ i = omega arith in ap (node_at net.nodes) here))
+  pub caps_same : cap_rows header (map (printed_at (printed_all header.chars net.caps 0 net.nodes)) (cap_nodes net.caps))
+      ≡ headed (codes "*CAP") (numbered (cap_text header net.nodes) 1 (charged net))
+  caps_same =
+      ap (cap_rows header)
+      (rows_same (printed_at (printed_all header.chars net.caps 0 net.nodes)) printed_row (cap_nodes net.caps)
+      (All-weaker (λ k. k < length net.nodes) (λ k. printed_at (printed_all header.chars net.caps 0 net.nodes) k ≡ printed_row k) row_is
+      (cap_nodes net.caps) (cap_nodes_low net)))
+      ∙ ap (headed (codes "*CAP")) (charges_same 1 (cap_nodes net.caps))
+    where
+      row_is : (k : ℕ) → k < length net.nodes → printed_at (printed_all header.chars net.caps 0 net.nodes) k ≡ printed_row k
+      row_is k low =
+          let at : 0 + k ≡ k = omega arith in
+          printed_is header.chars net.caps 0 net.nodes k low ∙ ap (λ n. printed_of header.chars (node_at net.nodes k) (total_at net.caps n)) at
 
 -- ---- the section
 
@@ -179,10 +185,14 @@ module _ (chars : Chars) (net : ParNet) (section : Section) (is : IsSectionOf ch
       subst (λ n. All (λ (res : ℕ × ℕ × ℕ). (res.0 < n) × (res.1 < n)) section.ress.now) count
       (subst (All (λ (res : ℕ × ℕ × ℕ). (res.0 < length net.nodes) × (res.1 < length net.nodes))) (sym is.ress) (ress_within net))
 
+  pub cap_nodes_within : All (λ k. k < length section.nodes.now) section.cap_nodes.now
+  cap_nodes_within =
+      subst (λ n. All (λ k. k < n) section.cap_nodes.now) count (subst (All (λ k. k < length net.nodes)) (sym is.cap_nodes) (cap_nodes_low net))
+
 -- the texts of the parts, one behind the other, are the section
 pub parts_are : (header : Header) (net : ParNet) (section : Section) → IsSectionOf header.chars net section → (old : List ℕ)
     → ((((((old ++ ended (head_row header section.name.now section.charge)) ++ ended (codes "*CONN")) ++ lined (map (conn_row section.nodes.now) section.conns.now))
-    ++ lined (star_rows section.nodes.now)) ++ lined (cap_rows header section.nodes.now)) ++ lined (res_rows header section.nodes.now section.ress.now)) ++ codes "*END"
+    ++ lined (star_rows section.nodes.now)) ++ lined (cap_rows header (map (printed_at section.nodes.now) section.cap_nodes.now))) ++ lined (res_rows header section.nodes.now section.ress.now)) ++ codes "*END"
     ≡ old ++ section_text header net
 parts_are header net section is old =
     let rows = printed_all header.chars net.caps 0 net.nodes in
@@ -192,7 +202,9 @@ parts_are header net section is old =
     = ap (λ nodes. map (conn_row nodes) section.conns.now) is.nodes ∙ ap (map (conn_row rows)) is.conns
     ∙ conns_same header net.caps net.nodes net.conns (conns_within net) in
     let stars : star_rows section.nodes.now ≡ star_lines header.chars net.nodes = ap star_rows is.nodes ∙ stars_same header.chars net.caps 0 net.nodes in
-    let caps : cap_rows header section.nodes.now ≡ cap_lines header net.nodes (charged net) = ap (cap_rows header) is.nodes ∙ caps_same header net in
+    let caps : cap_rows header (map (printed_at section.nodes.now) section.cap_nodes.now) ≡ cap_lines header net.nodes (charged net)
+    = ap (λ nodes. cap_rows header (map (printed_at nodes) section.cap_nodes.now)) is.nodes
+    ∙ ap (λ ks. cap_rows header (map (printed_at rows) ks)) is.cap_nodes ∙ caps_same header net in
     let ress : res_rows header section.nodes.now section.ress.now ≡ res_lines header net.nodes net.ress
     = ap (λ nodes. res_rows header nodes section.ress.now) is.nodes ∙ ap (res_rows header rows) is.ress
     ∙ ress_same header net.caps net.nodes net.ress (ress_within net) in
@@ -204,7 +216,7 @@ parts_are header net section is old =
     let k = cap_lines header net.nodes (charged net) in
     let r = res_lines header net.nodes net.ress in
     let same : whole (head_row header section.name.now section.charge) (map (conn_row section.nodes.now) section.conns.now) (star_rows section.nodes.now)
-    (cap_rows header section.nodes.now) (res_rows header section.nodes.now section.ress.now) ≡ whole h c s k r
+    (cap_rows header (map (printed_at section.nodes.now) section.cap_nodes.now)) (res_rows header section.nodes.now section.ress.now) ≡ whole h c s k r
     = λ i. whole (heads i) (conns i) (stars i) (caps i) (ress i) in
     same
     ∙ ap (λ xs. xs ++ codes "*END")

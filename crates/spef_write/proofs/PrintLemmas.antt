@@ -1,8 +1,7 @@
 -- Texts that are printed piece by piece, and lists of lines that grow.
-use Rattle.std.proofs.Common.{◌≡◌, ◌≢◌, ℕ, zero, suc, ◌+◌, ◌<◌, ◌≤◌, true, false, cond, List, [], ◌∷◌, ◌++◌, map, filter, codes, refl, sym, ap, ◌∙◌, arith, length, take, get_or}
+use Rattle.std.proofs.Common.{◌≡◌, ◌≢◌, ℕ, zero, suc, ◌+◌, ◌<◌, true, false, cond, List, [], ◌∷◌, ◌++◌, map, filter, codes, refl, sym, ap, ◌∙◌, arith, length, take, get_or}
 use Rattle.std.proofs.lemmas.List.{append-nil, append_assoc, length-take, length_push, take_more, map-append, map_more, flat_map_more}
 use Rattle.std.proofs.lemmas.List.Elements.{filter-append, filter_more}
-use Rattle.std.proofs.lemmas.List.Sums.{length-filter, count_by-le-length}
 use Rattle.vg_scan.specs.declared.chars.Chars.{Chars}
 use Rattle.spef_file.specs.declared.header.Header.{Header}
 use Rattle.spef_write.specs.Printed.{PrintedNode, behind, cap_row, cap_rows, is_loaded, is_starred, star_row, star_rows}
@@ -81,15 +80,19 @@ headed_more line head (y ∷ ys) x =
     ap (λ ls. head ∷ line 1 y ∷ ls) (numbered_push line 2 ys x (length (y ∷ ys) + 1) (omega arith))
 
 -- one node more, with the line of its capacitance if it has one
-pub caps_more : (header : Header) (start : List ℕ) (nodes : List PrintedNode) (i : ℕ) (d : PrintedNode) → i < length nodes → is_loaded (get_or nodes i d) ≡ true
+loaded_more : (nodes : List PrintedNode) (i : ℕ) (d node : PrintedNode) → i < length nodes → get_or nodes i d ≡ node
+    → filter is_loaded (take (i + 1) nodes) ≡ filter is_loaded (take i nodes) ++ cond (is_loaded node) (node ∷ []) []
+loaded_more nodes i d node low is =
+    filter_more is_loaded nodes i d low ∙ ap (λ (n : PrintedNode). filter is_loaded (take i nodes) ++ cond (is_loaded n) (n ∷ []) []) is
+
+pub caps_more : (header : Header) (start : List ℕ) (nodes : List PrintedNode) (i : ℕ) (d node : PrintedNode) → i < length nodes → get_or nodes i d ≡ node → is_loaded node ≡ true
     → (start ++ lined (cap_rows header (take i nodes)))
-    ++ lined (behind (length (filter is_loaded (take i nodes))) (codes "*CAP") (cap_row header (length (filter is_loaded (take i nodes)) + 1) (get_or nodes i d)))
+    ++ lined (behind (length (filter is_loaded (take i nodes))) (codes "*CAP") (cap_row header (length (filter is_loaded (take i nodes)) + 1) node))
     ≡ start ++ lined (cap_rows header (take (i + 1) nodes))
-caps_more header start nodes i d low loaded =
+caps_more header start nodes i d node low is loaded =
     let before = filter is_loaded (take i nodes) in
-    let node = get_or nodes i d in
     let more : filter is_loaded (take (i + 1) nodes) ≡ before ++ node ∷ []
-    = filter_more is_loaded nodes i d low ∙ ap (λ t. before ++ cond t (node ∷ []) []) loaded in
+    = loaded_more nodes i d node low is ∙ ap (λ t. before ++ cond t (node ∷ []) []) loaded in
     append_assoc start (lined (cap_rows header (take i nodes))) (lined (behind (length before) (codes "*CAP") (cap_row header (length before + 1) node)))
     ∙ ap (λ ls. start ++ ls)
     (sym (lined_append (cap_rows header (take i nodes)) (behind (length before) (codes "*CAP") (cap_row header (length before + 1) node)))
@@ -106,27 +109,17 @@ pub other_behind : (count : ℕ) (old head line : List ℕ) → count ≢ 0 → 
 other_behind zero old head line some = absurd (some refl)
 other_behind (suc n) old head line some = ap (λ xs. old ++ xs) (sym (append-nil (ended line)))
 
-pub count_more : (nodes : List PrintedNode) (i : ℕ) (d : PrintedNode) → i < length nodes → is_loaded (get_or nodes i d) ≡ true
+pub count_more : (nodes : List PrintedNode) (i : ℕ) (d node : PrintedNode) → i < length nodes → get_or nodes i d ≡ node → is_loaded node ≡ true
     → length (filter is_loaded (take (i + 1) nodes)) ≡ length (filter is_loaded (take i nodes)) + 1
-count_more nodes i d low loaded =
+count_more nodes i d node low is loaded =
     let before = filter is_loaded (take i nodes) in
-    let node = get_or nodes i d in
-    ap length (filter_more is_loaded nodes i d low ∙ ap (λ t. before ++ cond t (node ∷ []) []) loaded) ∙ length_push before node
+    ap length (loaded_more nodes i d node low is ∙ ap (λ t. before ++ cond t (node ∷ []) []) loaded) ∙ length_push before node
 
-pub none_more : (nodes : List PrintedNode) (i : ℕ) (d : PrintedNode) → i < length nodes → is_loaded (get_or nodes i d) ≡ false
+pub none_more : (nodes : List PrintedNode) (i : ℕ) (d node : PrintedNode) → i < length nodes → get_or nodes i d ≡ node → is_loaded node ≡ false
     → filter is_loaded (take (i + 1) nodes) ≡ filter is_loaded (take i nodes)
-none_more nodes i d low empty =
+none_more nodes i d node low is empty =
     let before = filter is_loaded (take i nodes) in
-    filter_more is_loaded nodes i d low ∙ ap (λ t. before ++ cond t (get_or nodes i d ∷ []) []) empty ∙ append-nil before
-
-pub count_few : (nodes : List PrintedNode) (i : ℕ) → length (filter is_loaded (take i nodes)) ≤ i
-count_few nodes i =
-    omega (
-      arith,
-      length-filter is_loaded (take i nodes),
-      count_by-le-length is_loaded (take i nodes),
-      length-take i nodes,
-    )
+    loaded_more nodes i d node low is ∙ ap (λ t. before ++ cond t (node ∷ []) []) empty ∙ append-nil before
 
 -- a part with its head, which is left out where there are no rows
 pub part_printed : {X : Type 0} (line : ℕ → X → List ℕ) (old head : List ℕ) (xs : List X) → 0 < length xs

@@ -59,6 +59,7 @@ is_loaded node = not (node.charge == 0)
 abbrev pub cap_row : Header → ℕ → PrintedNode → List ℕ
 cap_row header id node = spaced (decimal id ∷ node.name ∷ scaled_text node.charge (unsigned_abs header.c_places) ∷ [])
 
+-- the lines of these nodes, in their order
 abbrev pub cap_rows : Header → List PrintedNode → List (List ℕ)
 cap_rows header nodes = headed (codes "*CAP") (numbered (cap_row header) 1 (filter is_loaded nodes))
 

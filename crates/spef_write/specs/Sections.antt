@@ -1,6 +1,5 @@
 -- The section of a net, as it is written. Source: IEEE Std 1481, the sections of `*D_NET`.
 use Rattle.std.specs.Prelude.{◌≡◌, ℕ, ◌+◌, ◌==◌, ◌≤◌, ◌<◌, ◌^◌, ◌&&◌, not, Bool, false, List, [], ◌∷◌, ◌++◌, length, map, filter, sum_by, slice_index_or, unsigned_abs, codes}
-use Rattle.std.specs.List.{range_with_len}
 use Rattle.std.specs.Fmt.{decimal}
 use Rattle.vg_num.specs.Printed.{scaled_text}
 use Rattle.vg_scan.specs.declared.chars.Chars.{Chars}
@@ -31,13 +30,22 @@ total_at caps k = total (filter (λ cap. cap.0 == k) caps)
 abbrev pub is_charged : ℕ × ℕ → Bool
 is_charged row = not (row.1 == 0)
 
--- each node, with the capacitance there
-abbrev pub sums : ℕ → List (ℕ × ℕ) → List (ℕ × ℕ)
-sums count caps = map (λ k. (k, total_at caps k)) (range_with_len 0 count)
+-- each number once, where it comes first
+abbrev pub each_once : List ℕ → List ℕ
+each_once [] = []
+each_once (k ∷ ks) = k ∷ filter (λ j. not (k == j)) (each_once ks)
 
--- the nodes with a capacitance, each with its own, in the order of the nodes
+-- the nodes that capacitors name, in the order in which they name them first
+abbrev pub cap_nodes : List (ℕ × ℕ) → List ℕ
+cap_nodes caps = each_once (map (λ cap. cap.0) caps)
+
+-- each of these nodes, with the capacitance there
+abbrev pub sums : List (ℕ × ℕ) → List (ℕ × ℕ)
+sums caps = map (λ k. (k, total_at caps k)) (cap_nodes caps)
+
+-- the nodes with a capacitance, each with its own, in the order of the net's capacitors
 abbrev pub charged : ParNet → List (ℕ × ℕ)
-charged net = filter is_charged (sums (length net.nodes) net.caps)
+charged net = filter is_charged (sums net.caps)
 
 -- lines with numbers that count from n on
 abbrev pub numbered : {X : Type 0} → (ℕ → X → List ℕ) → ℕ → List X → List (List ℕ)

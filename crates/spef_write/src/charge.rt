@@ -3,7 +3,7 @@
 ghost use Rattle.std.specs.Prelude.{◌≡◌, ◌≤◌, ◌^◌, nat_le, IfOk};
 ghost use Rattle.std.specs.List.{All};
 ghost use Rattle.spef_net.specs.Nets.{IsCapOf};
-ghost use Rattle.spef_write.specs.Sections.{total};
+ghost use Rattle.spef_write.specs.Sections.{cap_nodes, total};
 ghost use Rattle.spef_write.specs.Charges.{AreSums};
 
 use spef_net::ParNet;
@@ -50,4 +50,26 @@ pub fn sums(alloc: Global, count: usize, caps: &[(u32, u64)]) -> Result<Vec<u64>
         sums[cap.0 as usize] += cap.1;
     }
     Ok(sums)
+}
+
+/// The nodes that capacitors name, each once, in the order in which they name them first. Answers `Memory` where there
+/// is no room.
+pub(crate) fn cap_nodes(
+    alloc: Global,
+    count: usize,
+    caps: &[(u32, u64)],
+) -> Result<Vec<u32>, Memory>
+    requires { All (IsCapOf count) caps.now }
+    ensures { IfOk result (λ nodes. nodes.items ≡ cap_nodes caps.now) }
+{
+    let mut named = vec![in alloc; false; count]?;
+    let mut nodes = Vec::new(alloc);
+    'cap: for cap in caps {
+        let at = cap.0 as usize;
+        if !named[at] {
+            named[at] = true;
+            nodes.push(cap.0)?;
+        }
+    }
+    Ok(nodes)
 }

@@ -12,6 +12,9 @@ pub struct Section<'a> {
     pub charge: u64,
     pub nodes: &'a Printed,
     pub conns: &'a [ParConn],
+    /// The nodes of the capacitors, each once, in the order in which their lines stand. One without a capacitance has
+    /// no line.
+    pub cap_nodes: &'a [u32],
     /// Two nodes, and the resistance between them (mΩ).
     pub ress: &'a [(u32, u32, u64)],
 }

@@ -9,7 +9,7 @@ ghost use Rattle.spef_write.specs.Printed.{behind, cap_row, cap_rows, conn_row, 
 ghost use Rattle.spef_write.specs.Sections.{numbered, section_text, total};
 ghost use Rattle.spef_write.specs.Texts.{lined};
 
-use crate::charge::{charge_of, sums};
+use crate::charge::{cap_nodes, charge_of, sums};
 use crate::line::{print_cap, print_conn, print_head, print_res, print_star};
 use crate::printed::{NodeText, Printed};
 use crate::section::Section;
@@ -62,8 +62,7 @@ fn print_next_cap(
     to: &mut Vec<u8>,
 ) -> Result<(), Memory>
     requires at { at < length nodes.now }
-    requires count { count ≤ at }
-    requires few { length nodes.now < 2 ^ 64 }
+    requires few { count + 1 < 2 ^ 64 }
     ensures { OnOk result (to.new.items ≡ to.old.items ++ lined (behind count (codes "*CAP") (cap_row header.now (count + 1) (printed_at nodes.now at)))) }
 {
     if count == 0 {
@@ -73,12 +72,20 @@ fn print_next_cap(
     Ok(())
 }
 
-/// Prints the part of the capacitances, if there is one: their lines have numbers from 1 on.
-fn print_caps(nodes: &Printed, header: &Header, to: &mut Vec<u8>) -> Result<(), Memory>
-    ensures { OnOk result (to.new.items ≡ to.old.items ++ lined (cap_rows header.now nodes.now)) }
+/// Prints the part of the capacitances of these nodes, in their order, if there is one: its lines have numbers from 1
+/// on.
+fn print_caps(
+    nodes: &Printed,
+    cap_nodes: &[u32],
+    header: &Header,
+    to: &mut Vec<u8>,
+) -> Result<(), Memory>
+    requires { All (λ k. k < length nodes.now) cap_nodes.now }
+    ensures { OnOk result (to.new.items ≡ to.old.items ++ lined (cap_rows header.now (map (printed_at nodes.now) cap_nodes.now))) }
 {
     let mut count = 0usize;
-    'node: for at in 0..nodes.len() {
+    'node: for i in 0..cap_nodes.len() {
+        let at = cap_nodes[i] as usize;
         if nodes.charge(at) != 0 {
             print_next_cap(nodes, at, count, header, to)?;
             count += 1;
@@ -121,9 +128,8 @@ fn print_ress(
     Ok(())
 }
 
-/// Appends the section of the net that has these parts, without a newline behind its end. Answers `Memory` where there
-/// is no room.
-pub fn write_section(section: &Section<'_>, header: &Header, to: &mut Vec<u8>) -> Result<(), Memory>
+/// Prints the section of the net that has these parts, without a newline behind its end.
+fn print_section(section: &Section<'_>, header: &Header, to: &mut Vec<u8>) -> Result<(), Memory>
     requires { (net : ParNet) × IsSectionOf header.now.chars net section.now }
     ensures { OnOk result ((net : ParNet) → IsSectionOf header.now.chars net section.now → to.new.items ≡ to.old.items ++ section_text header.now net) }
 {
@@ -132,9 +138,29 @@ pub fn write_section(section: &Section<'_>, header: &Header, to: &mut Vec<u8>) -
     to.extend_from_slice(b"*CONN\n")?;
     print_conns(nodes, section.conns, to)?;
     print_stars(nodes, to)?;
-    print_caps(nodes, header, to)?;
+    print_caps(nodes, section.cap_nodes, header, to)?;
     print_ress(nodes, section.ress, header, to)?;
     to.extend_from_slice(b"*END")?;
+    Ok(())
+}
+
+/// Appends the section of the net that has these parts, without a newline behind its end. It is made in `text`, which is
+/// room to work in.
+///
+/// Answers `Memory` where there is no room, and then `to` is as before.
+pub fn write_section(
+    section: &Section<'_>,
+    header: &Header,
+    text: &mut Vec<u8>,
+    to: &mut Vec<u8>,
+) -> Result<(), Memory>
+    requires { (net : ParNet) × IsSectionOf header.now.chars net section.now }
+    ensures written { OnOk result ((net : ParNet) → IsSectionOf header.now.chars net section.now → to.new.items ≡ to.old.items ++ section_text header.now net) }
+    ensures unchanged { OnErr result (to.new.items ≡ to.old.items) }
+{
+    text.clear();
+    print_section(section, header, text)?;
+    to.extend_from_slice(text)?;
     Ok(())
 }
 
@@ -164,20 +190,23 @@ fn section(alloc: Global, net: &ParNet, header: &Header) -> Result<Vec<u8>, Memo
 {
     let sums = sums(alloc, net.nodes.len(), net.caps.as_slice())?;
     let nodes = print_nodes(alloc, net, &sums, &header.chars)?;
+    let cap_nodes = cap_nodes(alloc, net.nodes.len(), net.caps.as_slice())?;
     let section = Section {
         name: net.name.as_bytes(),
         charge: charge_of(net.caps.as_slice()),
         nodes: &nodes,
         conns: net.conns.as_slice(),
+        cap_nodes: &cap_nodes,
         ress: net.ress.as_slice(),
     };
     let mut text = Vec::new(alloc);
-    write_section(&section, header, &mut text)?;
+    print_section(&section, header, &mut text)?;
     Ok(text)
 }
 
 /// Appends the section of a net, without a newline behind its end: its connections with their notes, its inner nodes
-/// with notes, the capacitance of each node that has one, and its resistors. What the section says is the net again.
+/// with notes, the capacitance of each node that has one, in the order in which the net's capacitors name the nodes, and
+/// its resistors. What the section says is the net again.
 ///
 /// Answers `Memory` where there is no room, and then `to` is as before.
 pub fn write_net(

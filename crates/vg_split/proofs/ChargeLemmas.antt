@@ -14,7 +14,7 @@ use Rattle.vg_split.proofs.MemberLemmas.{members_low, members_rise}
 use Rattle.vg_split.proofs.PlaceLemmas.{later}
 
 -- capacitors at a number, the first one apart
-total_at_cons : (cap : ℕ × ℕ) (caps : List (ℕ × ℕ)) (k : ℕ) → total_at (cap ∷ caps) k ≡ cond (cap.0 == k) cap.1 0 + total_at caps k
+pub total_at_cons : (cap : ℕ × ℕ) (caps : List (ℕ × ℕ)) (k : ℕ) → total_at (cap ∷ caps) k ≡ cond (cap.0 == k) cap.1 0 + total_at caps k
 total_at_cons cap caps k = either (cap.0 == k)
   where
     either : (t : Bool) → total (cond t (cap ∷ filter (λ c. c.0 == k) caps) (filter (λ c. c.0 == k) caps)) ≡ cond t cap.1 0 + total_at caps k
@@ -26,16 +26,6 @@ module _ (own : ℕ → Bool) (key : ℕ → ℕ) where
   weigh : (ℕ → ℕ) → List ℕ → ℕ
   weigh f [] = 0
   weigh f (w ∷ ws) = cond (own w) (f w) 0 + weigh f ws
-
-  weighed : (row : ℕ → ℕ × ℕ) (ws : List ℕ) → total (map row (filter own ws)) ≡ weigh (λ w. (row w).1) ws
-  unfolding weigh
-  weighed row [] = refl
-  weighed row (w ∷ ws) = either (own w) (weighed row ws)
-    where
-      either : (t : Bool) → total (map row (filter own ws)) ≡ weigh (λ v. (row v).1) ws
-          → total (map row (cond t (w ∷ filter own ws) (filter own ws))) ≡ cond t (row w).1 0 + weigh (λ v. (row v).1) ws
-      either true e = omega (arith, e, sum_by-cons (λ (c : ℕ × ℕ). c.1) (row w) (map row (filter own ws)))
-      either false e = omega (arith, e)
 
   both : (f g h : ℕ → ℕ) → ((w : ℕ) → f w ≡ g w + h w) → (ws : List ℕ) → weigh f ws ≡ weigh g ws + weigh h ws
   unfolding weigh
@@ -84,30 +74,41 @@ module _ (own : ℕ → Bool) (key : ℕ → ℕ) where
         sum_by-cons (λ (c : ℕ × ℕ). c.1) cap caps,
       )
 
-pub small_charge : (x : Split) (k : ℕ) → IsSplit x
-    → total (map (cap_row x k) (filter (is_own x k) (members (forest x) (head x k)))) ≤ total x.par.caps
+-- the capacitances of a stage are those of the nodes that are its own
+own_weighed : (x : Split) (k : ℕ) (ws : List ℕ)
+    → sum_by (cap_in x k) ws ≡ weigh (is_own x k) (λ w. slice_index x.order w) (λ w. total_at x.par.caps (slice_index x.order w)) ws
+unfolding weigh
+own_weighed x k [] = refl
+own_weighed x k (w ∷ ws) = sum_by-cons (cap_in x k) w ws ∙ either (is_celled x w) (w == head x k) (own_weighed x k ws)
+  where
+    here : ℕ
+    here = total_at x.par.caps (slice_index x.order w)
+
+    rest : ℕ
+    rest = weigh (is_own x k) (λ v. slice_index x.order v) (λ v. total_at x.par.caps (slice_index x.order v)) ws
+
+    either : (a b : Bool) → sum_by (cap_in x k) ws ≡ rest → cond (a && not b) 0 here + sum_by (cap_in x k) ws ≡ cond (not a || b) here 0 + rest
+    either true true e = omega (arith, e)
+    either true false e = omega (arith, e)
+    either false b e = omega (arith, e)
+
+pub own_sum : (x : Split) (k : ℕ) (ws : List ℕ) → sum_by (cap_in x k) ws ≡ total (map (cap_row x k) ws)
+own_sum x k [] = refl
+own_sum x k (w ∷ ws) =
+    omega (arith, sum_by-cons (cap_in x k) w ws, own_sum x k ws, sum_by-cons (λ (c : ℕ × ℕ). c.1) (cap_row x k w) (map (cap_row x k) ws))
+
+pub small_charge : (x : Split) (k : ℕ) → IsSplit x → total (map (cap_row x k) (members (forest x) (head x k))) ≤ total x.par.caps
 small_charge x k is =
     let ws = members (forest x) (head x k) in
     omega (
       arith,
-      weighed (is_own x k) (λ w. slice_index x.order w) (cap_row x k) ws,
+      own_sum x k ws,
+      own_weighed x k ws,
       most (is_own x k) (λ w. slice_index x.order w) ws apart x.par.caps,
     )
   where
     apart : AllPairs (λ a b. slice_index x.order a ≢ slice_index x.order b) (members (forest x) (head x k))
     apart i j d less low = is.order.once _ _ (members_rise x k i j d less low) (omega (arith, members_low x k j d low, is.tree))
-
--- a stage has the capacitances that are its own
-pub own_sum : (x : Split) (k : ℕ) (ws : List ℕ) → sum_by (cap_in x k) ws ≡ total (map (cap_row x k) (filter (is_own x k) ws))
-own_sum x k [] = refl
-own_sum x k (w ∷ ws) = sum_by-cons (cap_in x k) w ws ∙ either (is_celled x w) (w == head x k) (own_sum x k ws)
-  where
-    either : (a b : Bool) → sum_by (cap_in x k) ws ≡ total (map (cap_row x k) (filter (is_own x k) ws))
-        → cond (a && not b) 0 (total_at x.par.caps (slice_index x.order w)) + sum_by (cap_in x k) ws
-        ≡ total (map (cap_row x k) (cond (not a || b) (w ∷ filter (is_own x k) ws) (filter (is_own x k) ws)))
-    either true true e = omega (arith, e, sum_by-cons (λ (c : ℕ × ℕ). c.1) (cap_row x k w) (map (cap_row x k) (filter (is_own x k) ws)))
-    either true false e = omega (arith, e)
-    either false b e = omega (arith, e, sum_by-cons (λ (c : ℕ × ℕ). c.1) (cap_row x k w) (map (cap_row x k) (filter (is_own x k) ws)))
 
 -- those of the stage's first nodes, with one more, come to few
 pub few_summed : (x : Split) (k i : ℕ) → IsSplit x → i < length (members (forest x) (head x k))

@@ -16,8 +16,8 @@ use Rattle.spef_write.specs.declared.section.Section.{Section}
 use Rattle.spef_write.proofs.PartLemmas.{printed_each}
 use Rattle.vg_split.specs.Conditions.{IsSplit}
 use Rattle.vg_split.specs.Splits.{IsStageNet, Split, cap_in, ends_in, forest, head, inner_in, is_end, net_of, node_in, nodes_in, old_node, repeater_at, res_in, with_cell}
-use Rattle.vg_split.specs.Steps.{AreParts, ArePrintedParts, cap_row, inner_node, inner_row, is_own, row_in}
-use Rattle.vg_split.proofs.CapLemmas.{caps_are}
+use Rattle.vg_split.specs.Steps.{AreParts, ArePrintedParts, cap_row, inner_node, inner_row, row_in}
+use Rattle.vg_split.proofs.CapLemmas.{caps_are, caps_once, caps_order}
 use Rattle.vg_split.proofs.ConnLemmas.{all_conns, joined}
 use Rattle.vg_split.proofs.KindLemmas.{Kind, inner, kept, pin, kind}
 use Rattle.vg_split.proofs.SoundLemmas.{all_named, distinct, inside, named_net, notes}
@@ -96,6 +96,7 @@ stage_net chars x k net are whole plain = record {
   nodes = are.nodes_are;
   conns = all_conns x k net.conns are.conns_are;
   caps = λ i low. ap (λ (caps : List (ℕ × ℕ)). total_at caps i) are.caps_are ∙ caps_are x k i are.places are.numbered low;
+  order = ap (map (λ (cap : ℕ × ℕ). cap.0)) are.caps_are ∙ caps_order x k (members (forest x) (head x k));
   ress = are.ress_are;
   whole = whole;
   plain = plain;
@@ -103,14 +104,14 @@ stage_net chars x k net are whole plain = record {
 
 -- ---- of printed parts
 
-module _ (chars : Chars) (x : Split) (k : ℕ) (places name : List ℕ) (nodes : List PrintedNode) (conns : List ParConn) (ress : List (ℕ × ℕ × ℕ)) where
+module _ (chars : Chars) (x : Split) (k : ℕ) (places name : List ℕ) (nodes : List PrintedNode) (conns : List ParConn) (numbers : List ℕ) (ress : List (ℕ × ℕ × ℕ)) where
   abbrev caps : List (ℕ × ℕ)
-  caps = map (cap_row x k) (filter (is_own x k) (members (forest x) (head x k)))
+  caps = map (cap_row x k) (members (forest x) (head x k))
 
   abbrev rows : List (ℕ × ℕ × ℕ)
   rows = map (res_in x k) (drop 1 (members (forest x) (head x k)))
 
-  pub parts : ArePrintedParts chars x k places name nodes conns ress → AreParts chars x k (net_of x k) (map (node_in chars x k) (nodes_in x k)) conns caps rows
+  pub parts : ArePrintedParts chars x k places name nodes conns numbers ress → AreParts chars x k (net_of x k) (map (node_in chars x k) (nodes_in x k)) conns caps rows
   parts are = record {
     places = places;
     numbered = are.numbered;
@@ -122,7 +123,7 @@ module _ (chars : Chars) (x : Split) (k : ℕ) (places name : List ℕ) (nodes :
   }
 
   -- the net that is made of them
-  abbrev pub printed_net : IsSplit x → k < length (heads (forest x)) → ArePrintedParts chars x k places name nodes conns ress → ParNet
+  abbrev pub printed_net : IsSplit x → k < length (heads (forest x)) → ArePrintedParts chars x k places name nodes conns numbers ress → ParNet
   printed_net is low are = record {
     name = net_of x k;
     nodes = map (node_in chars x k) (nodes_in x k);
@@ -134,14 +135,15 @@ module _ (chars : Chars) (x : Split) (k : ℕ) (places name : List ℕ) (nodes :
     sound = sound chars x k (net_of x k) (map (node_in chars x k) (nodes_in x k)) conns caps rows is low (parts are);
   }
 
-  pub printed_stage : (is : IsSplit x) (low : k < length (heads (forest x))) (are : ArePrintedParts chars x k places name nodes conns ress)
+  pub printed_stage : (is : IsSplit x) (low : k < length (heads (forest x))) (are : ArePrintedParts chars x k places name nodes conns numbers ress)
       → IsStageNet chars x k (printed_net is low are)
   printed_stage is low are = stage_net chars x k (printed_net is low are) (parts are) refl refl
 
-  pub printed_section : (is : IsSplit x) (low : k < length (heads (forest x))) (are : ArePrintedParts chars x k places name nodes conns ress) (section : Section)
-      → section.name.now ≡ name → section.charge ≡ total caps → section.nodes.now ≡ nodes → section.conns.now ≡ conns → section.ress.now ≡ ress
+  pub printed_section : (is : IsSplit x) (low : k < length (heads (forest x))) (are : ArePrintedParts chars x k places name nodes conns numbers ress) (section : Section)
+      → section.name.now ≡ name → section.charge ≡ total caps → section.nodes.now ≡ nodes → section.conns.now ≡ conns → section.cap_nodes.now ≡ numbers
+      → section.ress.now ≡ ress
       → IsSectionOf chars (printed_net is low are) section
-  printed_section is low are section name_is charge_is nodes_are conns_are ress_are = record {
+  printed_section is low are section name_is charge_is nodes_are conns_are numbers_are ress_are = record {
     name = name_is ∙ are.name_is;
     charge = charge_is;
     nodes =
@@ -150,5 +152,6 @@ module _ (chars : Chars) (x : Split) (k : ℕ) (places name : List ℕ) (nodes :
         let at : 0 + i ≡ i = omega arith in
         ap (total_at caps) at ∙ caps_are x k i places are.numbered i_low));
     conns = conns_are;
+    cap_nodes = numbers_are ∙ are.cap_nodes_are ∙ sym (caps_once x k places are.numbered);
     ress = ress_are ∙ are.ress_are;
   }

@@ -138,12 +138,13 @@ place_in x k w = unwrap_or (position (λ u. u == w) (nodes_in x k)) 0
 abbrev pub res_in : Split → ℕ → ℕ → ℕ × ℕ × ℕ
 res_in x k w = (place_in x k (parent_of x.problem.tree.nodes w), place_in x k w, resistance x.problem.tree.nodes w)
 
--- this is the net of the stage of a number
+-- this is the net of the stage of a number; its capacitors and resistors stand in tree order
 pub record IsStageNet (chars : Chars) (x : Split) (k : ℕ) (net : ParNet) : Type 0 where
   pub name : net.name ≡ net_of x k
   pub nodes : net.nodes ≡ map (node_in chars x k) (nodes_in x k)
   pub conns : net.conns ≡ map (conn_in x k) (range_with_len 0 (length (ends_in x k)))
   pub caps : (i : ℕ) → i < length (nodes_in x k) → total_at net.caps i ≡ cap_in x k (slice_index (nodes_in x k) i)
+  pub order : map (λ cap. cap.0) net.caps ≡ map (place_in x k) (members (forest x) (head x k))
   pub ress : net.ress ≡ map (res_in x k) (drop 1 (members (forest x) (head x k)))
   pub whole : net.reduced ≡ false
   pub plain : net.inductive ≡ false

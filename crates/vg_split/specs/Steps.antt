@@ -39,9 +39,9 @@ pub record AreNumbered (places ws : List ℕ) : Type 0 where
 abbrev pub is_own : Split → ℕ → ℕ → Bool
 is_own x k w = not (is_celled x w) || (w == head x k)
 
--- the node's number in the stage's net, and its capacitance
+-- the node's number in the stage's net, and its capacitance there
 abbrev pub cap_row : Split → ℕ → ℕ → ℕ × ℕ
-cap_row x k w = (place_in x k w, total_at x.par.caps (slice_index x.order w))
+cap_row x k w = (place_in x k w, cap_in x k w)
 
 -- what stands among the first i nodes of a stage
 abbrev pub kept_to : (ℕ → Bool) → Split → ℕ → ℕ → List ℕ
@@ -61,16 +61,17 @@ pub record AreParts (chars : Chars) (x : Split) (k : ℕ) (name : List ℕ) (nod
   pub name_is : name ≡ net_of x k
   pub nodes_are : nodes ≡ map (node_in chars x k) (nodes_in x k)
   pub conns_are : AreConns x k (ends_in x k) conns
-  pub caps_are : caps ≡ map (cap_row x k) (filter (is_own x k) (members (forest x) (head x k)))
+  pub caps_are : caps ≡ map (cap_row x k) (members (forest x) (head x k))
   pub ress_are : ress ≡ map (res_in x k) (drop 1 (members (forest x) (head x k)))
 
 -- the same parts, where nodes are printed and capacitances stand with their nodes
 pub record ArePrintedParts (chars : Chars) (x : Split) (k : ℕ) (places name : List ℕ) (nodes : List PrintedNode) (conns : List ParConn)
-    (ress : List (ℕ × ℕ × ℕ)) : Type 0 where
+    (cap_nodes : List ℕ) (ress : List (ℕ × ℕ × ℕ)) : Type 0 where
   pub numbered : AreNumbered places (nodes_in x k)
   pub name_is : name ≡ net_of x k
   pub nodes_are : nodes ≡ map (row_in chars x k) (nodes_in x k)
   pub conns_are : AreConns x k (ends_in x k) conns
+  pub cap_nodes_are : cap_nodes ≡ map (place_in x k) (members (forest x) (head x k))
   pub ress_are : ress ≡ map (res_in x k) (drop 1 (members (forest x) (head x k)))
 
 -- behind a text stands the section of the net of a stage

@@ -22,7 +22,9 @@ pub struct Room {
     pub(crate) scratch: Scratch,
     pub(crate) nodes: Printed,
     pub(crate) conns: Vec<ParConn>,
+    pub(crate) cap_nodes: Vec<u32>,
     pub(crate) ress: Vec<(u32, u32, u64)>,
+    pub(crate) text: Vec<u8>,
 }
 
 impl Room {
@@ -40,7 +42,9 @@ impl Room {
             scratch,
             nodes: Printed::new(alloc),
             conns: Vec::new(alloc),
+            cap_nodes: Vec::new(alloc),
             ress: Vec::new(alloc),
+            text: Vec::new(alloc),
         })
     }
 }

@@ -1,8 +1,8 @@
 //! The section of a stage's net.
 
-ghost use Rattle.std.specs.Prelude.{◌≡◌, ◌||◌, ◌++◌, ◌∷◌, [], ◌<◌, ◌^◌, true, false, length, map, filter, drop, slice_set, OnOk};
+ghost use Rattle.std.specs.Prelude.{◌≡◌, ◌||◌, ◌++◌, ◌∷◌, [], ◌<◌, ◌^◌, true, false, length, map, drop, slice_set, OnErr, OnOk};
 ghost use Rattle.vg_scan.specs.Printed.{IsPrintable};
-ghost use Rattle.vg_split.specs.Splits.{cap_in, forest, head, is_celled, is_end, with_cell, ends_in, inner_in, nodes_in, net_of, res_in, repeater_at};
+ghost use Rattle.vg_split.specs.Splits.{cap_in, forest, head, is_celled, is_end, with_cell, ends_in, inner_in, nodes_in, net_of, place_in, res_in, repeater_at};
 ghost use Rattle.vg_split.specs.Steps.{is_own, cap_row, conn_of, inner_row, row_in, AreConns, AreNumbered, ArePrintedParts, SaysStage};
 ghost use Rattle.vg_split.specs.Stages.{heads, members};
 ghost use Rattle.spef_write.specs.Sections.{total};
@@ -284,7 +284,7 @@ fn push_inners(
 /// The capacitance of a stage.
 fn charge_of(x: &Split<'_>, stage: usize) -> u64
     requires stage { stage < length (heads (forest x.now)) }
-    ensures { result ≡ total (map (cap_row x.now stage) (filter (is_own x.now stage) (members (forest x.now) (head x.now stage)))) }
+    ensures { result ≡ total (map (cap_row x.now stage) (members (forest x.now) (head x.now stage))) }
 {
     // What a split net keeps is known where a part of it is used.
     let _ = &x.par;
@@ -293,6 +293,25 @@ fn charge_of(x: &Split<'_>, stage: usize) -> u64
         sum += charge_in(x, stage, *node as usize);
     }
     sum
+}
+
+/// Puts the numbers of a stage's nodes last, in tree order.
+fn push_numbers(
+    x: &Split<'_>,
+    stage: usize,
+    places: &[u32],
+    numbers: &mut Vec<u32>,
+) -> Result<(), Memory>
+    requires stage { stage < length (heads (forest x.now)) }
+    requires places { length places.now ≡ length x.now.problem.tree.nodes }
+    requires numbered { AreNumbered places.now (nodes_in x.now stage) }
+    requires none { numbers.old.items ≡ [] }
+    ensures { OnOk result (numbers.new.items ≡ map (place_in x.now stage) (members (forest x.now) (head x.now stage))) }
+{
+    'node: for node in x.members(stage) {
+        numbers.push(places[*node as usize])?;
+    }
+    Ok(())
 }
 
 /// Puts the resistors of a stage last: one above each node but the first.
@@ -321,22 +340,26 @@ fn make_parts(x: &Split<'_>, stage: usize, chars: &Chars, room: &mut Room) -> Re
     requires stage { stage < length (heads (forest x.now)) }
     requires places { length room.old.scratch.places.items ≡ length x.now.problem.tree.nodes }
     ensures parts { OnOk result (ArePrintedParts chars.now x.now stage room.new.scratch.places.items room.new.scratch.name.items room.new.nodes
-        room.new.conns.items room.new.ress.items) }
+        room.new.conns.items room.new.cap_nodes.items room.new.ress.items) }
     ensures places { length room.new.scratch.places.items ≡ length x.now.problem.tree.nodes }
 {
     let Room {
         scratch,
         nodes,
         conns,
+        cap_nodes,
         ress,
+        text: _,
     } = room;
     nodes.clear();
     conns.clear();
+    cap_nodes.clear();
     ress.clear();
     push_ends(x, stage, chars, nodes, conns, scratch)?;
     scratch.name.clear();
     x.push_net(stage, &mut scratch.name)?;
     push_inners(x, stage, chars, nodes, scratch)?;
+    push_numbers(x, stage, &scratch.places, cap_nodes)?;
     push_ress(x, stage, &scratch.places, ress)?;
     Ok(())
 }
@@ -344,7 +367,9 @@ fn make_parts(x: &Split<'_>, stage: usize, chars: &Chars, room: &mut Room) -> Re
 /// Appends the section of the net of a stage of a net with cells, without a newline behind its end. The stage's net has
 /// the stage's part of the parasitics: its connections, those of the net and the pins of the cells at which it begins
 /// and ends; its inner nodes; the capacitance of each node, where that of a cell's node is behind the cell; and its
-/// resistors, from each node's parent to the node. Answers `Memory` where there is no room.
+/// resistors, from each node's parent to the node. Capacitances and resistors stand in tree order.
+///
+/// Answers `Memory` where there is no room, and then `to` is as before.
 pub fn write_stage(
     x: &Split<'_>,
     stage: usize,
@@ -355,6 +380,7 @@ pub fn write_stage(
     requires stage { stage < length (heads (forest x.now)) }
     requires places { length room.old.scratch.places.items ≡ length x.now.problem.tree.nodes }
     ensures said { OnOk result (SaysStage header.now x.now stage to.old.items to.new.items) }
+    ensures unchanged { OnErr result (to.new.items ≡ to.old.items) }
     ensures places { length room.new.scratch.places.items ≡ length x.now.problem.tree.nodes }
 {
     // What a split net keeps is known where a part of it is used.
@@ -365,8 +391,9 @@ pub fn write_stage(
         charge: charge_of(x, stage),
         nodes: &room.nodes,
         conns: &room.conns,
+        cap_nodes: &room.cap_nodes,
         ress: &room.ress,
     };
-    write_section(&section, header, to)?;
+    write_section(&section, header, &mut room.text, to)?;
     Ok(())
 }

@@ -1,12 +1,9 @@
-use Rattle.std.proofs.Common.{ℕ, ◌+◌, ◌++◌, codes, ap, ◌∙◌, arith, Vec, Global}
+use Rattle.std.proofs.Common.{ℕ, ◌+◌, ◌++◌, codes, ap, ◌∙◌, Vec, Global}
 use Rattle.spef_write.specs.Printed.{cap_row, printed_at}
 use Rattle.spef_write.specs.Texts.{ended}
 use Rattle.spef_write.proofs.PrintLemmas.{first_behind, other_behind}
 use Rattle.spef_write.proofs.write.print_next_cap.Goals as goal
 use Rattle.spef_write.proofs.write.print_next_cap.Goals.{then-count-eq0+in_ok-extend_from_slice, else-count-eq0}
-
-pub overflow_add-count : goal.overflow_add-count
-overflow_add-count c = omega (arith, c.requires.count, c.requires.at, c.requires.few)
 
 pub returns : goal.returns
 returns c =

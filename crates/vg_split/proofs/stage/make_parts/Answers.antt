@@ -9,5 +9,6 @@ returns-clause-parts c = record {
       all_rows c.args.chars.now c.args.x.now c.args.stage c.push_ends.new.nodes c.push_inners.new.nodes c.in_ok-push_ends.ensures.nodes
       c.in_ok-push_inners.ensures.nodes;
   conns_are = c.in_ok-push_ends.ensures.conns;
+  cap_nodes_are = c.in_ok-push_numbers.ensures;
   ress_are = c.in_ok-push_ress.ensures;
 }

@@ -11,9 +11,9 @@ write_section-requires c =
     let room = c.make_parts.new.room in
     let is = subst IsSplit c.x.view_is c.x.invariant.0 in
     let are = c.in_ok-make_parts.ensures.parts in (
-      printed_net chars x k room.scratch.places.items room.scratch.name.items room.nodes room.conns.items room.ress.items is c.requires.stage are,
-      printed_section chars x k room.scratch.places.items room.scratch.name.items room.nodes room.conns.items room.ress.items is c.requires.stage are _
-          c.deref.ensures.value c.charge_of.ensures refl c.deref-2.ensures.value c.deref-3.ensures.value,
+      printed_net chars x k room.scratch.places.items room.scratch.name.items room.nodes room.conns.items room.cap_nodes.items room.ress.items is c.requires.stage are,
+      printed_section chars x k room.scratch.places.items room.scratch.name.items room.nodes room.conns.items room.cap_nodes.items room.ress.items is c.requires.stage are _
+          c.deref.ensures.value c.charge_of.ensures refl c.deref-2.ensures.value c.deref-3.ensures.value c.deref-4.ensures.value,
     )
 
 pub returns-clause-said : goal.returns-clause-said
@@ -24,11 +24,11 @@ returns-clause-said c =
     let room = c.make_parts.new.room in
     let is = subst IsSplit c.x.view_is c.x.invariant.0 in
     let are = c.in_ok-make_parts.ensures.parts in
-    let net = printed_net chars x k room.scratch.places.items room.scratch.name.items room.nodes room.conns.items room.ress.items is c.requires.stage are in
+    let net = printed_net chars x k room.scratch.places.items room.scratch.name.items room.nodes room.conns.items room.cap_nodes.items room.ress.items is c.requires.stage are in
     record {
       net = net;
-      is_stage = printed_stage chars x k room.scratch.places.items room.scratch.name.items room.nodes room.conns.items room.ress.items is c.requires.stage are;
-      is = c.in_ok-write_section.ensures net
-          (printed_section chars x k room.scratch.places.items room.scratch.name.items room.nodes room.conns.items room.ress.items is c.requires.stage are _
-          c.deref.ensures.value c.charge_of.ensures refl c.deref-2.ensures.value c.deref-3.ensures.value);
+      is_stage = printed_stage chars x k room.scratch.places.items room.scratch.name.items room.nodes room.conns.items room.cap_nodes.items room.ress.items is c.requires.stage are;
+      is = c.in_ok-write_section.ensures.written net
+          (printed_section chars x k room.scratch.places.items room.scratch.name.items room.nodes room.conns.items room.cap_nodes.items room.ress.items is c.requires.stage are _
+          c.deref.ensures.value c.charge_of.ensures refl c.deref-2.ensures.value c.deref-3.ensures.value c.deref-4.ensures.value);
     }
