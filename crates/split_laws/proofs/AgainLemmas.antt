@@ -1,11 +1,11 @@
 -- What is read again of a net has its nodes by other numbers.
-use Rattle.std.proofs.Common.{◌≡◌, ◌≢◌, ℕ, ◌+◌, ◌<◌, ◌==◌, Bool, true, false, not, cond, List, [], ◌∷◌, length, get_or, map, refl, sym, ap, ◌∙◌, arith, inl, inr, Option, Some}
-use Rattle.std.specs.List.{range_with_len, slice_get, sum_by, All}
+use Rattle.std.proofs.Common.{◌≡◌, ◌≢◌, ℕ, ◌+◌, ◌<◌, ◌==◌, ◌||◌, Bool, true, false, not, cond, List, [], ◌∷◌, length, get_or, map, filter, refl, sym, ap, ◌∙◌, arith, inl, inr, Option, Some}
+use Rattle.std.specs.List.{list_any, slice_get, sum_by, All}
 use Rattle.std.proofs.lemmas.Bool.{cases_eq, eq-eqb, ne_eqb}
 use Rattle.std.proofs.lemmas.List.{ext_get_or, get_or-map, get_or_default, length-map}
 use Rattle.std.proofs.lemmas.List.Elements.{All-head, All-tail, All-weaker}
 use Rattle.std.proofs.lemmas.List.Sums.{sum_by-cons}
-use Rattle.elmore.proofs.SumLemmas.{sum_at, sum_of_filter, sum_of_same}
+use Rattle.elmore.proofs.SumLemmas.{sum_of_filter, sum_of_none, sum_of_same}
 use Rattle.rc_tree.specs.Chains.{edge_at}
 use Rattle.rc_tree.specs.Nets.{capacitance_at}
 use Rattle.spef_net.specs.declared.net.ConnKind.{ConnKind}
@@ -17,10 +17,11 @@ use Rattle.spef_nodes.specs.Nodes.{ParNode}
 use Rattle.vg_design.specs.Designs.{NO_NODE, name_of}
 use Rattle.vg_scan.specs.declared.name.NodeName.{NodeName}
 use Rattle.vg_split.specs.Splits.{NO_CONN}
-use Rattle.spef_write.specs.Sections.{charged, is_charged, sums, total_at}
+use Rattle.spef_write.specs.Sections.{cap_nodes, charged, each_once, is_charged, sums, total_at}
 use Rattle.spef_write.specs.SectionLaws.{IsWrittenAgain, is_named, names_of}
 use Rattle.spef_write.proofs.ChargeLemmas.{IsRowOf, rows_are}
 use Rattle.spef_write.proofs.ClearLemmas.{conn_number, one_node}
+use Rattle.spef_write.proofs.OnceLemmas.{names, total_none}
 use Rattle.split_laws.specs.ReadNets.{IsSameByNames, ReadNetsAreTheSame, number_in}
 use Rattle.split_laws.proofs.ListLemmas.{no_fewer}
 use Rattle.split_laws.proofs.NameLemmas.{IsNumberOf, name_at, number_is}
@@ -37,16 +38,64 @@ sum_map : {X Y : Type 0} (f : Y → ℕ) (g : X → Y) (xs : List X) → sum_by 
 sum_map f g [] = refl
 sum_map f g (x ∷ xs) = sum_by-cons f (g x) (map g xs) ∙ ap (λ n. f (g x) + n) (sum_map f g xs) ∙ sym (sum_by-cons (λ y. f (g y)) x xs)
 
+-- at a number, of numbers each once
+sum_once : (f : ℕ → ℕ) (k : ℕ) (ks : List ℕ) → sum_by (λ j. cond (j == k) (f j) 0) (each_once ks) ≡ cond (list_any (λ j. j == k) ks) (f k) 0
+sum_once f k [] = refl
+sum_once f k (j ∷ ks) =
+    let at : ℕ → ℕ = λ i. cond (i == k) (f i) 0 in
+    let others = each_once ks in
+    sum_by-cons at j (filter (λ i. not (j == i)) others)
+    ∙ ap (λ n. at j + n) (sum_of_filter at (λ i. not (j == i)) others)
+    ∙ elim (cases_eq j k) as (λ _. at j + sum_by (λ i. cond (not (j == i)) (at i) 0) others ≡ cond ((j == k) || list_any (λ i. i == k) ks) (f k) 0) [
+      | inl same ↦
+          omega (
+            arith,
+            ap (λ b. cond b (f j) 0) (eq-eqb j k same),
+            ap f same,
+            sum_of_same (λ i. cond (not (j == i)) (at i) 0) (λ i. 0) others (none same),
+            sum_of_none others,
+            ap (λ b. cond (b || list_any (λ i. i == k) ks) (f k) 0) (eq-eqb j k same),
+          )
+      | inr other ↦
+          omega (
+            arith,
+            ap (λ b. cond b (f j) 0) (ne_eqb j k other),
+            sum_of_same (λ i. cond (not (j == i)) (at i) 0) at others (all other),
+            sum_once f k ks,
+            ap (λ b. cond (b || list_any (λ i. i == k) ks) (f k) 0) (ne_eqb j k other),
+          )
+    ]
+  where
+    none : j ≡ k → (i : ℕ) → cond (not (j == i)) (cond (i == k) (f i) 0) 0 ≡ 0
+    none same i = elim (cases_eq j i) [
+      | inl here ↦ ap (λ b. cond (not b) (cond (i == k) (f i) 0) 0) (eq-eqb j i here)
+      | inr apart ↦
+          ap (λ b. cond (not b) (cond (i == k) (f i) 0) 0) (ne_eqb j i apart)
+          ∙ ap (λ b. cond b (f i) 0) (ne_eqb i k (λ e. apart (same ∙ sym e)))
+    ]
+
+    all : j ≢ k → (i : ℕ) → cond (not (j == i)) (cond (i == k) (f i) 0) 0 ≡ cond (i == k) (f i) 0
+    all other i = elim (cases_eq j i) [
+      | inl here ↦
+          ap (λ b. cond (not b) (cond (i == k) (f i) 0) 0) (eq-eqb j i here)
+          ∙ sym (ap (λ b. cond b (f i) 0) (ne_eqb i k (λ e. other (here ∙ e))))
+      | inr apart ↦ ap (λ b. cond (not b) (cond (i == k) (f i) 0) 0) (ne_eqb j i apart)
+    ]
+
 -- the nodes with a capacitance have what there is at them
-charged_total : (net : ParNet) (k : ℕ) → k < length net.nodes → capacitance_at (charged net) k ≡ capacitance_at net.caps k
-charged_total net k low =
-    let n = length net.nodes in
-    sum_of_filter (value_at k) is_charged (sums n net.caps)
-    ∙ sum_of_same (λ (row : ℕ × ℕ). cond (is_charged row) (value_at k row) 0) (value_at k) (sums n net.caps) none
-    ∙ sum_map (value_at k) (λ j. (j, total_at net.caps j)) (range_with_len 0 n)
-    ∙ sum_at (total_at net.caps) k 0 n (omega arith) (omega (arith, low))
+charged_total : (net : ParNet) (k : ℕ) → capacitance_at (charged net) k ≡ capacitance_at net.caps k
+charged_total net k =
+    sum_of_filter (value_at k) is_charged (sums net.caps)
+    ∙ sum_of_same (λ (row : ℕ × ℕ). cond (is_charged row) (value_at k row) 0) (value_at k) (sums net.caps) none
+    ∙ sum_map (value_at k) (λ j. (j, total_at net.caps j)) (cap_nodes net.caps)
+    ∙ sum_once (total_at net.caps) k (map (λ (cap : ℕ × ℕ). cap.0) net.caps)
+    ∙ there (names k net.caps) refl
     ∙ sum_total net.caps k
   where
+    there : (b : Bool) → names k net.caps ≡ b → cond b (total_at net.caps k) 0 ≡ total_at net.caps k
+    there true e = refl
+    there false e = sym (total_none net.caps k e)
+
     none : (row : ℕ × ℕ) → cond (is_charged row) (value_at k row) 0 ≡ value_at k row
     none row = elim (cases_eq row.1 0) [
       | inl zero ↦ ap (λ b. cond (not b) (value_at k row) 0) (eq-eqb row.1 0 zero) ∙ at (row.0 == k) zero
@@ -187,9 +236,9 @@ module _ (net read : ParNet) (named : (k : ℕ) → k < length net.nodes → is_
   sums_same k low =
       caps_same k low read.caps (charged net)
       (All-weaker (IsCapOf (length read.nodes)) IsHere (λ cap is. is.0) read.caps read.sound.caps_at)
-      (All-weaker (IsRowOf net.caps (length net.nodes)) IsThere (λ cap is. is.within) (charged net) (rows_are net.caps (length net.nodes)))
+      (All-weaker (IsRowOf net.caps (length net.nodes)) IsThere (λ cap is. is.within) (charged net) (rows_are net))
       again.caps
-      ∙ charged_total net k low
+      ∙ charged_total net k
 
   -- ---- resistors
 
