@@ -126,7 +126,7 @@ fn a_net(rt: HostRuntime) -> Result<(), Fail> {
 
 /// Sections, and what is written of their nets.
 static SECTIONS: [(&str, &str); 4] = [
-    // capacitors of one node are one, and nodes stand in order
+    // capacitors of one node are one, where the first of them stands
     (
         "*D_NET *1 3.5 // what a tool says of it
 *CONN
@@ -148,8 +148,8 @@ static SECTIONS: [(&str, &str); 4] = [
 *P p I
 *N n:2 *C 1  2
 *CAP
-1 u1:a 3.5
-2 n:1 0.5
+1 n:1 0.5
+2 u1:a 3.5
 *RES
 1 n:1 u1:a 4
 2 n:2 p 5000
