@@ -142,7 +142,8 @@ pub fn spef_fault(alloc: Global, fault: SpefFault) -> Result<Row<u8>, Memory>
     Ok(Row::from_vec(text))
 }
 
-/// Appends a fault of a net's lines: `KIND line L`. Answers `Memory` where there is no room, and then `to` is as before.
+/// Appends a fault of a net's lines: `KIND line L`. Answers `Memory` where there is no room, and then `to` is as
+/// before.
 pub fn print_net_fault(fault: NetFault, to: &mut Vec<u8>) -> Result<(), Memory>
     ensures printed { OnOk result (to.new.items ≡ to.old.items ++ net_fault fault) }
     ensures unchanged { OnErr result (to.new.items ≡ to.old.items) }

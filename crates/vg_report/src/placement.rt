@@ -68,8 +68,8 @@ fn print_placed(
     Ok(())
 }
 
-/// Appends the report of a placement of repeaters on a net. Answers `Memory` where there is no room, and then `to` is as
-/// before.
+/// Appends the report of a placement of repeaters on a net. Answers `Memory` where there is no room, and then `to` is
+/// as before.
 pub fn report_best(
     name: &[u8],
     repeaters: &[Repeater],
