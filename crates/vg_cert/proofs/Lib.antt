@@ -21,3 +21,4 @@ pub mod LineClearLemmas
 pub mod OntoLemmas
 pub mod SectionClearLemmas
 pub mod AgainLemmas
+pub mod BegunLemmas

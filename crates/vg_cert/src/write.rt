@@ -1,6 +1,6 @@
 //! A certificate's text.
 
-ghost use Rattle.std.specs.Prelude.{◌≡◌, ℕ, ◌++◌, ◌∷◌, [], ◌<◌, ◌≤◌, ◌^◌, map, flat_map, codes, is_some, length, get_or, OnOk, Some, None, false, slice_index_or};
+ghost use Rattle.std.specs.Prelude.{◌≡◌, ℕ, ◌++◌, ◌∷◌, [], ◌<◌, ◌≤◌, ◌^◌, map, flat_map, codes, is_some, length, get_or, take, OnOk, OnErr, Some, None, false, slice_index_or};
 ghost use Rattle.std.specs.Fmt.{decimal};
 ghost use Rattle.std.specs.List.{count_by, range_with_len};
 ghost use Rattle.vg_cert.specs.Names.{AreNamesOf, text_of_node};
@@ -15,7 +15,8 @@ use vg_num::{Memory, print_signed};
 use vg_scan::NetNames;
 
 fn write_bytes(bytes: &[u8], to: &mut Vec<u8>) -> Result<(), Memory>
-    ensures { OnOk result (to.new.items ≡ to.old.items ++ bytes.now) }
+    ensures printed { OnOk result (to.new.items ≡ to.old.items ++ bytes.now) }
+    ensures unchanged { OnErr result (to.new.items ≡ to.old.items) }
 {
     to.extend_from_slice(bytes)?;
     Ok(())
@@ -23,14 +24,16 @@ fn write_bytes(bytes: &[u8], to: &mut Vec<u8>) -> Result<(), Memory>
 
 /// Appends a number of lines, or a load.
 fn write_count(count: u64, to: &mut Vec<u8>) -> Result<(), Memory>
-    ensures { OnOk result (to.new.items ≡ to.old.items ++ decimal count) }
+    ensures printed { OnOk result (to.new.items ≡ to.old.items ++ decimal count) }
+    ensures unchanged { OnErr result (to.new.items ≡ to.old.items) }
 {
     print_signed(count as i128, to)
 }
 
 /// `Q C`
 fn write_pair(pair: Pair, to: &mut Vec<u8>) -> Result<(), Memory>
-    ensures { OnOk result (to.new.items ≡ to.old.items ++ line_text (pair_line pair)) }
+    ensures printed { OnOk result (to.new.items ≡ to.old.items ++ line_text (pair_line pair)) }
+    ensures begun { OnErr result (take (length to.old.items) to.new.items ≡ to.old.items) }
 {
     print_signed(pair.q, to)?;
     write_bytes(b" ", to)?;
@@ -40,7 +43,8 @@ fn write_pair(pair: Pair, to: &mut Vec<u8>) -> Result<(), Memory>
 
 /// `Q C` for each pair
 fn write_list(pairs: &[Pair], to: &mut Vec<u8>) -> Result<(), Memory>
-    ensures { OnOk result (to.new.items ≡ to.old.items ++ flat_map (λ x. line_text (pair_line x)) pairs.now) }
+    ensures printed { OnOk result (to.new.items ≡ to.old.items ++ flat_map (λ x. line_text (pair_line x)) pairs.now) }
+    ensures begun { OnErr result (take (length to.old.items) to.new.items ≡ to.old.items) }
 {
     'pair: for pair in pairs {
         write_pair(*pair, to)?;
@@ -50,7 +54,8 @@ fn write_list(pairs: &[Pair], to: &mut Vec<u8>) -> Result<(), Memory>
 
 /// `net NAME`
 fn write_net(names: &NetNames, to: &mut Vec<u8>) -> Result<(), Memory>
-    ensures { OnOk result (to.new.items ≡ to.old.items ++ line_text (net_line names.now)) }
+    ensures printed { OnOk result (to.new.items ≡ to.old.items ++ line_text (net_line names.now)) }
+    ensures begun { OnErr result (take (length to.old.items) to.new.items ≡ to.old.items) }
 {
     write_bytes(b"net ", to)?;
     write_bytes(names.net.as_bytes(), to)?;
@@ -59,7 +64,8 @@ fn write_net(names: &NetNames, to: &mut Vec<u8>) -> Result<(), Memory>
 
 /// `slack S`
 fn write_slack_line(slack: Option<i128>, to: &mut Vec<u8>) -> Result<(), Memory>
-    ensures { OnOk result (to.new.items ≡ to.old.items ++ line_text (slack_line slack)) }
+    ensures printed { OnOk result (to.new.items ≡ to.old.items ++ line_text (slack_line slack)) }
+    ensures begun { OnErr result (take (length to.old.items) to.new.items ≡ to.old.items) }
 {
     write_bytes(b"slack ", to)?;
     write_slack(slack, to)?;
@@ -68,7 +74,8 @@ fn write_slack_line(slack: Option<i128>, to: &mut Vec<u8>) -> Result<(), Memory>
 
 /// `vgcert 1`, `net NAME` and `slack S`
 fn write_head(names: &NetNames, slack: Option<i128>, to: &mut Vec<u8>) -> Result<(), Memory>
-    ensures { OnOk result (to.new.items ≡ to.old.items ++ flat_map line_text (head_lines names.now slack)) }
+    ensures printed { OnOk result (to.new.items ≡ to.old.items ++ flat_map line_text (head_lines names.now slack)) }
+    ensures begun { OnErr result (take (length to.old.items) to.new.items ≡ to.old.items) }
 {
     write_bytes(b"vgcert 1\n", to)?;
     write_net(names, to)?;
@@ -78,7 +85,8 @@ fn write_head(names: &NetNames, slack: Option<i128>, to: &mut Vec<u8>) -> Result
 
 /// A slack, or `none`
 fn write_slack(slack: Option<i128>, to: &mut Vec<u8>) -> Result<(), Memory>
-    ensures { OnOk result (to.new.items ≡ to.old.items ++ slack_word slack) }
+    ensures printed { OnOk result (to.new.items ≡ to.old.items ++ slack_word slack) }
+    ensures unchanged { OnErr result (to.new.items ≡ to.old.items) }
 {
     match slack {
         None => write_bytes(b"none", to),
@@ -89,7 +97,8 @@ fn write_slack(slack: Option<i128>, to: &mut Vec<u8>) -> Result<(), Memory>
 /// How a node is written
 fn write_name(names: &NetNames, v: usize, to: &mut Vec<u8>) -> Result<(), Memory>
     requires { v < length names.now.nodes }
-    ensures { OnOk result (to.new.items ≡ to.old.items ++ text_of_node names.now.nodes v) }
+    ensures printed { OnOk result (to.new.items ≡ to.old.items ++ text_of_node names.now.nodes v) }
+    ensures begun { OnErr result (take (length to.old.items) to.new.items ≡ to.old.items) }
 {
     print_node(&names.nodes.as_slice()[v], to)
 }
@@ -98,7 +107,8 @@ fn write_name(names: &NetNames, v: usize, to: &mut Vec<u8>) -> Result<(), Memory
 fn write_cell(names: &NetNames, v: usize, cell: Option<u32>, to: &mut Vec<u8>) -> Result<(), Memory>
     requires node { v < length names.now.nodes }
     requires cell { (b : ℕ) → cell ≡ Some b → b < length names.now.cells }
-    ensures { OnOk result (to.new.items ≡ to.old.items ++ flat_map line_text (cell_lines names.now v cell)) }
+    ensures printed { OnOk result (to.new.items ≡ to.old.items ++ flat_map line_text (cell_lines names.now v cell)) }
+    ensures begun { OnErr result (take (length to.old.items) to.new.items ≡ to.old.items) }
 {
     let Some(cell) = cell else {
         return Ok(());
@@ -125,7 +135,8 @@ fn count_cells(cells: &[Option<u32>]) -> u64
 
 /// `A B` and the end of the line
 fn write_counts(even: u64, odd: u64, to: &mut Vec<u8>) -> Result<(), Memory>
-    ensures { OnOk result (to.new.items ≡ to.old.items ++ ((decimal even ++ 32 ∷ decimal odd) ++ 10 ∷ [])) }
+    ensures printed { OnOk result (to.new.items ≡ to.old.items ++ ((decimal even ++ 32 ∷ decimal odd) ++ 10 ∷ [])) }
+    ensures begun { OnErr result (take (length to.old.items) to.new.items ≡ to.old.items) }
 {
     write_count(even, to)?;
     write_bytes(b" ", to)?;
@@ -136,7 +147,8 @@ fn write_counts(even: u64, odd: u64, to: &mut Vec<u8>) -> Result<(), Memory>
 /// `node NODE A B`
 fn write_node(names: &NetNames, v: usize, lists: &NodeLists, to: &mut Vec<u8>) -> Result<(), Memory>
     requires { v < length names.now.nodes }
-    ensures { OnOk result (to.new.items ≡ to.old.items ++ line_text (node_line names.now v (both lists.now))) }
+    ensures printed { OnOk result (to.new.items ≡ to.old.items ++ line_text (node_line names.now v (both lists.now))) }
+    ensures begun { OnErr result (take (length to.old.items) to.new.items ≡ to.old.items) }
 {
     write_bytes(b"node ", to)?;
     write_name(names, v, to)?;
@@ -152,7 +164,8 @@ fn write_section(
     to: &mut Vec<u8>,
 ) -> Result<(), Memory>
     requires { v < length names.now.nodes }
-    ensures { OnOk result (to.new.items ≡ to.old.items ++ flat_map line_text (section_lines names.now v (both lists.now))) }
+    ensures printed { OnOk result (to.new.items ≡ to.old.items ++ flat_map line_text (section_lines names.now v (both lists.now))) }
+    ensures begun { OnErr result (take (length to.old.items) to.new.items ≡ to.old.items) }
 {
     write_node(names, v, lists, to)?;
     write_list(&lists.even, to)?;
@@ -169,7 +182,8 @@ fn write_live(
     to: &mut Vec<u8>,
 ) -> Result<(), Memory>
     requires { v < length names.now.nodes }
-    ensures { OnOk result (to.new.items ≡ to.old.items ++ flat_map line_text (node_lines names.now v live (both lists.now))) }
+    ensures printed { OnOk result (to.new.items ≡ to.old.items ++ flat_map line_text (node_lines names.now v live (both lists.now))) }
+    ensures begun { OnErr result (take (length to.old.items) to.new.items ≡ to.old.items) }
 {
     if live {
         write_section(names, v, lists, to)?;
@@ -179,7 +193,8 @@ fn write_live(
 
 /// `cells N`
 fn write_cell_count(cells: &[Option<u32>], to: &mut Vec<u8>) -> Result<(), Memory>
-    ensures { OnOk result (to.new.items ≡ to.old.items ++ line_text (count_line cells.now)) }
+    ensures printed { OnOk result (to.new.items ≡ to.old.items ++ line_text (count_line cells.now)) }
+    ensures begun { OnErr result (take (length to.old.items) to.new.items ≡ to.old.items) }
 {
     write_bytes(b"cells ", to)?;
     write_count(count_cells(cells), to)?;
@@ -190,7 +205,8 @@ fn write_cell_count(cells: &[Option<u32>], to: &mut Vec<u8>) -> Result<(), Memor
 fn write_cells(names: &NetNames, cells: &[Option<u32>], to: &mut Vec<u8>) -> Result<(), Memory>
     requires nodes { length cells.now ≡ length names.now.nodes }
     requires named { (v b : ℕ) → slice_index_or cells.now v None ≡ Some b → b < length names.now.cells }
-    ensures { OnOk result (to.new.items ≡ to.old.items ++ flat_map (λ v. flat_map line_text (cell_lines names.now v (slice_index_or cells.now v None))) (range_with_len 0 (length cells.now))) }
+    ensures printed { OnOk result (to.new.items ≡ to.old.items ++ flat_map (λ v. flat_map line_text (cell_lines names.now v (slice_index_or cells.now v None))) (range_with_len 0 (length cells.now))) }
+    ensures begun { OnErr result (take (length to.old.items) to.new.items ≡ to.old.items) }
 {
     'node: for v in 0..cells.len() {
         write_cell(names, v, cells[v], to)?;
@@ -207,7 +223,8 @@ fn write_lists(
 ) -> Result<(), Memory>
     requires nodes { length live.now ≡ length names.now.nodes }
     requires each { length lists.now ≡ length live.now }
-    ensures { OnOk result (to.new.items ≡ to.old.items ++ flat_map (λ v. flat_map line_text (node_lines names.now v (get_or live.now v false) (get_or (map both lists.now) v ([], [])))) (range_with_len 0 (length live.now))) }
+    ensures printed { OnOk result (to.new.items ≡ to.old.items ++ flat_map (λ v. flat_map line_text (node_lines names.now v (get_or live.now v false) (get_or (map both lists.now) v ([], [])))) (range_with_len 0 (length live.now))) }
+    ensures begun { OnErr result (take (length to.old.items) to.new.items ≡ to.old.items) }
 {
     'node: for v in 0..live.len() {
         write_live(names, v, live[v], &lists[v], to)?;
@@ -215,10 +232,8 @@ fn write_lists(
     Ok(())
 }
 
-/// Appends the text of a certificate.
-///
-/// Answers `Memory` where there is no room; then a part of the text may stand at the end of the list.
-pub fn write_certificate(
+/// The text of a certificate. Where there is no room, a part of it may stand at the end of the list.
+fn write_text(
     cert: &Certificate,
     problem: &Problem,
     names: &NetNames,
@@ -226,7 +241,8 @@ pub fn write_certificate(
 ) -> Result<(), Memory>
     requires fits { Fits problem.now cert.now }
     requires names { AreNamesOf problem.now names.now }
-    ensures { OnOk result (to.new.items ≡ to.old.items ++ text_of problem.now names.now cert.now) }
+    ensures printed { OnOk result (to.new.items ≡ to.old.items ++ text_of problem.now names.now cert.now) }
+    ensures begun { OnErr result (take (length to.old.items) to.new.items ≡ to.old.items) }
 {
     write_head(names, cert.slack, to)?;
     let cells = cert.placement.cells.as_slice();
@@ -235,4 +251,26 @@ pub fn write_certificate(
     write_lists(names, problem.live.as_slice(), cert.lists.as_slice(), to)?;
     write_bytes(b"end\n", to)?;
     Ok(())
+}
+
+/// Appends the text of a certificate.
+///
+/// Answers `Memory` where there is no room, and then `to` is as before.
+pub fn write_certificate(
+    cert: &Certificate,
+    problem: &Problem,
+    names: &NetNames,
+    to: &mut Vec<u8>,
+) -> Result<(), Memory>
+    requires fits { Fits problem.now cert.now }
+    requires names { AreNamesOf problem.now names.now }
+    ensures printed { OnOk result (to.new.items ≡ to.old.items ++ text_of problem.now names.now cert.now) }
+    ensures unchanged { OnErr result (to.new.items ≡ to.old.items) }
+{
+    let before = to.len();
+    let done = write_text(cert, problem, names, to);
+    if done.is_err() {
+        to.truncate(before);
+    }
+    done
 }

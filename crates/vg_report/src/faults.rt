@@ -1,6 +1,6 @@
 //! The faults of files, as text.
 
-ghost use Rattle.std.specs.Prelude.{◌≡◌, ◌++◌, OnOk, IfOk, codes, decimal};
+ghost use Rattle.std.specs.Prelude.{◌≡◌, ◌++◌, OnOk, OnErr, IfOk, codes, decimal, length, take};
 ghost use Rattle.vg_report.specs.Faults.{cons_kind, cons_fault, lib_kind, lib_fault, ver_kind, ver_fault, spef_kind, spef_fault, net_kind, net_fault};
 
 use crate::report::push;
@@ -97,7 +97,8 @@ fn net_kind(kind: NetKind) -> &'static [u8]
 
 /// Appends `KIND line L`.
 fn print_fault(kind: &[u8], line: usize, to: &mut Vec<u8>) -> Result<(), Memory>
-    ensures { OnOk result (to.new.items ≡ to.old.items ++ (kind.now ++ (codes " line " ++ decimal line))) }
+    ensures printed { OnOk result (to.new.items ≡ to.old.items ++ (kind.now ++ (codes " line " ++ decimal line))) }
+    ensures begun { OnErr result (take (length to.old.items) to.new.items ≡ to.old.items) }
 {
     push(kind, to)?;
     push(b" line ", to)?;
@@ -141,10 +142,16 @@ pub fn spef_fault(alloc: Global, fault: SpefFault) -> Result<Row<u8>, Memory>
     Ok(Row::from_vec(text))
 }
 
-/// Appends a fault of a net's lines: `KIND line L`.
+/// Appends a fault of a net's lines: `KIND line L`. Answers `Memory` where there is no room, and then `to` is as
+/// before.
 pub fn print_net_fault(fault: NetFault, to: &mut Vec<u8>) -> Result<(), Memory>
-    ensures { OnOk result (to.new.items ≡ to.old.items ++ net_fault fault) }
+    ensures printed { OnOk result (to.new.items ≡ to.old.items ++ net_fault fault) }
+    ensures unchanged { OnErr result (to.new.items ≡ to.old.items) }
 {
-    print_fault(net_kind(fault.kind), fault.line, to)?;
-    Ok(())
+    let before = to.len();
+    let done = print_fault(net_kind(fault.kind), fault.line, to);
+    if done.is_err() {
+        to.truncate(before);
+    }
+    done
 }

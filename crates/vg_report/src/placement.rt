@@ -1,6 +1,6 @@
 //! Placements of repeaters on a net, and their reports.
 
-ghost use Rattle.std.specs.Prelude.{◌≡◌, ◌++◌, length, OnOk};
+ghost use Rattle.std.specs.Prelude.{◌≡◌, ◌++◌, length, take, OnOk, OnErr};
 ghost use Rattle.std.specs.List.{All, flat_map};
 ghost use Rattle.elmore.specs.Placed.{IsPlacementOf};
 ghost use Rattle.elmore.specs.Placements.{IsPlacement};
@@ -35,7 +35,8 @@ fn print_cells(
     to: &mut Vec<u8>,
 ) -> Result<(), Memory>
     requires { IsPlacementOf (length names.now) (length repeaters.now) placement.now.cells }
-    ensures { OnOk result (to.new.items ≡ to.old.items ++ cell_lines (cells_of repeaters.now) names.now placement.now.cells) }
+    ensures printed { OnOk result (to.new.items ≡ to.old.items ++ cell_lines (cells_of repeaters.now) names.now placement.now.cells) }
+    ensures begun { OnErr result (take (length to.old.items) to.new.items ≡ to.old.items) }
 {
     let cells = placement.cells.as_slice();
     'node: for at in 0..cells.len() {
@@ -47,7 +48,28 @@ fn print_cells(
     Ok(())
 }
 
-/// Appends the report of a placement of repeaters on a net.
+/// Appends the report of a placement of repeaters on a net. Where there is no room, a part of it may stand there.
+fn print_placed(
+    name: &[u8],
+    repeaters: &[Repeater],
+    net: &NetProblem,
+    best: &Best,
+    to: &mut Vec<u8>,
+) -> Result<(), Memory>
+    requires placement { IsPlacement net.now.problem best.now.placement.cells }
+    requires named { IsPlacementOf (length net.now.names) (length repeaters.now) best.now.placement.cells }
+    ensures printed { OnOk result (to.new.items ≡ to.old.items ++ best_report name.now (cells_of repeaters.now) net.now best.now) }
+    ensures begun { OnErr result (take (length to.old.items) to.new.items ≡ to.old.items) }
+{
+    let cost = cost(&net.problem, &best.placement);
+    let count = count_cells(&best.placement);
+    print_best(name, best.slack, cost, count, to)?;
+    print_cells(repeaters, &net.names, &best.placement, to)?;
+    Ok(())
+}
+
+/// Appends the report of a placement of repeaters on a net. Answers `Memory` where there is no room, and then `to` is
+/// as before.
 pub fn report_best(
     name: &[u8],
     repeaters: &[Repeater],
@@ -57,13 +79,15 @@ pub fn report_best(
 ) -> Result<(), Memory>
     requires placement { IsPlacement net.now.problem best.now.placement.cells }
     requires named { IsPlacementOf (length net.now.names) (length repeaters.now) best.now.placement.cells }
-    ensures { OnOk result (to.new.items ≡ to.old.items ++ best_report name.now (cells_of repeaters.now) net.now best.now) }
+    ensures printed { OnOk result (to.new.items ≡ to.old.items ++ best_report name.now (cells_of repeaters.now) net.now best.now) }
+    ensures unchanged { OnErr result (to.new.items ≡ to.old.items) }
 {
-    let cost = cost(&net.problem, &best.placement);
-    let count = count_cells(&best.placement);
-    print_best(name, best.slack, cost, count, to)?;
-    print_cells(repeaters, &net.names, &best.placement, to)?;
-    Ok(())
+    let before = to.len();
+    let done = print_placed(name, repeaters, net, best, to);
+    if done.is_err() {
+        to.truncate(before);
+    }
+    done
 }
 
 /// Appends the report of a point of a frontier.
@@ -74,7 +98,8 @@ fn report_point(
     to: &mut Vec<u8>,
 ) -> Result<(), Memory>
     requires { IsPlacementOf (length names.now) (length repeaters.now) point.now.placement.cells }
-    ensures { OnOk result (to.new.items ≡ to.old.items ++ point_report (cells_of repeaters.now) names.now point.now) }
+    ensures printed { OnOk result (to.new.items ≡ to.old.items ++ point_report (cells_of repeaters.now) names.now point.now) }
+    ensures begun { OnErr result (take (length to.old.items) to.new.items ≡ to.old.items) }
 {
     let count = count_cells(&point.placement);
     print_point(point.cost, point.slack, count, to)?;
@@ -90,7 +115,8 @@ fn print_points(
     to: &mut Vec<u8>,
 ) -> Result<(), Memory>
     requires { All (λ point. IsPlacementOf (length names.now) (length repeaters.now) point.placement.cells) points.now }
-    ensures { OnOk result (to.new.items ≡ to.old.items ++ flat_map (point_report (cells_of repeaters.now) names.now) points.now) }
+    ensures printed { OnOk result (to.new.items ≡ to.old.items ++ flat_map (point_report (cells_of repeaters.now) names.now) points.now) }
+    ensures begun { OnErr result (take (length to.old.items) to.new.items ≡ to.old.items) }
 {
     'point: for at in 0..points.len() {
         report_point(repeaters, names, &points[at], to)?;
@@ -98,7 +124,24 @@ fn print_points(
     Ok(())
 }
 
-/// Appends the report of a frontier of a net.
+/// Appends the report of a frontier of a net. Where there is no room, a part of it may stand there.
+fn print_front(
+    name: &[u8],
+    repeaters: &[Repeater],
+    net: &NetProblem,
+    points: &[Point],
+    to: &mut Vec<u8>,
+) -> Result<(), Memory>
+    requires { All (λ point. IsPlacementOf (length net.now.names) (length repeaters.now) point.placement.cells) points.now }
+    ensures printed { OnOk result (to.new.items ≡ to.old.items ++ front_report name.now (cells_of repeaters.now) net.now points.now) }
+    ensures begun { OnErr result (take (length to.old.items) to.new.items ≡ to.old.items) }
+{
+    print_count(name, points.len(), to)?;
+    print_points(repeaters, &net.names, points, to)?;
+    Ok(())
+}
+
+/// Appends the report of a frontier of a net. Answers `Memory` where there is no room, and then `to` is as before.
 pub fn report_front(
     name: &[u8],
     repeaters: &[Repeater],
@@ -107,9 +150,13 @@ pub fn report_front(
     to: &mut Vec<u8>,
 ) -> Result<(), Memory>
     requires { All (λ point. IsPlacementOf (length net.now.names) (length repeaters.now) point.placement.cells) points.now }
-    ensures { OnOk result (to.new.items ≡ to.old.items ++ front_report name.now (cells_of repeaters.now) net.now points.now) }
+    ensures printed { OnOk result (to.new.items ≡ to.old.items ++ front_report name.now (cells_of repeaters.now) net.now points.now) }
+    ensures unchanged { OnErr result (to.new.items ≡ to.old.items) }
 {
-    print_count(name, points.len(), to)?;
-    print_points(repeaters, &net.names, points, to)?;
-    Ok(())
+    let before = to.len();
+    let done = print_front(name, repeaters, net, points, to);
+    if done.is_err() {
+        to.truncate(before);
+    }
+    done
 }

@@ -1,6 +1,6 @@
 //! Why a net is refused, as text.
 
-ghost use Rattle.std.specs.Prelude.{◌≡◌, ◌++◌, OnOk};
+ghost use Rattle.std.specs.Prelude.{◌≡◌, ◌++◌, OnOk, OnErr};
 ghost use Rattle.vg_report.specs.Reports.{refusal_kind, refusal_line};
 
 use crate::faults::print_net_fault;
@@ -46,17 +46,23 @@ fn print_kind(refusal: &Refusal, to: &mut Vec<u8>) -> Result<(), Memory>
     Ok(())
 }
 
-/// Appends the line that tells why a net is refused.
+/// Appends the line that tells why a net is refused. Answers `Memory` where there is no room, and then `to` is as
+/// before.
 pub fn print_refusal(
     alloc: Global,
     name: &[u8],
     refusal: &Refusal,
     to: &mut Vec<u8>,
 ) -> Result<(), Memory>
-    ensures { OnOk result (to.new.items ≡ to.old.items ++ refusal_line name.now refusal.now) }
+    ensures printed { OnOk result (to.new.items ≡ to.old.items ++ refusal_line name.now refusal.now) }
+    ensures unchanged { OnErr result (to.new.items ≡ to.old.items) }
 {
     let mut kind = Vec::new(alloc);
     print_kind(refusal, &mut kind)?;
-    print_refused(name, refusal.number(), &kind, to)?;
-    Ok(())
+    let before = to.len();
+    let done = print_refused(name, refusal.number(), &kind, to);
+    if done.is_err() {
+        to.truncate(before);
+    }
+    done
 }

@@ -1,14 +1,15 @@
 //! The lines of reports.
-ghost use Rattle.std.specs.Prelude.{◌≡◌, ◌++◌, OnOk, codes, decimal};
+ghost use Rattle.std.specs.Prelude.{◌≡◌, ◌++◌, OnOk, OnErr, codes, decimal, length, take};
 ghost use Rattle.std.specs.Fmt.{signed_decimal};
 ghost use Rattle.vg_report.specs.Reports.{at_line, best_line, none_line, point_line, points_line, printed_node, refused_line, sink_line, slack_before};
 
 use vg_num::{Memory, print_signed};
 use vg_scan::NodeName;
 
-/// Appends bytes.
+/// Appends bytes. Answers `Memory` where there is no room, and then `to` is as before.
 pub fn push(bytes: &[u8], to: &mut Vec<u8>) -> Result<(), Memory>
-    ensures { OnOk result (to.new.items ≡ to.old.items ++ bytes.now) }
+    ensures printed { OnOk result (to.new.items ≡ to.old.items ++ bytes.now) }
+    ensures unchanged { OnErr result (to.new.items ≡ to.old.items) }
 {
     to.extend_from_slice(bytes)?;
     Ok(())
@@ -16,7 +17,8 @@ pub fn push(bytes: &[u8], to: &mut Vec<u8>) -> Result<(), Memory>
 
 /// Appends the node of an owner and a leaf: the owner, and after a colon the leaf, where it is not empty.
 fn print_parts(owner: &[u8], leaf: &[u8], to: &mut Vec<u8>) -> Result<(), Memory>
-    ensures { OnOk result (to.new.items ≡ to.old.items ++ printed_node (record { owner = owner.now; leaf = leaf.now })) }
+    ensures printed { OnOk result (to.new.items ≡ to.old.items ++ printed_node (record { owner = owner.now; leaf = leaf.now })) }
+    ensures begun { OnErr result (take (length to.old.items) to.new.items ≡ to.old.items) }
 {
     push(owner, to)?;
     if !leaf.is_empty() {
@@ -26,12 +28,18 @@ fn print_parts(owner: &[u8], leaf: &[u8], to: &mut Vec<u8>) -> Result<(), Memory
     Ok(())
 }
 
-/// Appends a node: its owner, and after a colon its leaf, where it has one.
+/// Appends a node: its owner, and after a colon its leaf, where it has one. Answers `Memory` where there is no room,
+/// and then `to` is as before.
 pub fn print_node(node: &NodeName, to: &mut Vec<u8>) -> Result<(), Memory>
-    ensures { OnOk result (to.new.items ≡ to.old.items ++ printed_node node.now) }
+    ensures printed { OnOk result (to.new.items ≡ to.old.items ++ printed_node node.now) }
+    ensures unchanged { OnErr result (to.new.items ≡ to.old.items) }
 {
-    print_parts(node.owner.as_bytes(), node.leaf.as_bytes(), to)?;
-    Ok(())
+    let before = to.len();
+    let done = print_parts(node.owner.as_bytes(), node.leaf.as_bytes(), to);
+    if done.is_err() {
+        to.truncate(before);
+    }
+    done
 }
 
 /// Appends `net NAME total T`, with T in attofarads.
@@ -60,7 +68,8 @@ pub fn print_sink(owner: &[u8], leaf: &[u8], delay: i128, to: &mut Vec<u8>) -> R
 
 /// Appends `net NAME refused NUMBER KIND`.
 pub fn print_refused(name: &[u8], number: u8, kind: &[u8], to: &mut Vec<u8>) -> Result<(), Memory>
-    ensures { OnOk result (to.new.items ≡ to.old.items ++ refused_line name.now number kind.now) }
+    ensures printed { OnOk result (to.new.items ≡ to.old.items ++ refused_line name.now number kind.now) }
+    ensures begun { OnErr result (take (length to.old.items) to.new.items ≡ to.old.items) }
 {
     push(b"net ", to)?;
     push(name, to)?;
@@ -74,7 +83,8 @@ pub fn print_refused(name: &[u8], number: u8, kind: &[u8], to: &mut Vec<u8>) -> 
 
 /// Appends `net NAME slack S`, with S in zeptoseconds.
 fn print_value(name: &[u8], slack: i128, to: &mut Vec<u8>) -> Result<(), Memory>
-    ensures { OnOk result (to.new.items ≡ to.old.items ++ (codes "net " ++ (name.now ++ (codes " slack " ++ signed_decimal slack)))) }
+    ensures printed { OnOk result (to.new.items ≡ to.old.items ++ (codes "net " ++ (name.now ++ (codes " slack " ++ signed_decimal slack)))) }
+    ensures begun { OnErr result (take (length to.old.items) to.new.items ≡ to.old.items) }
 {
     push(b"net ", to)?;
     push(name, to)?;
@@ -85,7 +95,8 @@ fn print_value(name: &[u8], slack: i128, to: &mut Vec<u8>) -> Result<(), Memory>
 
 /// Appends ` cost K cells M` and the line's end, with K in thousandths.
 fn print_cost(cost: u64, count: usize, to: &mut Vec<u8>) -> Result<(), Memory>
-    ensures { OnOk result (to.new.items ≡ to.old.items ++ (codes " cost " ++ (decimal cost ++ (codes " cells " ++ (decimal count ++ codes "\n"))))) }
+    ensures printed { OnOk result (to.new.items ≡ to.old.items ++ (codes " cost " ++ (decimal cost ++ (codes " cells " ++ (decimal count ++ codes "\n"))))) }
+    ensures begun { OnErr result (take (length to.old.items) to.new.items ≡ to.old.items) }
 {
     push(b" cost ", to)?;
     print_signed(i128::from(cost), to)?;
@@ -103,7 +114,8 @@ pub fn print_best(
     count: usize,
     to: &mut Vec<u8>,
 ) -> Result<(), Memory>
-    ensures { OnOk result (to.new.items ≡ to.old.items ++ best_line name.now slack cost count) }
+    ensures printed { OnOk result (to.new.items ≡ to.old.items ++ best_line name.now slack cost count) }
+    ensures begun { OnErr result (take (length to.old.items) to.new.items ≡ to.old.items) }
 {
     print_value(name, slack, to)?;
     print_cost(cost, count, to)?;
@@ -112,7 +124,8 @@ pub fn print_best(
 
 /// Appends `net NAME points P`.
 pub fn print_count(name: &[u8], count: usize, to: &mut Vec<u8>) -> Result<(), Memory>
-    ensures { OnOk result (to.new.items ≡ to.old.items ++ points_line name.now count) }
+    ensures printed { OnOk result (to.new.items ≡ to.old.items ++ points_line name.now count) }
+    ensures begun { OnErr result (take (length to.old.items) to.new.items ≡ to.old.items) }
 {
     push(b"net ", to)?;
     push(name, to)?;
@@ -124,7 +137,8 @@ pub fn print_count(name: &[u8], count: usize, to: &mut Vec<u8>) -> Result<(), Me
 
 /// Appends `point K S cells M`, with K in thousandths and S in zeptoseconds.
 pub fn print_point(cost: u64, slack: i128, count: usize, to: &mut Vec<u8>) -> Result<(), Memory>
-    ensures { OnOk result (to.new.items ≡ to.old.items ++ point_line cost slack count) }
+    ensures printed { OnOk result (to.new.items ≡ to.old.items ++ point_line cost slack count) }
+    ensures begun { OnErr result (take (length to.old.items) to.new.items ≡ to.old.items) }
 {
     push(b"point ", to)?;
     print_signed(i128::from(cost), to)?;
@@ -138,7 +152,8 @@ pub fn print_point(cost: u64, slack: i128, count: usize, to: &mut Vec<u8>) -> Re
 
 /// Appends `at NODE CELL`, with the owner and the leaf of the node.
 pub fn print_at(owner: &[u8], leaf: &[u8], cell: &[u8], to: &mut Vec<u8>) -> Result<(), Memory>
-    ensures { OnOk result (to.new.items ≡ to.old.items ++ at_line (record { owner = owner.now; leaf = leaf.now }) cell.now) }
+    ensures printed { OnOk result (to.new.items ≡ to.old.items ++ at_line (record { owner = owner.now; leaf = leaf.now }) cell.now) }
+    ensures begun { OnErr result (take (length to.old.items) to.new.items ≡ to.old.items) }
 {
     push(b"at ", to)?;
     print_parts(owner, leaf, to)?;
@@ -148,9 +163,10 @@ pub fn print_at(owner: &[u8], leaf: &[u8], cell: &[u8], to: &mut Vec<u8>) -> Res
     Ok(())
 }
 
-/// Appends `net NAME none`.
-pub fn print_none(name: &[u8], to: &mut Vec<u8>) -> Result<(), Memory>
-    ensures { OnOk result (to.new.items ≡ to.old.items ++ none_line name.now) }
+/// Appends `net NAME none`. Where there is no room, a part of it may stand there.
+fn print_none_line(name: &[u8], to: &mut Vec<u8>) -> Result<(), Memory>
+    ensures printed { OnOk result (to.new.items ≡ to.old.items ++ none_line name.now) }
+    ensures begun { OnErr result (take (length to.old.items) to.new.items ≡ to.old.items) }
 {
     push(b"net ", to)?;
     push(name, to)?;
@@ -158,9 +174,23 @@ pub fn print_none(name: &[u8], to: &mut Vec<u8>) -> Result<(), Memory>
     Ok(())
 }
 
+/// Appends `net NAME none`. Answers `Memory` where there is no room, and then `to` is as before.
+pub fn print_none(name: &[u8], to: &mut Vec<u8>) -> Result<(), Memory>
+    ensures printed { OnOk result (to.new.items ≡ to.old.items ++ none_line name.now) }
+    ensures unchanged { OnErr result (to.new.items ≡ to.old.items) }
+{
+    let before = to.len();
+    let done = print_none_line(name, to);
+    if done.is_err() {
+        to.truncate(before);
+    }
+    done
+}
+
 /// Appends ` polarity POLARITY` and the line's end; the polarity is told in two pieces.
 fn print_polarity(polarity: &[u8], node: &[u8], to: &mut Vec<u8>) -> Result<(), Memory>
-    ensures { OnOk result (to.new.items ≡ to.old.items ++ (codes " polarity " ++ (polarity.now ++ (node.now ++ codes "\n")))) }
+    ensures printed { OnOk result (to.new.items ≡ to.old.items ++ (codes " polarity " ++ (polarity.now ++ (node.now ++ codes "\n")))) }
+    ensures begun { OnErr result (take (length to.old.items) to.new.items ≡ to.old.items) }
 {
     push(b" polarity ", to)?;
     push(polarity, to)?;
@@ -177,7 +207,8 @@ pub fn print_slack(
     node: &[u8],
     to: &mut Vec<u8>,
 ) -> Result<(), Memory>
-    ensures { OnOk result (to.new.items ≡ to.old.items ++ slack_before name.now slack (polarity.now ++ (node.now ++ codes "\n"))) }
+    ensures printed { OnOk result (to.new.items ≡ to.old.items ++ slack_before name.now slack (polarity.now ++ (node.now ++ codes "\n"))) }
+    ensures begun { OnErr result (take (length to.old.items) to.new.items ≡ to.old.items) }
 {
     print_value(name, slack, to)?;
     print_polarity(polarity, node, to)?;

@@ -23,18 +23,18 @@ entry_from name v (Some e) key value =
     let its : string_bytes e.0 ≡ name = cc in
     (e.0, ap (λ w. Some (e.0, w)) same, its)
 
-module _ {S : Type 0} (files : IndexMap (String Global) (Vec ℕ Global) S) (n : ℕ) (name : List ℕ) (old new : Vec ℕ Global)
-    (unique : IsUnique string_eq files) (is : named files (Some n) ≡ Some name) (value : slice_get (values files) n ≡ Some old) where
+module _ {X S : Type 0} (files : IndexMap (String Global) X S) (n : ℕ) (name : List ℕ) (old new : X) (unique : IsUnique string_eq files) (is : named files (Some n) ≡ Some name)
+    (value : slice_get (values files) n ≡ Some old) where
   entry : (k : String Global) × (slice_get files.entries n ≡ Some (k, old)) × (string_bytes k ≡ name)
   entry =
       entry_from name old (slice_get files.entries n)
       (ap (option_map string_bytes) (sym (slice_get-map (λ e. e.0) files.entries n)) ∙ is) (sym (slice_get-map (λ e. e.1) files.entries n) ∙ value)
 
-  -- the bytes of the file of this number
-  pub held_at : bytes_of files name ≡ Some old.items
-  held_at =
+  -- the file of this number
+  file_there : get_by_text files name ≡ Some old
+  file_there =
       let (k, at, its) = entry in
-      subst (λ (l : List ℕ). bytes_of files l ≡ Some old.items) its (ap (option_map vec_items) (hash_map_get_place string_eq_equiv files n k old unique at))
+      subst (λ (l : List ℕ). get_by_text files l ≡ Some old) its (hash_map_get_place string_eq_equiv files n k old unique at)
 
   updated : (file : List ℕ) → get_by_text (with_value_at files n new) file ≡ cond (bytes_eq name file) (Some new) (get_by_text files file)
   updated file =
@@ -42,21 +42,35 @@ module _ {S : Type 0} (files : IndexMap (String Global) (Vec ℕ Global) S) (n :
       subst (λ (l : List ℕ). get_by_text (with_value_at files n new) file ≡ cond (bytes_eq l file) (Some new) (get_by_text files file)) its
       (hash_map_updates_text (string_bytes k) files (with_value_at files n new) (Some new) (updates-with_value_at files n new string_eq_equiv unique k old at) file)
 
-  -- the file of this number holds what was written
-  pub written_at : bytes_of (with_value_at files n new) name ≡ Some new.items
-  written_at =
+  -- is replaced
+  pub replaced_at : get_by_text (with_value_at files n new) name ≡ Some new
+  replaced_at =
       let same : bytes_eq name name ≡ true = (bytes_eq-Decides name name).1 refl in
-      ap (option_map vec_items) (updated name ∙ ap (λ b. cond b (Some new) (get_by_text files name)) same)
+      updated name ∙ ap (λ b. cond b (Some new) (get_by_text files name)) same
 
-  -- and the others what they held
-  pub others_at : (file : List ℕ) → file ≢ name → bytes_of (with_value_at files n new) file ≡ bytes_of files file
-  others_at file differs =
+  -- and the others stay
+  pub stay_at : (file : List ℕ) → file ≢ name → get_by_text (with_value_at files n new) file ≡ get_by_text files file
+  stay_at file differs =
       let apart : bytes_eq name file ≡ false = by (bytes_eq name file) refl in
-      ap (option_map vec_items) (updated file ∙ ap (λ b. cond b (Some new) (get_by_text files file)) apart)
+      updated file ∙ ap (λ b. cond b (Some new) (get_by_text files file)) apart
     where
       by : (b : Bool) → bytes_eq name file ≡ b → bytes_eq name file ≡ false
       by true equal = absurd (differs (sym ((bytes_eq-Decides name file).0 equal)))
       by false differ = differ
+
+module _ {S : Type 0} (files : IndexMap (String Global) (Vec ℕ Global) S) (n : ℕ) (name : List ℕ) (old new : Vec ℕ Global) (unique : IsUnique string_eq files) (is : named files (Some n) ≡ Some name)
+    (value : slice_get (values files) n ≡ Some old) where
+  -- the bytes of the file of this number
+  pub held_at : bytes_of files name ≡ Some old.items
+  held_at = ap (option_map vec_items) (file_there files n name old new unique is value)
+
+  -- the file of this number holds what was written
+  pub written_at : bytes_of (with_value_at files n new) name ≡ Some new.items
+  written_at = ap (option_map vec_items) (replaced_at files n name old new unique is value)
+
+  -- and the others what they held
+  pub others_at : (file : List ℕ) → file ≢ name → bytes_of (with_value_at files n new) file ≡ bytes_of files file
+  others_at file differs = ap (option_map vec_items) (stay_at files n name old new unique is value file differs)
 
 -- the name of a number that has a value
 name_at_value : {X S : Type 0} (files : IndexMap (String Global) X S) (n : ℕ) (v : X) → slice_get (values files) n ≡ Some v → (name : List ℕ) × (named files (Some n) ≡ Some name)
@@ -68,12 +82,17 @@ name_at_value files n v value =
     key_from v None value = absurd (cc)
     key_from v (Some e) value = let same : e.1 ≡ v = cc in (e.0, ap (λ w. Some (e.0, w)) same)
 
+-- the files that do not have this number stay
+pub stay_apart : {X S : Type 0} (files : IndexMap (String Global) X S) (n : ℕ) (old new : X) → IsUnique string_eq files → slice_get (values files) n ≡ Some old
+    → (file : List ℕ) → named files (Some n) ≢ Some file → get_by_text (with_value_at files n new) file ≡ get_by_text files file
+stay_apart files n old new unique value file differs =
+    let (name, is) = name_at_value files n old value in
+    stay_at files n name old new unique is value file (λ e. differs (is ∙ ap (λ l. Some l) (sym e)))
+
 module _ {S : Type 0} (files : IndexMap (String Global) (Vec ℕ Global) S) (n : ℕ) (old new : Vec ℕ Global) (unique : IsUnique string_eq files) (value : slice_get (values files) n ≡ Some old) where
   -- a file that does not have this number holds what it held
   pub others_apart : (file : List ℕ) → named files (Some n) ≢ Some file → bytes_of (with_value_at files n new) file ≡ bytes_of files file
-  others_apart file differs =
-      let (name, is) = name_at_value files n old value in
-      others_at files n name old new unique is value file (λ e. differs (is ∙ ap (λ l. Some l) (sym e)))
+  others_apart file differs = ap (option_map vec_items) (stay_apart files n old new unique value file differs)
 
   -- and all files do, where the same is written
   pub all_stay : new.items ≡ old.items → (file : List ℕ) → bytes_of (with_value_at files n new) file ≡ bytes_of files file

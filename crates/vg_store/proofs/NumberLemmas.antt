@@ -18,7 +18,7 @@ use Rattle.vg_store.specs.Contents.{bytes_of, named}
 use Rattle.vg_store.specs.MemFiles.{held, left_of, state_of}
 use Rattle.vg_store.specs.declared.mem_files.MemFiles.{MemFiles}
 
-abbrev is_name : List ℕ → String Global → Bool
+abbrev pub is_name : List ℕ → String Global → Bool
 is_name name key = bytes_eq name (string_bytes key)
 
 name_at : (name : List ℕ) (names : List (String Global)) (n : ℕ) → position (is_name name) names ≡ Some n → option_map string_bytes (slice_get names n) ≡ Some name
@@ -75,7 +75,8 @@ file_at files n key bytes is entry value =
     ∙ ap (λ o. file_named (held files) (option_map string_bytes o)) (slice_get-map (λ e. e.0) files.files.entries n ∙ ap (option_map (λ e. e.0)) entry)
     ∙ ap (option_map vec_items) value
 
-rest_from : (bytes : List ℕ) (place at : ℕ) → at ≡ min place (length bytes) → take (length bytes - at) (drop at bytes) ≡ drop place bytes
+-- what is left from a place on
+pub rest_from : (bytes : List ℕ) (place at : ℕ) → at ≡ min place (length bytes) → take (length bytes - at) (drop at bytes) ≡ drop place bytes
 rest_from bytes place at is = grind (arith, common_steps)
 
 -- what is left of it

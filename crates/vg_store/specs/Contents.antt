@@ -1,5 +1,5 @@
 -- Files by their names and numbers.
-use Rattle.std.specs.Prelude.{ℕ, ◌-◌, List, slice_get, string_bytes, String, Option, Some, None, option_map, unwrap_or, Vec, vec_items, vec_len, vec_capacity}
+use Rattle.std.specs.Prelude.{ℕ, ◌-◌, List, slice_get, string_bytes, String, Option, Some, None, option_and_then, option_map, unwrap_or, Vec, vec_items, vec_len, vec_capacity}
 use Rattle.std.specs.declared.alloc.Global.{Global}
 use Rattle.indexmap.specs.IndexMap.{IndexMap, get_by_text, keys, values}
 
@@ -12,6 +12,10 @@ module _ {S : Type 0} where
   abbrev pub named : {X : Type 0} → IndexMap (String Global) X S → Option ℕ → Option (List ℕ)
   named files None = None
   named files (Some n) = option_map string_bytes (slice_get (keys files) n)
+
+  -- the bytes of the file of this name, where they are told
+  abbrev pub told_of : IndexMap (String Global) (Option (Vec ℕ Global)) S → List ℕ → Option (List ℕ)
+  told_of files name = option_and_then (option_map vec_items) (get_by_text files name)
 
   -- how many more bytes fit in the memory that the file of this number has
   abbrev pub room_at : IndexMap (String Global) (Vec ℕ Global) S → ℕ → ℕ

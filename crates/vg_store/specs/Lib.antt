@@ -5,4 +5,6 @@ pub mod MemOut
 pub mod Reading
 pub mod RealFiles
 pub mod States
+pub mod SureFiles
+pub mod SureOut
 pub mod Writing

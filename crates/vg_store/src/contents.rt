@@ -1,7 +1,7 @@
 //! Files by name and number, as bytes in memory.
 ghost use Rattle.std.specs.Prelude.{◌≡◌, ◌≢◌, ◌<◌, ◌≤◌, ◌++◌, ℕ, List, length, [], Option, Some, None, IfOk, OnOk, OnErr, option_map};
 ghost use Rattle.indexmap.specs.IndexMap.{index_map_len};
-ghost use Rattle.vg_store.specs.Contents.{bytes_of, named, room_at};
+ghost use Rattle.vg_store.specs.Contents.{bytes_of, named, room_at, told_of};
 
 use indexmap::IndexMap;
 use std::alloc::{AllocError, Global};
@@ -63,4 +63,34 @@ pub fn append_at(
     };
     file.extend_from_slice(bytes)?;
     Ok(())
+}
+
+/// The bytes of a file, where they are told.
+pub type Told = Option<Vec<u8>>;
+
+/// Tells the bytes of the file of this name no longer.
+pub fn forget(files: &mut IndexMap<String, Told>, name: &str)
+    ensures forgotten { told_of files.new name.now ≡ None }
+    ensures others { (other : List ℕ) → other ≢ name.now → told_of files.new other ≡ told_of files.old other }
+    ensures same_names { (number : Option ℕ) → named files.new number ≡ named files.old number }
+    ensures same_length { index_map_len files.new ≡ index_map_len files.old }
+{
+    let Some(number) = files.get_index_of(name) else {
+        return;
+    };
+    forget_at(files, number);
+}
+
+// Tells the bytes of the file of this number no longer.
+fn forget_at(files: &mut IndexMap<String, Told>, number: usize)
+    requires stands { number < index_map_len files.old }
+    ensures forgotten { (name : List ℕ) → named files.old (Some number) ≡ Some name → told_of files.new name ≡ None }
+    ensures others { (other : List ℕ) → named files.old (Some number) ≢ Some other → told_of files.new other ≡ told_of files.old other }
+    ensures same_names { (other : Option ℕ) → named files.new other ≡ named files.old other }
+    ensures same_length { index_map_len files.new ≡ index_map_len files.old }
+{
+    let Some(file) = files.get_index_mut(number) else {
+        unreachable!();
+    };
+    *file = None;
 }

@@ -11,6 +11,8 @@ mod output;
 mod read;
 mod real_files;
 mod real_out;
+mod sure_files;
+mod sure_out;
 mod write;
 
 pub use files::{Failed, Files};
@@ -20,4 +22,6 @@ pub use output::{Out, put_all};
 pub use read::{ReadAll, read_all};
 pub use real_files::RealFiles;
 pub use real_out::RealOut;
+pub use sure_files::SureFiles;
+pub use sure_out::SureOut;
 pub use write::{append, write_file};

@@ -1,6 +1,6 @@
 //! What is found in a certificate's text.
 
-ghost use Rattle.std.specs.Prelude.{◌≤◌, ◌^◌, length, IfOk};
+ghost use Rattle.std.specs.Prelude.{◌≡◌, ◌≤◌, ◌^◌, length, IfOk, OnErr};
 ghost use Rattle.vg_cert.specs.Fits.{Fits};
 ghost use Rattle.vg_cert.specs.Names.{AreNamesOf};
 ghost use Rattle.vg_verdict.specs.Judged.{Judges};
@@ -14,7 +14,8 @@ use vg_check::{Verdict, check};
 use vg_num::Memory;
 use vg_scan::NetNames;
 
-/// Checks a certificate, and appends the line of the verdict. Answers whether it is valid.
+/// Checks a certificate, and appends the line of the verdict. Answers whether it is valid. Where there is no room, `to`
+/// is as before.
 fn judge_certificate(
     alloc: Global,
     problem: &Problem,
@@ -24,7 +25,8 @@ fn judge_certificate(
 ) -> Result<bool, Memory>
     requires fits { Fits problem.now cert.now }
     requires names { AreNamesOf problem.now names.now }
-    ensures { IfOk result (TellsVerdict problem.now names.now cert.now to.old.items to.new.items) }
+    ensures told { IfOk result (TellsVerdict problem.now names.now cert.now to.old.items to.new.items) }
+    ensures unchanged { OnErr result (to.new.items ≡ to.old.items) }
 {
     let verdict = check(alloc, problem, cert)?;
     print_verdict(alloc, names, cert.slack, verdict, to)?;
@@ -33,7 +35,7 @@ fn judge_certificate(
 
 /// Reads the text of a certificate of a net with this problem and these names, checks it, and appends one line: of the
 /// text's first fault, or of the verdict. Answers whether the text is a valid certificate; and `Memory` where there is
-/// no room.
+/// no room, and then `to` is as before.
 pub fn judge_text(
     alloc: Global,
     problem: &Problem,
@@ -43,7 +45,8 @@ pub fn judge_text(
 ) -> Result<bool, Memory>
     requires few { length bytes.now ≤ 2 ^ 28 }
     requires names { AreNamesOf problem.now names.now }
-    ensures { IfOk result (Judges problem.now names.now bytes.now to.old.items to.new.items) }
+    ensures judged { IfOk result (Judges problem.now names.now bytes.now to.old.items to.new.items) }
+    ensures unchanged { OnErr result (to.new.items ≡ to.old.items) }
 {
     match read_certificate(alloc, bytes, problem, names) {
         Ok(cert) => {

@@ -1,6 +1,6 @@
 //! The lines that tell what is found in a certificate.
 
-ghost use Rattle.std.specs.Prelude.{◌≡◌, ◌++◌, ◌<◌, length, codes, OnOk};
+ghost use Rattle.std.specs.Prelude.{◌≡◌, ◌++◌, ◌<◌, length, take, codes, OnOk, OnErr};
 ghost use Rattle.std.specs.Fmt.{signed_decimal};
 ghost use Rattle.vg_cert.specs.Written.{slack_word};
 ghost use Rattle.vg_verdict.specs.Lines.{cert_kind as kind_text, certificate_line, fault_line, fault_text, node_text, valid_text, verdict_line, verdict_text};
@@ -13,9 +13,10 @@ use vg_num::{Memory, NumFault, print_signed};
 use vg_report::{print_node, push};
 use vg_scan::NetNames;
 
-/// Appends `net NAME certificate REST` and the line's end.
-fn print_line(names: &NetNames, rest: &[u8], to: &mut Vec<u8>) -> Result<(), Memory>
-    ensures { OnOk result (to.new.items ≡ to.old.items ++ certificate_line names.now rest.now) }
+/// Appends `net NAME certificate REST` and the line's end. Where there is no room, a part of it may stand there.
+fn push_line(names: &NetNames, rest: &[u8], to: &mut Vec<u8>) -> Result<(), Memory>
+    ensures printed { OnOk result (to.new.items ≡ to.old.items ++ certificate_line names.now rest.now) }
+    ensures begun { OnErr result (take (length to.old.items) to.new.items ≡ to.old.items) }
 {
     push(b"net ", to)?;
     push(names.net.as_bytes(), to)?;
@@ -23,6 +24,19 @@ fn print_line(names: &NetNames, rest: &[u8], to: &mut Vec<u8>) -> Result<(), Mem
     push(rest, to)?;
     push(b"\n", to)?;
     Ok(())
+}
+
+/// Appends `net NAME certificate REST` and the line's end. Where there is no room, `to` is as before.
+fn print_line(names: &NetNames, rest: &[u8], to: &mut Vec<u8>) -> Result<(), Memory>
+    ensures printed { OnOk result (to.new.items ≡ to.old.items ++ certificate_line names.now rest.now) }
+    ensures unchanged { OnErr result (to.new.items ≡ to.old.items) }
+{
+    let before = to.len();
+    let done = push_line(names, rest, to);
+    if done.is_err() {
+        to.truncate(before);
+    }
+    done
 }
 
 /// Appends a word and a node of the net.
@@ -109,7 +123,7 @@ fn print_found(
     Ok(())
 }
 
-/// Appends the line of a verdict on a certificate with this slack (zs).
+/// Appends the line of a verdict on a certificate with this slack (zs). Where there is no room, `to` is as before.
 pub(crate) fn print_verdict(
     alloc: Global,
     names: &NetNames,
@@ -118,7 +132,8 @@ pub(crate) fn print_verdict(
     to: &mut Vec<u8>,
 ) -> Result<(), Memory>
     requires { NamesWithin (length names.now.nodes) verdict }
-    ensures { OnOk result (to.new.items ≡ to.old.items ++ verdict_line names.now slack verdict) }
+    ensures printed { OnOk result (to.new.items ≡ to.old.items ++ verdict_line names.now slack verdict) }
+    ensures unchanged { OnErr result (to.new.items ≡ to.old.items) }
 {
     let mut found = Vec::new(alloc);
     print_found(names, slack, verdict, &mut found)?;
@@ -153,14 +168,15 @@ fn print_kind(fault: CertFault, to: &mut Vec<u8>) -> Result<(), Memory>
     Ok(())
 }
 
-/// Appends the line of a fault of a certificate.
+/// Appends the line of a fault of a certificate. Where there is no room, `to` is as before.
 pub(crate) fn print_fault(
     alloc: Global,
     names: &NetNames,
     fault: CertFault,
     to: &mut Vec<u8>,
 ) -> Result<(), Memory>
-    ensures { OnOk result (to.new.items ≡ to.old.items ++ fault_line names.now fault) }
+    ensures printed { OnOk result (to.new.items ≡ to.old.items ++ fault_line names.now fault) }
+    ensures unchanged { OnErr result (to.new.items ≡ to.old.items) }
 {
     let mut found = Vec::new(alloc);
     print_kind(fault, &mut found)?;

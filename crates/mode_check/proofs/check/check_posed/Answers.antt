@@ -22,4 +22,4 @@ returns c =
     check_judged d c.args.name.now c.args.cert.now c.args.net.now c.in_ok-names.names c.if-valid.kind valid c.new-text.result.items c.judge_text.new.to.items c.answer_text.result
     c.requires.posed
     (names_are d c.args.name.now c.args.net.now c.in_ok-names.names c.repeaters.result.now c.repeaters.ensures c.in_ok-names.ensures)
-    c.new-text.ensures.items kind c.in_ok-valid.ensures c.answer_text.ensures
+    c.new-text.ensures.items kind c.in_ok-valid.ensures.judged c.answer_text.ensures

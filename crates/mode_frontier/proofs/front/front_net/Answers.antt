@@ -26,5 +26,5 @@ returns-in-Err-Net c =
     record {
       text = refusal_line c.args.name.now refusal;
       says = IsFrontSaid.told_refusal refusal (subst (λ (name : List ℕ). IsFirstRefusal d name refusal) c.in_ok-net.ensures refused) refl;
-      is = rw c.in-Err-Net.field-0-is at c.in_ok-print_refusal-in-Err-Net.ensures;
+      is = rw c.in-Err-Net.field-0-is at c.in_ok-print_refusal-in-Err-Net.ensures.printed;
     }

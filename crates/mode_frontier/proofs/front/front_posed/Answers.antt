@@ -16,7 +16,7 @@ returns-then-is_empty c =
     let count : length points ≡ vec_len c.in_ok-points.points = omega (arith, c.in_ok-points.points.ok.0) in
     let none : points ≡ [] = nil_from_length points (count ∙ eqb-true (vec_len c.in_ok-points.points) 0 (sym c.is_empty.ensures ∙ c.if-is_empty.true)) in
     says_none c.args.design.now c.args.cap c.args.name.now c.args.to.now.items c.print_none.new.to.items c.args.net.now points c.requires
-    c.in_ok-points.ensures.frontier none c.in_ok-print_none.ensures
+    c.in_ok-points.ensures.frontier none c.in_ok-print_none.ensures.printed
 
 pub report_front-requires : goal.report_front-requires
 report_front-requires c =
@@ -38,5 +38,5 @@ returns c =
     let count : length points ≡ vec_len c.in_ok-points.points = omega (arith, c.in_ok-points.points.ok.0) in
     let some = some_points points (ap (λ n. n == 0) count ∙ sym c.is_empty.ensures ∙ c.if-is_empty.false) in
     let text : c.report_front.new.to.items ≡ before ++ front_report name (cells_of d.library.repeaters) net points =
-    c.in_ok-report_front.ensures ∙ (λ i. before ++ front_report name (cells_of (c.repeaters.ensures i)) net (c.deref.ensures.value i)) in
+    c.in_ok-report_front.ensures.printed ∙ (λ i. before ++ front_report name (cells_of (c.repeaters.ensures i)) net (c.deref.ensures.value i)) in
     says_points d c.args.cap name before c.report_front.new.to.items net points c.requires c.in_ok-points.ensures.frontier some text

@@ -12,7 +12,7 @@ returns-in-Ok c =
     record {
       text = slack_line c.args.name.now timed;
       says = IsTimeSaid.told_slack timed (subst (λ (name : List ℕ). Retimes 17 d prefix name timed) c.in_ok-net.ensures c.in-Ok.ensures.timed) refl;
-      is = c.in_ok-report_timed-in-Ok.ensures;
+      is = c.in_ok-report_timed-in-Ok.ensures.printed;
     }
 
 pub returns-in-Err-Net : goal.returns-in-Err-Net
@@ -24,5 +24,5 @@ returns-in-Err-Net c =
     record {
       text = refusal_line c.args.name.now refusal;
       says = IsTimeSaid.told_stop refusal (subst (λ (name : List ℕ). IsFirstRefusal d prefix name refusal) c.in_ok-net.ensures refused) refl;
-      is = c.in_ok-print_refusal-in-Err-Net.ensures;
+      is = c.in_ok-print_refusal-in-Err-Net.ensures.printed;
     }

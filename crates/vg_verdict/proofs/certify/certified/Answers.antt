@@ -11,5 +11,5 @@ returns-clause-text c =
       valid = c.in_ok-cert.ensures.valid;
       claims = c.in_ok-cert.ensures.found;
       kept = c.in_ok-cert.ensures.lists;
-      text_is = c.in_ok-write_certificate.ensures ∙ ap (λ (before : List ℕ). before ++ text) c.new-text.ensures.items;
+      text_is = c.in_ok-write_certificate.ensures.printed ∙ ap (λ (before : List ℕ). before ++ text) c.new-text.ensures.items;
     }

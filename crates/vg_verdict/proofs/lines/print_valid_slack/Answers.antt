@@ -10,4 +10,4 @@ returns c =
     let fits : SFits w128 c.args.slack = search rules in
     let slack = signed_decimal c.args.slack in
     c.in_ok-print_signed.ensures.printed ∙ ap (λ (z : ℤ). c.push.new.to.items ++ signed_decimal z) (to_z-of_z w128 c.args.slack fits)
-    ∙ ap (λ (text : List ℕ). text ++ slack) c.in_ok-push.ensures ∙ append_assoc c.args.to.now.items (codes "valid slack ") slack
+    ∙ ap (λ (text : List ℕ). text ++ slack) c.in_ok-push.ensures.printed ∙ append_assoc c.args.to.now.items (codes "valid slack ") slack
