@@ -15,6 +15,8 @@ mod runs_made;
 #[cfg(test)]
 mod runs_pieces;
 #[cfg(test)]
+mod runs_sure;
+#[cfg(test)]
 mod runs_words;
 #[cfg(test)]
 mod texts_comments;

@@ -10,7 +10,7 @@ use std::test::Fail;
 use vg_store::MemFiles;
 
 /// Words, and how the run ends.
-static RUNS: [(&str, Ending<'static>); 8] = [
+pub(crate) static RUNS: [(&str, Ending<'static>); 8] = [
     (WIRE, (0, WIRE_SAYS, "")),
     (TIME, (0, TIME_SAYS, "")),
     (BEST, (0, BEST_SAYS, "")),
