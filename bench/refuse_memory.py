@@ -3,7 +3,7 @@
 
 PROGRAM is the proved program, crates/vginsert/out/vginsert, which `make` builds. Each run is done once with all memory, which counts its
 requests, and then once for each request: with this one refused, and with this one and all later ones refused. Of a run with more than
-`--most` requests (2,000 if it is not given) so many are tried, which are spread evenly over it, the first and the last among them.
+`--most` requests (5,000 if it is not given) so many are tried, which are spread evenly over it, the first and the last among them.
 
 A run in which memory was refused has to end with status 7, with nothing on standard output, with the line `vginsert: out of memory` on
 standard error and with the files as they were; or just as the run with all memory does, where the program can do without that memory. A
@@ -115,7 +115,7 @@ def row(*cells):
 def main():
     parser = argparse.ArgumentParser(description=__doc__, formatter_class=argparse.RawDescriptionHelpFormatter)
     parser.add_argument("program")
-    parser.add_argument("--most", type=int, default=2000, help="the most requests of a run that are tried")
+    parser.add_argument("--most", type=int, default=5000, help="the most requests of a run that are tried")
     parser.add_argument("--jobs", type=int, default=os.cpu_count(), help="how many runs go side by side")
     asked = parser.parse_args()
     program = os.path.abspath(asked.program)
