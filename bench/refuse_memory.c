@@ -16,7 +16,8 @@
 #include <sys/syscall.h>
 #include <unistd.h>
 
-/* What glibc gives for these calls; it has them under these names too, so no look-up is needed, which may take memory. */
+/* What glibc gives for these calls. It has them under these names too, so that no look-up is needed: that may take
+ * memory. */
 void *__libc_malloc(size_t);
 void *__libc_calloc(size_t, size_t);
 void *__libc_realloc(void *, size_t);

@@ -1,16 +1,20 @@
 #!/usr/bin/env python3
-"""Refuses memory to vginsert, one request after the other, and prints a table: `refuse_memory.py PROGRAM [--most N] [--jobs N]`.
+"""Refuses memory to vginsert, one request after the other, and prints a table.
 
-PROGRAM is the proved program, crates/vginsert/out/vginsert, which `make` builds. Each run is done once with all memory, which counts its
-requests, and then once for each request: with this one refused, and with this one and all later ones refused. Of a run with more than
-`--most` requests (5,000 if it is not given) so many are tried, which are spread evenly over it, the first and the last among them.
+    refuse_memory.py PROGRAM [--most N] [--jobs N]
 
-A run in which memory was refused has to end with status 7, with nothing on standard output, with the line `vginsert: out of memory` on
-standard error and with the files as they were; or just as the run with all memory does, where the program can do without that memory. A
-run that ends in another way is shown on standard error, the first of each row, and then the status of this script is 1.
+PROGRAM is the proved program, crates/vginsert/out/vginsert, which `make` builds. Each run is done once with all memory,
+which counts its requests, and then for each request with this one refused, and with this one and all later ones. Of a
+run with more than `--most` requests (5,000 if it is not given) so many are tried, which are spread evenly over it,
+the first and the last among them.
 
-Memory is refused by `refuse_memory.c`, which the C compiler `cc` makes into a library that is loaded before the C library. So this is for
-Linux with glibc.
+A run in which memory was refused has to end with status 7, with nothing on standard output, with the line
+`vginsert: out of memory` on standard error and with the files as they were; or just as the run with all memory does,
+where the program can do without that memory. Of the runs that end in another way the first of each column is shown on
+standard error, and the status of this script is 1.
+
+Memory is refused by `refuse_memory.c`, which the C compiler `cc` makes into a library that is loaded before the C
+library. So this is for Linux with glibc.
 """
 import argparse
 import os
@@ -28,7 +32,8 @@ OUT_OF_MEMORY = (7, b"", b"vginsert: out of memory\n")
 def design(name):
     """The options that name the four files of a design of the examples."""
     options = {"spef": "spef", "verilog": "v", "lib": "lib", "cons": "cons"}
-    return [word for option, end in options.items() for word in (f"--{option}", os.path.join(EXAMPLES, f"{name}.{end}"))]
+    files = {option: os.path.join(EXAMPLES, f"{name}.{end}") for option, end in options.items()}
+    return [word for option, file in files.items() for word in (f"--{option}", file)]
 
 
 OUTPUTS = ["--out-spef", "out.spef", "--out-verilog", "out.v"]
@@ -63,7 +68,7 @@ def files_in(folder):
 
 
 def run(library, words, at=0, later=False):
-    """How a run ends in an empty folder (status, standard output, standard error, files), and the number of its requests."""
+    """How a run in an empty folder ends: status, what it printed and told, files; and the number of its requests."""
     with tempfile.TemporaryDirectory() as folder, tempfile.NamedTemporaryFile() as count:
         own = {"LD_PRELOAD": library, "REFUSE_MEMORY_COUNT": count.name, "REFUSE_MEMORY_AT": str(at)}
         own["REFUSE_MEMORY_LATER"] = "1" if later else "0"
@@ -92,7 +97,8 @@ def spread(count, most):
 def show(name, at, later, ending):
     status, printed, told, files = ending
     which = f"request {at}{' and all later ones' if later else ''}"
-    print(f"{name}, {which} refused: status {status}, printed {printed[:200]!r}, told {told[:200]!r}, files {list(files)}", file=sys.stderr)
+    said = f"status {status}, printed {printed[:200]!r}, told {told[:200]!r}, files {list(files)}"
+    print(f"{name}, {which} refused: {said}", file=sys.stderr)
 
 
 def try_all(library, name, words, later, tried, whole, jobs):
@@ -124,7 +130,8 @@ def main():
     kinds = ["status 7", "as with all memory", "wrong"]
     with tempfile.TemporaryDirectory() as folder:
         library = build(folder)
-        row("mode", "requests", "tried", *(f"one refused: {it}" for it in kinds), *(f"and all later ones: {it}" for it in kinds))
+        columns = [f"{which}: {it}" for which in ("one refused", "and all later ones") for it in kinds]
+        row("mode", "requests", "tried", *columns)
         row(*["---"] * 9)
         for name, words in RUNS.items():
             words = [program, "--mode", *words]
