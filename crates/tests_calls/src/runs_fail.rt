@@ -184,7 +184,19 @@ fn best_reading_calls(files: &MemFiles) -> usize {
     calls
 }
 
-/// Each call of writing fails once, over files from before and where there are none.
+/// Whether a run of mode `best` in which no call fails but one that is not made ends with status 0 and all files whole.
+fn ends_whole(
+    alloc: Global,
+    whole: &MemFiles,
+    behind: usize,
+    before: Option<&str>,
+) -> Result<bool, Fail> {
+    let (files, ended) = failed_files(alloc, BEST, behind, before, (0, BEST_SAYS, ""))?;
+    Ok(ended && are_whole(&files, whole))
+}
+
+/// Each call of writing fails once, over files from before and where there are none. The run in which the call behind
+/// all of them is to fail ends with status 0.
 #[test]
 fn writing_fails(rt: HostRuntime) -> Result<(), Fail> {
     let whole = whole_files(rt.alloc())?;
@@ -195,6 +207,7 @@ fn writing_fails(rt: HostRuntime) -> Result<(), Fail> {
             assert!(rt; calls.is_some_and(|calls| calls > 3), "{name}");
             first = first.saturating_add(calls.unwrap_or(0));
         }
+        assert!(rt; ends_whole(rt.alloc(), &whole, first, before)?);
     }
     Ok(())
 }
@@ -255,6 +268,69 @@ fn printing_fails(rt: HostRuntime) -> Result<(), Fail> {
     let whole = whole_files(rt.alloc())?;
     for told in &TOLD {
         assert!(rt; tells(rt.alloc(), &whole, told)?, "{}", told.4.2);
+    }
+    Ok(())
+}
+
+/// The first bytes of a text.
+fn first_bytes(alloc: Global, text: &str, count: usize) -> Result<String, Fail> {
+    let bytes = text.as_bytes();
+    let first = String::from_utf8_lossy(alloc, &bytes[..count.min(bytes.len())])?;
+    Ok(first)
+}
+
+/// Whether a run of mode `best` in which this call of standard output fails, which moves a byte a call, has printed the
+/// bytes before, and has written all files.
+fn fails_printing(alloc: Global, whole: &MemFiles, call: usize) -> Result<bool, Fail> {
+    let printed = first_bytes(alloc, BEST_SAYS, call)?;
+    let told = "vginsert: write failed: standard output\n";
+    let mut files = files_before(alloc, &[], Some(BEFORE))?;
+    let wanted = (6, printed.as_str(), told);
+    let ended = ends_over(alloc, BEST, &mut files, 1, (&[call as u64], &[]), wanted)?;
+    Ok(ended && are_whole(&files, whole))
+}
+
+/// Whether such a run ends with status 0 where only a call behind the last one is to fail.
+fn prints_whole(alloc: Global, behind: usize) -> Result<bool, Fail> {
+    let mut files = files_before(alloc, &[], None)?;
+    let wanted = (0, BEST_SAYS, "");
+    ends_over(alloc, BEST, &mut files, 1, (&[behind as u64], &[]), wanted)
+}
+
+/// Each call of standard output fails once.
+#[test]
+fn each_print_fails(rt: HostRuntime) -> Result<(), Fail> {
+    let whole = whole_files(rt.alloc())?;
+    for call in 0..BEST_SAYS.len() {
+        assert!(rt; fails_printing(rt.alloc(), &whole, call)?, "{call}");
+    }
+    assert!(rt; prints_whole(rt.alloc(), BEST_SAYS.len())?);
+    Ok(())
+}
+
+/// Words of mode `best` that do not name where the parasitics go.
+const REFUSED: &str =
+    "--mode best --spef a.spef --lib l.lib --verilog v.v --cons c.txt --net n1 --out-verilog o.v --cert o.txt";
+
+/// What is told of them.
+const REFUSED_SAYS: &str = "vginsert: words refused: missing option --out-spef\n";
+
+/// Whether these words end a run with status 3 where this call of standard error fails, which moves a byte a call and
+/// has told the bytes before, and all outputs are as before.
+fn fails_telling(alloc: Global, call: usize) -> Result<bool, Fail> {
+    let told = first_bytes(alloc, REFUSED_SAYS, call)?;
+    let mut files = files_before(alloc, &[], Some(BEFORE))?;
+    let wanted = (3, "", told.as_str());
+    let ended = ends_over(alloc, REFUSED, &mut files, 1, (&[], &[call as u64]), wanted)?;
+    let before = Some(BEFORE.as_bytes());
+    Ok(ended && OUTPUTS.iter().all(|name| holds(&files, name, before)))
+}
+
+/// Each call of standard error fails once, and last the one behind them, which is not made: the status stays.
+#[test]
+fn each_tell_fails(rt: HostRuntime) -> Result<(), Fail> {
+    for call in 0..=REFUSED_SAYS.len() {
+        assert!(rt; fails_telling(rt.alloc(), call)?, "{call}");
     }
     Ok(())
 }

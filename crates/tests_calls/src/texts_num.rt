@@ -1,7 +1,9 @@
-//! Numbers of texts, and what is printed of them.
+//! Numbers of texts, what is printed of them, and rows and texts that are kept.
 use std::alloc::Global;
 use std::test::Fail;
-use vg_num::{NumFault, print_scaled, print_signed, read_scaled, read_signed, read_whole};
+use vg_num::{
+    NumFault, Row, Text, print_scaled, print_signed, read_scaled, read_signed, read_whole,
+};
 
 /// A text, the decimal places that are kept, and the number.
 static SCALED: [(&[u8], i32, Result<u64, NumFault>); 22] = [
@@ -132,5 +134,30 @@ fn prints_whole_numbers(rt: HostRuntime) -> Result<(), Fail> {
     let want =
         b"0 7 -116000000000 170141183460469231731687303715884105727 -170141183460469231731687303715884105728 ";
     assert!(rt; text.as_slice() == want.as_slice());
+    Ok(())
+}
+
+fn keeps_row(alloc: Global) -> Result<bool, Fail> {
+    let items = [3u8, 1, 2];
+    let row = Row::from_vec(Vec::from_slice(alloc, &items)?);
+    Ok(row.len() == 3 && !row.is_empty() && row.as_slice() == items.as_slice())
+}
+
+fn gives_row_back(alloc: Global) -> Result<bool, Fail> {
+    let items = [3u8, 1, 2];
+    let row = Row::from_vec(Vec::from_slice(alloc, &items)?);
+    Ok(row.into_vec().as_slice() == items.as_slice())
+}
+
+fn keeps_text(alloc: Global) -> Result<bool, Fail> {
+    let text = Text::from_string(String::from_str(alloc, "a.spef")?);
+    Ok(text.as_str() == "a.spef")
+}
+
+#[test]
+fn keeps_rows_and_texts(rt: HostRuntime) -> Result<(), Fail> {
+    assert!(rt; keeps_row(rt.alloc())?);
+    assert!(rt; gives_row_back(rt.alloc())?);
+    assert!(rt; keeps_text(rt.alloc())?);
     Ok(())
 }

@@ -4,6 +4,7 @@ ghost use Rattle.std.specs.Prelude.{◌≡◌, ◌≢◌, ℕ, ◌<◌, ◌≤�
 ghost use Rattle.sol_arena.specs.Slots.{none, IsLive};
 ghost use Rattle.sol_arena.specs.Uses.{held_of};
 ghost use Rattle.sol_arena.specs.Meanings.{cells_of, AreBelow};
+ghost use Rattle.sol_arena.specs.Reach.{IsRestored};
 ghost use Rattle.sol_arena.specs.Arenas.{slots_of, made_of};
 
 use sol_arena::{Arena, Sol};
@@ -82,6 +83,21 @@ fn join_with_the_empty_solution(rt: HostRuntime) -> Result<(), Fail> {
     Ok(())
 }
 
+/// A join has the cells of both parts.
+#[test]
+fn join_of_two(rt: HostRuntime) -> Result<(), Fail> {
+    let mut arena = Arena::new(rt.alloc());
+    let empty = arena.empty();
+    let left = arena.cell(1, 0, empty)?;
+    let right = arena.cell(2, 1, empty)?;
+    let joined = arena.join(left, right)?;
+    assert_eq!(rt; arena.live(), 3);
+    assert!(rt; has_cells(&arena, rt.alloc(), joined, &[None, Some(0), Some(1)])?);
+    arena.release(joined);
+    assert_eq!(rt; arena.live(), 2);
+    Ok(())
+}
+
 /// The empty solution has no cell, may be kept and released, and is the join of itself with itself.
 #[test]
 fn empty_solution(rt: HostRuntime) -> Result<(), Fail> {
@@ -108,6 +124,28 @@ fn freed_slot_serves_again(rt: HostRuntime) -> Result<(), Fail> {
     assert_eq!(rt; whole, first);
     assert!(rt; whole.0 < part.0);
     assert!(rt; has_cells(&arena, rt.alloc(), whole, &[None, Some(6), Some(7)])?);
+    Ok(())
+}
+
+/// Makes a solution and gives it up again.
+fn there_and_back(arena: &mut Arena, node: u32, rep: u32, below: Sol) -> Result<(), Memory>
+    requires live { IsLive (made_of arena.old) below.0 }
+    requires apart { cells_of (made_of arena.old) below.0 node ≡ None }
+    ensures { IsRestored (slots_of arena.old) (slots_of arena.new) }
+{
+    let sol = arena.cell(node, rep, below)?;
+    arena.release(sol);
+    Ok(())
+}
+
+/// A call that gives up what it takes leaves the arena as it was.
+#[test]
+fn what_is_given_up_leaves_no_trace(rt: HostRuntime) -> Result<(), Fail> {
+    let mut arena = Arena::new(rt.alloc());
+    let empty = arena.empty();
+    let sol = arena.cell(1, 6, empty)?;
+    there_and_back(&mut arena, 0, 5, sol)?;
+    assert_eq!(rt; arena.live(), 1);
     Ok(())
 }
 

@@ -6,18 +6,25 @@ use std::alloc::Global;
 use std::test::Fail;
 use vg_num::Row;
 
-/// A fork, and the delay at each node.
-static FORK: [(Node, i128); 4] = [
+/// A fork with a branch that ends at no sink, and the delay at each node.
+static FORK: [(Node, i128); 5] = [
     (ROOT, 0),
-    (TRUNK, 254_000_000_000),
-    (LEAF, 356_000_000_000),
-    (LIGHT_LEAF, 306_000_000_000),
+    (TRUNK, 1_254_000_000_000),
+    (LEAF, 1_356_000_000_000),
+    (LIGHT_LEAF, 1_306_000_000_000),
+    (DEAD_BRANCH, 1_354_000_000_000),
 ];
 
 const LIGHT_LEAF: Node = Node { c: 52_000, ..LEAF };
 
+const DEAD_BRANCH: Node = Node {
+    parent: 1,
+    r: 100_000,
+    c: 1_000_000,
+};
+
 fn delay_at(alloc: Global, v: u32) -> Result<i128, Fail> {
-    let tree = tree_of(alloc, &[ROOT, TRUNK, LEAF, LIGHT_LEAF])?;
+    let tree = tree_of(alloc, &[ROOT, TRUNK, LEAF, LIGHT_LEAF, DEAD_BRANCH])?;
     if v as usize >= tree.nodes.len() || !tree.is_within_limits() {
         return Err("no such node, or beyond the limits".into());
     }
@@ -27,7 +34,7 @@ fn delay_at(alloc: Global, v: u32) -> Result<i128, Fail> {
 
 #[test]
 fn delays_at_each_node(rt: HostRuntime) -> Result<(), Fail> {
-    for (v, (_, delay)) in (0..4).zip(&FORK) {
+    for (v, (_, delay)) in (0..5).zip(&FORK) {
         assert_eq!(rt; delay_at(rt.alloc(), v)?, *delay);
     }
     Ok(())

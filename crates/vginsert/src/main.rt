@@ -3,8 +3,9 @@
 
 use std::alloc::AllocError;
 use std::env;
+use std::io::ErrorKind;
 use std::process::ExitCode;
-use vg_store::{RealFiles, RealOut, put_all};
+use vg_store::{Out, RealFiles, RealOut, put_all};
 use vginsert_top::run;
 
 /// The status where the system does not give the words.
@@ -24,19 +25,26 @@ fn warm_up(rt: &HostRuntime) -> bool {
     block.is_ok()
 }
 
+/// Tells that there is no memory for the words.
+fn out_of_memory<E: Out>(err: &mut E) -> ExitCode {
+    let _ = put_all(err, b"vginsert: out of memory\n");
+    ExitCode::from(NO_MEMORY)
+}
+
 fn main(rt: HostRuntime) -> ExitCode {
-    let Ok(args) = env::args(&rt) else {
-        return ExitCode::from(NO_WORDS);
+    let mut err = RealOut::new(rt.stderr());
+    let args = match env::args(&rt) {
+        Ok(args) => args,
+        Err(error) if error.kind() == ErrorKind::OutOfMemory => return out_of_memory(&mut err),
+        Err(_) => return ExitCode::from(NO_WORDS),
     };
     let _ = warm_up(&rt);
     let mut files = RealFiles::new(&rt);
     let mut out = RealOut::new(rt.stdout());
-    let mut err = RealOut::new(rt.stderr());
     // The first word is the program's own name.
     let words: Result<Vec<String>, AllocError> = args.skip(1).collect(rt.alloc());
     let Ok(words) = words else {
-        let _ = put_all(&mut err, b"vginsert: out of memory\n");
-        return ExitCode::from(NO_MEMORY);
+        return out_of_memory(&mut err);
     };
     let status = run(rt.alloc(), &words, &mut files, &mut out, &mut err);
     ExitCode::from(status)
