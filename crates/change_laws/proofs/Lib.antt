@@ -7,3 +7,4 @@ pub mod RetimeLemmas
 pub mod SameLemmas
 pub mod OtherLemmas
 pub mod BareLemmas
+pub mod SmallTimeLemmas

@@ -8,6 +8,7 @@ use Rattle.vg_design.specs.Nets.{IsNetProblem, IsTimedOf}
 use Rattle.vg_design.specs.declared.net_problem.NetProblem.{NetProblem}
 use Rattle.vg_design.specs.declared.time.Timed.{Timed}
 use Rattle.design_read.specs.Designs.{IsDesign, Texts}
+use Rattle.retime_laws.specs.Limits.{AreTimesSmall}
 use Rattle.vg_retime.specs.Retimings.{Retimes}
 use Rattle.change_laws.specs.Written.{AreWrittenAnew, RetimesTo}
 
@@ -56,3 +57,9 @@ pub record RetimesInTexts (texts : Texts) (prefix name : List ℕ) (slack : ℤ)
   pub design : Design
   pub is : IsDesign texts design
   pub retimes : RetimesTo design prefix name slack
+
+-- ---- times
+
+-- the times of the constraints of a design are small, as `StagesAreLargeByLoads` of `retime_laws` asks
+abbrev pub TimesOfDesignsAreSmall : Type 0
+TimesOfDesignsAreSmall = (texts : Texts) (d : Design) → IsDesign texts d → AreTimesSmall d.rows

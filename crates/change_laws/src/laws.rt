@@ -1,7 +1,7 @@
 //! Laws of the written files of a changed design. Their functions do nothing: each one's contract is the law, which a
 //! proof may cite.
 
-ghost use Rattle.change_laws.specs.Laws.{ChangedTextsAreADesign, OtherNetsKeepProblems, OtherNetsKeepSlacks, OtherNetsRetime, PlacedNetsRetimeInTexts};
+ghost use Rattle.change_laws.specs.Laws.{ChangedTextsAreADesign, OtherNetsKeepProblems, OtherNetsKeepSlacks, OtherNetsRetime, PlacedNetsRetimeInTexts, TimesOfDesignsAreSmall};
 
 /// Let the cells of placements be put into different nets of the design of four texts, one after another, and let the
 /// texts of its parasitics and its netlist be written anew with these changes. Then the new texts, with the same
@@ -24,4 +24,10 @@ pub fn other_nets_time_as_before()
     ensures problem { OtherNetsKeepProblems }
     ensures slack { OtherNetsKeepSlacks }
     ensures retimes { OtherNetsRetime }
+{}
+
+/// The times of the constraints of a design are at most 10^23 zeptoseconds in size. So, of the net of a stage, only the
+/// sum of capacitances that is limited can be too large (`stages_are_large_by_loads` of `retime_laws`).
+pub fn times_of_designs_are_small()
+    ensures { TimesOfDesignsAreSmall }
 {}

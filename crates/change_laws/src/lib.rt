@@ -8,4 +8,5 @@ mod laws;
 
 pub use laws::{
     changed_texts_are_a_design, other_nets_time_as_before, placed_nets_retime_in_texts,
+    times_of_designs_are_small,
 };

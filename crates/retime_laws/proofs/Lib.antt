@@ -4,9 +4,11 @@ pub mod OldLemmas
 pub mod EndLemmas
 pub mod PinLemmas
 pub mod AcceptLemmas
+pub mod DriverLemmas
 pub mod LoadLemmas
 pub mod NameLemmas
 pub mod TimedLemmas
 pub mod NetLemmas
 pub mod WayLemmas
 pub mod RetimeLemmas
+pub mod LimitLemmas

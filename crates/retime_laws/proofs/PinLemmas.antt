@@ -86,6 +86,9 @@ module _ (d : Design) (n : Joined) (x : Split) (new : Design) (put : IsPut d n x
     pub no_port : w ≢ head x k → is_port (name_in x k w) ≡ false
     no_port other = ap (λ leaf. length leaf == 0) (input_leaf other) ∙ some_leaf (repeater_at x w).input (pins_named d n x put w celled).input.some
 
+    pub no_port_head : w ≡ head x k → is_port (name_in x k w) ≡ false
+    no_port_head here = ap (λ leaf. length leaf == 0) (output_leaf here) ∙ some_leaf (repeater_at x w).output (pins_named d n x put w celled).output.some
+
   -- ---- connections
 
   module _ (conn : ParConn) (w : ℕ) (is : IsConnAt x k net.par conn w) where

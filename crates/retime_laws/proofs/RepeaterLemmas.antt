@@ -30,7 +30,7 @@ find_once (q ∷ rs) r once (suc i, low, is) =
     ]
 
 module _ (d : Design) (n : Joined) (x : Split) (put : IsPut d n x) where
-  own_repeater : (w : ℕ) → is_celled x w ≡ true → Contains x.repeaters (repeater_at x w)
+  pub own_repeater : (w : ℕ) → is_celled x w ≡ true → Contains x.repeaters (repeater_at x w)
   own_repeater w has = by (slice_index_or x.cells w None) refl has
     where
       by : (o : Option ℕ) → slice_index_or x.cells w None ≡ o → is_some (rep_of x.problem.reps o) ≡ true

@@ -1,34 +1,29 @@
 -- The way from the net that keeps the old name: every net on it is that of a stage, and it begins at the old driver.
-use Rattle.std.proofs.Common.{◌<◌, ◌≡◌, ℕ, false, cond, List, [], ◌∷◌, length, sym, ap, ◌∙◌, subst, arith, All, inl, inr, pos, Some}
-use Rattle.std.specs.Prelude.{unwrap_or}
-use Rattle.std.proofs.lemmas.Bool.{cases_Bool, cases_eq}
+use Rattle.std.proofs.Common.{◌<◌, ◌≡◌, ℕ, List, [], ◌∷◌, length, sym, ap, ◌∙◌, subst, arith, All, inl, inr, Some}
+use Rattle.std.proofs.lemmas.Bool.{cases_eq}
 use Rattle.std.proofs.lemmas.List.Elements.{All-cons, All-map, All-nil, All-weaker}
 use Rattle.elmore.specs.declared.problem.Problem.{Problem}
 use Rattle.elmore.proofs.HeadLemmas.{head_above}
-use Rattle.vg_cons.specs.Rows.{arrival_of}
 use Rattle.cut_laws.proofs.BreadthLemmas.{found, found_all}
 use Rattle.cut_laws.proofs.CutClimbLemmas.{cut_climbs}
 use Rattle.cut_laws.proofs.CutWalkLemmas.{are_children, children, reached_are, signal_of}
 use Rattle.cut_laws.proofs.ProblemLemmas.{cell_in, parent_in, rooted_in}
 use Rattle.cut_laws.specs.CutNets.{AreCut, Begins, Pieces}
 use Rattle.cut_laws.specs.Walks.{IsClimb, IsWalk, Signal, start_of}
-use Rattle.vg_design.specs.Designs.{Design, Joined, driver_at, is_port, net_number, pin_driver, pin_drive_of, pin_limit_of, port_driver}
+use Rattle.vg_design.specs.Designs.{Design, Joined, driver_at, net_number}
 use Rattle.split_laws.proofs.CutLemmas.{stages_are_cut}
 use Rattle.split_laws.specs.Cuts.{pieces_of}
 use Rattle.vg_retime.specs.WalkNets.{IsNetIn}
 use Rattle.vg_retime.specs.Ways.{IsFirstNet, Nets}
-use Rattle.vg_scan.specs.declared.name.NodeName.{NodeName}
 use Rattle.vg_split.proofs.StageNumberLemmas.{head_number, number_below}
-use Rattle.vg_split.specs.Splits.{Split, forest, head, net_of, old_node, stage_from}
+use Rattle.vg_split.specs.Splits.{Split, forest, head, net_of, stage_from}
 use Rattle.vg_split.proofs.StageLists.{head_below, head_is}
 use Rattle.vg_split.specs.Stages.{heads}
 use Rattle.retime_laws.specs.Laws.{AreNetsOf, NewNetsAreCut, stages_of}
 use Rattle.retime_laws.specs.NetlistStages.{stage_number}
 use Rattle.retime_laws.specs.NewStages.{HasStages, IsPut, stage_net}
-use Rattle.retime_laws.proofs.AcceptLemmas.{head_is_end, head_there, old_root_name}
-use Rattle.retime_laws.proofs.EndLemmas.{kept}
+use Rattle.retime_laws.proofs.DriverLemmas.{old_driver}
 use Rattle.retime_laws.proofs.OldLemmas.{none_some}
-use Rattle.retime_laws.proofs.PinLemmas.{drive_kept, limit_kept}
 use Rattle.retime_laws.proofs.TimedLemmas.{above_root, are_timed, driver_name, net_is, root_bare, root_low}
 
 pub new_nets_are_cut : NewNetsAreCut
@@ -71,37 +66,12 @@ module _ (d : Design) (n : Joined) (x : Split) (new : Design) (put : IsPut d n x
 
   -- ---- the driver
 
-  same_driver : (root : 0 < length (heads (forest x))) (at : NodeName)
-      → (is_port at ≡ false
-      → (pin_drive_of new (stage_net has 0 root) at ≡ pin_drive_of d n at) × (pin_limit_of new (stage_net has 0 root) at ≡ pin_limit_of d n at))
-      → driver_at d n at ≡ driver_at new (stage_net has 0 root) at
-  same_driver root at pin = elim (cases_Bool (is_port at)) [
-    | inl port ↦
-        ap (λ b. cond b (port_driver d.rows at) (pin_driver d n at)) port ∙ ap (λ rows. port_driver rows at) (sym has.rows)
-        ∙ ap (λ b. cond b (port_driver new.rows at) (pin_driver new (stage_net has 0 root) at)) (sym port)
-    | inr leafy ↦
-        let (drive, limit) = pin leafy in
-        ap (λ b. cond b (port_driver d.rows at) (pin_driver d n at)) leafy
-        ∙ (λ i. record {
-          k = pos (unwrap_or (sym drive i) (0, 0)).0;
-          r = (unwrap_or (sym drive i) (0, 0)).1;
-          arrival = arrival_of (sym has.rows i) at;
-          limit = sym limit i;
-        })
-        ∙ ap (λ b. cond b (port_driver new.rows at) (pin_driver new (stage_net has 0 root) at)) (sym leafy)
-  ]
-
   -- the first net has the driver of the net that is split
   first_driver : p.driver ≡ (nets (stage_number x new.netlist 0)).driver
   first_driver =
       let low = root_low d n x new put has nets in
-      let bare = root_bare d n x new put has nets in
-      let was = kept d n x put.split 0 low (head x 0) (head_is_end d n x new put has 0 low) bare in
-      let there = head_there d n x new put has 0 low in
-      put.split.problem.driver ∙ ap (driver_at d n) (old_root_name d n x new put has 0 low bare)
-      ∙ same_driver low (old_node x (head x 0)).name
-      (λ leafy. (drive_kept d n x new put has 0 low (head x 0) there bare leafy, limit_kept d n x new put has 0 low (head x 0) there bare leafy))
-      ∙ ap (driver_at new (stage_net has 0 low)) (sym was.name ∙ sym (driver_name d n x new put has nets 0 low (are 0 low)))
+      old_driver d n x new put has 0 low (root_bare d n x new put has nets)
+      ∙ ap (driver_at new (stage_net has 0 low)) (sym (driver_name d n x new put has nets 0 low (are 0 low)))
       ∙ sym (net_is d n x new put has nets 0 low (are 0 low)).driver_is
 
   -- ---- the first net

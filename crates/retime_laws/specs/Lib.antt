@@ -1,3 +1,4 @@
 pub mod NetlistStages
 pub mod NewStages
 pub mod Laws
+pub mod Limits

@@ -1,6 +1,7 @@
 //! Laws of a net that is split, in a new design that has a net for each of its stages. Their functions do nothing: each
 //! one's contract is the law, which a proof may cite.
 
+ghost use Rattle.retime_laws.specs.Limits.{StagesAreLargeByLoads};
 ghost use Rattle.retime_laws.specs.Laws.{NewNetsAreCut, PlacedNetsAreRefused, PlacedNetsRetime, PlacedNetsTime, StagesAreAccepted, StagesAreTimed, StagesHaveLoads, StagesHaveNets, StagesRetime};
 
 /// Let a net that is accepted be split by the cells of a placement, and let a new design have a net for each stage,
@@ -53,4 +54,10 @@ pub fn placed_nets_time()
 /// And where it refuses the net, a net on the way is too large.
 pub fn placed_nets_are_refused()
     ensures { PlacedNetsAreRefused }
+{}
+
+/// Only one limit can refuse the net of a stage as too large, where the times of the constraints are as they are read:
+/// that on the sum of its capacitances, which counts the greatest input capacitance of the repeaters at each place.
+pub fn stages_are_large_by_loads()
+    ensures { StagesAreLargeByLoads }
 {}

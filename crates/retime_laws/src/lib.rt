@@ -7,5 +7,6 @@ mod laws;
 
 pub use laws::{
     new_nets_are_cut, placed_nets_are_refused, placed_nets_retime, placed_nets_time,
-    stages_are_accepted, stages_are_timed, stages_have_loads, stages_have_nets, stages_retime,
+    stages_are_accepted, stages_are_large_by_loads, stages_are_timed, stages_have_loads,
+    stages_have_nets, stages_retime,
 };
