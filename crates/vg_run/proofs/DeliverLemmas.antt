@@ -2,6 +2,7 @@
 use Rattle.std.proofs.Common.{◌≡◌, inl, inr, ℕ, List, sym, ◌∙◌, subst, Option, Some, None}
 use Rattle.vg_store.specs.Causes.{Rose}
 use Rattle.vg_store.specs.Reading.{FilesState}
+use Rattle.vg_store.specs.States.{KeepsWriting}
 use Rattle.vg_store.specs.Writing.{OutState, StaysOrPrefix, WriteFaultAt}
 use Rattle.vg_words.specs.declared.ask.Ask.{Ask}
 use Rattle.vg_run.specs.Modes.{IsAnswerFor}
@@ -9,13 +10,14 @@ use Rattle.vg_answer.specs.Answers.{said_by, Written}
 use Rattle.vg_run.specs.Inputs.{AreRead, Change}
 use Rattle.vg_run.specs.Outcomes.{Ends, IsDelivered}
 use Rattle.vg_run.specs.Run.{AreWritten, HoldAfter, StaysOrBegins, output_name, OthersStay}
+use Rattle.vg_run.proofs.InputLemmas.{writing_kept}
 use Rattle.vg_answer.specs.declared.answer.Answer.{Answer}
 use Rattle.vg_answer.specs.declared.input.Input.{Input}
 use Rattle.vg_run.specs.declared.outcome.Outcome.{Outcome}
 use Rattle.vg_answer.specs.declared.output.Output.{Output}
 
--- reading the inputs changed no file, and no count of faults of writing
-module _ (old mid new : FilesState) (kept : (file : List ℕ) → mid.holds file ≡ old.holds file) (faults : mid.write_faults ≡ old.write_faults) where
+-- reading the inputs changed no file, and nothing that is told of writing
+module _ (old mid new : FilesState) (kept : (file : List ℕ) → mid.holds file ≡ old.holds file) (writing : KeepsWriting old mid) where
   begun_since : (name : Option (List ℕ)) (text : List ℕ) → StaysOrBegins (mid, new) name text → StaysOrBegins (old, new) name text
   begun_since None text stays = tt
   begun_since (Some file) text stays = subst (λ (held : Option (List ℕ)). StaysOrPrefix held (new.holds file) text) (kept file) stays
@@ -24,7 +26,11 @@ module _ (old mid new : FilesState) (kept : (file : List ℕ) → mid.holds file
   others_since ask said stay file none = stay file none ∙ kept file
 
   written_since : (ask : Ask) (said : List Written) → AreWritten (mid, new) ask said → AreWritten (old, new) ask said
-  written_since ask said written = record { whole = written.whole; others = others_since ask said written.others }
+  written_since ask said written = record {
+    whole = written.whole;
+    others = others_since ask said written.others;
+    none = λ empty. writing_kept old mid new writing (written.none empty);
+  }
 
   held_since : (ask : Ask) (said : List Written) (output : Output) → HoldAfter (mid, new) ask said output → HoldAfter (old, new) ask said output
   held_since ask said output hold = record {
@@ -39,7 +45,7 @@ module _ (old mid new : FilesState) (kept : (file : List ℕ) → mid.holds file
   }
 
   fault_since : (IsBlamed : List ℕ → Type 0) → WriteFaultAt mid new IsBlamed → WriteFaultAt old new IsBlamed
-  fault_since IsBlamed (rose, blamed) = (subst (λ (before : ℕ). Rose before new.write_faults) faults rose, blamed)
+  fault_since IsBlamed (rose, blamed) = (subst (λ (before : ℕ). Rose before new.write_faults) writing.same_faults rose, blamed)
 
   pub delivered : (ask : Ask) (out : Change OutState) (texts : Input → List ℕ) (answer : Answer) (outcome : Outcome) → AreRead old ask texts
       → IsAnswerFor ask texts answer.kind (said_by answer) → IsDelivered ask (mid, new) out answer outcome → Ends ask (old, new) out outcome

@@ -11,6 +11,7 @@ use Rattle.std.specs.declared.vec.Vec.{Vec}
 use Rattle.std.specs.declared.alloc.Global.{Global}
 use Rattle.vg_words.specs.declared.ask.Ask.{Ask}
 use Rattle.vg_store.specs.Reading.{FilesState, ReadFaultAt}
+use Rattle.vg_store.specs.States.{KeepsWriting}
 use Rattle.vg_store.specs.declared.read.ReadAll.{ReadAll}
 use Rattle.vg_store.specs.declared.read.ReadAll.TheVariants.{Failed, TooLong, Memory}
 use Rattle.vg_run.specs.Inputs.{inputs, name_of, told, IsLong, IsRead}
@@ -18,6 +19,15 @@ use Rattle.vg_answer.specs.Faults.{IsFirst, IsShort}
 use Rattle.vg_run.specs.Outcomes.{IsUnread}
 use Rattle.vg_answer.specs.declared.input.Input.{Input}
 use Rattle.mode_best.specs.Answers.{kept}
+
+-- what two calls keep in turn
+pub writing_kept : (old mid new : FilesState) → KeepsWriting old mid → KeepsWriting mid new → KeepsWriting old new
+writing_kept old mid new first next = record {
+  same_faults = next.same_faults ∙ first.same_faults;
+  same_blame = next.same_blame ∙ first.same_blame;
+  same_target = next.same_target ∙ first.same_target;
+  same_writing = next.same_writing ∙ first.same_writing;
+}
 
 -- the first that is bad, by its place
 pub first_at : (Good Bad : Input → Type 0) (list : List Input) (i : ℕ) (d : Input) → i < length list → All Good (take i list) → Bad (get_or list i d) → IsFirst Good Bad list (get_or list i d)

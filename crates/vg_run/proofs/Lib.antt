@@ -7,4 +7,6 @@ pub mod RequestLemmas
 pub mod ApartLemmas
 pub mod ModeLemmas
 pub mod DeliverLemmas
+pub mod KindLemmas
 pub mod RunLemmas
+pub mod CompleteLemmas

@@ -1,7 +1,8 @@
 -- What a status tells of a run.
-use Rattle.std.proofs.Common.{◌≡◌, ◌≢◌, ◌⊎◌, inl, inr, ℕ, ◌^◌, ◌<◌, ◌≤◌, List, length, refl, sym, ap, ◌∙◌, subst, arith, Option, Some, IfSome, Err, true}
+use Rattle.std.proofs.Common.{◌≡◌, ◌≢◌, ◌⊎◌, inl, inr, ℕ, ◌^◌, ◌<◌, ◌≤◌, List, [], length, refl, sym, ap, ◌∙◌, subst, arith, Option, Some, IfSome, Err, true}
 use Rattle.std.specs.List.{All}
 use Rattle.std.proofs.Math.ListN.{get_or}
+use Rattle.std.proofs.lemmas.List.Elements.{All-nil}
 use Rattle.vg_store.specs.Causes.{Rose}
 use Rattle.vg_store.specs.Reading.{FilesState}
 use Rattle.vg_store.specs.Writing.{OutState, Gains}
@@ -15,8 +16,8 @@ use Rattle.vg_words.proofs.JudgeLemmas.{refused_none, one}
 use Rattle.vg_run.specs.Modes.{IsAnswerFor, IsTakenFor, IsFaultFor, design_texts, one_net, best_asked, IsAnswerIn, IsFaultIn, IsTakenIn}
 use Rattle.vg_answer.specs.Faults.{design_inputs, IsShort, IsDesignFault}
 use Rattle.vg_run.specs.Inputs.{inputs, told, Change, IsLong, IsRead}
-use Rattle.vg_answer.specs.Answers.{Said}
-use Rattle.vg_run.specs.Run.{AllStay, AreTold, ErrorLine, AreShort, IsExact, IsStatusFor, Prints, Says, TellsFlaw, TellsRefusedInput, TellsWriteFault, is_status, prints_nothing}
+use Rattle.vg_answer.specs.Answers.{Said, Written}
+use Rattle.vg_run.specs.Run.{AreUntouched, AreTold, ErrorLine, AreShort, IsExact, IsStatusFor, Prints, Says, TellsFlaw, TellsRefusedInput, TellsWriteFault, creates_nothing, is_status, output_name, prints_nothing}
 use Rattle.vg_answer.specs.Verdicts.{status_for}
 use Rattle.vg_run.specs.Outcomes.{Ends, IsStatusOf, Tells, status_of, fault_status}
 use Rattle.vg_answer.specs.declared.kind.AnswerKind.{AnswerKind}
@@ -28,6 +29,7 @@ use Rattle.vg_run.specs.declared.outcome.Outcome.{Outcome}
 use Rattle.vg_run.specs.declared.outcome.Outcome.TheVariants.{Printed, Flawed, Taken, Unwritten, WriteFault, Memory}
 use Rattle.vg_run.proofs.ApartLemmas.{not_faulty, not_taken, one_kind}
 use Rattle.vg_run.proofs.InputLemmas.{all_one, all_four, all_five, none_first}
+use Rattle.vg_run.proofs.KindLemmas.{no_files_invalid}
 use Rattle.mode_wire.specs.Answers.{IsWireAnswer, IsWireFault}
 use Rattle.mode_time.specs.Answers.{IsTimeAnswer}
 use Rattle.mode_best.specs.Answers.{IsBestAnswer, IsTaken}
@@ -118,7 +120,7 @@ agree_to_check tell a b read told =
     let c : a Cons ≡ b Cons = told_is (tell Cons) (a Cons) (b Cons) (read 3 Spef (omega arith)) (told 3 Spef (omega arith)) in
     λ i. record { spef = s i; lib = l i; verilog = v i; cons = c i }
 
-agree : (mode : Mode) (tell : Input → Option Bytes) (a b : Input → Bytes) → All (λ i. IsRead (tell i) (a i)) (inputs mode) → All (λ i. tell i ≡ Some (b i)) (inputs mode) → Agree mode a b
+pub agree : (mode : Mode) (tell : Input → Option Bytes) (a b : Input → Bytes) → All (λ i. IsRead (tell i) (a i)) (inputs mode) → All (λ i. tell i ≡ Some (b i)) (inputs mode) → Agree mode a b
 agree Wire tell a b read told = told_is (tell Spef) (a Spef) (b Spef) (read 0 Spef (omega arith)) (told 0 Spef (omega arith))
 agree Time tell a b read told = agree_on_all tell a b read told
 agree Best tell a b read told = agree_on_all tell a b read told
@@ -128,7 +130,7 @@ agree Check tell a b read told =
 agree Gen tell a b read told = tt
 
 -- what is said of the ones is said of the others
-answer_as : (mode : Mode) (ask : Ask) (a b : Input → Bytes) (kind : AnswerKind) (t : Said) → Agree mode a b → IsAnswerIn mode ask a kind t → IsAnswerIn mode ask b kind t
+pub answer_as : (mode : Mode) (ask : Ask) (a b : Input → Bytes) (kind : AnswerKind) (t : Said) → Agree mode a b → IsAnswerIn mode ask a kind t → IsAnswerIn mode ask b kind t
 answer_as Wire ask a b kind t e is = subst (λ (text : Bytes). IsWireAnswer text (one_net ask) kind t) e is
 answer_as Time ask a b kind t e is = subst (λ (texts : Texts). IsTimeAnswer texts ask.net (prefix_of ask) kind t) e is
 answer_as Best ask a b kind t e is = subst (λ (texts : Texts). IsBestAnswer texts (best_asked ask) kind t) e is
@@ -137,7 +139,7 @@ answer_as Check ask a b kind t (e, same) is =
     subst (λ (texts : Texts). IsCheckAnswer texts (b Cert) (one_net ask) kind t) e (subst (λ (cert : Bytes). IsCheckAnswer (design_texts a) cert (one_net ask) kind t) same is)
 answer_as Gen ask a b kind t e is = is
 
-taken_as : (mode : Mode) (ask : Ask) (a b : Input → Bytes) (name : Bytes) → Agree mode a b → IsTakenIn mode ask a name → IsTakenIn mode ask b name
+pub taken_as : (mode : Mode) (ask : Ask) (a b : Input → Bytes) (name : Bytes) → Agree mode a b → IsTakenIn mode ask a name → IsTakenIn mode ask b name
 taken_as Wire ask a b name e is = is
 taken_as Time ask a b name e is = is
 taken_as Best ask a b name e is = subst (λ (texts : Texts). IsTaken texts (prefix_of ask) name) e is
@@ -145,7 +147,7 @@ taken_as Frontier ask a b name e is = is
 taken_as Check ask a b name e is = is
 taken_as Gen ask a b name e is = is
 
-faulty_as : (mode : Mode) (ask : Ask) (a b : Input → Bytes) (line : Bytes) (input : Input) → Agree mode a b → IsFaultIn mode ask a line input → IsFaultIn mode ask b line input
+pub faulty_as : (mode : Mode) (ask : Ask) (a b : Input → Bytes) (line : Bytes) (input : Input) → Agree mode a b → IsFaultIn mode ask a line input → IsFaultIn mode ask b line input
 faulty_as Wire ask a b line input e is = subst (λ (text : Bytes). IsWireFault text line input) e is
 faulty_as Time ask a b line input e is = subst (λ (texts : Texts). IsDesignFault texts line input) e is
 faulty_as Best ask a b line input e is = subst (λ (texts : Texts). IsDesignFault texts line input) e is
@@ -174,7 +176,7 @@ all_short tell a b read e =
     let (s, l, v, c) = short_texts tell a b design_inputs read (omega arith) refl refl refl refl e in
     all_four (λ i. IsShort (b i)) Spef Lib Verilog Cons s l v c
 
-shorts : (mode : Mode) (tell : Input → Option Bytes) (a b : Input → Bytes) → All (λ i. IsRead (tell i) (a i)) (inputs mode) → Agree mode a b → All (λ i. IsShort (b i)) (inputs mode)
+pub shorts : (mode : Mode) (tell : Input → Option Bytes) (a b : Input → Bytes) → All (λ i. IsRead (tell i) (a i)) (inputs mode) → Agree mode a b → All (λ i. IsShort (b i)) (inputs mode)
 shorts Wire tell a b read e = all_one (λ i. IsShort (b i)) Spef (subst (λ (s : Bytes). IsShort s) e (read 0 Spef (omega arith)).short)
 shorts Time tell a b read e = all_short tell a b read e
 shorts Best tell a b read e = all_short tell a b read e
@@ -185,12 +187,12 @@ shorts Check tell a b read e =
 shorts Gen tell a b read e = λ i d low. absurd (omega (arith, low))
 
 -- what is told and short is not too long
-not_long : (file : Option Bytes) (text : Bytes) → (file ≡ Some text) → IsShort text → IsLong file → ⊥
+pub not_long : (file : Option Bytes) (text : Bytes) → (file ≡ Some text) → IsShort text → IsLong file → ⊥
 not_long file text is short long =
     let at : 2 ^ 28 < length text = subst (λ (o : Option Bytes). IsLong o) is long in
     omega (arith, at, short)
 
-both : (P Q : Input → Type 0) (list : List Input) → All P list → All Q list → All (λ i. P i × Q i) list
+pub both : (P Q : Input → Type 0) (list : List Input) → All P list → All Q list → All (λ i. P i × Q i) list
 both P Q list p q k d h = (p k d h, q k d h)
 
 -- the status tells the kind
@@ -263,16 +265,21 @@ module _ (ask : Ask) (files : Change FilesState) (out : Change OutState) where
   printed_is kind WriteFault e ends = absurd (answers_apart kind 6 (omega arith) (omega arith) e)
   printed_is kind Memory e ends = absurd (answers_apart kind 7 (omega arith) (omega arith) e)
 
-  all_stay : (outcome : Outcome) → prints_nothing (status_of outcome) ≡ true → Ends ask files out outcome → AllStay files
-  all_stay (Printed Report) e ends = absurd cc
-  all_stay (Printed NoneGood) e ends = absurd cc
-  all_stay (Printed Refusal) e ends = absurd cc
-  all_stay (Printed Invalid) e ends = absurd cc
-  all_stay (Flawed input flaw) e (_, stay, _) = stay
-  all_stay (Taken name) e (_, stay, _) = stay
-  all_stay (Unwritten output) e ends = absurd cc
-  all_stay WriteFault e ends = absurd cc
-  all_stay Memory e (stay, _) = stay
+  untouched : (outcome : Outcome) → creates_nothing (status_of outcome) ≡ true → Ends ask files out outcome → AreUntouched files
+  untouched (Printed Report) e ends = absurd cc
+  untouched (Printed NoneGood) e ends = absurd cc
+  untouched (Printed Refusal) e ends = absurd cc
+  untouched (Printed Invalid) e (texts, read, (said, says, gained, written)) =
+      let none : said.files ≡ [] = no_files_invalid ask.mode ask texts said says in
+      record {
+        stay = λ file. written.others file (subst (λ (list : List Written). All (λ w. output_name ask w.output ≢ Some file) list) (sym none) (All-nil (λ w. output_name ask w.output ≢ Some file)));
+        none_created = written.none none;
+      }
+  untouched (Flawed input flaw) e (_, stay, _) = stay
+  untouched (Taken name) e (_, stay, _) = stay
+  untouched (Unwritten output) e ends = absurd cc
+  untouched WriteFault e ends = absurd cc
+  untouched Memory e (stay, _) = stay
 
   unprinted : (outcome : Outcome) → prints_nothing (status_of outcome) ≡ true → Ends ask files out outcome → out.1.written ≡ out.0.written
   unprinted (Printed Report) e ends = absurd cc
@@ -376,8 +383,8 @@ module _ {ask : Ask} {files : Change FilesState} {out err : Change OutState} {st
   pub run_unprinted : prints_nothing status ≡ true → out.1.written ≡ out.0.written
   run_unprinted e = unprinted ask files out run.outcome (ap prints_nothing (sym run.status_is) ∙ e) run.ends
 
-  pub run_stays : prints_nothing status ≡ true → AllStay files
-  run_stays e = all_stay ask files out run.outcome (ap prints_nothing (sym run.status_is) ∙ e) run.ends
+  pub run_untouched : creates_nothing status ≡ true → AreUntouched files
+  run_untouched e = untouched ask files out run.outcome (ap creates_nothing (sym run.status_is) ∙ e) run.ends
 
   pub run_exact : (words : List Bytes) → IsRequest words ask → IsExact words files.0 status
   run_exact words is = exact_for words ask files out run.outcome status is run.status_is run.ends

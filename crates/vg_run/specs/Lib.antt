@@ -2,4 +2,5 @@ pub mod Inputs
 pub mod Modes
 pub mod Flaws
 pub mod Run
+pub mod Complete
 pub mod Outcomes

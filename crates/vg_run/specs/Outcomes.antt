@@ -11,7 +11,7 @@ use Rattle.vg_words.specs.declared.ask.WordFault.TheVariants.{Unread, Missing, E
 use Rattle.vg_answer.specs.Answers.{said_by}
 use Rattle.vg_run.specs.Inputs.{Change, name_of}
 use Rattle.vg_run.specs.Flaws.{IsFlawed}
-use Rattle.vg_run.specs.Run.{AllStay, AreWritten, FailsToWrite, HoldAfter, Prints, PrintsSome, Says, TakesName, flaw_line, flaw_status, output_name, taken_line, write_failed_line}
+use Rattle.vg_run.specs.Run.{AreUntouched, AreWritten, FailsToWrite, HoldAfter, Prints, PrintsSome, Says, TakesName, flaw_line, flaw_status, output_name, taken_line, write_failed_line}
 use Rattle.vg_answer.specs.Verdicts.{status_for}
 use Rattle.vg_answer.specs.declared.answer.Answer.{Answer}
 use Rattle.vg_answer.specs.declared.input.Input.{Input}
@@ -46,11 +46,11 @@ IsUnread ask files (input, ReadMemory) = Unit {0}
 -- what an outcome says of the files and of standard output
 abbrev pub Ends : Ask → Change FilesState → Change OutState → Outcome → Type 0
 Ends ask files out (Printed kind) = Prints kind files (Gains out.0 out.1) ask
-Ends ask files out (Flawed input flaw) = IsFlawed ask files input flaw × AllStay files × (out.1.written ≡ out.0.written)
-Ends ask files out (Taken name) = TakesName files.0 ask name × AllStay files × (out.1.written ≡ out.0.written)
+Ends ask files out (Flawed input flaw) = IsFlawed ask files input flaw × AreUntouched files × (out.1.written ≡ out.0.written)
+Ends ask files out (Taken name) = TakesName files.0 ask name × AreUntouched files × (out.1.written ≡ out.0.written)
 Ends ask files out (Unwritten output) = FailsToWrite ask files output × (out.1.written ≡ out.0.written)
 Ends ask files out WriteFault = Rose out.0.faults out.1.faults × PrintsSome files (GainsPrefix out.0 out.1) ask
-Ends ask files out Memory = AllStay files × (out.1.written ≡ out.0.written)
+Ends ask files out Memory = AreUntouched files × (out.1.written ≡ out.0.written)
 
 -- its status
 abbrev pub status_of : Outcome → ℕ

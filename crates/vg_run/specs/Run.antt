@@ -3,6 +3,7 @@ use Rattle.std.specs.Prelude.{◌≡◌, ◌≢◌, ◌⊎◌, ℕ, ◌≤◌, L
 use Rattle.std.specs.List.{All, AllPairs, list_any}
 use Rattle.vg_store.specs.Causes.{Rose}
 use Rattle.vg_store.specs.Reading.{FilesState}
+use Rattle.vg_store.specs.States.{KeepsWriting}
 use Rattle.vg_store.specs.Writing.{OutState, Gains, GainsPrefix, StaysOrPrefix, WriteFaultAt}
 use Rattle.vg_words.specs.Options.{name_of as option_name}
 use Rattle.vg_words.specs.Request.{size_of, IsRequest, IsRefused}
@@ -100,10 +101,11 @@ AreApartIn ask said = AllPairs (λ one other. (file : List ℕ) → output_name 
 abbrev pub OthersStay : Change FilesState → Ask → List Written → Type 0
 OthersStay files ask said = (file : List ℕ) → All (λ w. output_name ask w.output ≢ Some file) said → files.1.holds file ≡ files.0.holds file
 
--- the files of a list were written, and no other
+-- the files of a list were written, and no other; where there are none, none was created
 pub record AreWritten (files : Change FilesState) (ask : Ask) (said : List Written) : Type 0 where
   pub whole : AreHeld files ask said
   pub others : OthersStay files ask said
+  pub none : said ≡ [] → KeepsWriting files.0 files.1
 
 -- of the texts that were read an output gained an answer of this kind, and its files were written
 abbrev pub Prints : AnswerKind → Change FilesState → (List ℕ → Type 0) → Ask → Type 0
@@ -141,9 +143,10 @@ pub record FailsToWrite (ask : Ask) (files : Change FilesState) (output : Output
   pub hold : HoldAfter files ask said.files output
   pub fault : WriteFaultAt files.0 files.1 (λ blamed. output_name ask output ≡ Some blamed)
 
--- all files hold what they held
-abbrev pub AllStay : Change FilesState → Type 0
-AllStay files = (file : List ℕ) → files.1.holds file ≡ files.0.holds file
+-- all files hold what they held, and none was created
+pub record AreUntouched (files : Change FilesState) : Type 0 where
+  pub stay : (file : List ℕ) → files.1.holds file ≡ files.0.holds file
+  pub none_created : KeepsWriting files.0 files.1
 
 -- `vginsert: write failed: FILE`
 abbrev pub write_failed_line : List ℕ → List ℕ
@@ -216,6 +219,10 @@ is_answer status = list_any (λ s. s == status) (0 ∷ 1 ∷ 2 ∷ 8 ∷ [])
 -- after these nothing was printed
 abbrev pub prints_nothing : ℕ → Bool
 prints_nothing status = list_any (λ s. s == status) (3 ∷ 4 ∷ 5 ∷ 7 ∷ [])
+
+-- after these no file was created: nothing was printed, or that a certificate is not valid
+abbrev pub creates_nothing : ℕ → Bool
+creates_nothing status = list_any (λ s. s == status) (3 ∷ 4 ∷ 5 ∷ 7 ∷ 8 ∷ [])
 
 -- the fixed lines of standard error, and that it stays as it is after a printed answer
 pub record ErrorLine (status : ℕ) (SaysLine : List ℕ → Type 0) (Same : Type 0) : Type 0 where

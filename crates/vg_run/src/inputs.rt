@@ -4,6 +4,7 @@ ghost use Rattle.std.specs.Prelude.{◌≡◌, ◌⊎◌, ◌≤◌, ℕ, List, 
 ghost use Rattle.vg_answer.specs.declared.input.Input.{Input as InputSpec};
 ghost use Rattle.vg_run.specs.Inputs.{inputs as inputs_in, name_of, option_of, texts_read, AreRead};
 ghost use Rattle.vg_run.specs.Outcomes.{IsUnread};
+ghost use Rattle.vg_store.specs.States.{KeepsWriting};
 
 use std::alloc::Global;
 use vg_answer::{DesignTexts, Input, InputText};
@@ -124,7 +125,7 @@ pub fn read_inputs<F: Files>(
     ensures unread { IfErr result (IsUnread ask.now (F.state files.old, F.state files.new)) }
     ensures kept { (file : List ℕ) → (F.state files.new).holds file ≡ (F.state files.old).holds file }
     ensures never_falls { (F.state files.old).read_faults ≤ (F.state files.new).read_faults }
-    ensures writing { (F.state files.new).write_faults ≡ (F.state files.old).write_faults }
+    ensures writing { KeepsWriting (F.state files.old) (F.state files.new) }
 {
     let mut texts = Texts::new(alloc);
     let order = inputs(ask.mode);

@@ -5,7 +5,9 @@ ghost use Rattle.vg_store.specs.Causes.{Rose};
 ghost use Rattle.vg_words.specs.Request.{texts, IsRequest};
 ghost use Rattle.vg_words.specs.declared.ask.Ask.{Ask as Request};
 ghost use Rattle.vg_answer.specs.declared.kind.AnswerKind.{AnswerKind as Kind};
-ghost use Rattle.vg_run.specs.Run.{AllStay, Answered, AreRefused, EndsFlawed, ErrorLine, ForRequest, IsExact, IsOutput, Says, TellsRefusedInput, TellsWriteFault, is_status, prints_nothing};
+ghost use Rattle.vg_run.specs.Complete.{IsComplete};
+ghost use Rattle.vg_run.specs.Run.{Answered, AreUntouched, AreRefused, EndsFlawed, ErrorLine, ForRequest, IsExact, IsOutput, Says, TellsRefusedInput, TellsWriteFault, creates_nothing, is_status, prints_nothing};
+ghost use Rattle.vginsert_top.specs.Headline.{Certified, Headline, Shown};
 
 use std::alloc::Global;
 use vg_run::{fault_status, run_request, tell_words};
@@ -32,7 +34,7 @@ use vg_words::read_words;
 ///
 /// In mode `best` the netlist is written first, then the parasitics, then the certificate, where it is asked for and
 /// the net is not refused, and then the report is printed. A net without a cell keeps its part of both texts. After 3,
-/// 4, 5 and 7 nothing was printed, and no file was created or changed. After 6 the files that were finished before are
+/// 4, 5, 7 and 8 no file was created or changed, and after the first four nothing was printed. After 6 the files that were finished before are
 /// whole, the one whose writing failed is as it was or holds a prefix of its text, and later ones are as they were. A
 /// fault of `err` never changes the status. Files that the words do not name as outputs stay.
 pub fn run<F: Files, O: Out, E: Out>(
@@ -59,11 +61,21 @@ pub fn run<F: Files, O: Out, E: Out>(
     ensures nothing_printed { IsTrue (prints_nothing result) → (O.state out.new).written ≡ (O.state out.old).written }
     // Standard error has exactly its line, or a prefix of it after a fault of its own.
     ensures error_line { ErrorLine result (Says (E.state err.old) (E.state err.new)) ((E.state err.new).written ≡ (E.state err.old).written) }
-    ensures nothing_written { IsTrue (prints_nothing result) → AllStay (F.state files.old, F.state files.new) }
+    ensures nothing_written { IsTrue (creates_nothing result) → AreUntouched (F.state files.old, F.state files.new) }
     ensures kept { (file : List ℕ) → ((request : Request) → IsRequest (texts words.now) request → IsOutput request file → ⊥)
         → (F.state files.new).holds file ≡ (F.state files.old).holds file }
     // Where nothing failed, the status is exactly the one that the files and the request ask for.
     ensures exact { IsExact (texts words.now) (F.state files.old) result }
+    // Where the inputs are in their form and nothing fails, the run answers, or is out of memory.
+    ensures complete { IsComplete (texts words.now) (F.state files.old, F.state files.new) (O.state out.old, O.state out.new) result }
+    // Each reported placement is best, and the written files re-time to its slack; each printed frontier is exact.
+    ensures headline { (result ≡ 0) ⊎ ((result ≡ 1) ⊎ (result ≡ 2)) → ForRequest (texts words.now)
+        (Headline (F.state files.old, F.state files.new) (O.state out.old, O.state out.new)) }
+    // A certificate that was asked for is there, and mode `check` finds it valid.
+    ensures certified { (result ≡ 0) ⊎ (result ≡ 1) → ForRequest (texts words.now)
+        (Certified (F.state files.old, F.state files.new) (O.state out.old, O.state out.new)) }
+    // A valid certificate's placement is best, whoever made it.
+    ensures shown { result ≡ 0 → ForRequest (texts words.now) (Shown (F.state files.old, F.state files.new) (O.state out.old, O.state out.new)) }
 {
     match read_words(alloc, words) {
         Ok(ask) => run_request(alloc, &ask, files, out, err),

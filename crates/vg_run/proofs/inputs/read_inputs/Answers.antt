@@ -6,7 +6,7 @@ use Rattle.vg_run.specs.Inputs.{texts_read}
 use Rattle.vg_run.specs.Inputs.{told, IsRead}
 use Rattle.vg_answer.specs.declared.input.Input.{Input}
 use Rattle.vg_answer.specs.declared.input.Input.TheVariants.{Spef}
-use Rattle.vg_run.proofs.InputLemmas.{reads_next, read_as, unread_is}
+use Rattle.vg_run.proofs.InputLemmas.{reads_next, read_as, unread_is, writing_kept}
 use Rattle.vg_run.proofs.inputs.read_inputs.Goals as goal
 
 pub returns-in-Err-clause-unread : goal.returns-in-Err-clause-unread
@@ -31,7 +31,7 @@ input-preserved g c =
       read = reads_next (told before ask) (texts_read c.input.texts) (texts_read c.set.new.self) order i Spef c.in-Ok.bytes.items low c.input.invariant.read
           (read_as ((g.F.Files.state c.input.files).holds c.name_of.result.now) (told before ask (get_or order i Spef)) c.in-Ok.bytes.items held c.in-Ok.ensures.whole short) c.set.ensures.own c.set.ensures.each;
       kept = λ file. c.in-Ok.ensures.kept file ∙ c.input.invariant.kept file;
-      writing = c.in-Ok.ensures.writing.same_faults ∙ c.input.invariant.writing;
+      writing = writing_kept before (g.F.Files.state c.input.files) (g.F.Files.state c.read_all.new.files) c.input.invariant.writing c.in-Ok.ensures.writing;
       later = omega (arith, c.input.invariant.later, c.in-Ok.ensures.never_falls);
     }
 
@@ -39,3 +39,8 @@ pub returns-clause-read : goal.returns-clause-read
 returns-clause-read g c =
     subst (λ (list : List Input). All (λ x. IsRead (told (g.F.Files.state c.args.files.now) c.args.ask.now x) (texts_read c.input.texts x)) list)
     (take_all c.input.input-index c.inputs-order.result.now c.input-test.false ∙ c.inputs-order.ensures) c.input.invariant.read
+
+pub returns-in-Err-clause-writing : goal.returns-in-Err-clause-writing
+returns-in-Err-clause-writing g c =
+    writing_kept (g.F.Files.state c.args.files.now) (g.F.Files.state c.input.files) (g.F.Files.state c.read_all.new.files) c.input.invariant.writing
+    c.in-Err.ensures.writing

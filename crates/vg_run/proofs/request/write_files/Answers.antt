@@ -32,7 +32,12 @@ file-preserved g c =
     let more =
     one_written c.args.ask.now said c.file.file-index item item low c.requires.apart here (g.F.Files.state c.args.files.now) (g.F.Files.state c.file.files)
     (g.F.Files.state c.write_output.new.files) c.in-Ok.ensures.others c.file.invariant.held c.file.invariant.others c.in-Ok.ensures.whole in
-    record { held = more.0; others = more.1; later = omega (arith, c.file.invariant.later, c.in-Ok.ensures.never_falls) }
+    record {
+      held = more.0;
+      others = more.1;
+      later = omega (arith, c.file.invariant.later, c.in-Ok.ensures.never_falls);
+      begun = λ zero. absurd (omega (arith, zero));
+    }
 
 pub returns-clause-written : goal.returns-clause-written
 returns-clause-written g c =
@@ -41,4 +46,5 @@ returns-clause-written g c =
     record {
       whole = subst (AreHeld (g.F.Files.state c.args.files.now, g.F.Files.state c.file.files) c.args.ask.now) all c.file.invariant.held;
       others = subst (OthersStay (g.F.Files.state c.args.files.now, g.F.Files.state c.file.files) c.args.ask.now) all c.file.invariant.others;
+      none = λ empty. c.file.invariant.begun (omega (arith, c.file-test.false, length-map c.args.written.now written_by, ap length empty));
     }

@@ -1,7 +1,9 @@
 use Rattle.std.proofs.Common.{arith, inl, inr, ◌∙◌}
+use Rattle.vg_run.proofs.CompleteLemmas.{run_complete}
+use Rattle.vginsert_top.proofs.HeadlineLemmas.{run_certified, run_headline, run_shown}
 use Rattle.vg_words.specs.Request.{texts}
 use Rattle.vg_run.proofs.RequestLemmas.{outputs_apart, prefix_is_solid, size_is}
-use Rattle.vg_run.proofs.RunLemmas.{run_line, run_printed, run_not_three, run_unreadable, run_read_fault, run_write_fault, run_stays, run_status, run_unprinted, run_exact, fault_two, fault_exact}
+use Rattle.vg_run.proofs.RunLemmas.{run_line, run_printed, run_not_three, run_unreadable, run_read_fault, run_write_fault, run_status, run_untouched, run_unprinted, run_exact, fault_two, fault_exact}
 use Rattle.vg_answer.specs.declared.kind.AnswerKind.TheVariants.{Report, NoneGood, Refusal, Invalid}
 use Rattle.vginsert_top.proofs.top.run.Goals as goal
 
@@ -42,7 +44,7 @@ pub returns-in-Ok-clause-nothing_printed : goal.returns-in-Ok-clause-nothing_pri
 returns-in-Ok-clause-nothing_printed g c = λ e. run_unprinted c.run_request.ensures.ends e
 
 pub returns-in-Ok-clause-nothing_written : goal.returns-in-Ok-clause-nothing_written
-returns-in-Ok-clause-nothing_written g c = λ e. run_stays c.run_request.ensures.ends e
+returns-in-Ok-clause-nothing_written g c = λ e. run_untouched c.run_request.ensures.ends e
 
 pub returns-in-Ok-clause-exact : goal.returns-in-Ok-clause-exact
 returns-in-Ok-clause-exact g c = run_exact c.run_request.ensures.ends (texts c.args.words.now) c.in-Ok.ensures
@@ -78,3 +80,31 @@ returns-in-Ok-clause-error_line g c = run_line c.run_request.ensures.ends
 
 pub returns-in-Ok-clause-kept : goal.returns-in-Ok-clause-kept
 returns-in-Ok-clause-kept g c = λ file none. c.run_request.ensures.kept file (none c.in-Ok.ask c.in-Ok.ensures)
+
+pub returns-in-Ok-clause-complete : goal.returns-in-Ok-clause-complete
+returns-in-Ok-clause-complete g c = run_complete (texts c.args.words.now) c.in-Ok.ensures c.run_request.ensures.ends
+
+pub returns-in-Ok-clause-headline : goal.returns-in-Ok-clause-headline
+returns-in-Ok-clause-headline g c = λ e.
+    (c.in-Ok.ask, c.in-Ok.ensures, run_headline (texts c.args.words.now) c.in-Ok.ensures c.run_request.ensures.ends e)
+
+pub returns-in-Ok-clause-certified : goal.returns-in-Ok-clause-certified
+returns-in-Ok-clause-certified g c = λ e.
+    (c.in-Ok.ask, c.in-Ok.ensures, run_certified (texts c.args.words.now) c.in-Ok.ensures c.run_request.ensures.ends e)
+
+pub returns-in-Ok-clause-shown : goal.returns-in-Ok-clause-shown
+returns-in-Ok-clause-shown g c = λ e.
+    (c.in-Ok.ask, c.in-Ok.ensures, run_shown (texts c.args.words.now) c.in-Ok.ensures c.run_request.ensures.ends e)
+
+pub returns-in-Err-clause-complete : goal.returns-in-Err-clause-complete
+returns-in-Err-clause-complete g c = λ request is read fit fine.
+    elim (fault_two c.in-Err.fault) [
+      | inl three ↦ absurd (fault_exact (texts c.args.words.now) c.in-Err.fault c.in-Err.ensures (λ seven. omega (arith, three, seven)) request is)
+      | inr seven ↦ inr (c.fault_status.ensures ∙ seven)
+    ]
+
+pub returns-in-Err-clause-headline : goal.returns-in-Err-clause-headline
+returns-in-Err-clause-headline g c = λ e. absurd (omega (arith, c.fault_status.ensures, fault_two c.in-Err.fault, e))
+
+pub returns-in-Err-clause-certified : goal.returns-in-Err-clause-certified
+returns-in-Err-clause-certified g c = λ e. absurd (omega (arith, c.fault_status.ensures, fault_two c.in-Err.fault, e))

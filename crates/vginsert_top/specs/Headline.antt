@@ -1,0 +1,109 @@
+-- What a run promises of each net that is asked for in modes `best` and `frontier`, and of certificates.
+use Rattle.std.specs.Prelude.{◌≡◌, ◌≢◌, ℕ, List, [], Option, Some}
+use Rattle.std.specs.List.{AllZip, flat_map}
+use Rattle.vg_store.specs.Reading.{FilesState}
+use Rattle.vg_store.specs.Writing.{OutState, Gains}
+use Rattle.vg_words.specs.Request.{cap_of, prefix_of}
+use Rattle.vg_words.specs.declared.ask.Ask.{Ask}
+use Rattle.vg_words.specs.declared.ask.Mode.{Mode}
+use Rattle.vg_words.specs.declared.ask.Mode.TheVariants.{Best as BestMode, Frontier, Check}
+use Rattle.spef_wire.specs.declared.refusal.Refusal.{Refusal}
+use Rattle.vg_design.specs.Designs.{Design}
+use Rattle.vg_design.specs.Nets.{IsNetProblem}
+use Rattle.vg_design.specs.Parts.{cells_of}
+use Rattle.vg_design.specs.Refusals.{IsFirstRefusal}
+use Rattle.vg_design.specs.declared.net_problem.NetProblem.{NetProblem}
+use Rattle.vg_slack.specs.Bests.{HasNoGood, IsFound}
+use Rattle.vg_slack.specs.declared.answer.Best.{Best}
+use Rattle.vg_front.specs.Points.{IsFrontierOf}
+use Rattle.vg_front.specs.declared.root.Point.{Point}
+use Rattle.vg_report.specs.Reports.{best_report, front_report, none_line, refusal_line}
+use Rattle.design_read.specs.Designs.{Texts, IsDesign}
+use Rattle.change_laws.specs.Laws.{RetimesInTexts}
+use Rattle.vg_answer.specs.Answers.{Said}
+use Rattle.vg_answer.specs.Nets.{nets_for}
+use Rattle.vg_answer.specs.declared.input.Input.{Input}
+use Rattle.vg_answer.specs.declared.kind.AnswerKind.{AnswerKind}
+use Rattle.vg_answer.specs.declared.kind.AnswerKind.TheVariants.{Report}
+use Rattle.mode_best.specs.Answers.{Certifies, Files}
+use Rattle.mode_frontier.specs.Answers.{HasNoneWithin}
+use Rattle.mode_check.specs.Answers.{IsCheckAnswer}
+use Rattle.vg_run.specs.Inputs.{AreRead, Change}
+use Rattle.vg_run.specs.Modes.{design_texts}
+use Rattle.vg_run.specs.Run.{HoldsAt}
+use Rattle.run_laws.specs.Laws.{IsFoundAndValid, ShowsInFiles, with_files}
+
+-- The lines of a net in mode `best`. Either they report a placement of its problem that is legal, gives each sink the
+-- polarity that it wants and has exactly this slack, none of these has more, and in the written texts the net re-times
+-- to this slack; or they say that no placement is good; or they name the first reason against the net.
+pub data BestOf (d : Design) (written : Texts) (prefix name lines : List ℕ) : Type 0 where
+  placed : (net : NetProblem) → IsNetProblem d name net → (best : Best) → IsFound net.problem best
+      → lines ≡ best_report name (cells_of d.library.repeaters) net best → RetimesInTexts written prefix name best.slack → BestOf d written prefix name lines
+  none_good : (net : NetProblem) → IsNetProblem d name net → HasNoGood net.problem → lines ≡ none_line name → BestOf d written prefix name lines
+  refused : (refusal : Refusal) → IsFirstRefusal d name refusal → lines ≡ refusal_line name refusal → BestOf d written prefix name lines
+
+-- The lines of a net in mode `frontier`: exactly the pairs of cost and slack of its good placements within the cap that
+-- no other such pair dominates, by rising cost, each with such a placement; or that there is none; or the first reason
+-- against the net.
+pub data FrontOf (d : Design) (cap : Option ℕ) (name lines : List ℕ) : Type 0 where
+  points : (net : NetProblem) → IsNetProblem d name net → (points : List Point) → IsFrontierOf net.problem cap points → points ≢ []
+      → lines ≡ front_report name (cells_of d.library.repeaters) net points → FrontOf d cap name lines
+  none_within : (net : NetProblem) → IsNetProblem d name net → HasNoneWithin net.problem cap → lines ≡ none_line name → FrontOf d cap name lines
+  refused : (refusal : Refusal) → IsFirstRefusal d name refusal → lines ≡ refusal_line name refusal → FrontOf d cap name lines
+
+-- The four files that were read denote a design, and an output gained the lines of the nets that are asked for, one net
+-- after another, each as `Tells` has it.
+pub record Reports (files : FilesState) (out : Change OutState) (ask : Ask) (Tells : Texts → Design → List ℕ → List ℕ → Type 0) : Type 0 where
+  pub texts : Input → List ℕ
+  pub read : AreRead files ask texts
+  pub design : Design
+  pub design_of : IsDesign (design_texts texts) design
+  pub lines : List (List ℕ)
+  pub each : AllZip (Tells (design_texts texts) design) (nets_for design ask.net) lines
+  pub printed : Gains out.0 out.1 (flat_map (λ line. line) lines)
+
+-- Mode `best` has written a netlist and parasitics, and reports each net as `BestOf` has it, for the texts that were
+-- read with these two in their places.
+pub record BestHeadline (files : Change FilesState) (out : Change OutState) (ask : Ask) : Type 0 where
+  pub written : Files
+  pub netlist : HoldsAt files.1 ask.out_verilog written.verilog
+  pub parasitics : HoldsAt files.1 ask.out_spef written.spef
+  pub reports : Reports files.0 out ask (λ texts d name lines. BestOf d (with_files texts written) (prefix_of ask) name lines)
+
+-- what the reports of modes `best` and `frontier` say
+abbrev pub HeadlineIn : Mode → Change FilesState → Change OutState → Ask → Type 0
+HeadlineIn BestMode files out ask = BestHeadline files out ask
+HeadlineIn Frontier files out ask = Reports files.0 out ask (λ texts d name lines. FrontOf d (cap_of ask) name lines)
+HeadlineIn mode files out ask = Unit {0}
+
+abbrev pub Headline : Change FilesState → Change OutState → Ask → Type 0
+Headline files out ask = HeadlineIn ask.mode files out ask
+
+-- ---- certificates
+
+-- The file that the words name as a certificate holds one of the net that is asked for, with the placement and the slack
+-- that are reported, or with none. Whatever mode `check` answers of it, with the same four files, is that it is valid,
+-- with the reported slack, or none.
+pub record HasCertificate (files : Change FilesState) (out : Change OutState) (ask : Ask) : Type 0 where
+  pub texts : Input → List ℕ
+  pub read : AreRead files.0 ask texts
+  pub design : Design
+  pub design_of : IsDesign (design_texts texts) design
+  pub name : List ℕ
+  pub named : ask.net ≡ Some name
+  pub cert : List ℕ
+  pub held : HoldsAt files.1 ask.cert cert
+  pub kind : AnswerKind
+  pub line : List ℕ
+  pub printed : Gains out.0 out.1 line
+  pub certifies : Certifies design name kind line cert
+  pub checks : (also : AnswerKind) (told : Said) → IsCheckAnswer (design_texts texts) cert name also told
+      → (also ≡ Report) × IsFoundAndValid design name line told.text
+
+-- where mode `best` is asked for a certificate, it is there
+abbrev pub Certified : Change FilesState → Change OutState → Ask → Type 0
+Certified files out ask = ask.mode ≡ BestMode → (file : List ℕ) → ask.cert ≡ Some file → HasCertificate files out ask
+
+-- where mode `check` found a certificate valid, its placement is best, or no placement is good, whoever made it
+abbrev pub Shown : Change FilesState → Change OutState → Ask → Type 0
+Shown files out ask = ask.mode ≡ Check → ShowsInFiles files.0 out ask
