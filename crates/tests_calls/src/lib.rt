@@ -1,23 +1,7 @@
-//! Tests of public calls that no whole run over files in memory shows: numbers, names, tokens, tables, certificates
-//! that are changed, pieces of files, and calls that fail.
+//! Tests of public calls that no whole run over files in memory shows: numbers, names, tokens, tables, modules, and files
+//! that are read and written.
 #![tactic(auto)]
 
-#[cfg(test)]
-mod runs_certs;
-#[cfg(test)]
-mod runs_design;
-#[cfg(test)]
-mod runs_fail;
-#[cfg(test)]
-mod runs_files;
-#[cfg(test)]
-mod runs_made;
-#[cfg(test)]
-mod runs_pieces;
-#[cfg(test)]
-mod runs_sure;
-#[cfg(test)]
-mod runs_words;
 #[cfg(test)]
 mod texts_comments;
 #[cfg(test)]

@@ -1,7 +1,7 @@
 //! Nets of designs: their problems, and what they are without constraints.
 ghost use Rattle.std.specs.Prelude.{◌≤◌, ◌^◌, length, IfOk};
 
-use crate::runs_files::{HEADER, LIB, NETLIST};
+use crate::files::{HEADER, LIB, NETLIST};
 use design_read::read_design;
 use elmore::{Allowed, Driver, Node, Problem, Sink};
 use spef_file::SpefText;

@@ -1,7 +1,7 @@
 //! A certificate with one byte, one number or one line changed: mode `check` finds it valid exactly where a plain
 //! reading does.
 
-use crate::runs_files::{BUFFERED, CHECK, printed, small_files};
+use crate::files::{BUFFERED, CHECK, printed, small_files};
 use std::alloc::Global;
 use std::test::Fail;
 use vg_store::MemFiles;

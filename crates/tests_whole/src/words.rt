@@ -1,6 +1,6 @@
 //! The options of the program, and the words that name them.
 
-use crate::runs_files::words_of;
+use crate::files::words_of;
 use std::alloc::Global;
 use std::test::Fail;
 use vg_words::{Ask, Mode, Opt, options, read_words};

@@ -1,7 +1,7 @@
 //! Runs over the files of made-up designs, beside what mode `gen` tells of them.
 ghost use Rattle.std.specs.Prelude.{◌≤◌};
 
-use crate::runs_files::printed;
+use crate::files::printed;
 use std::alloc::Global;
 use std::test::Fail;
 use vg_gen::generate;

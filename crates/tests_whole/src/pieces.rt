@@ -1,7 +1,7 @@
 //! Runs whose files and outputs move few bytes a call, and a net with the greatest number of nodes.
 ghost use Rattle.std.specs.Prelude.{◌≤◌};
 
-use crate::runs_files::{
+use crate::files::{
     BEST, BEST_SAYS, CHECK, CHECK_SAYS, Ending, FRONTIER, FRONTIER_SAYS, HEADER, TIME, TIME_SAYS,
     WIRE, WIRE_SAYS, ends_over, small_files,
 };

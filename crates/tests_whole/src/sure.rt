@@ -1,7 +1,7 @@
 //! Runs over files and outputs that never fail.
 
-use crate::runs_files::{BUFFERED, CONS, HEADER, LIB, NET, NETLIST, words_of};
-use crate::runs_pieces::RUNS;
+use crate::files::{BUFFERED, CONS, HEADER, LIB, NET, NETLIST, words_of};
+use crate::pieces::RUNS;
 use std::alloc::Global;
 use std::test::Fail;
 use vg_store::{SureFiles, SureOut, read_all, write_file};

@@ -1,7 +1,7 @@
 //! Runs in which one call fails: of reading, of writing, and of printing.
 ghost use Rattle.std.specs.Prelude.{◌≤◌};
 
-use crate::runs_files::{
+use crate::files::{
     BEST, BEST_SAYS, CHECK, CHECK_SAYS, Ending, WIRE, WIRE_SAYS, ends_over, small_files,
 };
 use std::alloc::Global;
