@@ -1,124 +1,91 @@
 #!/usr/bin/env python3
-"""Processor minutes of the gate, by crate.
+"""gate.py [FOLDER]: runs the merge gate on a clone of this repository, and prints for each crate the processor minutes of
+its check, of its tests' check and of its edits.
 
-    bench/gate.py               runs `rt ci --anew` at the top of the repository
-    bench/gate.py WORD ..       runs `rt ci WORD ..`
-
-While the run goes on, the processor time of each process of the prover is read from /proc twice a second, so a process is told to within
-half a second. It counts for the crate that its command line names: as the crate's check, as that of its tests, or, for a crate with edits
-that must fail, as the check that they begin with and their own. At the end a table is printed, the greatest first, with the sum, and the
-longest chain of crates, each of which waits for the one before it.
-"""
+It runs the toolchain's own `rt ci`, from nothing, out of a folder beside the clone in which `rattle` is a script that
+notes the times of each call. Everything else there is a link to the toolchain. FOLDER is where clone and notes are
+made (a new folder below /tmp if none is given); `gate.py --table NOTES` prints the table of notes that are there."""
+import collections
 import os
+import re
 import subprocess
 import sys
-import threading
-import time
-from collections import defaultdict
+import tempfile
 
-TICK = os.sysconf("SC_CLK_TCK")
-KINDS = ("check", "tests", "edits")
-
-
-def read(path):
-    try:
-        with open(path, "rb") as it:
-            return it.read()
-    except OSError:
-        return b""
+TOP = os.path.dirname(os.path.dirname(os.path.realpath(__file__)))
+NOTE = """#!/bin/sh
+exec /usr/bin/time -q -o {notes} -a -f "%U %S %e %M $PWD $*" {rattle} "$@"
+"""
 
 
-class Sampler(threading.Thread):
-    """Adds up the processor time of the prover's processes below this one."""
-
-    def __init__(self):
-        super().__init__(daemon=True)
-        self.seen, self.done, self.over = {}, [], False
-
-    def mine(self, parents, pid):
-        while pid in parents:
-            if pid == os.getpid():
-                return True
-            pid = parents[pid]
-        return False
-
-    def sample(self):
-        found, parents = {}, {}
-        for name in os.listdir("/proc"):
-            stat = read(f"/proc/{name}/stat").decode(errors="replace") if name.isdigit() else ""
-            if stat:
-                command, rest = stat[stat.find("(") + 1 : stat.rfind(")")], stat[stat.rfind(")") + 2 :].split()
-                parents[int(name)] = int(rest[1])
-                if command.startswith("rattle"):
-                    found[int(name), rest[19]] = (int(rest[11]) + int(rest[12])) / TICK
-        for key, seconds in found.items():
-            if key not in self.seen:
-                if not self.mine(parents, key[0]):
-                    continue
-                words = read(f"/proc/{key[0]}/cmdline").decode(errors="replace").split("\0")
-                self.seen[key] = [words, os.path.realpath(f"/proc/{key[0]}/cwd"), 0.0]
-            self.seen[key][2] = seconds
-        for key in [it for it in self.seen if it not in found]:
-            self.done.append(self.seen.pop(key))
-
-    def run(self):
-        while not self.over:
-            self.sample()
-            time.sleep(0.5)
-        self.done += self.seen.values()
+def kit_with_notes(folder):
+    """A copy of the kit's folder, of links, whose `rattle` notes its times."""
+    kit = os.path.dirname(subprocess.run(["rt", "doc"], capture_output=True, text=True, check=True).stdout.strip())
+    os.makedirs(f"{folder}/kit/bin")
+    for name in os.listdir(kit):
+        if name != "bin":
+            os.symlink(f"{kit}/{name}", f"{folder}/kit/{name}")
+    for name in os.listdir(f"{kit}/bin"):
+        if name in ("rt", "rtlib.py"):
+            # (they find the kit by their own place, so a link would not do)
+            subprocess.run(["cp", f"{kit}/bin/{name}", f"{folder}/kit/bin/{name}"], check=True)
+        elif name != "rattle":
+            os.symlink(f"{kit}/bin/{name}", f"{folder}/kit/bin/{name}")
+    with open(f"{folder}/kit/bin/rattle", "w", encoding="utf-8") as file:
+        file.write(NOTE.format(notes=f"{folder}/notes", rattle=f"{kit}/bin/rattle"))
+    os.chmod(f"{folder}/kit/bin/rattle", 0o755)
+    return f"{folder}/kit/bin/rt"
 
 
-def kind_of(words, folder):
-    if "/rt-edit" in folder:
+def kind_of(place, words):
+    """What a call of rattle was for."""
+    if "/rt-edit-" in place:
         return "edits"
-    return "tests" if "--test" in words else "check"
+    return "tests" if " --test" in words else "check"
 
 
-def minutes_by_crate(done):
-    spent = defaultdict(lambda: dict.fromkeys(KINDS, 0.0))
-    for words, folder, seconds in done:
-        if "--crate-name" in words:
-            spent[words[words.index("--crate-name") + 1]][kind_of(words, folder)] += seconds / 60
-    return spent
+def read_notes(path):
+    """The processor seconds and the greatest memory (kB) of each crate and kind."""
+    seconds, memory = collections.Counter(), collections.Counter()
+    with open(path, encoding="utf-8", errors="replace") as file:
+        for line in file:
+            note = re.match(r"([\d.]+) ([\d.]+) ([\d.]+) (\d+) (\d+ )?(\S+) (.*)", line)
+            named = note and re.search(r"--crate-name (\S+)", note[7])
+            if named:
+                key = named[1], kind_of(note[6], note[7])
+                seconds[key] += float(note[1]) + float(note[2])
+                memory[key] = max(memory[key], int(note[4]))
+    return seconds, memory
 
 
-def longest_chain(spent):
-    """The chain of crates whose checks take longest, one after another."""
-    below = {}
-    with open("crates.txt", encoding="utf-8") as it:
-        for line in it:
-            name, _, libraries = line.split("#")[0].partition(":")
-            if name.strip():
-                below[name.split()[0]] = libraries.split()
-    known = {}
-
-    def chain(name):
-        if name not in known:
-            before = max((chain(it) for it in below[name] if it in below), default=(0.0, []))
-            known[name] = (before[0] + spent[name]["check"], [*before[1], name])
-        return known[name]
-
-    return max(chain(it) for it in below)
+def print_table(path):
+    seconds, memory = read_notes(path)
+    crates = {crate for crate, _ in seconds}
+    total = {crate: sum(seconds[crate, kind] for kind in ("check", "tests", "edits")) for crate in crates}
+    minutes = lambda value: f"{value / 60:.1f}" if value else ""
+    print("| crate | check | tests | edits | all | GB |\n|---|---|---|---|---|---|")
+    for crate in sorted(crates, key=lambda it: -total[it]):
+        each = [minutes(seconds[crate, kind]) for kind in ("check", "tests", "edits")]
+        most = max(memory[crate, kind] for kind in ("check", "tests", "edits")) / 1e6
+        print(f"| `{crate}` | {' | '.join(each)} | {minutes(total[crate])} | {most:.1f} |")
+    sums = [minutes(sum(value for (_, kind), value in seconds.items() if kind == it)) for it in ("check", "tests", "edits")]
+    print(f"| all | {' | '.join(sums)} | {minutes(sum(total.values()))} | |")
 
 
-def main():
-    sampler = Sampler()
-    sampler.start()
-    begun = time.time()
-    status = subprocess.run(["rt", "ci", *(sys.argv[1:] or ["--anew"])]).returncode
-    sampler.over = True
-    sampler.join()
-    spent = minutes_by_crate(sampler.done)
-    print("\n| crate | check | tests | edits |\n|---|---|---|---|")
-    for name, it in sorted(spent.items(), key=lambda pair: -sum(pair[1].values())):
-        print(f"| `{name}` | " + " | ".join(f"{it[kind]:.1f}" if it[kind] else "" for kind in KINDS) + " |")
-    sums = {kind: sum(it[kind] for it in spent.values()) for kind in KINDS}
-    print("| together | " + " | ".join(f"{sums[kind]:.0f}" for kind in KINDS) + " |")
-    length, names = longest_chain(spent)
-    print(f"\n{sum(sums.values()):.0f} processor minutes on {os.cpu_count()} processors, in {(time.time() - begun) / 60:.0f} minutes")
-    print(f"longest chain, {length:.0f} minutes: {' '.join(names)}")
+def main(words):
+    if words[:1] == ["--table"]:
+        print_table(words[1])
+        return 0
+    folder = os.path.realpath(words[0]) if words else tempfile.mkdtemp(prefix="vginsert-gate-")
+    os.makedirs(folder, exist_ok=True)
+    rt = kit_with_notes(folder)
+    subprocess.run(["git", "clone", "-q", TOP, f"{folder}/clone"], check=True)
+    print(f"the gate runs in {folder}", flush=True)
+    with open(f"{folder}/said", "w", encoding="utf-8") as said:
+        status = subprocess.run([rt, "ci"], cwd=f"{folder}/clone", stdout=said, stderr=subprocess.STDOUT).returncode
+    print_table(f"{folder}/notes")
     return status
 
 
 if __name__ == "__main__":
-    sys.exit(main())
+    sys.exit(main(sys.argv[1:]))
