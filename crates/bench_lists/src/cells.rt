@@ -127,7 +127,8 @@ pub fn add_all<L: Ledger>(
     requires room { size + 256 ≤ spare pool.old }
     requires library { IsLibrary library.now }
     ensures added { IfOk result (λ added. IsAdded pool.new (slots_of arena.new) added.from added.made) }
-    ensures spare { IfOk result (λ added. spare pool.old ≡ spare pool.new + size_of pool.new added.from + size_of pool.new added.made) }
+    ensures spare { IfOk result (λ added. spare pool.old
+        ≡ spare pool.new + size_of pool.new added.from + size_of pool.new added.made) }
 {
     let from = bent(pool, size, random);
     let reps = library.reps.as_slice();

@@ -43,7 +43,8 @@ fn mixed(sum: u64, number: u64) -> u64 {
 /// Takes a tag out of a bag that is not empty.
 fn take_one(pool: &mut Pool, bag: &mut Bag) -> u64
     requires { IsFull pool.old bag.old }
-    ensures taken { (x : Candidate) (xs : Candidates) → HoldsBag pool.old bag.old (x ∷ xs) → HoldsBag pool.new bag.new xs }
+    ensures taken { (x : Candidate) (xs : Candidates) → HoldsBag pool.old bag.old (x ∷ xs)
+        → HoldsBag pool.new bag.new xs }
     ensures spare { spare pool.new ≡ suc (spare pool.old) }
 {
     pool.take(bag).unwrap()

@@ -30,10 +30,12 @@ Either xs ys z = Contains xs z ⊎ Contains ys z
 
 -- a wire leaves the undominated pairs as they are above it, each with the solution that it had
 abbrev pub WireIsExact : Type 0
-WireIsExact = (r : ℕ) (xs : Candidates) → r < 2 ^ 64 → AreRising xs → AreModest xs → IsUndominated (Wires r (pairs_of xs)) (pairs_of (through_wire r xs))
+WireIsExact = (r : ℕ) (xs : Candidates) → r < 2 ^ 64 → AreRising xs → AreModest xs
+    → IsUndominated (Wires r (pairs_of xs)) (pairs_of (through_wire r xs))
 
 abbrev pub WireTakes : Type 0
-WireTakes = (r : ℕ) (xs : Candidates) (z : Candidate) → Contains (through_wire r xs) z → (x : Candidate) × Contains xs x × (z ≡ wired r x)
+WireTakes = (r : ℕ) (xs : Candidates) (z : Candidate) → Contains (through_wire r xs) z
+    → (x : Candidate) × Contains xs x × (z ≡ wired r x)
 
 -- a load beside the upper end of a wire is added to what the wire leaves
 abbrev pub WireLoads : Type 0
@@ -49,4 +51,5 @@ BothTake = (xs ys : Candidates) (z : Candidate) → Contains (both xs ys) z → 
 
 -- a load beside a list leaves all of them
 abbrev pub LoadIsExact : Type 0
-LoadIsExact = (c : ℕ) (xs : Candidates) → AreRising xs → IsUndominated (Raises c (pairs_of xs)) (pairs_of (map (loaded c) xs))
+LoadIsExact =
+    (c : ℕ) (xs : Candidates) → AreRising xs → IsUndominated (Raises c (pairs_of xs)) (pairs_of (map (loaded c) xs))

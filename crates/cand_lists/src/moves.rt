@@ -27,10 +27,13 @@ pub fn wire<L: Ledger>(
     requires load { c ≤ 10 ^ 11 }
     requires held { HoldsFor (slots_of arena.old) (items_of pool.old list.old) }
     ensures list { (xs : Candidates) → Holds pool.old list.old xs → Holds pool.new list.new (above_wire r c xs) }
-    ensures uses { (xs : Candidates) → Holds pool.old list.old xs → IsExchange (slots_of arena.old) xs (slots_of arena.new) (above_wire r c xs) }
-    ensures same { (xs : Candidates) → Holds pool.old list.old xs → MeanTheSame (made_of arena.old) (made_of arena.new) (above_wire r c xs) }
+    ensures uses { (xs : Candidates) → Holds pool.old list.old xs
+        → IsExchange (slots_of arena.old) xs (slots_of arena.new) (above_wire r c xs) }
+    ensures same { (xs : Candidates) → Holds pool.old list.old xs
+        → MeanTheSame (made_of arena.old) (made_of arena.new) (above_wire r c xs) }
     ensures others { KeepsOthers pool.old (name list.old ∷ []) pool.new (name list.new ∷ []) }
-    ensures spare { (xs : Candidates) → Holds pool.old list.old xs → spare pool.new + length (above_wire r c xs) ≡ spare pool.old + length xs }
+    ensures spare { (xs : Candidates) → Holds pool.old list.old xs
+        → spare pool.new + length (above_wire r c xs) ≡ spare pool.old + length xs }
     ensures steps { (xs : Candidates) → Holds pool.old list.old xs → steps.new ≡ steps.old + length xs }
 {
     let bag = pool.wire(list, r, c, steps);
@@ -52,7 +55,8 @@ pub fn absorb<L: Ledger>(
     requires rising_other { AreRising (items_of pool.old other) }
     requires differ { Differ (name list.old) (name other) }
     requires held { HoldsFor (slots_of arena.old) (items_of pool.old list.old ++ items_of pool.old other) }
-    ensures list { (xs ys : Candidates) → Holds pool.old list.old xs → Holds pool.old other ys → Holds pool.new list.new (both xs ys) }
+    ensures list { (xs ys : Candidates) → Holds pool.old list.old xs → Holds pool.old other ys
+        → Holds pool.new list.new (both xs ys) }
     ensures uses { (xs ys : Candidates) → Holds pool.old list.old xs → Holds pool.old other ys
         → IsExchange (slots_of arena.old) (xs ++ ys) (slots_of arena.new) (both xs ys) }
     ensures same { (xs ys : Candidates) → Holds pool.old list.old xs → Holds pool.old other ys
@@ -60,7 +64,8 @@ pub fn absorb<L: Ledger>(
     ensures others { KeepsOthers pool.old (name list.old ∷ name other ∷ []) pool.new (name list.new ∷ []) }
     ensures spare { (xs ys : Candidates) → Holds pool.old list.old xs → Holds pool.old other ys
         → spare pool.new + length (both xs ys) ≡ spare pool.old + length xs + length ys }
-    ensures steps { (xs ys : Candidates) → Holds pool.old list.old xs → Holds pool.old other ys → steps.new ≤ steps.old + 2 * (length xs + length ys) }
+    ensures steps { (xs ys : Candidates) → Holds pool.old list.old xs → Holds pool.old other ys
+        → steps.new ≤ steps.old + 2 * (length xs + length ys) }
 {
     let bag = pool.absorb(list, other, steps);
     give_up(pool, arena, bag);

@@ -15,7 +15,8 @@ PairsStep = (p : Problem) (v : ℕ) (odd : Bool) (x : Pair) → IsPairAt p v odd
 -- each pair of these lists at a child of v is dominated by one of those lists
 abbrev pub AreNoWorse : Problem → ℕ → NodeLists → NodeLists → Type 0
 AreNoWorse p v these those =
-    (u : ℕ) (odd : Bool) (x : Pair) → Contains (live_children p v) u → Contains (these u odd) x → IsCoveredBy (Contains (those u odd)) x
+    (u : ℕ) (odd : Bool) (x : Pair) → Contains (live_children p v) u → Contains (these u odd) x
+    → IsCoveredBy (Contains (those u odd)) x
 
 -- no worse pairs at the children come to no worse pairs at the node
 abbrev pub StepIsMonotone : Type 0
@@ -29,7 +30,8 @@ CoverHolds = (p : Problem) (lists : NodeLists) → IsCover p (of_lists lists)
 
 -- no good placement has more slack than a cover allows at the root
 abbrev pub CoverBounds : Type 0
-CoverBounds = (p : Problem) (lists : NodeLists) (most : ℤ) → IsCover p (of_lists lists) → IsBoundedBy p (at_root (of_lists lists)) most
+CoverBounds = (p : Problem) (lists : NodeLists) (most : ℤ) → IsCover p (of_lists lists)
+    → IsBoundedBy p (at_root (of_lists lists)) most
     → (cells : List (Option ℕ)) (x : ℤ) → IsGood p cells → IsSlack p cells x → x ≤ℤ most
 
 -- and where it has no even pair at the root that the driver may charge, no placement is good
@@ -56,5 +58,7 @@ RootPairs = (p : Problem) (cells : List (Option ℕ)) → AreRootPairs p cells
 
 -- a placement that comes to a pair of greatest worth of an exact list at the root is best
 abbrev pub RootDecides : Type 0
-RootDecides = (p : Problem) (xs : List Pair) (cells : List (Option ℕ)) (x : Pair) → IsUndominated (IsPairAt p 0 false) xs
-    → IsPairOf p 0 false cells x → Drives p x → IsBoundedBy p (Contains xs) (root_value p x) → IsBest p cells (root_value p x)
+RootDecides =
+    (p : Problem) (xs : List Pair) (cells : List (Option ℕ)) (x : Pair) → IsUndominated (IsPairAt p 0 false) xs
+    → IsPairOf p 0 false cells x → Drives p x → IsBoundedBy p (Contains xs) (root_value p x)
+    → IsBest p cells (root_value p x)

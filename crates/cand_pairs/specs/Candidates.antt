@@ -99,7 +99,8 @@ past_cell (Some rep) odd = cond rep.inverts (not odd) odd
 -- x comes from a choice of one pair for each live child of v, with or without a cell at v
 abbrev pub IsStep : Problem → PairSets → ℕ → Bool → Pair → Type 0
 IsStep p In v odd x =
-    (own : Option ℕ) × (y : Pair) × MayHave p v own y.c × IsOpen p In v (past_cell (rep_of p.reps own) odd) y × (x ≡ with_cell (rep_of p.reps own) y)
+    (own : Option ℕ) × (y : Pair) × MayHave p v own y.c × IsOpen p In v (past_cell (rep_of p.reps own) odd) y
+    × (x ≡ with_cell (rep_of p.reps own) y)
 
 -- a pair of the set dominates x
 abbrev pub IsCoveredBy : (Pair → Type 0) → Pair → Type 0

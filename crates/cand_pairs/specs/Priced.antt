@@ -26,7 +26,8 @@ PricedSets = ℕ → Bool → Priced → Type 0
 
 -- the costs of the cells at v and below it
 abbrev pub cost_below : Problem → List (Option ℕ) → ℕ → ℕ
-cost_below p cells v = downstream (parent_of p.tree.nodes) (λ u. cell_cost (cell_at p.reps cells u)) (length p.tree.nodes) v
+cost_below p cells v =
+    downstream (parent_of p.tree.nodes) (λ u. cell_cost (cell_at p.reps cells u)) (length p.tree.nodes) v
 
 pub record IsPricedOf (p : Problem) (v : ℕ) (odd : Bool) (cells : List (Option ℕ)) (z : Priced) : Type 0 where
   pub pair : IsPairOf p v odd cells z.pair
@@ -45,7 +46,8 @@ abbrev pub IsBeatenBy : (Priced → Type 0) → Priced → Type 0
 IsBeatenBy In x = (y : Priced) × In y × Beats y x
 
 -- z comes from a choice for each child, without a cell at the node
-pub record IsPricedOpenBy (p : Problem) (In : PricedSets) (odd : Bool) (fork : Fork) (pick : ℕ → Priced) (z : Priced) : Type 0 where
+pub record IsPricedOpenBy (p : Problem) (In : PricedSets) (odd : Bool) (fork : Fork) (pick : ℕ → Priced)
+    (z : Priced) : Type 0 where
   pub chosen : (u : ℕ) → Contains fork.children u → In u odd (pick u)
   pub wanted : (sink : Sink) → IsSinkAt p fork.node sink → odd ≡ sink.inverted
   pub joined : IsJoinOf p fork (λ u. (pick u).pair) z.pair
@@ -63,7 +65,8 @@ with_price cell y = record { cost = y.cost + cell_cost cell; pair = with_cell ce
 
 abbrev pub IsPricedStep : Problem → PricedSets → ℕ → Bool → Priced → Type 0
 IsPricedStep p In v odd z =
-    (own : Option ℕ) × (y : Priced) × MayHave p v own y.pair.c × IsPricedOpen p In v (past_cell (rep_of p.reps own) odd) y
+    (own : Option ℕ) × (y : Priced) × MayHave p v own y.pair.c
+    × IsPricedOpen p In v (past_cell (rep_of p.reps own) odd) y
     × (z ≡ with_price (rep_of p.reps own) y)
 
 -- G is a part of S that beats it all up to the cap
@@ -96,7 +99,8 @@ PricedOwns p v odd G a =
 -- what comes from the children, and costs no more than the cap, is beaten
 abbrev pub IsPricedCover : Problem → Option ℕ → PricedSets → Type 0
 IsPricedCover p cap In =
-    (v : ℕ) → IsLive p v → (odd : Bool) (x : Priced) → IsPricedStep p In v odd x → IsWithin cap x.cost → IsBeatenBy (In v odd) x
+    (v : ℕ) → IsLive p v → (odd : Bool) (x : Priced) → IsPricedStep p In v odd x → IsWithin cap x.cost
+    → IsBeatenBy (In v odd) x
 
 -- all comes from the children
 abbrev pub IsPricedSound : Problem → PricedSets → Type 0
@@ -115,10 +119,12 @@ pub record Counts (p : Problem) (cap : Option ℕ) (z : Priced) : Type 0 where
 pub record ArePointsOf (p : Problem) (cap : Option ℕ) (In : PricedSets) (points : List Point) : Type 0 where
   pub rising : AllPairs Exceeds points
   pub taken : All (λ point. (z : Priced) × In 0 false z × Counts p cap z × (point ≡ point_of p z)) points
-  pub covers : (z : Priced) → In 0 false z → Counts p cap z → (point : Point) × Contains points point × Outdoes point (point_of p z)
+  pub covers : (z : Priced) → In 0 false z → Counts p cap z
+      → (point : Point) × Contains points point × Outdoes point (point_of p z)
 
 abbrev pub PricedStep : Type 0
-PricedStep = (p : Problem) (v : ℕ) (odd : Bool) (z : Priced) → IsPricedAt p v odd z ↔ IsPricedStep p (IsPricedAt p) v odd z
+PricedStep =
+    (p : Problem) (v : ℕ) (odd : Bool) (z : Priced) → IsPricedAt p v odd z ↔ IsPricedStep p (IsPricedAt p) v odd z
 
 -- lists for each node and class
 abbrev pub of_priced : (ℕ → Bool → List Priced) → PricedSets
@@ -127,5 +133,6 @@ of_priced lists v odd z = Contains (lists v odd) z
 -- where all lists come from the children's and cover, up to the cap, what does, the points at the root are the frontier
 abbrev pub PricedFrontier : Type 0
 PricedFrontier = (p : Problem) (cap : Option ℕ) (lists : ℕ → Bool → List Priced) (points : List Point)
-    → IsPricedSound p (of_priced lists) → IsPricedCover p cap (of_priced lists) → ArePointsOf p cap (of_priced lists) points
+    → IsPricedSound p (of_priced lists) → IsPricedCover p cap (of_priced lists)
+    → ArePointsOf p cap (of_priced lists) points
     → IsFrontier (IsAttained p cap) points

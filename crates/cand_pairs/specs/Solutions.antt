@@ -39,4 +39,5 @@ pub record IsOpenSolutionOf (p : Problem) (odd : Bool) (fork : Fork) (held : ℕ
   pub pair : IsOpenWith p (pairs_of p (cells_by p held)) odd fork x
   pub placement : IsPlacement p (cells_by p held)
   pub placed : IsPlaced p (cells_by p held)
-  pub inside : (u b : ℕ) → held u ≡ Some b → (h : ℕ) × Contains fork.children h × (is_over (parent_of p.tree.nodes) h u ≡ true)
+  pub inside : (u b : ℕ) → held u ≡ Some b → (h : ℕ) × Contains fork.children h
+      × (is_over (parent_of p.tree.nodes) h u ≡ true)

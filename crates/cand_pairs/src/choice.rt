@@ -43,7 +43,8 @@ fn later(x: Pair, y: Pair) -> Pair
 fn with_pair(rep: &Rep, found: Option<Pair>, pair: &Pair) -> Option<Pair>
     requires rep { IsRepWithin rep.now }
     requires limits { IsModest pair.now }
-    ensures { (seen : List PairSpec) → IsGreatestOf rep.now seen found → IsGreatestOf rep.now (seen ++ pair.now ∷ []) result }
+    ensures { (seen : List PairSpec) → IsGreatestOf rep.now seen found
+        → IsGreatestOf rep.now (seen ++ pair.now ∷ []) result }
 {
     if !is_within(rep.limit, pair.c) {
         return found;

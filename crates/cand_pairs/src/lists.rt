@@ -15,7 +15,8 @@ use vg_num::Memory;
 /// Whether the pair has more time than all of a rising list; if not, one of the list has as much.
 fn is_later(kept: &[Pair], pair: &Pair) -> bool
     requires { AllPairs IsBelow kept.now }
-    ensures { MatchBool result (All (λ y. y.q <ℤ pair.now.q) kept.now) ((y : PairSpec) × Contains kept.now y × (pair.now.q ≤ℤ y.q)) }
+    ensures { MatchBool result (All (λ y. y.q <ℤ pair.now.q) kept.now) ((y : PairSpec) × Contains kept.now y
+        × (pair.now.q ≤ℤ y.q)) }
 {
     let len = kept.len();
     if len == 0 {

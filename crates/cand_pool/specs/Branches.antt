@@ -14,7 +14,8 @@ abbrev pub branch_names : Branches → List ℕ
 branch_names at = at.list.first ∷ at.a.first ∷ at.b.first ∷ []
 
 -- x and y, the first of the branches, are joined
-pub record AreJoined (s s' : Block) (at at' : Branches) (x y : Candidate) (zs xs ys : Candidates) (tag : ℕ) : Type 0 where
+pub record AreJoined (s s' : Block) (at at' : Branches) (x y : Candidate) (zs xs ys : Candidates)
+    (tag : ℕ) : Type 0 where
   pub branches : AreBranches s' at' (zs ++ formed x y tag ∷ []) (left_of x y xs) (left_of y x ys)
   pub others : KeepsOthers s (branch_names at) s' (branch_names at')
   pub free : spare s' ≡ spare_after x y (spare s)

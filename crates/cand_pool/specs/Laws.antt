@@ -45,7 +45,8 @@ IsOfEither xs ys x = IsCandidateOf xs x ⊎ IsCandidateOf ys x
 
 -- the union of two lists in order of c is in order of c
 abbrev pub UnionKeepsOrder : Type 0
-UnionKeepsOrder = (least : ℕ) (xs ys : List Candidate) → HeaviesFrom least xs → HeaviesFrom least ys → HeaviesFrom least (union xs ys)
+UnionKeepsOrder =
+    (least : ℕ) (xs ys : List Candidate) → HeaviesFrom least xs → HeaviesFrom least ys → HeaviesFrom least (union xs ys)
 
 -- it has just the candidates of both
 abbrev pub UnionTaken : Type 0
@@ -60,10 +61,12 @@ pub record IsUndominatedOf (xs ys zs : Candidates) : Type 0 where
   pub rises : RisesOver lowest zs
   pub heavies : HeaviesFrom 0 zs
   pub taken : (z : Candidate) → IsCandidateOf zs z → IsOfEither xs ys z
-  pub covers : (x : Candidate) → IsOfEither xs ys x → (x.q ≤ℤ lowest) ⊎ ((z : Candidate) × IsCandidateOf zs z × Dominates z x)
+  pub covers : (x : Candidate) → IsOfEither xs ys x
+      → (x.q ≤ℤ lowest) ⊎ ((z : Candidate) × IsCandidateOf zs z × Dominates z x)
 
 abbrev pub UnionIsUndominated : Type 0
-UnionIsUndominated = (xs ys : Candidates) → HeaviesFrom 0 xs → HeaviesFrom 0 ys → IsUndominatedOf xs ys (undominated (union xs ys))
+UnionIsUndominated =
+    (xs ys : Candidates) → HeaviesFrom 0 xs → HeaviesFrom 0 ys → IsUndominatedOf xs ys (undominated (union xs ys))
 
 -- after w come greater c, and of equal c lesser q
 abbrev pub InOrderAfter : Candidate → List Candidate → Type 0

@@ -10,7 +10,8 @@ abbrev pub relinked : Block → ℕ → ℕ → ℕ → Block
 relinked s at to free = record { links = set s.links at to; candidates = s.candidates; free = free }
 
 -- a first slot is cut off: it is a list of its own
-pub record IsTaken (s : Block) (first last : ℕ) (x : Candidate) (xs : List Candidate) (s' : Block) (rest : ℕ) : Type 0 where
+pub record IsTaken (s : Block) (first last : ℕ) (x : Candidate) (xs : List Candidate) (s' : Block)
+    (rest : ℕ) : Type 0 where
   pub pool : IsPool s'
   pub one : IsHeld s' first first (x ∷ [])
   pub more : IsHeld s' rest last xs
@@ -75,7 +76,8 @@ pub record IsAppended (s : Block) (a a_last b b_last : ℕ) (s' : Block) (first 
   pub free : spare s' ≡ spare s
 
 -- the first tag of a bag was taken out
-pub record IsTagTaken (s : Block) (first last : ℕ) (x : Candidate) (xs : List Candidate) (s' : Block) (rest rest_last : ℕ) : Type 0 where
+pub record IsTagTaken (s : Block) (first last : ℕ) (x : Candidate) (xs : List Candidate) (s' : Block)
+    (rest rest_last : ℕ) : Type 0 where
   pub bag : IsHeld s' rest rest_last xs
   pub others : KeepsOthers s (first ∷ []) s' (rest ∷ [])
   pub free : spare s' ≡ suc (spare s)

@@ -81,8 +81,10 @@ IsLiveBag s bag = HoldsBag s bag (bag_of s bag)
 -- name, stay as long as the slots are few enough for links
 pub record KeepsOthers (s : Block) (old : List ℕ) (s' : Block) (new : List ℕ) : Type 0 where
   pub few : length s.links ≤ none → length s'.links ≤ none
-  pub stays : (first last : ℕ) (xs : List Candidate) → IsHeld s first last xs → first ≢ none → (IsIn first old → ⊥) → IsHeld s' first last xs
-  pub fresh : (first last : ℕ) (xs : List Candidate) → IsHeld s first last xs → first ≢ none → (IsIn first old → ⊥) → IsIn first new → ⊥
+  pub stays : (first last : ℕ) (xs : List Candidate) → IsHeld s first last xs → first ≢ none → (IsIn first old → ⊥)
+      → IsHeld s' first last xs
+  pub fresh : (first last : ℕ) (xs : List Candidate) → IsHeld s first last xs → first ≢ none
+      → (IsIn first old → ⊥) → IsIn first new → ⊥
 
 -- from this slot on its list or bag is this sequence
 pub record IsFrom (s : Block) (slot : ℕ) (xs : Candidates) : Type 0 where

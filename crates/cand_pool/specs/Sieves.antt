@@ -52,7 +52,8 @@ pub record IsSiftedTo (s s' : Block) (at at' : Sieve) (left : Candidates) : Type
   pub ks : Candidates
   pub ds : Candidates
   pub sieve : Sifts s' at' left ks ds
-  pub split : (all xs ps rs : Candidates) → Sifts s at xs ps rs → IsSplit all ps rs xs at.best → IsSplit all ks ds left at'.best
+  pub split : (all xs ps rs : Candidates) → Sifts s at xs ps rs → IsSplit all ps rs xs at.best
+      → IsSplit all ks ds left at'.best
   pub others : KeepsOthers s (names at) s' (names at')
   pub free : spare s' ≡ spare s
 

@@ -25,7 +25,8 @@ impl Union {
     /// A sieve of what is left when one of both lists is used up.
     fn left(self) -> Sieve
         requires { (self.sieve.rest.first ≡ NONE) ⊎ (self.other.first ≡ NONE) }
-        ensures ending { (s : Block) (one two : ℕ) (all : Candidates) (t : Block) → IsUniting s one two all t self → IsEnding s one two all t result }
+        ensures ending { (s : Block) (one two : ℕ) (all : Candidates) (t : Block) → IsUniting s one two all t self
+            → IsEnding s one two all t result }
         ensures rest { (result.rest ≡ self.sieve.rest) ⊎ (result.rest ≡ self.other) }
     {
         if self.other.first == NONE {
@@ -51,10 +52,12 @@ impl Pool {
 
     /// One turn of a union, at the first of both lists together, of which none is used up.
     fn union_turn<L: Ledger>(&mut self, at: &mut Union, steps: &mut Steps<L>)
-        requires left { AreLeft self.old at.old (items self.old at.old.sieve.rest.first) (items self.old at.old.other.first) }
+        requires left { AreLeft self.old at.old (items self.old at.old.sieve.rest.first)
+            (items self.old at.old.other.first) }
         requires one { at.old.sieve.rest.first ≢ NONE }
         requires two { at.old.other.first ≢ NONE }
-        ensures uniting { (s : Block) (one two : ℕ) (all : Candidates) → IsUniting s one two all self.old at.old → IsUniting s one two all self.new at.new }
+        ensures uniting { (s : Block) (one two : ℕ) (all : Candidates) → IsUniting s one two all self.old at.old
+            → IsUniting s one two all self.new at.new }
         ensures fewer { length (items self.new at.new.sieve.rest.first) + length (items self.new at.new.other.first) + 1
             ≡ length (items self.old at.old.sieve.rest.first) + length (items self.old at.old.other.first) }
         ensures steps { steps.new ≤ steps.old + 2 }
@@ -75,7 +78,8 @@ impl Pool {
 
     /// Drops the first candidates of the rest, up to one whose q is over the best.
     fn drop_dominated<L: Ledger>(&mut self, at: &mut Sieve, steps: &mut Steps<L>)
-        requires three { Sifts self.old at.old (items self.old at.old.rest.first) (items self.old at.old.kept.first) (items self.old at.old.dropped.first) }
+        requires three { Sifts self.old at.old (items self.old at.old.rest.first) (items self.old at.old.kept.first)
+            (items self.old at.old.dropped.first) }
         requires rises { RisesInTime (items self.old at.old.rest.first) }
         ensures sifted { IsSiftedTo self.old self.new at.old at.new (items self.new at.new.rest.first) }
         ensures over { RisesOver at.new.best (items self.new at.new.rest.first) }
@@ -99,10 +103,13 @@ impl Pool {
         requires rises_list { RisesInTime (items_of self.old list.old) }
         requires rises_other { RisesInTime (items_of self.old other) }
         requires differ { Differ (name list.old) (name other) }
-        ensures list { (xs ys : Candidates) → Holds self.old list.old xs → Holds self.old other ys → Holds self.new list.new (undominated (union xs ys)) }
-        ensures bag { (xs ys : Candidates) → Holds self.old list.old xs → Holds self.old other ys → HoldsBag self.new result (dominated (union xs ys)) }
+        ensures list { (xs ys : Candidates) → Holds self.old list.old xs → Holds self.old other ys
+            → Holds self.new list.new (undominated (union xs ys)) }
+        ensures bag { (xs ys : Candidates) → Holds self.old list.old xs → Holds self.old other ys
+            → HoldsBag self.new result (dominated (union xs ys)) }
         ensures differ { Differ (name list.new) (bag_name result) }
-        ensures others { KeepsOthers self.old (name list.old ∷ name other ∷ []) self.new (name list.new ∷ bag_name result ∷ []) }
+        ensures others { KeepsOthers self.old (name list.old ∷ name other ∷ []) self.new
+            (name list.new ∷ bag_name result ∷ []) }
         ensures spare { spare self.new ≡ spare self.old }
         ensures steps { (xs ys : Candidates) → Holds self.old list.old xs → Holds self.old other ys
             → steps.new ≤ steps.old + 2 * (length xs + length ys) }

@@ -42,15 +42,18 @@ impl Pool {
 
     /// Joins the first candidates of two lists, which are not empty.
     fn join<L: Ledger>(&mut self, at: Branches, tag: u64, steps: &mut Steps<L>) -> (Branches, Taken)
-        requires three { AreBranches self.old at (items self.old at.list.first) (items self.old at.a.first) (items self.old at.b.first) }
+        requires three { AreBranches self.old at (items self.old at.list.first) (items self.old at.a.first)
+            (items self.old at.b.first) }
         requires some_a { at.a.first ≢ NONE }
         requires some_b { at.b.first ≢ NONE }
         requires modest_a { IsModest (candidate self.old at.a.first) }
         requires modest_b { IsModest (candidate self.old at.b.first) }
         ensures joined { (x y : Candidate) (zs xs ys : Candidates) → AreBranches self.old at zs (x ∷ xs) (y ∷ ys)
             → AreJoined self.old self.new at result.0 x y zs xs ys tag }
-        ensures a { let x = candidate self.old at.a.first in let y = candidate self.old at.b.first in result.1.a ≡ taken_of x y }
-        ensures b { let x = candidate self.old at.a.first in let y = candidate self.old at.b.first in result.1.b ≡ taken_of y x }
+        ensures a { let x = candidate self.old at.a.first in let y =
+            candidate self.old at.b.first in result.1.a ≡ taken_of x y }
+        ensures b { let x = candidate self.old at.a.first in let y =
+            candidate self.old at.b.first in result.1.b ≡ taken_of y x }
         ensures steps { steps.new ≡ steps.old + 2 }
     {
         let x = self.look(at.a.first, steps);
@@ -109,11 +112,14 @@ impl Pool {
         ensures empty { Holds self.old a.old [] ⊎ Holds self.old b.old [] → IsNone result }
         ensures none { IsNone result → (Holds self.old a.old [] ⊎ Holds self.old b.old [])
             × (self.new ≡ self.old) × (list.new ≡ list.old) × (a.new ≡ a.old) × (b.new ≡ b.old) }
-        ensures joined { (x y : Candidate) (zs xs ys : Candidates) → Holds self.old list.old zs → Holds self.old a.old (x ∷ xs)
-            → Holds self.old b.old (y ∷ ys) → Holds self.new list.new (zs ++ formed x y tag ∷ []) × Holds self.new a.new (left_of x y xs)
+        ensures joined { (x y : Candidate) (zs xs ys : Candidates) → Holds self.old list.old zs
+            → Holds self.old a.old (x ∷ xs)
+            → Holds self.old b.old (y ∷ ys) → Holds self.new list.new (zs ++ formed x y tag ∷ [])
+            × Holds self.new a.new (left_of x y xs)
             × Holds self.new b.new (left_of y x ys) × (spare self.new ≡ spare_after x y (spare self.old))
             × (result ≡ Some (record { a = taken_of x y; b = taken_of y x })) }
-        ensures differ { Differ (name a.new) (name list.new) × Differ (name a.new) (name b.new) × Differ (name list.new) (name b.new) }
+        ensures differ { Differ (name a.new) (name list.new) × Differ (name a.new) (name b.new)
+            × Differ (name list.new) (name b.new) }
         ensures others { KeepsOthers self.old (name list.old ∷ name a.old ∷ name b.old ∷ [])
             self.new (name list.new ∷ name a.new ∷ name b.new ∷ []) }
         ensures steps { steps.new ≤ steps.old + 2 }

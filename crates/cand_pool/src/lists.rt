@@ -38,7 +38,8 @@ impl Pool {
     pub fn push(&mut self, list: &mut List, q: i128, c: u64, tag: u64)
         requires live { IsLive self.old list.old }
         requires room { 0 < spare self.old }
-        ensures list { (xs : Candidates) → Holds self.old list.old xs → Holds self.new list.new (xs ++ record { q = q; c = c; tag = tag } ∷ []) }
+        ensures list { (xs : Candidates) → Holds self.old list.old xs
+            → Holds self.new list.new (xs ++ record { q = q; c = c; tag = tag } ∷ []) }
         ensures others { KeepsOthers self.old (name list.old ∷ []) self.new (name list.new ∷ []) }
         ensures spare { spare self.old ≡ suc (spare self.new) }
     {
@@ -61,8 +62,10 @@ impl Pool {
         requires live { IsLiveBag self.old bag.old }
         requires other { IsLiveBag self.old other }
         requires differ { Differ (bag_name bag.old) (bag_name other) }
-        ensures bag { (xs ys : Candidates) → HoldsBag self.old bag.old xs → HoldsBag self.old other ys → HoldsBag self.new bag.new (xs ++ ys) }
-        ensures others { KeepsOthers self.old (bag_name bag.old ∷ bag_name other ∷ []) self.new (bag_name bag.new ∷ []) }
+        ensures bag { (xs ys : Candidates) → HoldsBag self.old bag.old xs → HoldsBag self.old other ys
+            → HoldsBag self.new bag.new (xs ++ ys) }
+        ensures others { KeepsOthers self.old (bag_name bag.old ∷ bag_name other ∷ []) self.new
+            (bag_name bag.new ∷ []) }
         ensures spare { spare self.new ≡ spare self.old }
     {
         let Bag { ends } = other;
@@ -96,10 +99,12 @@ impl Pool {
         requires { IsLiveBag self.old bag.old }
         ensures empty { HoldsBag self.old bag.old [] → IsNone result }
         ensures none { IsNone result → HoldsBag self.old bag.old [] × (self.new ≡ self.old) × (bag.new ≡ bag.old) }
-        ensures some { (tag : ℕ) → result ≡ Some tag → (x : Candidate) (xs : Candidates) → HoldsBag self.old bag.old (x ∷ xs)
+        ensures some { (tag : ℕ) → result ≡ Some tag → (x : Candidate) (xs : Candidates)
+            → HoldsBag self.old bag.old (x ∷ xs)
             → (tag ≡ x.tag) × HoldsBag self.new bag.new xs }
         ensures others { KeepsOthers self.old (bag_name bag.old ∷ []) self.new (bag_name bag.new ∷ []) }
-        ensures spare { MatchOption result (spare self.new ≡ spare self.old) (λ _. spare self.new ≡ suc (spare self.old)) }
+        ensures spare { MatchOption result (spare self.new ≡ spare self.old) (λ _.
+            spare self.new ≡ suc (spare self.old)) }
     {
         if bag.ends.first == NONE {
             return None;

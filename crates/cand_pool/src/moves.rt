@@ -67,7 +67,8 @@ impl Pool {
     pub(crate) fn rewrite(&mut self, slot: u32, q: i128, c: u64)
         requires { IsHeld self.old slot slot (candidate self.old slot ∷ []) }
         ensures written { IsWritten self.old slot self.new }
-        ensures there { let old = candidate self.old slot in candidate self.new slot ≡ record { q = q; c = c; tag = old.tag } }
+        ensures there { let old =
+            candidate self.old slot in candidate self.new slot ≡ record { q = q; c = c; tag = old.tag } }
     {
         let numbers = &mut self.candidates[slot as usize];
         numbers.q = q;

@@ -12,7 +12,8 @@ use std::sync::ledger::Ledger;
 impl Pool {
     /// The first place of a list. `None`: it is empty.
     pub fn first(&self, list: &List) -> Option<Cand>
-        ensures { (xs : Candidates) → Holds self.now list.now xs → MatchOption result (xs ≡ []) (λ cand. IsPlace self.now cand xs) }
+        ensures { (xs : Candidates) → Holds self.now list.now xs
+            → MatchOption result (xs ≡ []) (λ cand. IsPlace self.now cand xs) }
     {
         if list.ends.first == NONE {
             None

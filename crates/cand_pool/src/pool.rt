@@ -26,7 +26,8 @@ impl Model for Pool {
 
     ghost view = { λ p. record { links = p.links.items; candidates = p.candidates.items; free = p.free } };
 
-    ghost invariant = { λ p. IsSurePool (record { links = p.links.items; candidates = p.candidates.items; free = p.free }) p.sure };
+    ghost invariant = { λ p.
+        IsSurePool (record { links = p.links.items; candidates = p.candidates.items; free = p.free }) p.sure };
 }
 
 impl Pool {
@@ -53,7 +54,8 @@ impl Pool {
     /// Adds a free slot.
     fn grow(&mut self) -> Result<(), Memory>
         ensures others { KeepsOthers self.old [] self.new [] }
-        ensures spare { MatchResult result (λ _. spare self.new ≡ suc (spare self.old)) (λ _. spare self.new ≡ spare self.old) }
+        ensures spare { MatchResult result (λ _. spare self.new ≡ suc (spare self.old)) (λ _.
+            spare self.new ≡ spare self.old) }
     {
         if self.links.len() >= 4_294_967_295 {
             return Err(Memory);

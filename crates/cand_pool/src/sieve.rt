@@ -21,7 +21,8 @@ impl Pool {
     /// Puts the first of the rest, with this q and c, after the kept ones if its q is over the best, else after the
     /// dropped ones.
     pub(crate) fn turn(&mut self, at: &mut Sieve, q: i128, c: u64)
-        requires three { Sifts self.old at.old (items self.old at.old.rest.first) (items self.old at.old.kept.first) (items self.old at.old.dropped.first) }
+        requires three { Sifts self.old at.old (items self.old at.old.rest.first) (items self.old at.old.kept.first)
+            (items self.old at.old.dropped.first) }
         requires some { at.old.rest.first ≢ NONE }
         ensures { (x : Candidate) (xs ks ds : Candidates) → Sifts self.old at.old (x ∷ xs) ks ds
             → IsTurned self.old self.new at.old at.new xs ks ds (record { q = q; c = c; tag = x.tag }) }
@@ -41,7 +42,8 @@ impl Pool {
     /// Puts the first of the rest, which has this q, after the kept ones if its q is over the best, else after the
     /// dropped ones.
     pub(crate) fn pass(&mut self, at: &mut Sieve, q: i128)
-        requires three { Sifts self.old at.old (items self.old at.old.rest.first) (items self.old at.old.kept.first) (items self.old at.old.dropped.first) }
+        requires three { Sifts self.old at.old (items self.old at.old.rest.first) (items self.old at.old.kept.first)
+            (items self.old at.old.dropped.first) }
         requires some { at.old.rest.first ≢ NONE }
         ensures { (x : Candidate) (xs ks ds : Candidates) → Sifts self.old at.old (x ∷ xs) ks ds → q ≡ x.q
             → IsTurned self.old self.new at.old at.new xs ks ds (record { q = q; c = x.c; tag = x.tag }) }

@@ -47,11 +47,13 @@ impl Pool {
 
     /// One turn of a wire with a load at its upper end, at the first of the rest.
     fn wire_turn<L: Ledger>(&mut self, at: &mut Sieve, r: u64, c: u64, steps: &mut Steps<L>)
-        requires three { Sifts self.old at.old (items self.old at.old.rest.first) (items self.old at.old.kept.first) (items self.old at.old.dropped.first) }
+        requires three { Sifts self.old at.old (items self.old at.old.rest.first) (items self.old at.old.kept.first)
+            (items self.old at.old.dropped.first) }
         requires some { at.old.rest.first ≢ NONE }
         requires modest { IsModest (candidate self.old at.old.rest.first) }
         requires load { c ≤ 10 ^ 11 }
-        ensures wiring { (s : Block) (list : Ends) (all : Candidates) → IsWiring r c s list all self.old at.old → IsWiring r c s list all self.new at.new }
+        ensures wiring { (s : Block) (list : Ends) (all : Candidates) → IsWiring r c s list all self.old at.old
+            → IsWiring r c s list all self.new at.new }
         ensures fewer { suc (length (items self.new at.new.rest.first)) ≡ length (items self.old at.old.rest.first) }
         ensures step { steps.new ≡ suc steps.old }
     {
@@ -66,8 +68,10 @@ impl Pool {
         requires live { IsLive self.old list.old }
         requires modest { AreModest (items_of self.old list.old) }
         requires load { c ≤ 10 ^ 11 }
-        ensures list { (xs : Candidates) → Holds self.old list.old xs → Holds self.new list.new (undominated (map (wired_to r c) xs)) }
-        ensures bag { (xs : Candidates) → Holds self.old list.old xs → HoldsBag self.new result (dominated (map (wired_to r c) xs)) }
+        ensures list { (xs : Candidates) → Holds self.old list.old xs
+            → Holds self.new list.new (undominated (map (wired_to r c) xs)) }
+        ensures bag { (xs : Candidates) → Holds self.old list.old xs
+            → HoldsBag self.new result (dominated (map (wired_to r c) xs)) }
         ensures differ { Differ (name list.new) (bag_name result) }
         ensures others { KeepsOthers self.old (name list.old ∷ []) self.new (name list.new ∷ bag_name result ∷ []) }
         ensures spare { spare self.new ≡ spare self.old }

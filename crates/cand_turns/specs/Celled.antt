@@ -19,7 +19,8 @@ behind inverts odd = cond inverts (not odd) odd
 
 -- a repeater that may stand at v makes z of the list of the class behind it, and no pair with more time
 abbrev pub IsMadeOfClasses : Problem → ℕ → Bool → (Bool → Candidates) → Pair → Type 0
-IsMadeOfClasses p v odd classes z = (b : ℕ) × IsChoiceAt p v b × IsGreatestBy (rep_at p.reps b) (pairs_of (classes (behind (rep_at p.reps b).inverts odd))) z
+IsMadeOfClasses p v odd classes z = (b : ℕ) × IsChoiceAt p v b
+    × IsGreatestBy (rep_at p.reps b) (pairs_of (classes (behind (rep_at p.reps b).inverts odd))) z
 
 -- the candidates of one class of node v, without a cell there
 pub record IsOpenList (p : Problem) (v : ℕ) (odd : Bool) (ms : List Made) (xs : Candidates) : Type 0 where
@@ -27,6 +28,7 @@ pub record IsOpenList (p : Problem) (v : ℕ) (odd : Bool) (ms : List Made) (xs 
   pub solved : AreSolved (IsOpenSolutionOf p odd (fork_from p v (v + 1))) ms xs
 
 -- the undominated ones of these pairs, for one class of node v
-pub record AreBest (p : Problem) (v : ℕ) (odd : Bool) (In : Pair → Type 0) (ms : List Made) (xs : Candidates) : Type 0 where
+pub record AreBest (p : Problem) (v : ℕ) (odd : Bool) (In : Pair → Type 0) (ms : List Made)
+    (xs : Candidates) : Type 0 where
   pub exact : IsUndominated In (pairs_of xs)
   pub solved : AreSolved (IsSolutionOf p v odd) ms xs

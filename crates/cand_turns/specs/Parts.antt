@@ -28,7 +28,8 @@ load_beside (Live branch) = 0
 
 -- with a branch that came in, a part has in each class no more candidates than both had before
 abbrev pub HasNoMore : Block → Part → Branch → Block → Part → Type 0
-HasNoMore s before branch s' after = (odd : Bool) → size_in s' after odd ≤ size_in s before odd + length (classes_in s branch odd)
+HasNoMore s before branch s' after =
+    (odd : Bool) → size_in s' after odd ≤ size_in s before odd + length (classes_in s branch odd)
 
 -- the part of node v, with those of its children from number i on that came in
 abbrev pub IsPart : Problem → ℕ → ℕ → List Made → Block → Part → Type 0

@@ -41,7 +41,8 @@ abbrev pub IsCarriedSolution : Problem → ℕ → Bool → (ℕ → Option ℕ)
 IsCarriedSolution p v odd held x = (y : Pair) × IsSolutionOf p v odd held y × (x ≡ carried p v y)
 
 -- the candidates of node v, above its wire; below it they were these pairs
-pub record IsAboveWire (p : Problem) (v : ℕ) (kept : Bool → List Pair) (ms : List Made) (classes : Bool → Candidates) : Type 0 where
+pub record IsAboveWire (p : Problem) (v : ℕ) (kept : Bool → List Pair) (ms : List Made)
+    (classes : Bool → Candidates) : Type 0 where
   pub below : (odd : Bool) → IsUndominated (IsPairAt p v odd) (kept odd)
   pub exact : (odd : Bool) → IsUndominated (Carries p v (kept odd)) (pairs_of (classes odd))
   pub solved : (odd : Bool) → AreSolved (IsCarriedSolution p v odd) ms (classes odd)

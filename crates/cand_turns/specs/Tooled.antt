@@ -16,7 +16,8 @@ pub record AreToolsOf (p : Problem) (tools : Tools) : Type 0 where
 -- one work has what the buffers make of a class's own list at node v, and the other one what the inverters make of the
 -- other list
 abbrev pub HaveFoundAt : Problem → ℕ → Bool → (Bool → Candidates) → Work → Work → Type 0
-HaveFoundAt p v odd classes own other = HaveFoundOf (allowed_at p.allowed v) p.reps (λ inverts. classes (behind inverts odd)) own other
+HaveFoundAt p v odd classes own other =
+    HaveFoundOf (allowed_at p.allowed v) p.reps (λ inverts. classes (behind inverts odd)) own other
 
 -- the tools have what each repeater makes of the list of each class at node v
 pub record HaveFound (p : Problem) (v : ℕ) (classes : Bool → Candidates) (tools : Tools) : Type 0 where

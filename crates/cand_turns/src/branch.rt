@@ -42,7 +42,8 @@ impl Branch {
     pub(crate) fn of_sink(pool: &mut Pool, arena: &Arena, sink: Sink, c: u64) -> Branch
         requires room { 0 < spare pool.old }
         ensures classes { (odd : Bool) → classes_in pool.new result odd ≡ sink_classes sink c odd }
-        ensures turn { (slots : Slots) → IsTurn (at_slots pool.old slots) [] (at_slots pool.new slots) (lists_of result) }
+        ensures turn { (slots : Slots)
+            → IsTurn (at_slots pool.old slots) [] (at_slots pool.new slots) (lists_of result) }
     {
         let list = pool.one(sink.required, c, arena.empty().0);
         let none = pool.none();
@@ -87,9 +88,12 @@ impl Branch {
         ensures above { IsAboveWire p.now node (λ odd. pairs_of (classes_in pool.old self.old odd)) (made_of arena.new)
             (carried_classes p.now node (classes_in pool.old self.old)) }
         ensures classes { (odd : Bool)
-            → classes_in pool.new self.new odd ≡ map (loaded c) (carried_classes p.now node (classes_in pool.old self.old) odd) }
-        ensures turn { IsTurn (search pool.old arena.old) (lists_of self.old) (search pool.new arena.new) (lists_of self.new) }
-        ensures few { (odd : Bool) → length (classes_in pool.new self.new odd) ≤ length (classes_in pool.old self.old odd) }
+            → classes_in pool.new self.new odd
+            ≡ map (loaded c) (carried_classes p.now node (classes_in pool.old self.old) odd) }
+        ensures turn { IsTurn (search pool.old arena.old) (lists_of self.old)
+            (search pool.new arena.new) (lists_of self.new) }
+        ensures few { (odd : Bool)
+            → length (classes_in pool.new self.new odd) ≤ length (classes_in pool.old self.old odd) }
     {
         let r = resistance_of(p, node);
         wire(pool, arena, &mut self.even, r, c, steps);
@@ -100,7 +104,8 @@ impl Branch {
     pub fn load<L: Ledger>(&mut self, pool: &mut Pool, c: u64, steps: &mut Steps<L>)
         requires held { (slots : Slots) × AreHeld (at_slots pool.old slots) (lists_of self.old) }
         requires modest { (odd : Bool) → AreModest (map (loaded c) (classes_in pool.old self.old odd)) }
-        ensures classes { (odd : Bool) → classes_in pool.new self.new odd ≡ map (loaded c) (classes_in pool.old self.old odd) }
+        ensures classes { (odd : Bool)
+            → classes_in pool.new self.new odd ≡ map (loaded c) (classes_in pool.old self.old odd) }
         ensures turn { (slots : Slots) → AreHeld (at_slots pool.old slots) (lists_of self.old)
             → IsTurn (at_slots pool.old slots) (lists_of self.old) (at_slots pool.new slots) (lists_of self.new) }
     {
@@ -124,14 +129,19 @@ impl Branch {
         requires node { node < length p.now.tree.nodes }
         requires live { is_live p.now.tree.nodes p.now.sinks node ≡ true }
         requires held { AreHeld (search pool.old arena.old) (lists_of self ++ lists_of lower) }
-        requires upper { IsOpenAt p.now (node + 1) (parent_of p.now.tree.nodes node) (made_of arena.old) (classes_in pool.old self) }
+        requires upper { IsOpenAt p.now (node + 1) (parent_of p.now.tree.nodes node) (made_of arena.old)
+            (classes_in pool.old self) }
         requires lower { IsCarriedAt p.now node (made_of arena.old) (classes_in pool.old lower) }
         ensures turn { MatchResult result
-            (λ branch. IsTurn (search pool.old arena.old) (lists_of self ++ lists_of lower) (search pool.new arena.new) (lists_of branch))
+            (λ branch.
+            IsTurn (search pool.old arena.old) (lists_of self ++ lists_of lower)
+            (search pool.new arena.new) (lists_of branch))
             (λ _. IsSwap (search pool.old arena.old) (lists_of self ++ lists_of lower) (search pool.new arena.new) []) }
-        ensures open { IfOk result (λ branch. IsOpenAt p.now node (parent_of p.now.tree.nodes node) (made_of arena.new) (classes_in pool.new branch)) }
+        ensures open { IfOk result (λ branch.
+            IsOpenAt p.now node (parent_of p.now.tree.nodes node) (made_of arena.new) (classes_in pool.new branch)) }
         ensures few { IfOk result (λ branch. (odd : Bool)
-            → length (classes_in pool.new branch odd) ≤ length (classes_in pool.old self odd) + length (classes_in pool.old lower odd)) }
+            → length (classes_in pool.new branch odd)
+            ≤ length (classes_in pool.old self odd) + length (classes_in pool.old lower odd)) }
     {
         let _ = p;
         let Branch { even, odd } = self;

@@ -43,7 +43,8 @@ fn find_at<L: Ledger>(
     requires shelf { IsShelf p.now.reps shelf.now }
     requires live { IsLive pool.now from.now }
     requires open { (odd : Bool) × (ms : Solutions) × IsOpenList p.now node odd ms (items_of pool.now from.now) }
-    ensures found { OnOk result (HasFound (allowed_at p.now.allowed node) p.now.reps (items_of pool.now from.now) work.new) }
+    ensures found { OnOk result
+        (HasFound (allowed_at p.now.allowed node) p.now.reps (items_of pool.now from.now) work.new) }
 {
     let allowed = &p.allowed.as_slice()[node];
     find_each(pool, from, p.reps.as_slice(), shelf, allowed, work, steps)?;
@@ -68,13 +69,16 @@ fn add_at(
     requires room { length p.now.reps ≤ spare pool.old }
     requires shelf { IsShelf p.now.reps shelf.now }
     requires found { (odd : Bool) × (classes : Bool → Candidates) × HaveFoundAt p.now node odd classes own.now other.now
-        × ((o : Bool) → HoldsFor (slots_of arena.old) (classes o) × IsOpenList p.now node o (made_of arena.old) (classes o)) }
+        × ((o : Bool) → HoldsFor (slots_of arena.old) (classes o)
+        × IsOpenList p.now node o (made_of arena.old) (classes o)) }
     ensures turn { MatchResult result
         (λ list. IsTurn (search pool.old arena.old) [] (search pool.new arena.new) (list ∷ []))
         (λ _. IsSwap (search pool.old arena.old) [] (search pool.new arena.new) []) }
-    ensures best { IfOk result (λ list. (odd : Bool) (classes : Bool → Candidates) → HaveFoundAt p.now node odd classes own.now other.now
+    ensures best { IfOk result (λ list. (odd : Bool) (classes : Bool → Candidates)
+        → HaveFoundAt p.now node odd classes own.now other.now
         → ((o : Bool) → IsOpenList p.now node o (made_of arena.old) (classes o))
-        → AreBest p.now node odd (IsMadeOfClasses p.now node odd classes) (made_of arena.new) (items_of pool.new list)) }
+        → AreBest p.now node odd (IsMadeOfClasses p.now node odd classes) (made_of arena.new)
+        (items_of pool.new list)) }
     ensures few { IfOk result (λ list. length (items_of pool.new list) ≤ length p.now.reps) }
 {
     let list = add_cells(
@@ -140,7 +144,8 @@ impl Branch {
             (λ cells. IsTurn (search pool.old arena.old) [] (search pool.new arena.new) (lists_of cells))
             (λ _. IsSwap (search pool.old arena.old) [] (search pool.new arena.new) []) }
         ensures best { IfOk result (λ cells. (odd : Bool)
-            → AreBest p.now node odd (IsMadeOfClasses p.now node odd (classes_in pool.old self.now)) (made_of arena.new) (classes_in pool.new cells odd)) }
+            → AreBest p.now node odd (IsMadeOfClasses p.now node odd (classes_in pool.old self.now)) (made_of arena.new)
+            (classes_in pool.new cells odd)) }
         ensures few { IfOk result (λ cells. (odd : Bool) → length (classes_in pool.new cells odd) ≤ length p.now.reps) }
     {
         pool.reserve(2 * p.reps.len())?;
@@ -176,9 +181,12 @@ impl Branch {
         requires held { AreHeld (search pool.old arena.old) (lists_of self.old ++ lists_of other) }
         requires rising { (odd : Bool) → AreRising (classes_in pool.old self.old odd) }
         requires rising_other { (odd : Bool) → AreRising (classes_in pool.old other odd) }
-        ensures classes { (odd : Bool) → classes_in pool.new self.new odd ≡ both (classes_in pool.old self.old odd) (classes_in pool.old other odd) }
-        ensures same { (odd : Bool) → MeanTheSame (made_of arena.old) (made_of arena.new) (classes_in pool.new self.new odd) }
-        ensures turn { IsTurn (search pool.old arena.old) (lists_of self.old ++ lists_of other) (search pool.new arena.new) (lists_of self.new) }
+        ensures classes { (odd : Bool) → classes_in pool.new self.new odd
+            ≡ both (classes_in pool.old self.old odd) (classes_in pool.old other odd) }
+        ensures same { (odd : Bool)
+            → MeanTheSame (made_of arena.old) (made_of arena.new) (classes_in pool.new self.new odd) }
+        ensures turn { IsTurn (search pool.old arena.old) (lists_of self.old ++ lists_of other)
+            (search pool.new arena.new) (lists_of self.new) }
     {
         let Branch { even, odd } = other;
         absorb(pool, arena, &mut self.even, even, steps);
@@ -204,7 +212,8 @@ impl Branch {
         ensures turn { MatchResult result
             (λ branch. IsTurn (search pool.old arena.old) (lists_of self) (search pool.new arena.new) (lists_of branch))
             (λ _. IsSwap (search pool.old arena.old) (lists_of self) (search pool.new arena.new) []) }
-        ensures closed { IfOk result (λ branch. IsClosedAt p.now node (made_of arena.new) (classes_in pool.new branch)) }
+        ensures closed { IfOk result (λ branch.
+            IsClosedAt p.now node (made_of arena.new) (classes_in pool.new branch)) }
         ensures few { IfOk result (λ branch. (odd : Bool)
             → length (classes_in pool.new branch odd) ≤ length (classes_in pool.old self odd) + added_at p.now node) }
     {

@@ -50,7 +50,8 @@ impl Part {
         requires node { node < length p.now.tree.nodes }
         requires room { 0 < spare pool.old }
         ensures part { IsPart p.now (length p.now.tree.nodes) node (made_of arena.now) pool.new result }
-        ensures turn { (slots : Slots) → IsTurn (at_slots pool.old slots) [] (at_slots pool.new slots) (lists_in result) }
+        ensures turn { (slots : Slots)
+            → IsTurn (at_slots pool.old slots) [] (at_slots pool.new slots) (lists_in result) }
         ensures few { (odd : Bool) → size_in pool.new result odd ≤ one_if (is_sink p.now.sinks node) }
     {
         let c = capacitance_of(p, node);
@@ -93,7 +94,8 @@ impl Part {
         ensures turn { MatchResult result
             (λ part. IsTurn (search pool.old arena.old) (lists_in self ++ lists_of branch)
             (search pool.new arena.new) (lists_in part))
-            (λ _. IsSwap (search pool.old arena.old) (lists_in self ++ lists_of branch) (search pool.new arena.new) []) }
+            (λ _.
+            IsSwap (search pool.old arena.old) (lists_in self ++ lists_of branch) (search pool.new arena.new) []) }
         ensures part { IfOk result (λ part.
             IsPart p.now node (parent_of p.now.tree.nodes node) (made_of arena.new) pool.new part) }
         ensures few { IfOk result (λ part. HasNoMore pool.old self branch pool.new part) }

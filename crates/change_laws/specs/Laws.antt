@@ -21,12 +21,14 @@ pub record AreDesignLike (d : Design) (texts : Texts) : Type 0 where
 
 -- what is written is a design
 abbrev pub ChangedTextsAreADesign : Type 0
-ChangedTextsAreADesign = (texts : Texts) (d : Design) (prefix : List ℕ) (nets : List PlacedNet) (new : Texts) → AreWrittenAnew texts d prefix nets new
+ChangedTextsAreADesign = (texts : Texts) (d : Design) (prefix : List ℕ) (nets : List PlacedNet) (new : Texts)
+    → AreWrittenAnew texts d prefix nets new
     → AreDesignLike d new
 
 -- in it each net re-times to the slack of its placement, where this gives each sink the polarity that it wants
 abbrev pub PlacedNetsRetimeInTexts : Type 0
-PlacedNetsRetimeInTexts = (texts : Texts) (d : Design) (prefix : List ℕ) (nets : List PlacedNet) (new : Texts) → AreWrittenAnew texts d prefix nets new
+PlacedNetsRetimeInTexts = (texts : Texts) (d : Design) (prefix : List ℕ) (nets : List PlacedNet) (new : Texts)
+    → AreWrittenAnew texts d prefix nets new
     → (again : Design) → IsDesign new again → (p : PlacedNet) → Contains nets p
     → (slack : ℤ) → IsSlack p.problem p.cells slack → ((w : ℕ) → HasPolarity p.problem p.cells w)
     → RetimesTo again prefix p.net.par.name slack
@@ -36,20 +38,26 @@ PlacedNetsRetimeInTexts = (texts : Texts) (d : Design) (prefix : List ℕ) (nets
 -- a net that nothing refuses, and into which no cells were put, has the same problem in the new design, by the same
 -- name
 abbrev pub OtherNetsKeepProblems : Type 0
-OtherNetsKeepProblems = (texts : Texts) (d : Design) (prefix : List ℕ) (nets : List PlacedNet) (new : Texts) → AreWrittenAnew texts d prefix nets new
-    → (again : Design) → IsDesign new again → (name : List ℕ) → ((p : PlacedNet) → Contains nets p → name ≢ p.net.par.name)
+OtherNetsKeepProblems = (texts : Texts) (d : Design) (prefix : List ℕ) (nets : List PlacedNet) (new : Texts)
+    → AreWrittenAnew texts d prefix nets new
+    → (again : Design) → IsDesign new again → (name : List ℕ)
+    → ((p : PlacedNet) → Contains nets p → name ≢ p.net.par.name)
     → (found : NetProblem) → IsNetProblem d name found → IsNetProblem again name found
 
 -- and so the same slack without cells, and the same first sink of the wrong polarity
 abbrev pub OtherNetsKeepSlacks : Type 0
-OtherNetsKeepSlacks = (texts : Texts) (d : Design) (prefix : List ℕ) (nets : List PlacedNet) (new : Texts) → AreWrittenAnew texts d prefix nets new
-    → (again : Design) → IsDesign new again → (name : List ℕ) → ((p : PlacedNet) → Contains nets p → name ≢ p.net.par.name)
+OtherNetsKeepSlacks = (texts : Texts) (d : Design) (prefix : List ℕ) (nets : List PlacedNet) (new : Texts)
+    → AreWrittenAnew texts d prefix nets new
+    → (again : Design) → IsDesign new again → (name : List ℕ)
+    → ((p : PlacedNet) → Contains nets p → name ≢ p.net.par.name)
     → (timed : Timed) → IsTimedOf d name timed → IsTimedOf again name timed
 
 -- so it re-times, before and after the change
 abbrev pub OtherNetsRetime : Type 0
-OtherNetsRetime = (texts : Texts) (d : Design) (prefix : List ℕ) (nets : List PlacedNet) (new : Texts) → AreWrittenAnew texts d prefix nets new
-    → (again : Design) → IsDesign new again → (name : List ℕ) → ((p : PlacedNet) → Contains nets p → name ≢ p.net.par.name)
+OtherNetsRetime = (texts : Texts) (d : Design) (prefix : List ℕ) (nets : List PlacedNet) (new : Texts)
+    → AreWrittenAnew texts d prefix nets new
+    → (again : Design) → IsDesign new again → (name : List ℕ)
+    → ((p : PlacedNet) → Contains nets p → name ≢ p.net.par.name)
     → (timed : Timed) → IsTimedOf d name timed → Retimes 17 d prefix name timed × Retimes 17 again prefix name timed
 
 -- the texts are a design, in which the net re-times to this slack

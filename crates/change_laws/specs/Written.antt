@@ -20,7 +20,8 @@ pub record AreTextsWith (texts : Texts) (c : Changes) (new : Texts) : Type 0 whe
 
 -- The cells of placements are put into different nets of the design of four texts, one after another, where new names
 -- begin with a prefix that may be asked for; and `new` are the texts with these changes.
-pub record AreWrittenAnew (texts : Texts) (d : Design) (prefix : List ℕ) (nets : List PlacedNet) (new : Texts) : Type 0 where
+pub record AreWrittenAnew (texts : Texts) (d : Design) (prefix : List ℕ) (nets : List PlacedNet)
+    (new : Texts) : Type 0 where
   pub design : IsDesign texts d
   pub prefix_is : is_prefix prefix ≡ true
   pub nets_are : All (IsPlacedNet d) nets

@@ -22,13 +22,15 @@ use Rattle.change_netlist_laws.specs.Put.{IsSplitAs, IsWrittenAnew}
 -- what is written may be written, and keeps names apart
 abbrev pub ChangesAreConsistent : Type 0
 ChangesAreConsistent =
-    (verilog : List ℕ) (d : Design) (prefix : List ℕ) (nets : List PlacedNet) (c : Changes) (new : List ℕ) → IsWrittenAnew verilog d prefix nets c new
+    (verilog : List ℕ) (d : Design) (prefix : List ℕ) (nets : List PlacedNet) (c : Changes) (new : List ℕ)
+    → IsWrittenAnew verilog d prefix nets c new
     → IsChanged verilog d.netlist c.rewires c.cells c.wires new × IsConsistent d.netlist c.rewires c.cells c.wires
 
 -- so the new text denotes a netlist, which is the old one with the changes
 abbrev pub NetlistsAreReadAgain : Type 0
 NetlistsAreReadAgain =
-    (verilog : List ℕ) (d : Design) (prefix : List ℕ) (nets : List PlacedNet) (c : Changes) (new : List ℕ) → IsWrittenAnew verilog d prefix nets c new
+    (verilog : List ℕ) (d : Design) (prefix : List ℕ) (nets : List PlacedNet) (c : Changes) (new : List ℕ)
+    → IsWrittenAnew verilog d prefix nets c new
     → IsReadAgain d.netlist c.rewires c.cells new
 
 -- ---- what callers know
@@ -40,7 +42,8 @@ PrefixesAreWords = (prefix : List ℕ) → is_prefix prefix ≡ true → is_word
 -- each net that is put is split in some way
 abbrev pub NetsAreSplit : Type 0
 NetsAreSplit =
-    (d : Design) (prefix : List ℕ) (nets : List PlacedNet) (c : Changes) (p : PlacedNet) → HavePut (nothing d prefix) nets c → Contains nets p
+    (d : Design) (prefix : List ℕ) (nets : List PlacedNet) (c : Changes) (p : PlacedNet)
+    → HavePut (nothing d prefix) nets c → Contains nets p
     → (x : Split) × IsSplitAs d prefix nets c p x
 
 -- ---- the nets of stages
@@ -48,17 +51,21 @@ NetsAreSplit =
 -- in that netlist the stages of each net are nets
 abbrev pub StagesAreNets : Type 0
 StagesAreNets =
-    (verilog : List ℕ) (d : Design) (prefix : List ℕ) (nets : List PlacedNet) (c : Changes) (new : List ℕ) → IsWrittenAnew verilog d prefix nets c new
+    (verilog : List ℕ) (d : Design) (prefix : List ℕ) (nets : List PlacedNet) (c : Changes) (new : List ℕ)
+    → IsWrittenAnew verilog d prefix nets c new
     → (renewed : Netlist) → Denotes new renewed → IsRenewed d.netlist c.rewires c.cells renewed
-    → (p : PlacedNet) (x : Split) → IsSplitAs d prefix nets c p x → (k : ℕ) → k < length (heads (forest x)) → IsStageIn d.netlist p.net.id x renewed k
+    → (p : PlacedNet) (x : Split) → IsSplitAs d prefix nets c p x → (k : ℕ) → k < length (heads (forest x))
+    → IsStageIn d.netlist p.net.id x renewed k
 
 -- each of which is the net of one stage alone
 abbrev pub StagesDiffer : Type 0
 StagesDiffer =
-    (verilog : List ℕ) (d : Design) (prefix : List ℕ) (nets : List PlacedNet) (c : Changes) (new : List ℕ) → IsWrittenAnew verilog d prefix nets c new
+    (verilog : List ℕ) (d : Design) (prefix : List ℕ) (nets : List PlacedNet) (c : Changes) (new : List ℕ)
+    → IsWrittenAnew verilog d prefix nets c new
     → (renewed : Netlist) → Denotes new renewed → IsRenewed d.netlist c.rewires c.cells renewed
     → (p q : PlacedNet) (x y : Split) → IsSplitAs d prefix nets c p x → IsSplitAs d prefix nets c q y
-    → (k u : ℕ) → k < length (heads (forest x)) → u < length (heads (forest y)) → stage_number x renewed k ≡ stage_number y renewed u
+    → (k u : ℕ) → k < length (heads (forest x)) → u < length (heads (forest y))
+    → stage_number x renewed k ≡ stage_number y renewed u
     → (p ≡ q) × (x ≡ y) × (k ≡ u)
 
 -- ---- other nets
@@ -72,7 +79,9 @@ pub record HasNetAsItWas (old : Netlist) (id : ℕ) (new : Netlist) (name : List
 -- a net into which nothing is put, and which has an end, stays as it was
 abbrev pub OtherNetsStay : Type 0
 OtherNetsStay =
-    (verilog : List ℕ) (d : Design) (prefix : List ℕ) (nets : List PlacedNet) (c : Changes) (new : List ℕ) → IsWrittenAnew verilog d prefix nets c new
+    (verilog : List ℕ) (d : Design) (prefix : List ℕ) (nets : List PlacedNet) (c : Changes) (new : List ℕ)
+    → IsWrittenAnew verilog d prefix nets c new
     → (renewed : Netlist) → Denotes new renewed → IsRenewed d.netlist c.rewires c.cells renewed
-    → (id : ℕ) (net : Net) (at : NodeName) → slice_get d.netlist.nets id ≡ Some net → All (λ p. p.net.id ≢ id) nets → IsEnd d.netlist id at
+    → (id : ℕ) (net : Net) (at : NodeName) → slice_get d.netlist.nets id ≡ Some net
+    → All (λ p. p.net.id ≢ id) nets → IsEnd d.netlist id at
     → HasNetAsItWas d.netlist id renewed net.name

@@ -14,7 +14,8 @@ use Rattle.vg_split.specs.Splits.{Split}
 
 -- The cells of different nets are put into a design, and `new` is the text of its netlist with these changes. The new
 -- names begin with a word, the library's repeaters have names, and their pins are what the library says of them.
-pub record IsWrittenAnew (verilog : List ℕ) (d : Design) (prefix : List ℕ) (nets : List PlacedNet) (c : Changes) (new : List ℕ) : Type 0 where
+pub record IsWrittenAnew (verilog : List ℕ) (d : Design) (prefix : List ℕ) (nets : List PlacedNet) (c : Changes)
+    (new : List ℕ) : Type 0 where
   pub denotes : Denotes verilog d.netlist
   pub nets_are : All (IsPlacedNet d) nets
   pub differ : AllPairs (λ p q. p.net.id ≢ q.net.id) nets
@@ -27,7 +28,8 @@ pub record IsWrittenAnew (verilog : List ℕ) (d : Design) (prefix : List ℕ) (
   pub patched : IsPatched verilog d.netlist c.rewires c.cells c.wires new
 
 -- the net p is one of those, and x is how it is split, behind those that were put before
-pub record IsSplitAs (d : Design) (prefix : List ℕ) (nets : List PlacedNet) (c : Changes) (p : PlacedNet) (x : Split) : Type 0 where
+pub record IsSplitAs (d : Design) (prefix : List ℕ) (nets : List PlacedNet) (c : Changes) (p : PlacedNet)
+    (x : Split) : Type 0 where
   pub before : List PlacedNet
   pub after : List PlacedNet
   pub all : nets ≡ before ++ p ∷ after

@@ -23,7 +23,8 @@ OneIndex = (text : List ℕ) (a b : SpefIndex) → IsIndexOf text a → IsIndexO
 
 -- the edits of the parasitics are replacements of sections by nets with names of their own
 abbrev pub SectionsAreReplaced : Type 0
-SectionsAreReplaced = (d : Design) (prefix : List ℕ) (nets : List PlacedNet) (c : Changes) (index : SpefIndex) → IsChangeBy d prefix nets c → IsIndexOf d.spef index
+SectionsAreReplaced = (d : Design) (prefix : List ℕ) (nets : List PlacedNet) (c : Changes) (index : SpefIndex)
+    → IsChangeBy d prefix nets c → IsIndexOf d.spef index
     → (rs : List Replacement) × AreStageEdits index (splits d prefix 0 nets) c.sections rs
 
 -- each net is split by its placement
@@ -34,16 +35,20 @@ NetsAreSplit = (d : Design) (prefix : List ℕ) (nets : List PlacedNet) (c : Cha
 -- one net after another, each is split behind what changed before
 abbrev pub SplitsGoOn : Type 0
 SplitsGoOn = (old new : Changes) (p : PlacedNet) (nets : List PlacedNet) → HasPut old p new
-    → splits old.design old.prefix (length old.cells) (p ∷ nets) ≡ split_behind old p ∷ splits new.design new.prefix (length new.cells) nets
+    → splits old.design old.prefix (length old.cells) (p ∷ nets)
+    ≡ split_behind old p ∷ splits new.design new.prefix (length new.cells) nets
 
 -- the text of the changed parasitics, as a file and without comments
 abbrev pub ChangedNetsAreRead : Type 0
-ChangedNetsAreRead = (d : Design) (prefix : List ℕ) (nets : List PlacedNet) (c : Changes) (spef : List ℕ) (file : File) → d.spef ≡ without_comments Spef spef
+ChangedNetsAreRead = (d : Design) (prefix : List ℕ) (nets : List PlacedNet) (c : Changes) (spef : List ℕ) (file : File)
+    → d.spef ≡ without_comments Spef spef
     → IsFileOf spef file → IsChangeBy d prefix nets c
     → ((said : File) × IsFileOf (patched spef c.sections) said)
     × HasStages d.spef (without_comments Spef (patched spef c.sections)) (splits d prefix 0 nets)
 
 -- other nets are as they were
 abbrev pub OtherNetsStay : Type 0
-OtherNetsStay = (d : Design) (prefix : List ℕ) (nets : List PlacedNet) (c : Changes) (new name : List ℕ) (net : ParNet) → IsChangeBy d prefix nets c
-    → HasStages d.spef new (splits d prefix 0 nets) → IsNetNamed d.spef name net → ((p : PlacedNet) → Contains nets p → name ≢ p.net.par.name) → IsNetNamed new name net
+OtherNetsStay = (d : Design) (prefix : List ℕ) (nets : List PlacedNet) (c : Changes) (new name : List ℕ) (net : ParNet)
+    → IsChangeBy d prefix nets c
+    → HasStages d.spef new (splits d prefix 0 nets) → IsNetNamed d.spef name net
+    → ((p : PlacedNet) → Contains nets p → name ≢ p.net.par.name) → IsNetNamed new name net

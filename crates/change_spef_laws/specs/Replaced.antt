@@ -18,7 +18,8 @@ pub record IsReplacedBy (chars : Chars) (x : Split) (r : Replacement) : Type 0 w
 
 -- these edits are such replacements, one for each net: of the sections of an index, in their order, by nets that can be
 -- written and have names of their own
-pub record AreStageEdits (index : SpefIndex) (xs : List Split) (edits : List Edit) (rs : List Replacement) : Type 0 where
+pub record AreStageEdits (index : SpefIndex) (xs : List Split) (edits : List Edit)
+    (rs : List Replacement) : Type 0 where
   pub each : AllZip (IsReplacedBy index.header.chars) xs rs
   pub edits_are : edits ≡ map (edit_of index.header) (map change_of rs)
   pub are : AreReplacements index rs

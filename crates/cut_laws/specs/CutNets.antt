@@ -50,13 +50,15 @@ cell_end (Some rep) net = passes rep (Some net)
 -- what stands at the node w in the piece of v: in the stage w's sink, and at its end the cell, which drives w's own
 -- piece
 abbrev pub end_of : Problem → List (Option ℕ) → Pieces → ℕ → ℕ → End
-end_of p cells pieces v w = cond (is_inside p cells v w) (sink_end (sink_of p.sinks w)) (cell_end (cell_at p.reps cells w) (pieces.net_of w))
+end_of p cells pieces v w =
+    cond (is_inside p cells v w) (sink_end (sink_of p.sinks w)) (cell_end (cell_at p.reps cells w) (pieces.net_of w))
 
 -- the net of v is its piece; where v's cell ends the stage of u, the net of u stands at the cell's input
 pub record IsCutAt (p : Problem) (cells : List (Option ℕ)) (pieces : Pieces) (v : ℕ) : Type 0 where
   pub piece : IsPieceOf (forest_of p cells) v (net_at pieces v).tree (pieces.at v)
   pub one_each : length (net_at pieces v).ends ≡ length (net_at pieces v).tree
-  pub ends : (i : ℕ) → i < length (net_at pieces v).tree → end_at (net_at pieces v) i ≡ end_of p cells pieces v (pieces.at v i)
+  pub ends : (i : ℕ) → i < length (net_at pieces v).tree
+      → end_at (net_at pieces v) i ≡ end_of p cells pieces v (pieces.at v i)
   pub above : (u : ℕ) → Begins p cells u → is_end p cells u v ≡ true → (net_at pieces v).above ≡ Some (pieces.net_of u)
 
 -- the root and each cell have a net of their own, which is their piece; the root's is driven from outside
@@ -72,13 +74,16 @@ CutNetsRetime = (p : Problem) (cells : List (Option ℕ)) (pieces : Pieces) → 
 
 -- their sinks have the wanted polarities just where the placement gives them these
 abbrev pub CutNetsHavePolarity : Type 0
-CutNetsHavePolarity = (p : Problem) (cells : List (Option ℕ)) (pieces : Pieces) → IsPlaced p cells → AreCut p cells pieces
+CutNetsHavePolarity =
+    (p : Problem) (cells : List (Option ℕ)) (pieces : Pieces) → IsPlaced p cells → AreCut p cells pieces
     → ((w : ℕ) → HasPolarity p cells w) ↔ HavePolarity pieces.nets (pieces.net_of 0) p.driver
 
 -- from each of them one climbs to the root's, over none twice
 abbrev pub CutNetsClimb : Type 0
-CutNetsClimb = (p : Problem) (cells : List (Option ℕ)) (pieces : Pieces) → AreCut p cells pieces → (v : ℕ) → Begins p cells v
-    → (path : List ℕ) × IsClimb pieces.nets (pieces.net_of v) path (pieces.net_of 0) × AllPairs (λ a b. a ≢ b) (pieces.net_of v ∷ path)
+CutNetsClimb =
+    (p : Problem) (cells : List (Option ℕ)) (pieces : Pieces) → AreCut p cells pieces → (v : ℕ) → Begins p cells v
+    → (path : List ℕ) × IsClimb pieces.nets (pieces.net_of v) path (pieces.net_of 0)
+    × AllPairs (λ a b. a ≢ b) (pieces.net_of v ∷ path)
 
 -- at w, below the first node of the piece of v, stands a sink or a cell that ends the piece
 pub record IsDriven (p : Problem) (cells : List (Option ℕ)) (v w : ℕ) : Type 0 where
@@ -88,5 +93,6 @@ pub record IsDriven (p : Problem) (cells : List (Option ℕ)) (v w : ℕ) : Type
 
 -- each piece drives a sink or a cell, if no sink stands where it begins
 abbrev pub PiecesHaveSinks : Type 0
-PiecesHaveSinks = (p : Problem) (cells : List (Option ℕ)) → IsPlaced p cells → (v : ℕ) → Begins p cells v → sink_of p.sinks v ≡ None
+PiecesHaveSinks =
+    (p : Problem) (cells : List (Option ℕ)) → IsPlaced p cells → (v : ℕ) → Begins p cells v → sink_of p.sinks v ≡ None
     → (w : ℕ) × IsDriven p cells v w

@@ -14,19 +14,22 @@ abbrev pub own_inverters : List Rep → List (Option ℕ) → ℕ → ℕ
 own_inverters reps cells v = cond (is_inverter (cell_at reps cells v)) 1 0
 
 -- a piece without cells charges, delays and inverts as its part of the net does with them
-pub record IsCutFrom (tree : List Node) (reps : List Rep) (cells : List (Option ℕ)) (v : ℕ) (piece : List Node) (at : ℕ → ℕ) : Type 0 where
+pub record IsCutFrom (tree : List Node) (reps : List Rep) (cells : List (Option ℕ)) (v : ℕ) (piece : List Node)
+    (at : ℕ → ℕ) : Type 0 where
   -- its root has the load of v, and each other node what is seen of it from above
   pub root_load : downstream_in piece 0 ≡ placed_load tree reps cells v
   pub loads : (i : ℕ) → 0 < i → i < length piece → downstream_in piece i ≡ placed_input_load tree reps cells (at i)
   -- the delay from v to a node of the piece: the cell at v, the piece's wire, and the cell there
   pub delays : (i : ℕ) → 0 < i → i < length piece
-      → placed_delay tree reps cells v (at i) ≡ own_delay tree reps cells v + delay_in piece i + own_delay tree reps cells (at i)
+      → placed_delay tree reps cells v (at i) ≡ own_delay tree reps cells v + delay_in piece i
+      + own_delay tree reps cells (at i)
   pub inverters : (i : ℕ) → 0 < i → i < length piece
       → placed_inverters tree reps cells v (at i) ≡ own_inverters reps cells v + own_inverters reps cells (at i)
 
 abbrev pub PiecesAct : Type 0
 PiecesAct = (tree : List Node) (reps : List Rep) (cells : List (Option ℕ)) → IsTree tree
-    → (v : ℕ) (piece : List Node) (at : ℕ → ℕ) → IsPieceOf (placed tree reps cells) v piece at → IsCutFrom tree reps cells v piece at
+    → (v : ℕ) (piece : List Node) (at : ℕ → ℕ) → IsPieceOf (placed tree reps cells) v piece at
+    → IsCutFrom tree reps cells v piece at
 
 -- a net without cells is its own only piece
 abbrev pub BareIsOnePiece : Type 0

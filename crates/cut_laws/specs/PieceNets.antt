@@ -23,7 +23,8 @@ IsTreeOfNet net tree order = IsTreeOf net.nodes net.root net.caps net.edges tree
 -- in the piece of v the resistor is the one from w to its parent; its direction says nothing
 pub record IsWireOf (f : Forest) (v : ℕ) (stands : ℕ → ℕ) (w : ℕ) (edge : ℕ × ℕ × ℕ) : Type 0 where
   pub below : w ≢ v
-  pub joins : ((stands edge.0 ≡ f.parent w) × (stands edge.1 ≡ w)) ⊎ ((stands edge.0 ≡ w) × (stands edge.1 ≡ f.parent w))
+  pub joins : ((stands edge.0 ≡ f.parent w) × (stands edge.1 ≡ w))
+      ⊎ ((stands edge.0 ≡ w) × (stands edge.1 ≡ f.parent w))
   pub resistor : edge.2 ≡ f.r w
 
 -- the net is the piece of v: its node k stands for the node `stands k` of the forest, and has besides its capacitors
@@ -38,7 +39,8 @@ pub record IsPieceNet (f : Forest) (v : ℕ) (net : NumberedNet) (loads stands :
   pub from_nodes : (j : ℕ) → j < length net.edges → (edge_at net.edges j).0 < net.nodes
   pub to_nodes : (j : ℕ) → j < length net.edges → (edge_at net.edges j).1 < net.nodes
   pub wires : (j : ℕ) → j < length net.edges → (w : ℕ) × IsWireOf f v stands w (edge_at net.edges j)
-  pub wired : (k : ℕ) → k < net.nodes → stands k ≢ v → (j : ℕ) × (j < length net.edges) × IsWireOf f v stands (stands k) (edge_at net.edges j)
+  pub wired : (k : ℕ) → k < net.nodes → stands k ≢ v
+      → (j : ℕ) × (j < length net.edges) × IsWireOf f v stands (stands k) (edge_at net.edges j)
   pub count : length net.edges + 1 ≡ net.nodes
   pub capacitances : (k : ℕ) → k < net.nodes → capacitance_at net.caps k + loads k ≡ piece_capacitance f v (stands k)
 
@@ -47,7 +49,8 @@ pub record HasLoads (built : List Node) (order : List ℕ) (loads : ℕ → ℕ)
   pub count : length loaded ≡ length built
   pub parents : (i : ℕ) → i < length built → parent_of loaded i ≡ parent_of built i
   pub resistances : (i : ℕ) → i < length built → resistance loaded i ≡ resistance built i
-  pub capacitances : (i : ℕ) → i < length built → capacitance loaded i ≡ capacitance built i + loads (slice_index order i)
+  pub capacitances : (i : ℕ) → i < length built
+      → capacitance loaded i ≡ capacitance built i + loads (slice_index order i)
 
 -- any tree of a piece that is read, with the loads of its pins, is the tree of the piece
 abbrev pub BuiltPieces : Type 0

@@ -18,7 +18,8 @@ pub record Forest : Type 0 where
 
 -- a tree with the cells of a placement
 abbrev pub placed : List Node → List Rep → List (Option ℕ) → Forest
-placed tree reps cells = record { n = length tree; parent = parent_of tree; r = resistance tree; c = capacitance tree; cell = cell_at reps cells }
+placed tree reps cells =
+    record { n = length tree; parent = parent_of tree; r = resistance tree; c = capacitance tree; cell = cell_at reps cells }
 
 -- w is in the stage of v, or its cell ends it
 abbrev pub in_piece : Forest → ℕ → ℕ → Bool

@@ -45,7 +45,8 @@ passed net s w nothing = None
 passed net s w (sink _) = None
 passed net s w (passes rep None) = None
 passed net s w (passes rep (Some next)) =
-    Some (record { net = next; r = rep.r; late = late_at net s w + rep.k; inverters = s.inverters + cond rep.inverts 1 0 })
+    Some
+    (record { net = next; r = rep.r; late = late_at net s w + rep.k; inverters = s.inverters + cond rep.inverts 1 0 })
 
 -- the signals that a net passes on, in tree order
 abbrev pub passed_on : TimedNet → Signal → List Signal
@@ -85,7 +86,8 @@ pub record IsRetimed (nets : ℕ → TimedNet) (first : ℕ) (driver : Driver) (
   pub signals : List Signal
   pub walk : IsWalk nets (start_of first driver) signals
   pub least : (s : Signal) (w : ℕ) (goal : Sink) → Meets nets signals s w goal → x ≤ℤ slack_behind nets driver s w goal
-  pub met : (s : Signal) × (w : ℕ) × (goal : Sink) × Meets nets signals s w goal × (x ≡ slack_behind nets driver s w goal)
+  pub met : (s : Signal) × (w : ℕ) × (goal : Sink) × Meets nets signals s w goal
+      × (x ≡ slack_behind nets driver s w goal)
 
 -- all of them have the polarity that they want
 pub record HavePolarity (nets : ℕ → TimedNet) (first : ℕ) (driver : Driver) : Type 0 where
@@ -100,7 +102,8 @@ IsClimb nets net (next ∷ path) first = ((nets net).above ≡ Some next) × IsC
 
 -- nets re-time to at most one slack
 abbrev pub OneRetiming : Type 0
-OneRetiming = (nets : ℕ → TimedNet) (first : ℕ) (driver : Driver) (x y : ℤ) → IsRetimed nets first driver x → IsRetimed nets first driver y → x ≡ y
+OneRetiming = (nets : ℕ → TimedNet) (first : ℕ) (driver : Driver) (x y : ℤ) → IsRetimed nets first driver x
+    → IsRetimed nets first driver y → x ≡ y
 
 -- the walk stops at s: the nets before it, which alone have passed theirs on, are accepted and differ, and that of s is
 -- not accepted, or came before

@@ -55,7 +55,8 @@ abbrev pub IsFirstFault : Texts → DesignFault → Type 0
 IsFirstFault texts (Spef fault) = IsFileFault texts.spef fault
 IsFirstFault texts (Lib fault) = IsSpef texts.spef × IsFirstLibFault texts.lib fault
 IsFirstFault texts (Ver fault) = IsSpef texts.spef × (IsLib texts.lib × IsFirstVerFault texts.verilog fault)
-IsFirstFault texts (Cons fault) = IsSpef texts.spef × (IsLib texts.lib × (IsModule texts.verilog × IsFaultIn (cons_lines texts.cons) fault))
+IsFirstFault texts (Cons fault) =
+    IsSpef texts.spef × (IsLib texts.lib × (IsModule texts.verilog × IsFaultIn (cons_lines texts.cons) fault))
 IsFirstFault texts Memory = Unit {0}
 
 -- this is the design of three texts and of every SPEF text that is, without its comments, the first of these

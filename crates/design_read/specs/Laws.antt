@@ -11,4 +11,5 @@ OneDesign = (texts : Texts) (a b : Design) → IsDesign texts a → IsDesign tex
 
 -- texts that are a design have no fault
 abbrev pub DesignsAreFaultless : Type 0
-DesignsAreFaultless = (texts : Texts) (design : Design) (fault : DesignFault) → IsDesign texts design → (fault ≡ Memory → ⊥) → IsFirstFault texts fault → ⊥
+DesignsAreFaultless = (texts : Texts) (design : Design) (fault : DesignFault) → IsDesign texts design
+    → (fault ≡ Memory → ⊥) → IsFirstFault texts fault → ⊥

@@ -19,16 +19,19 @@ pub record Exceeds (a b : Point) : Type 0 where
 
 -- along a frontier both cost and slack rise strictly
 abbrev pub FrontierRises : Type 0
-FrontierRises = (p : Problem) (cap : Option ℕ) (points : List Point) → IsFrontier (IsAttained p cap) points → AllPairs Exceeds points
+FrontierRises = (p : Problem) (cap : Option ℕ) (points : List Point) → IsFrontier (IsAttained p cap) points
+    → AllPairs Exceeds points
 
 -- an attained point that no other attained point outdoes stands in the frontier
 abbrev pub FrontierIsWhole : Type 0
-FrontierIsWhole = (p : Problem) (cap : Option ℕ) (points : List Point) (point : Point) → IsFrontier (IsAttained p cap) points
+FrontierIsWhole =
+    (p : Problem) (cap : Option ℕ) (points : List Point) (point : Point) → IsFrontier (IsAttained p cap) points
     → IsOnFrontier (IsAttained p cap) point → Contains points point
 
 -- a frontier without a cap ends at the best slack
 abbrev pub BestIsLast : Type 0
-BestIsLast = (p : Problem) (cells : List (Option ℕ)) (x : ℤ) (points : List Point) → IsBest p cells x → IsFrontier (IsAttained p None) points
+BestIsLast = (p : Problem) (cells : List (Option ℕ)) (x : ℤ) (points : List Point) → IsBest p cells x
+    → IsFrontier (IsAttained p None) points
     → (front : List Point) × (last : Point) × (points ≡ front ++ last ∷ []) × (last.slack ≡ x)
 
 -- a problem has at most one frontier under a cap

@@ -10,7 +10,8 @@ use Rattle.elmore.specs.declared.tree.Node.{Node}
 abbrev pub DelaySteps : Type 0
 DelaySteps = (nodes : List Node) → IsTree nodes
     → (delay_in nodes 0 ≡ 0)
-    × ((v : ℕ) → 0 < v → v < length nodes → delay_in nodes v ≡ delay_in nodes (parent_of nodes v) + resistance nodes v * downstream_in nodes v)
+    × ((v : ℕ) → 0 < v → v < length nodes
+    → delay_in nodes v ≡ delay_in nodes (parent_of nodes v) + resistance nodes v * downstream_in nodes v)
 
 -- the nodes whose parent is v
 abbrev pub children_of : List Node → ℕ → List ℕ
@@ -19,7 +20,8 @@ children_of nodes v = filter (is_child (parent_of nodes) v) (node_numbers (lengt
 -- a node's downstream capacitance is its own capacitance and its children's downstream capacitances
 abbrev pub DownstreamSteps : Type 0
 DownstreamSteps = (nodes : List Node) → IsTree nodes
-    → (v : ℕ) → v < length nodes → downstream_in nodes v ≡ capacitance nodes v + sum_by (downstream_in nodes) (children_of nodes v)
+    → (v : ℕ) → v < length nodes
+    → downstream_in nodes v ≡ capacitance nodes v + sum_by (downstream_in nodes) (children_of nodes v)
 
 -- all capacitances are below the root
 abbrev pub RootDrivesAll : Type 0

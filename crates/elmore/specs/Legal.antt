@@ -28,7 +28,8 @@ pub record IsFit (place : Bool) (allowed : Allowed) (reps : List Rep) (b load : 
 
 -- the node v may have this cell, if there is one, and charge this load
 abbrev pub MayHave : Problem → ℕ → Option ℕ → ℕ → Type 0
-MayHave p v own load = (b : ℕ) → own ≡ Some b → IsFit (slice_index_or p.places v false) (allowed_at p.allowed v) p.reps b load
+MayHave p v own load =
+    (b : ℕ) → own ≡ Some b → IsFit (slice_index_or p.places v false) (allowed_at p.allowed v) p.reps b load
 
 -- and where it is the root, the driver may charge this load
 pub record IsLegalWith (p : Problem) (v : ℕ) (own : Option ℕ) (load : ℕ) : Type 0 where

@@ -30,8 +30,10 @@ class_of odd = cond odd 1 0
 pub record IsPairOf (p : Problem) (v : ℕ) (odd : Bool) (cells : List (Option ℕ)) (x : Pair) : Type 0 where
   pub placement : IsPlacement p cells
   pub placed : IsPlaced p cells
-  pub fits : (u : ℕ) → is_over (parent_of p.tree.nodes) v u ≡ true → MayHave p u (slice_index_or cells u None) (load_of p cells u)
-  pub wanted : (w : ℕ) (sink : Sink) → IsSinkUnder p v w sink → is_odd (class_of odd + inverters_between p cells v w) ≡ sink.inverted
+  pub fits : (u : ℕ) → is_over (parent_of p.tree.nodes) v u ≡ true
+      → MayHave p u (slice_index_or cells u None) (load_of p cells u)
+  pub wanted : (w : ℕ) (sink : Sink) → IsSinkUnder p v w sink
+      → is_odd (class_of odd + inverters_between p cells v w) ≡ sink.inverted
   pub least : (w : ℕ) (sink : Sink) → IsSinkUnder p v w sink → x.q ≤ℤ required_from p cells v w sink
   pub met : (w : ℕ) × (sink : Sink) × IsSinkUnder p v w sink × (x.q ≡ required_from p cells v w sink)
   pub load : x.c ≡ input_load_of p cells v

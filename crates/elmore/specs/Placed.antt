@@ -22,7 +22,8 @@ placed_load tree reps cells v = load (parent_of tree) (capacitance tree) (cell_a
 
 -- what is seen of v from above
 abbrev pub placed_input_load : List Node → List Rep → List (Option ℕ) → ℕ → ℕ
-placed_input_load tree reps cells v = input_load (parent_of tree) (capacitance tree) (cell_at reps cells) (length tree) v
+placed_input_load tree reps cells v =
+    input_load (parent_of tree) (capacitance tree) (cell_at reps cells) (length tree) v
 
 -- the delay from v to w
 abbrev pub placed_delay : List Node → List Rep → List (Option ℕ) → ℕ → ℕ → ℕ
@@ -34,7 +35,8 @@ placed_inverters tree reps cells v w = inverters_from (parent_of tree) (cell_at 
 
 -- the delay from the driver's input to the node w
 abbrev pub driven_delay : Driver → List Node → List Rep → List (Option ℕ) → ℕ → ℤ
-driven_delay driver tree reps cells w = driver.k +ℤ pos (driver.r * placed_load tree reps cells 0 + placed_delay tree reps cells 0 w)
+driven_delay driver tree reps cells w =
+    driver.k +ℤ pos (driver.r * placed_load tree reps cells 0 + placed_delay tree reps cells 0 w)
 
 -- what a sink at w has left: its required time, less the arrival at the driver and the delay
 abbrev pub slack_left : Driver → List Node → List Rep → List (Option ℕ) → ℕ → Sink → ℤ

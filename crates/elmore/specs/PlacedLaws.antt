@@ -14,7 +14,8 @@ use Rattle.elmore.specs.declared.rep.Rep.{Rep}
 -- a node's load is its own capacitance and what is seen of its children
 abbrev pub LoadSteps : Type 0
 LoadSteps = (tree : List Node) (reps : List Rep) (cells : List (Option ℕ)) → IsTree tree
-    → (v : ℕ) → v < length tree → placed_load tree reps cells v ≡ capacitance tree v + sum_by (placed_input_load tree reps cells) (children_of tree v)
+    → (v : ℕ) → v < length tree → placed_load tree reps cells v
+    ≡ capacitance tree v + sum_by (placed_input_load tree reps cells) (children_of tree v)
 
 -- a node's own cell, into its load
 abbrev pub own_delay : List Node → List Rep → List (Option ℕ) → ℕ → ℕ
@@ -26,12 +27,15 @@ pub record AreDelaysFrom (tree : List Node) (reps : List Rep) (cells : List (Opt
   pub self : placed_delay tree reps cells v v ≡ own_delay tree reps cells v
   pub below : (w : ℕ) → is_over (parent_of tree) v w ≡ true → w ≢ v
       → placed_delay tree reps cells v w
-      ≡ placed_delay tree reps cells v (parent_of tree w) + (resistance tree w * placed_input_load tree reps cells w + own_delay tree reps cells w)
+      ≡ placed_delay tree reps cells v (parent_of tree w)
+      + (resistance tree w * placed_input_load tree reps cells w + own_delay tree reps cells w)
   pub through : (u w : ℕ) → is_over (parent_of tree) v u ≡ true → is_over (parent_of tree) u w ≡ true
-      → placed_delay tree reps cells v w + own_delay tree reps cells u ≡ placed_delay tree reps cells v u + placed_delay tree reps cells u w
+      → placed_delay tree reps cells v w + own_delay tree reps cells u
+      ≡ placed_delay tree reps cells v u + placed_delay tree reps cells u w
 
 abbrev pub PlacedDelaySteps : Type 0
-PlacedDelaySteps = (tree : List Node) (reps : List Rep) (cells : List (Option ℕ)) → IsTree tree → (v : ℕ) → AreDelaysFrom tree reps cells v
+PlacedDelaySteps = (tree : List Node) (reps : List Rep) (cells : List (Option ℕ)) → IsTree tree → (v : ℕ)
+    → AreDelaysFrom tree reps cells v
 
 abbrev pub HasNoCell : List (Option ℕ) → Type 0
 HasNoCell cells = (v : ℕ) → slice_index_or cells v None ≡ None
@@ -42,18 +46,22 @@ pub record IsWireAlone (tree : List Node) (reps : List Rep) (cells : List (Optio
   pub delays : (w : ℕ) → placed_delay tree reps cells 0 w ≡ delay_in tree w
 
 abbrev pub BareLoads : Type 0
-BareLoads = (tree : List Node) (reps : List Rep) (cells : List (Option ℕ)) → HasNoCell cells → IsWireAlone tree reps cells
+BareLoads =
+    (tree : List Node) (reps : List Rep) (cells : List (Option ℕ)) → HasNoCell cells → IsWireAlone tree reps cells
 
 -- the same cells at v and at all nodes below it
 abbrev pub AreAlikeFrom : List Node → ℕ → List (Option ℕ) → List (Option ℕ) → Type 0
-AreAlikeFrom tree v a b = (u : ℕ) → is_over (parent_of tree) v u ≡ true → slice_index_or a u None ≡ slice_index_or b u None
+AreAlikeFrom tree v a b =
+    (u : ℕ) → is_over (parent_of tree) v u ≡ true → slice_index_or a u None ≡ slice_index_or b u None
 
 -- v is loaded and seen alike, and the nodes at and below it are as late and as often inverted
 pub record ActAlikeFrom (tree : List Node) (reps : List Rep) (v : ℕ) (a b : List (Option ℕ)) : Type 0 where
   pub load : placed_load tree reps a v ≡ placed_load tree reps b v
   pub input_load : placed_input_load tree reps a v ≡ placed_input_load tree reps b v
-  pub delays : (w : ℕ) → is_over (parent_of tree) v w ≡ true → placed_delay tree reps a v w ≡ placed_delay tree reps b v w
-  pub inverters : (w : ℕ) → is_over (parent_of tree) v w ≡ true → placed_inverters tree reps a v w ≡ placed_inverters tree reps b v w
+  pub delays : (w : ℕ) → is_over (parent_of tree) v w ≡ true
+      → placed_delay tree reps a v w ≡ placed_delay tree reps b v w
+  pub inverters : (w : ℕ) → is_over (parent_of tree) v w ≡ true
+      → placed_inverters tree reps a v w ≡ placed_inverters tree reps b v w
 
 abbrev pub BelowDecides : Type 0
 BelowDecides = (tree : List Node) (reps : List Rep) (v : ℕ) (a b : List (Option ℕ)) → IsTree tree

@@ -21,7 +21,8 @@ is_live tree sinks v = list_any (λ w. is_sink sinks w && is_over (parent_of tre
 
 -- some sink is strictly below the node
 unfoldable pub is_above_sink : List Node → List (Option Sink) → ℕ → Bool
-is_above_sink tree sinks v = list_any (λ w. is_sink sinks w && (is_over (parent_of tree) v w && not (w == v))) (node_numbers (length tree))
+is_above_sink tree sinks v =
+    list_any (λ w. is_sink sinks w && (is_over (parent_of tree) v w && not (w == v))) (node_numbers (length tree))
 
 -- a free node may have a cell where some sink is strictly below it
 abbrev pub is_place : List Node → List (Option Sink) → List Bool → ℕ → Bool
@@ -68,7 +69,8 @@ abbrev pub greatest_load : List Node → List Bool → List Rep → ℕ
 greatest_load tree places reps = total_capacitance tree + place_count places * greatest_input reps
 
 -- within these limits nothing is too large to be computed
-pub record IsProblemWithin (tree : List Node) (driver : Driver) (sinks : List (Option Sink)) (places : List Bool) (reps : List Rep) : Type 0 where
+pub record IsProblemWithin (tree : List Node) (driver : Driver) (sinks : List (Option Sink)) (places : List Bool)
+    (reps : List Rep) : Type 0 where
   pub nodes : length tree ≤ 65536
   pub resistances : total_resistance tree ≤ 10 ^ 12
   pub capacitances : greatest_load tree places reps ≤ 10 ^ 11

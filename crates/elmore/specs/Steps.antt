@@ -14,7 +14,8 @@ marked marks v = slice_index_or marks v false
 
 -- the capacitances of the nodes, and the input capacitances of the cells: no load is greater
 abbrev pub placed_capacitance : List Node → List Rep → List (Option ℕ) → ℕ
-placed_capacitance tree reps cells = total_capacitance tree + sum_by (λ cell. input_capacitance (rep_of reps cell)) cells
+placed_capacitance tree reps cells =
+    total_capacitance tree + sum_by (λ cell. input_capacitance (rep_of reps cell)) cells
 
 -- both marks stand at a node exactly where each of them does
 abbrev pub AreBoth : List Bool → List Bool → List Bool → Type 0
@@ -22,7 +23,8 @@ AreBoth one other both = (v : ℕ) → v < length one → marked both v ≡ (mar
 
 -- the part of a problem's limits that its net has to keep
 abbrev pub IsNetWithin : List Node → List Bool → List Rep → Type 0
-IsNetWithin tree places reps = (length tree ≤ 65536) × (total_resistance tree ≤ 10 ^ 12) × (greatest_load tree places reps ≤ 10 ^ 11)
+IsNetWithin tree places reps =
+    (length tree ≤ 65536) × (total_resistance tree ≤ 10 ^ 12) × (greatest_load tree places reps ≤ 10 ^ 11)
 
 -- a sum of capacitances, with much room to 2^127 where a machine's integer ends
 pub record IsSum (z : ℤ) : Type 0 where

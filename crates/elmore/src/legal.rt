@@ -64,7 +64,8 @@ fn is_legal_with(p: &Problem, v: u32, own: Option<u32>, load: u128) -> bool
 fn first_past(p: &Problem, cells: &[Option<u32>], loads: &[i128]) -> Option<u32>
     requires placement { IsPlacement p.now cells.now }
     requires room { length p.now.tree.nodes ≤ length loads.now }
-    requires loads { (v : ℕ) → v < length p.now.tree.nodes → slice_index_or loads.now v (pos 0) ≡ pos (load_at p.now cells.now v) }
+    requires loads { (v : ℕ) → v < length p.now.tree.nodes
+        → slice_index_or loads.now v (pos 0) ≡ pos (load_at p.now cells.now v) }
     ensures { MatchOption result (IsLegal p.now cells.now) (λ v. IsFirstIllegal p.now cells.now v) }
 {
     'nodes: for v in 0..cells.len() {

@@ -43,7 +43,8 @@ fn is_net_within(nodes: &[Node], places: &[bool], reps: &[Rep]) -> bool
 }
 
 fn are_cells_within(driver: &Driver, reps: &[Rep]) -> bool
-    ensures { IsTrue result ↔ ((length reps.now ≤ MOST_REPEATERS) × All IsRepWithin reps.now × IsDriverWithin driver.now) }
+    ensures { IsTrue result
+        ↔ ((length reps.now ≤ MOST_REPEATERS) × All IsRepWithin reps.now × IsDriverWithin driver.now) }
 {
     reps.len() <= MOST_REPEATERS && are_reps_within(reps) && is_driver_within(driver)
 }

@@ -90,7 +90,8 @@ fn free_and_live(alloc: Global, free: &[bool], live: &[bool]) -> Result<Row<bool
 fn mark_both(free: &[bool], live: &[bool], places: &mut [bool])
     requires live_each { length live.now ≡ length free.now }
     requires room { length places.old ≡ length free.now }
-    ensures { (v : ℕ) → v < length free.now → slice_index_or places.new v false ≡ (slice_index_or free.now v false && slice_index_or live.now v false) }
+    ensures { (v : ℕ) → v < length free.now
+        → slice_index_or places.new v false ≡ (slice_index_or free.now v false && slice_index_or live.now v false) }
 {
     'places: for v in 0..free.len() {
         places[v] = free[v] && live[v];

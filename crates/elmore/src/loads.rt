@@ -34,7 +34,8 @@ pub(crate) fn sum_loads(nodes: &[Node], cells: &[Option<u32>], reps: &[Rep], sum
     requires placement { IsPlacementOf (length nodes.now) (length reps.now) cells.now }
     requires sum { placed_capacitance nodes.now reps.now cells.now ≤ 2 ^ 100 }
     requires room { length nodes.now ≤ length sums.old }
-    ensures { (v : ℕ) → v < length nodes.now → slice_index_or sums.new v (pos 0) ≡ pos (placed_load nodes.now reps.now cells.now v) }
+    ensures { (v : ℕ) → v < length nodes.now
+        → slice_index_or sums.new v (pos 0) ≡ pos (placed_load nodes.now reps.now cells.now v) }
 {
     fill_capacitances(nodes, sums);
     'up: for v in (1..nodes.len()).rev() {

@@ -31,7 +31,8 @@ fn mark_inverted(nodes: &[Node], cells: &[Option<u32>], reps: &[Rep], inverted: 
     requires tree { IsTree nodes.now }
     requires placement { IsPlacementOf (length nodes.now) (length reps.now) cells.now }
     requires room { length nodes.now ≤ length inverted.old }
-    ensures { (v : ℕ) → v < length nodes.now → slice_index_or inverted.new v false ≡ placed_inverted nodes.now reps.now cells.now v }
+    ensures { (v : ℕ) → v < length nodes.now
+        → slice_index_or inverted.new v false ≡ placed_inverted nodes.now reps.now cells.now v }
 {
     inverted[0] = inverts(cells[0], reps);
     'down: for v in 1..nodes.len() {
@@ -54,7 +55,8 @@ fn is_wrong(sink: Option<Sink>, inverted: bool) -> bool
 fn first_unlike(sinks: &[Option<Sink>], inverted: &[bool]) -> Option<u32>
     requires nodes { length sinks.now ≤ 65536 }
     requires room { length sinks.now ≤ length inverted.now }
-    ensures { MatchOption result (AreWanted sinks.now (marked inverted.now)) (λ w. IsFirstUnwanted sinks.now (marked inverted.now) w) }
+    ensures { MatchOption result (AreWanted sinks.now (marked inverted.now)) (λ w.
+        IsFirstUnwanted sinks.now (marked inverted.now) w) }
 {
     'sinks: for w in 0..sinks.len() {
         if is_wrong(sinks[w], inverted[w]) {
@@ -79,7 +81,8 @@ fn first_wrong_by(p: &Problem, cells: &[Option<u32>], inverted: &mut [bool]) -> 
 pub fn first_wrong(p: &Problem, at: &Placement, scratch: &mut Scratch) -> Option<u32>
     requires placement { IsPlacement p.now at.now.cells }
     requires room { length p.now.tree.nodes ≤ room_of scratch.old }
-    ensures wrong { MatchOption result ((w : ℕ) → HasPolarity p.now at.now.cells w) (λ w. IsFirstWrong p.now at.now.cells w) }
+    ensures wrong { MatchOption result ((w : ℕ) → HasPolarity p.now at.now.cells w) (λ w.
+        IsFirstWrong p.now at.now.cells w) }
     ensures room { room_of scratch.new ≡ room_of scratch.old }
 {
     first_wrong_by(p, at.cells.as_slice(), &mut scratch.inverted)

@@ -67,11 +67,13 @@ impl Problem {
         requires no_sink { (v : ℕ) → is_sink sinks v ≡ true → slice_index_or free.now v false ≡ false }
         requires rising { AreRising reps }
         requires allowed { AreAllowances (length tree.nodes) (length reps) allowed }
-        ensures within { IfOk result (λ made. IsMadeWhere made (IsProblemWithin tree.nodes driver sinks (places_of tree.nodes sinks free.now) reps)) }
+        ensures within { IfOk result (λ made.
+            IsMadeWhere made (IsProblemWithin tree.nodes driver sinks (places_of tree.nodes sinks free.now) reps)) }
         ensures nodes { IfOk result (λ made. IfSome made (λ problem. problem.tree.nodes ≡ tree.nodes)) }
         ensures driver { IfOk result (λ made. IfSome made (λ problem. problem.driver ≡ driver)) }
         ensures sinks { IfOk result (λ made. IfSome made (λ problem. problem.sinks ≡ sinks)) }
-        ensures places { IfOk result (λ made. IfSome made (λ problem. problem.places ≡ places_of tree.nodes sinks free.now)) }
+        ensures places { IfOk result (λ made.
+            IfSome made (λ problem. problem.places ≡ places_of tree.nodes sinks free.now)) }
         ensures reps { IfOk result (λ made. IfSome made (λ problem. problem.reps ≡ reps)) }
         ensures allowed { IfOk result (λ made. IfSome made (λ problem. problem.allowed ≡ allowed)) }
     {

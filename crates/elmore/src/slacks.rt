@@ -56,8 +56,10 @@ fn delay_past(before: i128, r: u64, cell: Option<u32>, reps: &[Rep], load: u128)
 fn sum_placed_delays(nodes: &[Node], cells: &[Option<u32>], reps: &[Rep], delays: &mut [i128])
     requires placed { IsPlacedTree nodes.now reps.now cells.now }
     requires room { length nodes.now ≤ length delays.old }
-    requires loads { (v : ℕ) → v < length nodes.now → slice_index_or delays.old v (pos 0) ≡ pos (placed_load nodes.now reps.now cells.now v) }
-    ensures { (v : ℕ) → v < length nodes.now → slice_index_or delays.new v (pos 0) ≡ pos (placed_delay nodes.now reps.now cells.now 0 v) }
+    requires loads { (v : ℕ) → v < length nodes.now
+        → slice_index_or delays.old v (pos 0) ≡ pos (placed_load nodes.now reps.now cells.now v) }
+    ensures { (v : ℕ) → v < length nodes.now
+        → slice_index_or delays.new v (pos 0) ≡ pos (placed_delay nodes.now reps.now cells.now 0 v) }
 {
     delays[0] = cell_delay(cells[0], reps, sum_at(delays, 0));
     'down: for v in 1..nodes.len() {

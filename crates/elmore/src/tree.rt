@@ -71,7 +71,8 @@ fn is_capacitance_within(nodes: &[Node]) -> bool
 
 /// What all capacitors together leave of the limit (aF), or none where they go beyond it.
 pub(crate) fn capacitance_left(nodes: &[Node]) -> Option<u128>
-    ensures { MatchOption result (MOST_CAPACITANCE < total_capacitance nodes.now) (λ left. total_capacitance nodes.now + left ≡ MOST_CAPACITANCE) }
+    ensures { MatchOption result (MOST_CAPACITANCE < total_capacitance nodes.now) (λ left.
+        total_capacitance nodes.now + left ≡ MOST_CAPACITANCE) }
 {
     let mut left = MOST_CAPACITANCE;
     'capacitors: for node in nodes {

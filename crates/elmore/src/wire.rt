@@ -40,7 +40,8 @@ fn sum_delays(nodes: &[Node], delays: &mut [i128])
     requires tree { IsTree nodes.now }
     requires limits { IsWithinLimits nodes.now }
     requires room { length nodes.now ≤ length delays.old }
-    requires loads { (v : ℕ) → v < length nodes.now → slice_index_or delays.old v (pos 0) ≡ pos (downstream_in nodes.now v) }
+    requires loads { (v : ℕ) → v < length nodes.now
+        → slice_index_or delays.old v (pos 0) ≡ pos (downstream_in nodes.now v) }
     ensures { (v : ℕ) → v < length nodes.now → slice_index_or delays.new v (pos 0) ≡ pos (delay_in nodes.now v) }
 {
     delays[0] = 0;
@@ -58,7 +59,8 @@ fn sum_delays(nodes: &[Node], delays: &mut [i128])
 pub fn wire_delays(tree: &Tree, scratch: &mut Scratch)
     requires limits { IsWithinLimits tree.now.nodes }
     requires room { length tree.now.nodes ≤ room_of scratch.old }
-    ensures delays { (w : ℕ) → w < length tree.now.nodes → slice_index_or (delays_of scratch.new) w (pos 0) ≡ pos (delay_in tree.now.nodes w) }
+    ensures delays { (w : ℕ) → w < length tree.now.nodes
+        → slice_index_or (delays_of scratch.new) w (pos 0) ≡ pos (delay_in tree.now.nodes w) }
     ensures room { room_of scratch.new ≡ room_of scratch.old }
 {
     let nodes = tree.nodes.as_slice();

@@ -15,11 +15,13 @@ pub data Part (N T : Type 0) : Type 0 where
 pub data Derives {N T : Type 0} (rules : N → Part N T) : Part N T → List T → Type 0 where
   by_one : {test : T → Bool} {t : T} → test t ≡ true → Derives rules (one test) (t ∷ [])
   by_nothing : Derives rules nothing []
-  by_both : {a b : Part N T} {xs ys : List T} → Derives rules a xs → Derives rules b ys → Derives rules (both a b) (xs ++ ys)
+  by_both : {a b : Part N T} {xs ys : List T} → Derives rules a xs → Derives rules b ys
+      → Derives rules (both a b) (xs ++ ys)
   by_left : {a b : Part N T} {xs : List T} → Derives rules a xs → Derives rules (either a b) xs
   by_right : {a b : Part N T} {xs : List T} → Derives rules b xs → Derives rules (either a b) xs
   by_none : {a : Part N T} → Derives rules (many a) []
-  by_more : {a : Part N T} {xs ys : List T} → Derives rules a xs → Derives rules (many a) ys → Derives rules (many a) (xs ++ ys)
+  by_more : {a : Part N T} {xs ys : List T} → Derives rules a xs → Derives rules (many a) ys
+      → Derives rules (many a) (xs ++ ys)
   by_name : {n : N} {xs : List T} → Derives rules (rules n) xs → Derives rules (named n) xs
 
 -- a list of tokens begins a part: the empty list begins every part, and a token the part that is this token; a sequence
@@ -29,10 +31,12 @@ pub data Begins {N T : Type 0} (rules : N → Part N T) : Part N T → List T �
   at_start : {a : Part N T} → Begins rules a []
   at_one : {test : T → Bool} {t : T} → test t ≡ true → Begins rules (one test) (t ∷ [])
   in_first : {a b : Part N T} {xs : List T} → Begins rules a xs → Begins rules (both a b) xs
-  in_rest : {a b : Part N T} {xs ys : List T} → Derives rules a xs → Begins rules b ys → Begins rules (both a b) (xs ++ ys)
+  in_rest : {a b : Part N T} {xs ys : List T} → Derives rules a xs → Begins rules b ys
+      → Begins rules (both a b) (xs ++ ys)
   in_left : {a b : Part N T} {xs : List T} → Begins rules a xs → Begins rules (either a b) xs
   in_right : {a b : Part N T} {xs : List T} → Begins rules b xs → Begins rules (either a b) xs
-  in_member : {a : Part N T} {xs ys : List T} → Derives rules (many a) xs → Begins rules a ys → Begins rules (many a) (xs ++ ys)
+  in_member : {a : Part N T} {xs ys : List T} → Derives rules (many a) xs → Begins rules a ys
+      → Begins rules (many a) (xs ++ ys)
   in_name : {n : N} {xs : List T} → Begins rules (rules n) xs → Begins rules (named n) xs
 
 -- a part allows the token at a place: the tokens up to it, itself included, begin the part

@@ -15,7 +15,8 @@ has_way (x ∷ xs) = true
 
 -- A machine reads tokens as a grammar does: in each state it stands for some ways on, it moves with a token to the ways
 -- after it, and it is done where these ways may end.
-pub record IsMachine {N T S : Type 0} (rules : N → Part N T) (ways : S → List (List (Part N T))) (move : S → T → Option S) (done : S → Bool) : Type 0 where
+pub record IsMachine {N T S : Type 0} (rules : N → Part N T) (ways : S → List (List (Part N T)))
+    (move : S → T → Option S) (done : S → Bool) : Type 0 where
   pub proper : IsProper rules
   pub moves : (s : S) (t : T) → ways_of ways (move s t) ≡ after_any rules (ways s) t
   pub stops : (s : S) → done s ≡ can_stop (ways s)

@@ -57,7 +57,8 @@ opened {N} {T} rules n t = after (closed {N = N} {T = T}) (rules n) t
 -- the ways on after a token, of one way
 abbrev pub after_all : {N T : Type 0} → (N → Part N T) → List (Part N T) → T → List (List (Part N T))
 after_all rules [] t = []
-after_all rules (a ∷ rest) t = followed_by rest (after (opened rules) a t) ++ cond (can_be_empty a) (after_all rules rest t) []
+after_all rules (a ∷ rest) t =
+    followed_by rest (after (opened rules) a t) ++ cond (can_be_empty a) (after_all rules rest t) []
 
 -- the ways on after a token, of several ways
 abbrev pub after_any : {N T : Type 0} → (N → Part N T) → List (List (Part N T)) → T → List (List (Part N T))
@@ -77,7 +78,8 @@ can_stop (way ∷ ways) = can_end way || can_stop ways
 -- tokens are the parts of a way, whole
 abbrev pub DerivesAll : {N T : Type 0} → (N → Part N T) → List (Part N T) → List T → Type 0
 DerivesAll rules [] ts = ts ≡ []
-DerivesAll {N} {T} rules (a ∷ rest) ts = (xs : List T) × (ys : List T) × Derives rules a xs × DerivesAll rules rest ys × (ts ≡ xs ++ ys)
+DerivesAll {N} {T} rules (a ∷ rest) ts =
+    (xs : List T) × (ys : List T) × Derives rules a xs × DerivesAll rules rest ys × (ts ≡ xs ++ ys)
 
 -- tokens begin a way
 abbrev pub BeginsAll : {N T : Type 0} → (N → Part N T) → List (Part N T) → List T → Type 0
@@ -91,7 +93,8 @@ AnyOf P [] = ⊥
 AnyOf P (x ∷ xs) = P x ⊎ AnyOf P xs
 
 -- after the tokens done, a part goes on in one of these ways, and in no other
-pub record IsLeft {N T : Type 0} (rules : N → Part N T) (part : Part N T) (done : List T) (ways : List (List (Part N T))) : Type 0 where
+pub record IsLeft {N T : Type 0} (rules : N → Part N T) (part : Part N T) (done : List T)
+    (ways : List (List (Part N T))) : Type 0 where
   pub derives : (ts : List T) → Derives rules part (done ++ ts) → AnyOf (λ way. DerivesAll rules way ts) ways
   pub underives : (ts : List T) → AnyOf (λ way. DerivesAll rules way ts) ways → Derives rules part (done ++ ts)
   pub begins : (ts : List T) → Begins rules part (done ++ ts) → AnyOf (λ way. BeginsAll rules way ts) ways

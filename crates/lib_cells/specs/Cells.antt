@@ -43,12 +43,14 @@ timings pin = groups_in pin (codes "timing")
 -- the intrinsic times of a timing group (zs)
 abbrev pub intrinsics : Units → Group → List ℕ
 intrinsics units timing =
-    cons_option (given timing (codes "intrinsic_rise") (time_places units)) (cons_option (given timing (codes "intrinsic_fall") (time_places units)) [])
+    cons_option (given timing (codes "intrinsic_rise") (time_places units))
+    (cons_option (given timing (codes "intrinsic_fall") (time_places units)) [])
 
 -- its resistances (mΩ)
 abbrev pub resistances : Units → Group → List ℕ
 resistances units timing =
-    cons_option (given timing (codes "rise_resistance") (resistance_places units)) (cons_option (given timing (codes "fall_resistance") (resistance_places units)) [])
+    cons_option (given timing (codes "rise_resistance") (resistance_places units))
+    (cons_option (given timing (codes "fall_resistance") (resistance_places units)) [])
 
 -- the greatest of some numbers
 unfoldable pub greatest : List ℕ → Option ℕ
@@ -64,7 +66,8 @@ both _ _ = None
 abbrev pub drive_of : Units → Group → Option (ℕ × ℕ)
 drive_of units pin =
     if is_output (direction_of pin)
-    then both (greatest (flat_map (intrinsics units) (timings pin))) (greatest (flat_map (resistances units) (timings pin)))
+    then both (greatest (flat_map (intrinsics units) (timings pin)))
+    (greatest (flat_map (resistances units) (timings pin)))
     else None
 
 -- the names that a value has, with blanks between

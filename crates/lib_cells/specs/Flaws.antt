@@ -34,11 +34,14 @@ flaws_in flaws_of (Some s) = flaws_of s
 -- NotLinear: the model of delays is given, and is not the linear one
 abbrev pub model_flaws : Group → List Flaw
 model_flaws library =
-    flaws_in (λ s. unless (bytes_eq (value_of library.text s) (codes "generic_cmos")) NotLinear s) (attribute library (codes "delay_model"))
+    flaws_in (λ s. unless (bytes_eq (value_of library.text s) (codes "generic_cmos")) NotLinear s)
+    (attribute library (codes "delay_model"))
 
 -- Unit: the unit of times is given, and is none
 abbrev pub time_flaws : Group → List Flaw
-time_flaws library = flaws_in (λ s. unless (is_some (time_power (value_of library.text s))) Unit s) (attribute library (codes "time_unit"))
+time_flaws library =
+    flaws_in (λ s. unless (is_some (time_power (value_of library.text s))) Unit s)
+    (attribute library (codes "time_unit"))
 
 -- Unit: the unit of loads is none; where it is absent, at the library's own line
 abbrev pub load_flaws_of : Group → Option Statement → List Flaw
@@ -83,7 +86,8 @@ timing_flaws units timing =
 abbrev pub pin_flaws : Units → Group → List Flaw
 pin_flaws units pin =
     number_flaws pin (codes "capacitance") (capacitance_places units)
-    ++ (number_flaws pin (codes "max_capacitance") (capacitance_places units) ++ flat_map (timing_flaws units) (timings pin))
+    ++ (number_flaws pin (codes "max_capacitance") (capacitance_places units)
+    ++ flat_map (timing_flaws units) (timings pin))
 
 -- those of a cell
 abbrev pub cell_flaws : Units → Group → List Flaw

@@ -33,7 +33,8 @@ stands_after front text name =
 
 -- outside the name as many brackets open as close
 abbrev pub is_balanced : List ℕ → List ℕ → Bool
-is_balanced text name = (count_by is_open text + count_by is_close name) == (count_by is_close text + count_by is_open name)
+is_balanced text name =
+    (count_by is_open text + count_by is_close name) == (count_by is_close text + count_by is_open name)
 
 -- the name stands after as many bytes as the text has more of those that may stand before it than the name: after the
 -- name is none of these

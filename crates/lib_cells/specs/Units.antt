@@ -76,7 +76,9 @@ time_of library = option_map_or time_power (value_in library (codes "time_unit")
 
 -- the power of the unit of loads that a library gives, by its first `capacitive_load_unit`
 abbrev pub load_of : Group → Option ℕ
-load_of library = option_and_then (λ s. load_power (list_of library.text s)) (complex_attribute library (codes "capacitive_load_unit"))
+load_of library =
+    option_and_then (λ s. load_power (list_of library.text s))
+    (complex_attribute library (codes "capacitive_load_unit"))
 
 -- the units of a library: of one that its attribute does not give the power is 0
 abbrev pub units_of : Group → Units

@@ -153,7 +153,8 @@ fn names_of_cells(
     library: &Group<'_>,
 ) -> Result<(Names, Option<Flaw>), Memory>
     ensures names { IfOk result (λ found. found.0 ≡ fold with_name [] (map name_of (cell_groups library.now))) }
-    ensures first { IfOk result (λ found. found.1 ≡ first_of bytes.now None (twice_flaws [] (cell_groups library.now))) }
+    ensures first { IfOk result (λ found. found.1
+        ≡ first_of bytes.now None (twice_flaws [] (cell_groups library.now))) }
 {
     let mut names = Names::new(alloc);
     let mut first = None;

@@ -133,7 +133,8 @@ fn inverts(text: &[u8], name: &[u8]) -> bool
 /// brackets, `!` before such a function, or such a function followed by `'`, and each `!` and each `'` inverts. `None`:
 /// it does not reduce to the input. Blanks in the function are passed over.
 pub fn reduces_to(text: &[u8], input: &[u8]) -> Option<bool>
-    ensures reduces { MatchOption result ((inverted : Bool) → ReducesTo text.now input.now inverted → ⊥) (ReducesTo text.now input.now) }
+    ensures reduces { MatchOption result ((inverted : Bool) → ReducesTo text.now input.now inverted → ⊥)
+        (ReducesTo text.now input.now) }
     ensures only { IfSome result (λ inverted. (other : Bool) → ReducesTo text.now input.now other → other ≡ inverted) }
 {
     if fits(text, input) {

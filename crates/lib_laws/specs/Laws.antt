@@ -15,7 +15,8 @@ StandAfter text s after = (before : List Statement) × (statements_of text ≡ b
 
 -- Statements stand in the order of their names: none after another one has a name that begins before the other's.
 abbrev pub InOrder : Type 0
-InOrder = (text : List ℕ) (s : Statement) (after : List Statement) → StandAfter text s after → All (λ t. s.name ≤ t.name) after
+InOrder = (text : List ℕ) (s : Statement) (after : List Statement) → StandAfter text s after
+    → All (λ t. s.name ≤ t.name) after
 
 -- a statement's name is its own: it is not the name of one after it, and theirs begin further on
 abbrev pub HasOwnName : Statement → List Statement → Type 0
@@ -23,7 +24,8 @@ HasOwnName s after = All (λ t. s.name < t.name) after
 
 -- In a library each statement has a name of its own.
 abbrev pub NamesAreOwn : Type 0
-NamesAreOwn = (text : List ℕ) (s : Statement) (after : List Statement) → IsLibrary text → StandAfter text s after → HasOwnName s after
+NamesAreOwn = (text : List ℕ) (s : Statement) (after : List Statement) → IsLibrary text
+    → StandAfter text s after → HasOwnName s after
 
 -- a statement stands in the group of another one, and in none within it
 abbrev pub stands_in : Statement → Statement → Bool
@@ -40,14 +42,17 @@ GroupIsInside =
 -- same.
 abbrev pub FoundInside : Type 0
 FoundInside =
-    (text : List ℕ) (head : Statement) (after : List Statement) → StandAfter text head after → HasOwnName head after → (form : Form) (name : List ℕ)
-    → find (is_in (group_of text head after) form name) (inside head after) ≡ find (is_in (group_of text head after) form name) after
+    (text : List ℕ) (head : Statement) (after : List Statement) → StandAfter text head after → HasOwnName head after
+    → (form : Form) (name : List ℕ)
+    → find (is_in (group_of text head after) form name) (inside head after)
+    ≡ find (is_in (group_of text head after) form name) after
 
 -- The groups in a group are found inside it, each with all its statements: a search through all that follows the
 -- group's own statement gives the same.
 abbrev pub GroupsInside : Type 0
 GroupsInside =
-    (text : List ℕ) (head : Statement) (after : List Statement) → StandAfter text head after → HasOwnName head after → (name : List ℕ)
+    (text : List ℕ) (head : Statement) (after : List Statement) → StandAfter text head after
+    → HasOwnName head after → (name : List ℕ)
     → groups_in (group_of text head after) name ≡ groups_from (group_of text head after) name after
 
 -- at this place a backslash stands just before a line's end, so that the line goes on
@@ -56,7 +61,8 @@ goes_on text at = is_at text at 92 && nat_lt 0 (line_end_length text (at + 1))
 
 -- at this place stands a backslash where a line goes on, or a byte of the line's end after one
 abbrev pub IsContinuation : List ℕ → ℕ → Type 0
-IsContinuation text at = (from : ℕ) × (goes_on text from ≡ true) × (from ≤ at) × (at ≤ from + line_end_length text (from + 1))
+IsContinuation text at =
+    (from : ℕ) × (goes_on text from ≡ true) × (from ≤ at) × (at ≤ from + line_end_length text (from + 1))
 
 -- once lines are joined this place is blank: it belongs to where a line goes on, or is a carriage return before a
 -- newline

@@ -31,8 +31,10 @@ pub record HasTooMany (bytes : List ℕ) (units : Units) (library : Group) (faul
 -- none, the first of its cells; where these have none either, the 257th repeater.
 pub data IsLibraryFault (bytes : List ℕ) (library : Group) (fault : LineFault LibKind) : Type 0 where
   in_header : IsFirst bytes (header_flaws library) fault → IsLibraryFault bytes library fault
-  in_cells : header_flaws library ≡ [] → IsFirst bytes (value_flaws (units_of library) library) fault → IsLibraryFault bytes library fault
-  in_count : header_flaws library ≡ [] → value_flaws (units_of library) library ≡ [] → HasTooMany bytes (units_of library) library fault → IsLibraryFault bytes library fault
+  in_cells : header_flaws library ≡ [] → IsFirst bytes (value_flaws (units_of library) library) fault
+      → IsLibraryFault bytes library fault
+  in_count : header_flaws library ≡ [] → value_flaws (units_of library) library ≡ []
+      → HasTooMany bytes (units_of library) library fault → IsLibraryFault bytes library fault
 
 -- this is the fault of a text that is told: of its syntax, and else of its statements
 pub data IsFirstFault (bytes : List ℕ) (fault : LineFault LibKind) : Type 0 where

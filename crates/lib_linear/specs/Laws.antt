@@ -7,4 +7,5 @@ use Rattle.lib_linear.specs.Libraries.{Cells, Denotes}
 
 -- a text that denotes a library has no fault
 abbrev pub Excludes : Type 0
-Excludes = (bytes : List ℕ) (said : Cells) (fault : LineFault LibKind) → Denotes bytes said → IsFirstFault bytes fault → ⊥
+Excludes =
+    (bytes : List ℕ) (said : Cells) (fault : LineFault LibKind) → Denotes bytes said → IsFirstFault bytes fault → ⊥

@@ -43,7 +43,8 @@ pub record Denotes (bytes : List ℕ) (said : Cells) : Type 0 where
 -- the first pin of this name of the cell of this name
 abbrev pub pin_in : Cells → List ℕ → List ℕ → Option PinInfo
 pin_in said cell pin =
-    option_and_then (λ info. find (λ p. bytes_eq pin p.name) info.pins) (find (λ info. bytes_eq cell info.name) said.cells)
+    option_and_then (λ info. find (λ p. bytes_eq pin p.name) info.pins)
+    (find (λ info. bytes_eq cell info.name) said.cells)
 
 -- its capacitance (aF)
 abbrev pub cap_of : Cells → List ℕ → List ℕ → Option ℕ

@@ -10,11 +10,13 @@ use Rattle.lib_linear.specs.Repeaters.{AreRepeaters, AreRepeatersOf, IsOver, IsR
 
 -- a cell is one repeater at most
 abbrev pub OneRepeater : Type 0
-OneRepeater = (units : Units) (cell : Group) (a b : Repeater) → IsRepeater units cell a → IsRepeater units cell b → a ≡ b
+OneRepeater =
+    (units : Units) (cell : Group) (a b : Repeater) → IsRepeater units cell a → IsRepeater units cell b → a ≡ b
 
 -- the repeaters among some cells are one list
 abbrev pub OneList : Type 0
-OneList = (units : Units) (cells : List Group) (a b : List Repeater) → AreRepeaters units cells a → AreRepeaters units cells b → a ≡ b
+OneList = (units : Units) (cells : List Group) (a b : List Repeater) → AreRepeaters units cells a
+    → AreRepeaters units cells b → a ≡ b
 
 -- the names of these cells differ
 abbrev pub AreDistinct : List Group → Type 0
@@ -32,7 +34,8 @@ OneOrder =
 
 -- cells that have their list of repeaters have no 257th repeater
 abbrev pub NotOver : Type 0
-NotOver = (units : Units) (cells : List Group) (reps : List Repeater) (place : ℕ) → AreRepeatersOf units cells reps → IsOver units cells place → ⊥
+NotOver = (units : Units) (cells : List Group) (reps : List Repeater) (place : ℕ) → AreRepeatersOf units cells reps
+    → IsOver units cells place → ⊥
 
 -- one cell is the 257th repeater at most
 abbrev pub OnePlace : Type 0

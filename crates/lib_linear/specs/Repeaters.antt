@@ -20,8 +20,10 @@ use Rattle.lib_cells.specs.Values.{given, says}
 -- a timing group gives all four values
 abbrev pub is_full : Units → Group → Bool
 is_full units timing =
-    (is_some (given timing (codes "intrinsic_rise") (time_places units)) && is_some (given timing (codes "intrinsic_fall") (time_places units)))
-    && (is_some (given timing (codes "rise_resistance") (resistance_places units)) && is_some (given timing (codes "fall_resistance") (resistance_places units)))
+    (is_some (given timing (codes "intrinsic_rise") (time_places units))
+    && is_some (given timing (codes "intrinsic_fall") (time_places units)))
+    && (is_some (given timing (codes "rise_resistance") (resistance_places units))
+    && is_some (given timing (codes "fall_resistance") (resistance_places units)))
 
 -- it names this pin as related, and no other
 abbrev pub is_related : List ℕ → Group → Bool

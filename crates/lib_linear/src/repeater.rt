@@ -100,7 +100,8 @@ fn are_two(input: &PinInfo, output: &PinInfo) -> bool
 
 /// The input and the output that these pins are, where they are one of each, of different names.
 fn two_pins(pins: &[PinInfo]) -> Option<(&PinInfo, &PinInfo)>
-    ensures { MatchOption result ((input output : PinSpec) → AreTwoPins pins.now input output → ⊥) (λ two. AreTwoPins pins.now two.0.now two.1.now) }
+    ensures { MatchOption result ((input output : PinSpec) → AreTwoPins pins.now input output → ⊥) (λ two.
+        AreTwoPins pins.now two.0.now two.1.now) }
 {
     let [a, b] = pins else {
         return None;
@@ -126,7 +127,8 @@ fn output_group<'a>(cell: &Group<'a>) -> Option<Group<'a>>
 
 /// Whether the function of a pin inverts, where it is the input or its inversion.
 fn inversion(pin: &Group<'_>, input: &[u8]) -> Option<bool>
-    ensures { MatchOption result ((inverted : Bool) → IsFunction pin.now input.now inverted → ⊥) (IsFunction pin.now input.now) }
+    ensures { MatchOption result ((inverted : Bool) → IsFunction pin.now input.now inverted → ⊥)
+        (IsFunction pin.now input.now) }
 {
     reduces_to(pin.value_in(b"function")?, input)
 }
@@ -134,7 +136,8 @@ fn inversion(pin: &Group<'_>, input: &[u8]) -> Option<bool>
 /// Whether the output of a cell inverts, where it follows this input: by its function, and by its timing groups.
 fn follows(units: Units, cell: &Group<'_>, input: &[u8]) -> Option<bool>
     requires { AreUnits units }
-    ensures { MatchOption result ((inverted : Bool) → Follows units cell.now input.now inverted → ⊥) (Follows units cell.now input.now) }
+    ensures { MatchOption result ((inverted : Bool) → Follows units cell.now input.now inverted → ⊥)
+        (Follows units cell.now input.now) }
 {
     let output = output_group(cell)?;
     if !is_timed(units, input, &output) {
@@ -161,7 +164,8 @@ fn rep_of(
 ) -> Option<Rep>
     requires units { AreUnits units }
     requires area { area ≡ area_of cell.now }
-    ensures { MatchOption result ((rep : RepSpec) → IsRep units cell.now input.now output.now rep → ⊥) (IsRep units cell.now input.now output.now) }
+    ensures { MatchOption result ((rep : RepSpec) → IsRep units cell.now input.now output.now rep → ⊥)
+        (IsRep units cell.now input.now output.now) }
 {
     let inverts = follows(units, cell, input.name.as_bytes())?;
     let cin = input.cap?;
@@ -187,7 +191,8 @@ fn parts_of<'a>(
 ) -> Option<(&'a PinInfo, &'a PinInfo, Rep)>
     requires units { AreUnits units }
     requires info { info.now ≡ cell_info units cell.now }
-    ensures { MatchOption result (IsNoRepeater units cell.now) (λ parts. ArePartsOf units cell.now parts.0.now parts.1.now parts.2) }
+    ensures { MatchOption result (IsNoRepeater units cell.now) (λ parts.
+        ArePartsOf units cell.now parts.0.now parts.1.now parts.2) }
 {
     if !is_usable(cell) {
         return None;

@@ -40,8 +40,10 @@ fn push_repeater(
     repeater: Repeater,
     found: &mut Vec<Repeater>,
 ) -> Result<(), NoRepeaters>
-    ensures found { OnOk result ((found.new.items ≡ found.old.items ++ repeater ∷ []) × (length found.old.items < 256)) }
-    ensures many { (place : ℕ) → result ≡ Err (TooMany place) → (256 ≤ length found.old.items) × (place ≡ cell.now.head.name) }
+    ensures found { OnOk result ((found.new.items ≡ found.old.items ++ repeater ∷ [])
+        × (length found.old.items < 256)) }
+    ensures many { (place : ℕ) → result ≡ Err (TooMany place)
+        → (256 ≤ length found.old.items) × (place ≡ cell.now.head.name) }
 {
     if found.len() >= MOST {
         return Err(NoRepeaters::TooMany(cell.head().name as usize));

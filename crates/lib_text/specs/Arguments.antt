@@ -15,7 +15,8 @@ is_comma quoting b = not (is_quoted quoting) && (b == 44)
 unfoldable pub parts_of : Quoting → List ℕ → List (List ℕ)
 parts_of quoting [] = [] ∷ []
 parts_of quoting (b ∷ bs) =
-    if is_comma quoting b then [] ∷ parts_of (quoting_after quoting b) bs else onto_first b (parts_of (quoting_after quoting b) bs)
+    if is_comma quoting b then []
+    ∷ parts_of (quoting_after quoting b) bs else onto_first b (parts_of (quoting_after quoting b) bs)
 
 -- a text without the blanks at its end
 abbrev pub without_end : List ℕ → List ℕ

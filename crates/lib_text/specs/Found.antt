@@ -7,7 +7,8 @@ use Rattle.lib_text.specs.Tokens.{content_at, content_length, tokens_from}
 
 -- the tokens of a text from a place on, the first of them of this content
 abbrev pub tokens_next : List ℕ → Option Content → ℕ → List Token
-tokens_next text content at = content_at content at (drop at text) ++ tokens_from (content_length content (drop at text)) at (drop at text)
+tokens_next text content at =
+    content_at content at (drop at text) ++ tokens_from (content_length content (drop at text)) at (drop at text)
 
 -- a content may be empty: it counts by itself
 abbrev pub waiting : Option Content → ℕ

@@ -131,9 +131,11 @@ is_no_pin k = is_word k && not (is_pin k)
 -- or not. A cell of the library has one name, and a pin of a cell one or more.
 abbrev pub rules : Name → Part Name Kind
 rules in_library =
-    any (one is_semicolon ∷ simple ∷ complex ∷ group is_cell is_single in_cell 1 ∷ group is_no_cell is_list (inside 2) 1 ∷ [])
+    any (one is_semicolon ∷ simple ∷ complex ∷ group is_cell is_single in_cell 1
+    ∷ group is_no_cell is_list (inside 2) 1 ∷ [])
 rules in_cell =
-    any (one is_semicolon ∷ simple ∷ complex ∷ group is_pin is_names (inside 3) 2 ∷ group is_no_pin is_list (inside 3) 2 ∷ [])
+    any (one is_semicolon ∷ simple ∷ complex ∷ group is_pin is_names (inside 3) 2
+    ∷ group is_no_pin is_list (inside 3) 2 ∷ [])
 rules (inside depth) =
     any (one is_semicolon ∷ simple ∷ complex ∷ group is_word is_list (inside (suc depth)) depth ∷ [])
 

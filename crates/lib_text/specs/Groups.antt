@@ -29,7 +29,8 @@ is_form _ _ = false
 
 -- a statement stands in a group and in none within it, and has this form and this name
 abbrev pub is_in : Group → Form → List ℕ → Statement → Bool
-is_in group form name s = (s.group == group.head.name) && (is_form form s.form && bytes_eq (word_at group.text s.name) name)
+is_in group form name s =
+    (s.group == group.head.name) && (is_form form s.form && bytes_eq (word_at group.text s.name) name)
 
 -- the first simple attribute of a group with this name: of one that is given twice the first counts
 abbrev pub attribute : Group → List ℕ → Option Statement
@@ -64,7 +65,8 @@ group_of text head after = record { text = text; head = head; body = inside head
 unfoldable pub groups_from : Group → List ℕ → List Statement → List Group
 groups_from group name [] = []
 groups_from group name (s ∷ after) =
-    if is_in group OfGroup name s then group_of group.text s after ∷ groups_from group name after else groups_from group name after
+    if is_in group OfGroup name s then group_of group.text s after
+    ∷ groups_from group name after else groups_from group name after
 
 -- the groups with this name that stand in a group and in none within it, in order
 abbrev pub groups_in : Group → List ℕ → List Group

@@ -7,7 +7,8 @@ use Rattle.lib_text.specs.declared.statement.Statement.{Statement}
 use Rattle.lib_text.specs.Statements.{added, top, open_after}
 
 -- a token was taken, before these
-pub record TakesToken (t : Token) (ts : List Token) (name : ℕ) (groups groups' : List ℕ) (old new : List Statement) : Type 0 where
+pub record TakesToken (t : Token) (ts : List Token) (name : ℕ) (groups groups' : List ℕ)
+    (old new : List Statement) : Type 0 where
   pub grown : new ≡ old ++ added t.kind (top (reverse groups)) name t ts
   pub opened : reverse groups' ≡ open_after t.kind (reverse groups) name
   pub most : length new ≤ length old + 1

@@ -60,7 +60,8 @@ rest_of head d cell = ends (depth_of head d) (cell_of head cell)
 
 -- the statements of a group in its braces, and what comes after it
 abbrev pub braces_of : Head → ℕ → Bool → List (Part Name Kind)
-braces_of head d cell = one (is_begin_in (depth_of head d)) ∷ many (named (inner_of head d)) ∷ one is_end ∷ rest_of head d cell
+braces_of head d cell =
+    one (is_begin_in (depth_of head d)) ∷ many (named (inner_of head d)) ∷ one is_end ∷ rest_of head d cell
 
 -- the ways on from each place
 abbrev pub ways_at : At → ℕ → Bool → List (List (Part Name Kind))
@@ -74,7 +75,9 @@ ways_at (Named head) d cell =
     ∷ []
 ways_at AtValue d cell = (one is_value ∷ ends d cell) ∷ []
 ways_at (Opened OfLibrary) d cell = (one is_list ∷ one is_close ∷ braces_of OfLibrary d cell) ∷ []
-ways_at (Opened head) d cell = (one is_list ∷ one is_close ∷ rest_of head d cell) ∷ (one (names_of head) ∷ one is_close ∷ braces_of head d cell) ∷ []
+ways_at (Opened head) d cell =
+    (one is_list ∷ one is_close ∷ rest_of head d cell)
+    ∷ (one (names_of head) ∷ one is_close ∷ braces_of head d cell) ∷ []
 ways_at (Listed OfLibrary) d cell = (one is_close ∷ braces_of OfLibrary d cell) ∷ []
 ways_at (Listed head) d cell = (one is_close ∷ rest_of head d cell) ∷ (one is_close ∷ braces_of head d cell) ∷ []
 ways_at Passed d cell = (one is_close ∷ ends d cell) ∷ []

@@ -60,11 +60,14 @@ indent bs = prefix_len is_blank bs
 abbrev pub value_at : ℕ → List ℕ → List Token
 value_at at bs =
     if nat_lt (indent bs) (length bs)
-    then token (kind_of OfValue (drop (indent bs) bs)) (at + indent bs) (at + indent bs + end_of OfValue Outside (drop (indent bs) bs)) ∷ [] else []
+    then token (kind_of OfValue (drop (indent bs) bs)) (at + indent bs)
+    (at + indent bs + end_of OfValue Outside (drop (indent bs) bs)) ∷ [] else []
 
 -- the list that begins at a place; none where it does not end
 abbrev pub list_at : ℕ → List ℕ → List Token
-list_at at bs = if nat_lt (end_of OfList Outside bs) (length bs) then token (kind_of OfList bs) at (at + end_of OfList Outside bs) ∷ [] else []
+list_at at bs =
+    if nat_lt (end_of OfList Outside bs) (length bs) then token (kind_of OfList bs) at (at + end_of OfList Outside bs)
+    ∷ [] else []
 
 -- what a token that is this byte has after it
 abbrev pub content_after : ℕ → Option Content
@@ -91,7 +94,8 @@ begun at b bs =
 
 -- how many bytes after it they take
 abbrev pub begun_length : ℕ → List ℕ → ℕ
-begun_length b bs = if is_space b then 0 else (if is_letter b then prefix_len is_word_byte bs else content_length (content_after b) bs)
+begun_length b bs =
+    if is_space b then 0 else (if is_letter b then prefix_len is_word_byte bs else content_length (content_after b) bs)
 
 -- The tokens from a place on, where the first bytes belong to a token that began before: each other byte is a blank or
 -- a line's end, or begins a token.

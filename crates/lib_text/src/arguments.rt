@@ -215,7 +215,8 @@ impl<'a> Iterator for Arguments<'a> {
 
 /// The arguments of a list that has two.
 pub fn two_arguments(list: &[u8]) -> Option<(&[u8], &[u8])>
-    ensures { MatchOption result ((length (arguments_of list.now) == 2) ≡ false) (λ two. arguments_of list.now ≡ two.0.now ∷ two.1.now ∷ []) }
+    ensures { MatchOption result ((length (arguments_of list.now) == 2) ≡ false) (λ two.
+        arguments_of list.now ≡ two.0.now ∷ two.1.now ∷ []) }
 {
     let end = argument_end(list, 0);
     if end == list.len() {

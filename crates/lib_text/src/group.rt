@@ -168,7 +168,8 @@ impl<'a> Group<'a> {
 
     /// The value of the first simple attribute with this name.
     pub fn value_in(&self, name: &[u8]) -> Option<&'a [u8]>
-        ensures { MatchOption result (value_in self.now name.now ≡ None) (λ value. value_in self.now name.now ≡ Some value.now) }
+        ensures { MatchOption result (value_in self.now name.now ≡ None) (λ value.
+            value_in self.now name.now ≡ Some value.now) }
     {
         let statement = self.attribute(name)?;
         Some(self.value(statement))
@@ -238,7 +239,8 @@ fn first_group<'a>(
     name: &[u8],
     rest: &'a [Statement],
 ) -> Option<(Group<'a>, &'a [Statement])>
-    ensures { MatchOption result (groups_from owner.now name.now rest.now ≡ []) (λ found. IsFirstGroup owner.now name.now rest.now (found.0, found.1.now)) }
+    ensures { MatchOption result (groups_from owner.now name.now rest.now ≡ []) (λ found.
+        IsFirstGroup owner.now name.now rest.now (found.0, found.1.now)) }
 {
     let mut left = rest;
     'statement: while let Some((statement, after)) = left.split_first() {

@@ -111,7 +111,8 @@ fn take_token(
 ) -> Result<(), Memory>
     requires within { found.at ≤ length text.now }
     requires places { (found.token.from < 2 ^ 32) × (found.token.to < 2 ^ 32) }
-    ensures { IfOk result (λ _. TakesFound text.now found name (groups.old.items, groups.new.items) (statements.old.items, statements.new.items)) }
+    ensures { IfOk result (λ _. TakesFound text.now found name (groups.old.items, groups.new.items)
+        (statements.old.items, statements.new.items)) }
 {
     let token = found.token;
     let group = top(groups);

@@ -60,18 +60,23 @@ best_verdict d name net best = record {
 -- a best placement of the net is reported, without a cell where one without a cell is best; or no placement is good; or
 -- the net is refused
 pub data IsBestSaid (d : Design) (name : List ℕ) (said : Verdict) : Type 0 where
-  told_best : (net : PosedNet) → IsPosedNet d name net → (best : Best) → IsFound net.problem best → said ≡ best_verdict d name net best → IsBestSaid d name said
-  told_none : (net : PosedNet) → IsPosedNet d name net → HasNoGood net.problem → said ≡ bare_verdict NoneGood (none_line name) → IsBestSaid d name said
-  told_refusal : (refusal : Refusal) → IsFirstRefusal d name refusal → said ≡ bare_verdict Refused (refusal_line name refusal) → IsBestSaid d name said
+  told_best : (net : PosedNet) → IsPosedNet d name net → (best : Best) → IsFound net.problem best
+      → said ≡ best_verdict d name net best → IsBestSaid d name said
+  told_none : (net : PosedNet) → IsPosedNet d name net → HasNoGood net.problem
+      → said ≡ bare_verdict NoneGood (none_line name) → IsBestSaid d name said
+  told_refusal : (refusal : Refusal) → IsFirstRefusal d name refusal
+      → said ≡ bare_verdict Refused (refusal_line name refusal) → IsBestSaid d name said
 
 -- these are the files in which the cells of placements are put into nets, one after another
-pub record AreChanged (read : Files) (design : Design) (prefix : List ℕ) (nets : List PlacedNet) (files : Files) : Type 0 where
+pub record AreChanged (read : Files) (design : Design) (prefix : List ℕ) (nets : List PlacedNet)
+    (files : Files) : Type 0 where
   pub changes : Changes
   pub put : HavePut (nothing design prefix) nets changes
   pub made : AreTexts changes read.spef read.verilog files.spef files.verilog
 
 -- where no net gets a cell, the files are as they were read
-pub record AreFilesOf (read : Files) (design : Design) (prefix : List ℕ) (nets : List PlacedNet) (files : Files) : Type 0 where
+pub record AreFilesOf (read : Files) (design : Design) (prefix : List ℕ) (nets : List PlacedNet)
+    (files : Files) : Type 0 where
   pub bare : nets ≡ [] → files ≡ read
   pub changed : (nets ≡ [] → ⊥) → AreChanged read design prefix nets files
 
@@ -92,11 +97,13 @@ pub record Certifies (d : Design) (name : List ℕ) (kind : AnswerKind) (said te
 
 -- which certificate is written beside what is said: that of the one net that is asked for, where a certificate is asked
 -- for and the net is not refused; else none
-pub data IsCertFor (d : Design) (asked : Asked) (kind : AnswerKind) (said : List ℕ) (cert : Option (List ℕ)) : Type 0 where
+pub data IsCertFor (d : Design) (asked : Asked) (kind : AnswerKind) (said : List ℕ)
+    (cert : Option (List ℕ)) : Type 0 where
   not_asked : asked.certified ≡ false → cert ≡ None → IsCertFor d asked kind said cert
   of_all : asked.net ≡ None → cert ≡ None → IsCertFor d asked kind said cert
   of_refused : kind ≡ Refused → cert ≡ None → IsCertFor d asked kind said cert
-  of_one : asked.certified ≡ true → (name text : List ℕ) → asked.net ≡ Some name → cert ≡ Some text → Certifies d name kind said text → IsCertFor d asked kind said cert
+  of_one : asked.certified ≡ true → (name text : List ℕ) → asked.net ≡ Some name → cert ≡ Some text
+      → Certifies d name kind said text → IsCertFor d asked kind said cert
 
 -- a certificate is written last, where there is one
 abbrev pub cert_files : Option (List ℕ) → List Written

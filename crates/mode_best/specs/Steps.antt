@@ -44,10 +44,12 @@ abbrev pub cert_in : Option (Vec ℕ Global) → Option (List ℕ)
 cert_in cert = option_map (λ text. text.items) cert
 
 -- a certificate of a net of which this is said, where one is asked for and the net is not refused
-pub data IsCertOf (d : Design) (name : List ℕ) (certified : Bool) (said : Verdict) (cert : Option (List ℕ)) : Type 0 where
+pub data IsCertOf (d : Design) (name : List ℕ) (certified : Bool) (said : Verdict)
+    (cert : Option (List ℕ)) : Type 0 where
   unasked : certified ≡ false → cert ≡ None → IsCertOf d name certified said cert
   of_refused : said.kind ≡ Refused → cert ≡ None → IsCertOf d name certified said cert
-  of_found : certified ≡ true → (text : List ℕ) → cert ≡ Some text → Certifies d name said.kind said.text text → IsCertOf d name certified said cert
+  of_found : certified ≡ true → (text : List ℕ) → cert ≡ Some text → Certifies d name said.kind said.text text
+      → IsCertOf d name certified said cert
 
 -- one net more is judged, with a certificate where one is asked for
 pub record JudgesOne (d : Design) (name : List ℕ) (certified : Bool) (old : Judging) (made : Certified) : Type 0 where
@@ -69,7 +71,8 @@ pub record FitIn (d : Design) (patches : Patches) : Type 0 where
 
 -- what comes of these texts
 abbrev pub files_with : Patches → Files → Files
-files_with patches read = record { verilog = patched read.verilog patches.verilog; spef = patched read.spef patches.spef }
+files_with patches read =
+    record { verilog = patched read.verilog patches.verilog; spef = patched read.spef patches.spef }
 
 -- of each text of the design it makes one in which these nets have their cells
 pub record ArePatchesFor (d : Design) (prefix : List ℕ) (nets : List PlacedNet) (patches : Patches) : Type 0 where
@@ -95,7 +98,8 @@ pub record AreFinished (all : Certified) (found : Judged) : Type 0 where
 
 -- what is said where these are the texts of the design
 abbrev pub said_with : Judged → Files → Said
-said_with found read = record { text = found.text.items; files = written_files (files_with found.patches read) (cert_in found.cert) }
+said_with found read =
+    record { text = found.text.items; files = written_files (files_with found.patches read) (cert_in found.cert) }
 
 -- the nets that are asked for are judged, whatever the texts of the design are
 pub record IsJudged (d : Design) (asked : Asked) (found : Judged) : Type 0 where

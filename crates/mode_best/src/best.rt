@@ -110,7 +110,8 @@ fn judge(
     requires repeaters { All IsNamed design.now.library.repeaters }
     requires names { AreFitNames design.now }
     requires read { (verilog : List ℕ) × DenotesModule verilog design.now.netlist }
-    ensures { Judges design.now (record { net = named net.entry; prefix = prefix.now; certified = is_certified }) result }
+    ensures { Judges design.now
+        (record { net = named net.entry; prefix = prefix.now; certified = is_certified }) result }
 {
     match Changes::new(alloc, design, prefix) {
         Ok(changes) => {
@@ -128,7 +129,8 @@ fn new_files(
     spef: Patched,
     cert: Option<Vec<u8>>,
 ) -> Result<Vec<NewFile>, Memory>
-    ensures { IfOk result (λ files. map written_by files.items ≡ written_files (record { verilog = verilog; spef = spef }) (cert_in cert)) }
+    ensures { IfOk result (λ files. map written_by files.items
+        ≡ written_files (record { verilog = verilog; spef = spef }) (cert_in cert)) }
 {
     let mut files = Vec::new(alloc);
     files.push(NewFile {
@@ -155,7 +157,8 @@ impl Judged {
         requires verilog { Rise 0 (length verilog.items) self.patches.verilog }
         requires spef { Rise 0 (length spef.items) self.patches.spef }
         ensures kind { IfOk result (λ answer. answer.kind ≡ self.kind) }
-        ensures said { IfOk result (λ answer. said_by answer ≡ said_with self (record { verilog = verilog.items; spef = spef.items })) }
+        ensures said { IfOk result (λ answer. said_by answer
+            ≡ said_with self (record { verilog = verilog.items; spef = spef.items })) }
     {
         let Judged {
             kind,
@@ -185,7 +188,9 @@ pub fn best_for(
     is_certified: bool,
 ) -> Result<Answer, NoAnswer>
     requires prefix { AllPass is_solid prefix.now }
-    ensures { AnswersBy (IsBestAnswer (texts_in texts) (record { net = named net.entry; prefix = prefix.now; certified = is_certified }))
+    ensures { AnswersBy
+        (IsBestAnswer (texts_in texts)
+        (record { net = named net.entry; prefix = prefix.now; certified = is_certified }))
         (IsDesignFault (texts_in texts)) (IsTaken (texts_in texts) prefix.now) result }
 {
     let DesignTexts {

@@ -21,9 +21,11 @@ kind_judged false = Invalid
 
 -- a text is judged as a certificate of the net of this name; or the net is refused
 pub data IsCheckSaid (d : Design) (name cert : List ℕ) (said : Verdict) : Type 0 where
-  told_judgement : (net : PosedNet) → IsPosedNet d name net → (valid : Bool) (line : List ℕ) → IsJudged net.problem (names_in d name net) cert valid line
+  told_judgement : (net : PosedNet) → IsPosedNet d name net → (valid : Bool) (line : List ℕ)
+      → IsJudged net.problem (names_in d name net) cert valid line
       → said ≡ bare_verdict (kind_judged valid) line → IsCheckSaid d name cert said
-  told_refusal : (refusal : Refusal) → IsFirstRefusal d name refusal → said ≡ bare_verdict Refused (refusal_line name refusal) → IsCheckSaid d name cert said
+  told_refusal : (refusal : Refusal) → IsFirstRefusal d name refusal
+      → said ≡ bare_verdict Refused (refusal_line name refusal) → IsCheckSaid d name cert said
 
 -- the four texts are a design, and this is said of a certificate of the net that is asked for
 pub record IsCheckAnswer (texts : Texts) (cert name : List ℕ) (kind : AnswerKind) (said : Said) : Type 0 where

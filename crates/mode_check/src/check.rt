@@ -65,7 +65,8 @@ pub fn check_for(
     cert: InputText,
     name: &[u8],
 ) -> Result<Answer, NoAnswer>
-    ensures { AnswersBy (IsCheckAnswer (texts_in texts) cert.bytes.items name.now) (IsDesignFault (texts_in texts)) NoneTaken result }
+    ensures { AnswersBy (IsCheckAnswer (texts_in texts) cert.bytes.items name.now)
+        (IsDesignFault (texts_in texts)) NoneTaken result }
 {
     let design = design_in(alloc, texts)?;
     Ok(check_net(alloc, &design, name, &cert.bytes)?)

@@ -32,15 +32,20 @@ HasNoneWithin p cap = (cells : List (Option ℕ)) → IsGood p cells → IsWithi
 -- the points of the net's frontier within the cap are reported, each with a placement; or no good placement is within
 -- the cap; or the net is refused
 pub data IsFrontSaid (d : Design) (cap : Option ℕ) (name : List ℕ) (said : Verdict) : Type 0 where
-  told_front : (net : PosedNet) → IsPosedNet d name net → (points : List Point) → IsFrontierOf net.problem cap points → points ≢ []
-      → said ≡ bare_verdict Report (front_report name (cells_of d.library.repeaters) (problem_in net) points) → IsFrontSaid d cap name said
-  told_no_point : (net : PosedNet) → IsPosedNet d name net → HasNoneWithin net.problem cap → said ≡ bare_verdict NoneGood (none_line name)
+  told_front : (net : PosedNet) → IsPosedNet d name net → (points : List Point)
+      → IsFrontierOf net.problem cap points → points ≢ []
+      → said ≡ bare_verdict Report (front_report name (cells_of d.library.repeaters) (problem_in net) points)
       → IsFrontSaid d cap name said
-  told_refusal : (refusal : Refusal) → IsFirstRefusal d name refusal → said ≡ bare_verdict Refused (refusal_line name refusal)
+  told_no_point : (net : PosedNet) → IsPosedNet d name net → HasNoneWithin net.problem cap
+      → said ≡ bare_verdict NoneGood (none_line name)
+      → IsFrontSaid d cap name said
+  told_refusal : (refusal : Refusal) → IsFirstRefusal d name refusal
+      → said ≡ bare_verdict Refused (refusal_line name refusal)
       → IsFrontSaid d cap name said
 
 -- the four texts are a design, and this is said of the nets that are asked for
-pub record IsFrontAnswer (texts : Texts) (net : Option (List ℕ)) (cap : Option ℕ) (kind : AnswerKind) (said : Said) : Type 0 where
+pub record IsFrontAnswer (texts : Texts) (net : Option (List ℕ)) (cap : Option ℕ) (kind : AnswerKind)
+    (said : Said) : Type 0 where
   pub design : Design
   pub design_of : IsDesign texts design
   pub nets : AreSaid (IsFrontSaid design cap) (nets_for design net) kind said.text

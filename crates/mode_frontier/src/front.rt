@@ -111,7 +111,8 @@ pub fn front_for(
     net: Option<&[u8]>,
     cap: Option<u64>,
 ) -> Result<Answer, NoAnswer>
-    ensures { AnswersBy (IsFrontAnswer (texts_in texts) (named net.entry) cap) (IsDesignFault (texts_in texts)) NoneTaken result }
+    ensures { AnswersBy (IsFrontAnswer (texts_in texts) (named net.entry) cap)
+        (IsDesignFault (texts_in texts)) NoneTaken result }
 {
     let design = design_in(alloc, texts)?;
     Ok(front_nets(alloc, &design, net, cap)?)

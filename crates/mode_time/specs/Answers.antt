@@ -19,13 +19,16 @@ nets_to_time d prefix None = filter (λ name. not (starts_with ◌==◌ name pre
 
 -- the net re-times through the cells that were put in, and its slack is reported; or the walk from it is refused
 pub data IsTimeSaid (d : Design) (prefix name : List ℕ) (said : Verdict) : Type 0 where
-  told_slack : (timed : Timed) → Retimes 17 d prefix name timed → said ≡ bare_verdict Report (slack_line name timed) → IsTimeSaid d prefix name said
-  told_stop : (refusal : Refusal) → IsFirstOnWay d prefix name refusal → said ≡ bare_verdict Refused (refusal_line name refusal)
+  told_slack : (timed : Timed) → Retimes 17 d prefix name timed → said ≡ bare_verdict Report (slack_line name timed)
+      → IsTimeSaid d prefix name said
+  told_stop : (refusal : Refusal) → IsFirstOnWay d prefix name refusal
+      → said ≡ bare_verdict Refused (refusal_line name refusal)
       → IsTimeSaid d prefix name said
 
 -- the four texts are a design, and this is said of the nets that are asked for, through cells whose names begin with
 -- the prefix
-pub record IsTimeAnswer (texts : Texts) (net : Option (List ℕ)) (prefix : List ℕ) (kind : AnswerKind) (said : Said) : Type 0 where
+pub record IsTimeAnswer (texts : Texts) (net : Option (List ℕ)) (prefix : List ℕ) (kind : AnswerKind)
+    (said : Said) : Type 0 where
   pub design : Design
   pub design_of : IsDesign texts design
   pub nets : AreSaid (IsTimeSaid design prefix) (nets_to_time design prefix net) kind said.text

@@ -26,7 +26,8 @@ fn time_net(
     prefix: &[u8],
     to: &mut Vec<u8>,
 ) -> Result<AnswerKind, Memory>
-    ensures { IfOk result (λ kind. SaysOfNet (IsTimeSaid design.now prefix.now name.now) kind to.old.items to.new.items) }
+    ensures { IfOk result (λ kind.
+        SaysOfNet (IsTimeSaid design.now prefix.now name.now) kind to.old.items to.new.items) }
 {
     let net = Name::from_bytes(alloc, name)?;
     match retime(alloc, design, &net, prefix) {
@@ -50,7 +51,8 @@ fn time_all(
     to: &mut Vec<u8>,
 ) -> Result<AnswerKind, Memory>
     requires { to.old.items ≡ [] }
-    ensures { IfOk result (λ kind. AreSaid (IsTimeSaid design.now prefix.now) (nets_to_time design.now prefix.now None) kind to.new.items) }
+    ensures { IfOk result (λ kind.
+        AreSaid (IsTimeSaid design.now prefix.now) (nets_to_time design.now prefix.now None) kind to.new.items) }
 {
     let mut kind = AnswerKind::Report;
     'net: for at in 0..design.net_count() {
@@ -88,7 +90,8 @@ pub fn time_for(
     net: Option<&[u8]>,
     prefix: &[u8],
 ) -> Result<Answer, NoAnswer>
-    ensures { AnswersBy (IsTimeAnswer (texts_in texts) (named net.entry) prefix.now) (IsDesignFault (texts_in texts)) NoneTaken result }
+    ensures { AnswersBy (IsTimeAnswer (texts_in texts) (named net.entry) prefix.now)
+        (IsDesignFault (texts_in texts)) NoneTaken result }
 {
     let design = design_in(alloc, texts)?;
     Ok(time_nets(alloc, &design, net, prefix)?)

@@ -78,7 +78,8 @@ impl Chains {
     pub fn push(&mut self, bucket: usize) -> Result<(), Memory>
         requires bucket { bucket < length self.old.lasts.items }
         requires few { length self.old.befores.items < 2 ^ 32 - 1 }
-        ensures last { (rows : List ℕ) → AreChains self.old rows → OnOk result (AreChains self.new (rows ++ bucket ∷ [])) }
+        ensures last { (rows : List ℕ) → AreChains self.old rows
+            → OnOk result (AreChains self.new (rows ++ bucket ∷ [])) }
         ensures unchanged { (rows : List ℕ) → AreChains self.old rows → OnErr result (AreChains self.new rows) }
         ensures buckets { length self.new.lasts.items ≡ length self.old.lasts.items }
         ensures full { OnErr result (vec_capacity self.old.befores ≤ vec_len self.old.befores) }

@@ -61,7 +61,8 @@ impl HashChains {
 
     /// The same rows in the same buckets once more. Answers `Memory` where there is no room.
     pub(crate) fn copy(&self, alloc: Global) -> Result<HashChains, Memory>
-        ensures rows { (hashes : List ℕ) → AreHashChains self.now hashes → IfOk result (λ chains. AreHashChains chains hashes) }
+        ensures rows { (hashes : List ℕ) → AreHashChains self.now hashes
+            → IfOk result (λ chains. AreHashChains chains hashes) }
         ensures buckets { IfOk result (λ chains. length chains.lasts.items ≡ length self.now.lasts.items) }
     {
         let lasts = Vec::from_slice(alloc, &self.lasts)?;
@@ -79,7 +80,8 @@ impl HashChains {
     /// The link to the last row in the bucket of a hash.
     pub(crate) fn last(&self, hash: u32) -> Link
         requires { 0 < length self.now.lasts.items }
-        ensures { (hashes : List ℕ) → AreHashChains self.now hashes → LeadsTo (length self.now.lasts.items) hashes (length hashes) hash result }
+        ensures { (hashes : List ℕ) → AreHashChains self.now hashes
+            → LeadsTo (length self.now.lasts.items) hashes (length hashes) hash result }
     {
         self.lasts[bucket_of(self.lasts.len(), hash)]
     }
@@ -87,7 +89,8 @@ impl HashChains {
     /// The link to the row before a row in its bucket.
     pub(crate) fn before(&self, row: usize) -> Link
         requires { row < length self.now.befores.items }
-        ensures { (hashes : List ℕ) → AreHashChains self.now hashes → LeadsTo (length self.now.lasts.items) hashes row (slice_index hashes row) result }
+        ensures { (hashes : List ℕ) → AreHashChains self.now hashes
+            → LeadsTo (length self.now.lasts.items) hashes row (slice_index hashes row) result }
     {
         self.befores[row]
     }
@@ -108,8 +111,10 @@ impl HashChains {
     pub(crate) fn push(&mut self, hash: u32) -> Result<(), Memory>
         requires some { 0 < length self.old.lasts.items }
         requires few { length self.old.befores.items < 2 ^ 32 - 1 }
-        ensures last { (hashes : List ℕ) → AreHashChains self.old hashes → OnOk result (AreHashChains self.new (hashes ++ hash ∷ [])) }
-        ensures unchanged { (hashes : List ℕ) → AreHashChains self.old hashes → OnErr result (AreHashChains self.new hashes) }
+        ensures last { (hashes : List ℕ) → AreHashChains self.old hashes
+            → OnOk result (AreHashChains self.new (hashes ++ hash ∷ [])) }
+        ensures unchanged { (hashes : List ℕ) → AreHashChains self.old hashes
+            → OnErr result (AreHashChains self.new hashes) }
         ensures buckets { length self.new.lasts.items ≡ length self.old.lasts.items }
         ensures full { OnErr result (vec_capacity self.old.befores ≤ vec_len self.old.befores) }
     {

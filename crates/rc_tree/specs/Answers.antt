@@ -34,7 +34,8 @@ pub record AreWires (edges : List (ℕ × ℕ × ℕ)) (tree : List Node) (order
   pub breadth_first : (i k : ℕ) → 0 < i → i < k → k < length tree → ComesBefore tree wires i k
 
 -- tree node i is the node order[i] of the net
-pub record IsTreeOf (n root : ℕ) (caps : List (ℕ × ℕ)) (edges : List (ℕ × ℕ × ℕ)) (tree : List Node) (order : List ℕ) : Type 0 where
+pub record IsTreeOf (n root : ℕ) (caps : List (ℕ × ℕ)) (edges : List (ℕ × ℕ × ℕ)) (tree : List Node)
+    (order : List ℕ) : Type 0 where
   pub count : length tree ≡ n
   pub a_tree : IsTree tree
   pub lists : ListsAll n order

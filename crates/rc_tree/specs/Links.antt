@@ -19,8 +19,10 @@ next_at next j = slice_index_or next j (record { at_from = 0; at_to = 0 })
 -- first has each node's first resistor from low on, next what follows each resistor from low on at its two ends
 pub record AreLinksFrom (low n : ℕ) (edges : List (ℕ × ℕ × ℕ)) (first : List ℕ) (next : List Next) : Type 0 where
   pub firsts : (v : ℕ) → v < n → IsNextAt edges v low (slice_index first v)
-  pub after_from : (j : ℕ) → low ≤ j → j < length edges → IsNextAt edges (edge_at edges j).0 (j + 1) (next_at next j).at_from
-  pub after_to : (j : ℕ) → low ≤ j → j < length edges → IsNextAt edges (edge_at edges j).1 (j + 1) (next_at next j).at_to
+  pub after_from : (j : ℕ) → low ≤ j → j < length edges
+      → IsNextAt edges (edge_at edges j).0 (j + 1) (next_at next j).at_from
+  pub after_to : (j : ℕ) → low ≤ j → j < length edges
+      → IsNextAt edges (edge_at edges j).1 (j + 1) (next_at next j).at_to
 
 -- one first resistor for each node, and what follows each resistor
 pub record AreLinks (edges : List (ℕ × ℕ × ℕ)) (first : List ℕ) (next : List Next) : Type 0 where

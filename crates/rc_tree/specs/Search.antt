@@ -28,7 +28,8 @@ abbrev pub places_with : Reached → Place → List Place
 places_with old place = with_place (slice_index old.ranks.items place.node) old.places.items place
 
 abbrev pub ranks_with : Reached → Place → List ℕ
-ranks_with old place = with_rank (slice_index old.ranks.items place.node) old.ranks.items place.node (length old.places.items + 1)
+ranks_with old place =
+    with_rank (slice_index old.ranks.items place.node) old.ranks.items place.node (length old.places.items + 1)
 
 -- all nodes have a rank, or this is the first that has none
 abbrev pub AreAllSeen : List ℕ → Type 0
@@ -71,16 +72,19 @@ pub record AreSeenBy (edges : List (ℕ × ℕ × ℕ)) (ranks : List ℕ) (v li
   pub each : (j w : ℕ) → j < limit → j < length edges → Joins (edge_at edges j) v w → IsSeen ranks w
 
 -- the search has scanned the places before p, and of p's resistors those before the number limit
-pub record IsScan (n root : ℕ) (edges : List (ℕ × ℕ × ℕ)) (places : List Place) (ranks : List ℕ) (p limit : ℕ) : Type 0 where
+pub record IsScan (n root : ℕ) (edges : List (ℕ × ℕ × ℕ)) (places : List Place) (ranks : List ℕ)
+    (p limit : ℕ) : Type 0 where
   pub reached : AreReached n root edges places
   pub marks : AreSeen n places ranks
-  pub latest : (i : ℕ) → 0 < i → i < length places → ((place_at places i).parent < p) ⊎ (((place_at places i).parent ≡ p) × ((place_at places i).edge < limit))
+  pub latest : (i : ℕ) → 0 < i → i < length places
+      → ((place_at places i).parent < p) ⊎ (((place_at places i).parent ≡ p) × ((place_at places i).edge < limit))
   pub before : (i : ℕ) → i < p → AreSeenBy edges ranks (place_at places i).node (length edges)
   pub now : AreSeenBy edges ranks (place_at places p).node limit
 
 -- the places before p are scanned, in the net that the search has begun
 abbrev pub HasScanned : Reached → List (ℕ × ℕ × ℕ) → Reached → ℕ → Type 0
-HasScanned begun edges reached p = IsScan (length begun.ranks.items) (root_of begun.places.items) edges reached.places.items reached.ranks.items p 0
+HasScanned begun edges reached p =
+    IsScan (length begun.ranks.items) (root_of begun.places.items) edges reached.places.items reached.ranks.items p 0
 
 -- the whole search: it saw just the nodes that are joined to the root
 pub record IsSearch (n root : ℕ) (edges : List (ℕ × ℕ × ℕ)) (places : List Place) (ranks : List ℕ) : Type 0 where

@@ -15,7 +15,8 @@ pub(crate) fn add_caps(caps: &[(u32, u64)], reached: &Reached, nodes: &mut [Node
     requires places { HavePlaces caps.now reached.now.places.items reached.now.ranks.items }
     requires each { length nodes.old ≡ length reached.now.places.items }
     requires none { (i : ℕ) → i < length nodes.old → capacitance nodes.old i ≡ 0 }
-    ensures { (i : ℕ) → i < length nodes.old → node_at nodes.new i ≡ with_caps caps.now (place_at reached.now.places.items i) (node_at nodes.old i) }
+    ensures { (i : ℕ) → i < length nodes.old
+        → node_at nodes.new i ≡ with_caps caps.now (place_at reached.now.places.items i) (node_at nodes.old i) }
 {
     'caps: for k in 0..caps.len() {
         let (node, c) = caps[k];

@@ -38,7 +38,8 @@ pub fn build(
     edges: &[(u32, u32, u64)],
 ) -> Result<Built, TreeFault>
     requires { IsNet n root caps.now edges.now }
-    ensures { MatchResult result (λ built. IsTreeOf n root caps.now edges.now built.tree.nodes built.order) (λ fault. IsFaultOf n edges.now root fault) }
+    ensures { MatchResult result (λ built. IsTreeOf n root caps.now edges.now built.tree.nodes built.order) (λ fault.
+        IsFaultOf n edges.now root fault) }
 {
     let links = link(alloc, n, edges)?;
     let reached = search(alloc, n, root, edges, &links)?;
@@ -63,7 +64,8 @@ fn tree_of(
     requires values { (k : ℕ) → k < length caps.now → (cap_at caps.now k).1 ≤ 10 ^ 15 }
     requires places { HavePlaces caps.now reached.now.places.items reached.now.ranks.items }
     requires tree { IsTree (map (node_of edges.now caps.now) reached.now.places.items) }
-    ensures nodes { IfOk result (λ built. built.tree.nodes ≡ map (node_of edges.now caps.now) reached.now.places.items) }
+    ensures nodes { IfOk result (λ built. built.tree.nodes
+        ≡ map (node_of edges.now caps.now) reached.now.places.items) }
     ensures order { IfOk result (λ built. built.order ≡ map (λ place. place.node) reached.now.places.items) }
 {
     let nodes = Row::from_vec(nodes_of(alloc, reached, caps, edges)?);

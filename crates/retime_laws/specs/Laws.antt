@@ -39,7 +39,8 @@ StagesHaveNets = (d : Design) (n : Joined) (x : Split) (new : Design) → IsPut 
 
 -- the nets of the stages, as they are timed
 abbrev pub stages_of : Split → Design → Nets → StageNets
-stages_of x new nets = record { nets = timed_nets nets; names = λ id. (nets id).names; number = stage_number x new.netlist }
+stages_of x new nets =
+    record { nets = timed_nets nets; names = λ id. (nets id).names; number = stage_number x new.netlist }
 
 -- they are timed as the stages' pieces
 abbrev pub StagesAreTimed : Type 0
@@ -56,7 +57,8 @@ NewNetsAreCut = (d : Design) (n : Joined) (x : Split) (new : Design) → IsPut d
 abbrev pub StagesRetime : Type 0
 StagesRetime = (d : Design) (n : Joined) (x : Split) (new : Design) → IsPut d n x → HasStages d n x new
     → (slack : ℤ) → IsSlack x.problem x.cells slack → ((w : ℕ) → HasPolarity x.problem x.cells w)
-    → (k : ℕ) → k < length (heads (forest x)) → Retimes 16 new x.prefix (net_of x k) (record { slack = slack; wrong = None })
+    → (k : ℕ) → k < length (heads (forest x))
+    → Retimes 16 new x.prefix (net_of x k) (record { slack = slack; wrong = None })
 
 -- so it is from the net of the old name
 abbrev pub PlacedNetsRetime : Type 0

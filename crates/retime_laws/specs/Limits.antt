@@ -19,11 +19,14 @@ pub record AreTimesSmall (rows : Rows) : Type 0 where
 -- the sum of capacitances that is limited: all of the net with the loads of its sinks, and the greatest input
 -- capacitance of the repeaters at each of its places (aF)
 abbrev pub counted_sum : Design → Joined → List Node → List ℕ → ℕ
-counted_sum d n tree order = greatest_load (loaded_tree d n tree order) (places_in d n tree order) (reps_of d.library.repeaters)
+counted_sum d n tree order =
+    greatest_load (loaded_tree d n tree order) (places_in d n tree order) (reps_of d.library.repeaters)
 
 -- The net of a stage passes no limit but perhaps that of this sum, which may be greater than it was: a blocked node is
 -- not blocked under its new name.
 abbrev pub StagesAreLargeByLoads : Type 0
-StagesAreLargeByLoads = (d : Design) (n : Joined) (x : Split) (new : Design) → IsPut d n x → (has : HasStages d n x new) → AreTimesSmall d.rows
-    → (k : ℕ) (low : k < length (heads (forest x))) (tree : List Node) (order : List ℕ) → IsNetTree (stage_net has k low).par tree order
+StagesAreLargeByLoads = (d : Design) (n : Joined) (x : Split) (new : Design) → IsPut d n x
+    → (has : HasStages d n x new) → AreTimesSmall d.rows
+    → (k : ℕ) (low : k < length (heads (forest x))) (tree : List Node) (order : List ℕ)
+    → IsNetTree (stage_net has k low).par tree order
     → counted_sum new (stage_net has k low) tree order ≤ 10 ^ 11 → IsWithinLimits new (stage_net has k low) tree order

@@ -42,8 +42,10 @@ HasNoPort x k = (w : ℕ) → Contains (ends_in x k) w → kind_of x w ≡ Port 
 -- the net was, or none.
 pub record IsStageIn (old : Netlist) (id : ℕ) (x : Split) (new : Netlist) (k : ℕ) : Type 0 where
   pub named : net_number new (net_of x k) ≡ Some (stage_number x new k)
-  pub ends : (at : NodeName) → (has_node (map (name_in x k) (ends_in x k)) at ≡ true) ↔ IsEnd new (stage_number x new k) at
-  pub port : (port_of new (stage_number x new k) ≡ port_of old id) ⊎ ((port_of new (stage_number x new k) ≡ None) × HasNoPort x k)
+  pub ends : (at : NodeName) → (has_node (map (name_in x k) (ends_in x k)) at ≡ true)
+      ↔ IsEnd new (stage_number x new k) at
+  pub port : (port_of new (stage_number x new k) ≡ port_of old id)
+      ⊎ ((port_of new (stage_number x new k) ≡ None) × HasNoPort x k)
   pub pins : (w : ℕ) → Contains (ends_in x k) w → is_celled x w ≡ false → is_port (old_node x w).name ≡ false
       → cell_on new (stage_number x new k) (old_node x w).name ≡ cell_on old id (old_node x w).name
   pub cells : (w : ℕ) → Contains (ends_in x k) w → is_celled x w ≡ true → HasCellPin x new k w

@@ -33,7 +33,8 @@ abbrev pub with_files : Texts → Files → Texts
 with_files texts files = record texts { spef = files.spef; verilog = files.verilog }
 
 -- an answer tells of the net of a name, which it is asked for, that a placement of it is best
-pub record TellsBest {texts : Texts} {asked : Asked} {kind : AnswerKind} {said : Said} (answer : IsBestAnswer texts asked kind said)
+pub record TellsBest {texts : Texts} {asked : Asked} {kind : AnswerKind} {said : Said}
+    (answer : IsBestAnswer texts asked kind said)
     (name : List ℕ) (best : Best) : Type 0 where
   pub place : ℕ
   pub named : slice_get (nets_for answer.design asked.net) place ≡ Some name
@@ -45,14 +46,17 @@ pub record TellsBest {texts : Texts} {asked : Asked} {kind : AnswerKind} {said :
 -- Where best placements are reported, of one net or of all, the written files are a design, in which each net of which
 -- one is reported re-times to its reported slack.
 abbrev pub WrittenFilesRetime : Type 0
-WrittenFilesRetime = (words : List (List ℕ)) (ask : Ask) (texts : Texts) (kind : AnswerKind) (said : Said) → IsRequest words ask
-    → (answer : IsBestAnswer texts (best_asked ask) kind said) → (name : List ℕ) (best : Best) → TellsBest answer name best
+WrittenFilesRetime =
+    (words : List (List ℕ)) (ask : Ask) (texts : Texts) (kind : AnswerKind) (said : Said) → IsRequest words ask
+    → (answer : IsBestAnswer texts (best_asked ask) kind said) → (name : List ℕ) (best : Best)
+    → TellsBest answer name best
     → RetimesInTexts (with_files texts answer.best_of.files) (prefix_of ask) name best.slack
 
 -- ---- certificates
 
 -- a certificate of the net that is asked for is written
-pub record WritesCertificate {texts : Texts} {asked : Asked} {kind : AnswerKind} {said : Said} (answer : IsBestAnswer texts asked kind said) : Type 0 where
+pub record WritesCertificate {texts : Texts} {asked : Asked} {kind : AnswerKind} {said : Said}
+    (answer : IsBestAnswer texts asked kind said) : Type 0 where
   pub name : List ℕ
   pub named : asked.net ≡ Some name
   pub text : List ℕ
@@ -61,8 +65,10 @@ pub record WritesCertificate {texts : Texts} {asked : Asked} {kind : AnswerKind}
 
 -- Where a request in mode `best` names a certificate, and the net is not refused, one is written.
 abbrev pub CertificatesAreWritten : Type 0
-CertificatesAreWritten = (words : List (List ℕ)) (ask : Ask) (texts : Texts) (kind : AnswerKind) (said : Said) → IsRequest words ask → ask.mode ≡ BestMode
-    → (file : List ℕ) → ask.cert ≡ Some file → (answer : IsBestAnswer texts (best_asked ask) kind said) → kind ≢ Refusal → WritesCertificate answer
+CertificatesAreWritten = (words : List (List ℕ)) (ask : Ask) (texts : Texts) (kind : AnswerKind) (said : Said)
+    → IsRequest words ask → ask.mode ≡ BestMode
+    → (file : List ℕ) → ask.cert ≡ Some file → (answer : IsBestAnswer texts (best_asked ask) kind said) → kind ≢ Refusal
+    → WritesCertificate answer
 
 -- of a net this was found, one text reports it, and the other tells that a certificate of it is valid
 pub record IsFoundAndValid (d : Design) (name reported told : List ℕ) : Type 0 where
@@ -76,7 +82,8 @@ pub record IsFoundAndValid (d : Design) (name reported told : List ℕ) : Type 0
 -- Where mode `best` has written a certificate, mode `check` tells of it, with the same four files, that it is valid,
 -- with the slack that was reported, or none.
 abbrev pub WrittenCertificatesCheck : Type 0
-WrittenCertificatesCheck = (texts : Texts) (asked : Asked) (kind also : AnswerKind) (said told : Said) → (answer : IsBestAnswer texts asked kind said)
+WrittenCertificatesCheck = (texts : Texts) (asked : Asked) (kind also : AnswerKind) (said told : Said)
+    → (answer : IsBestAnswer texts asked kind said)
     → (made : WritesCertificate answer) → IsCheckAnswer texts made.text made.name also told
     → (also ≡ Report) × IsFoundAndValid answer.design made.name said.text told.text
 
@@ -102,5 +109,6 @@ pub record ShowsInFiles (files : FilesState) (out : Change OutState) (ask : Ask)
 -- Where a request in mode `check` is answered by a report, the certificate is valid, and shows that its placement is
 -- best, or that none is good, whoever made it.
 abbrev pub ValidCertificatesAreBest : Type 0
-ValidCertificatesAreBest = (words : List (List ℕ)) (ask : Ask) (files : Change FilesState) (out : Change OutState) → IsRequest words ask
+ValidCertificatesAreBest =
+    (words : List (List ℕ)) (ask : Ask) (files : Change FilesState) (out : Change OutState) → IsRequest words ask
     → ask.mode ≡ Check → Prints Report files (Gains out.0 out.1) ask → ShowsInFiles files.0 out ask

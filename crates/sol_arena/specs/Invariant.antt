@@ -55,7 +55,8 @@ pub record IsKept (slots : List Slot) (free : ℕ) (sol : ℕ) : Type 0 where
   pub small : (s : ℕ) → s ≢ none → uses_of slots s ≤ 2 ^ 63 + inner_uses (made_in slots) s + one_if (sol == s)
   pub used : (s : ℕ) → IsSolution (made_in slots) s → 0 < uses_of slots s
   pub unused : (s : ℕ) → is_solution (made_at (made_in slots) s) ≡ false → uses_of slots s ≡ 0
-  pub chained : (s : ℕ) → s ≢ none → followed (made_in slots) s + one_if (free == s) ≡ one_if (is_free (made_at (made_in slots) s))
+  pub chained : (s : ℕ) → s ≢ none
+      → followed (made_in slots) s + one_if (free == s) ≡ one_if (is_free (made_at (made_in slots) s))
 
 -- The slots of an arena: uses are counted, no slot has a use to give up, and solutions have an order.
 pub record IsArena (slots : List Slot) (free : ℕ) : Type 0 where

@@ -40,7 +40,8 @@ pub record IsGiving (slots : List Slot) (free first sol : ℕ) : Type 0 where
 -- was made as before.
 pub record IsTurn (old new : List Slot) (sol next : ℕ) : Type 0 where
   pub held : (t : ℕ) → t ≢ none
-      → uses_of new t + inner_uses (made_in old) t + one_if (sol == t) ≡ uses_of old t + inner_uses (made_in new) t + one_if (next == t)
+      → uses_of new t + inner_uses (made_in old) t + one_if (sol == t)
+      ≡ uses_of old t + inner_uses (made_in new) t + one_if (next == t)
   pub same : (t : ℕ) → IsSolution (made_in new) t → made_at (made_in new) t ≡ made_at (made_in old) t
   pub lengths : length new ≡ length old
 

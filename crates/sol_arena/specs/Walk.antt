@@ -39,7 +39,8 @@ abbrev pub AreLive : List Made → List ℕ → Type 0
 AreLive ms left = (t : ℕ) → Contains left t → IsLive ms t
 
 -- a visit finds some of the cells that are left, and leaves less
-pub record IsVisit (ms : List Made) (cells : List (Option ℕ)) (left : List ℕ) (cells' : List (Option ℕ)) (left' : List ℕ) : Type 0 where
+pub record IsVisit (ms : List Made) (cells : List (Option ℕ)) (left : List ℕ) (cells' : List (Option ℕ))
+    (left' : List ℕ) : Type 0 where
   pub room : length cells' ≡ length cells
   pub live : AreLive ms left'
   pub same : (v : ℕ) → cell_so_far ms cells' left' v ≡ cell_so_far ms cells left v

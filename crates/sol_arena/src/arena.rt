@@ -78,7 +78,8 @@ impl Arena {
         requires apart { AreApart (cells_of (made_of self.old) a.0) (cells_of (made_of self.old) b.0) }
         ensures empty { a.0 ≡ none → b.0 ≡ none → MatchResult result (λ sol. sol.0 ≡ none) (λ _. ⊥) }
         ensures same { a.0 ≡ none → b.0 ≡ none → slots_of self.new ≡ slots_of self.old }
-        ensures new { ((a.0 ≡ none) × (b.0 ≡ none) → ⊥) → IfOk result (λ sol. IsNew (slots_of self.old) (slots_of self.new) sol.0 (Join a.0 b.0)) }
+        ensures new { ((a.0 ≡ none) × (b.0 ≡ none) → ⊥)
+            → IfOk result (λ sol. IsNew (slots_of self.old) (slots_of self.new) sol.0 (Join a.0 b.0)) }
         ensures unchanged { OnErr result (slots_of self.new ≡ slots_of self.old) }
     {
         if a.0 == NONE && b.0 == NONE {
@@ -94,7 +95,8 @@ impl Arena {
         requires live { IsLive (made_of self.old) sol.0 }
         requires room { uses_of (slots_of self.old) sol.0 < 2 ^ 63 }
         ensures once { GainsUse (slots_of self.old) (slots_of self.new) sol.0 }
-        ensures held { (t : ℕ) → t ≢ none → held_of (slots_of self.new) t ≡ held_of (slots_of self.old) t + one_if (sol.0 == t) }
+        ensures held { (t : ℕ) → t ≢ none
+            → held_of (slots_of self.new) t ≡ held_of (slots_of self.old) t + one_if (sol.0 == t) }
     {
         use_once(&mut self.slots, sol.0);
     }
@@ -120,8 +122,10 @@ impl Arena {
     /// left.
     fn visit(&self, cells: &mut Vec<Option<u32>>, left: &mut Vec<u64>, s: u64) -> Result<(), Memory>
         requires live { AreLive (made_of self.now) (left.old.items ++ s ∷ []) }
-        requires below { AreBelow (length cells.old.items) (cell_so_far (made_of self.now) cells.old.items (left.old.items ++ s ∷ [])) }
-        ensures { IfOk result (λ _. IsVisit (made_of self.now) cells.old.items (left.old.items ++ s ∷ []) cells.new.items left.new.items) }
+        requires below { AreBelow (length cells.old.items)
+            (cell_so_far (made_of self.now) cells.old.items (left.old.items ++ s ∷ [])) }
+        ensures { IfOk result (λ _.
+            IsVisit (made_of self.now) cells.old.items (left.old.items ++ s ∷ []) cells.new.items left.new.items) }
     {
         if s == NONE {
             return Ok(());
@@ -146,7 +150,8 @@ impl Arena {
         requires live { IsLive (made_of self.now) sol.0 }
         requires below { AreBelow n (cells_of (made_of self.now) sol.0) }
         ensures room { IfOk result (λ at. length at.cells ≡ n) }
-        ensures cells { IfOk result (λ at. (v : ℕ) → slice_index_or at.cells v None ≡ cells_of (made_of self.now) sol.0 v) }
+        ensures cells { IfOk result (λ at. (v : ℕ)
+            → slice_index_or at.cells v None ≡ cells_of (made_of self.now) sol.0 v) }
     {
         let mut cells = vec![in alloc; None; n]?;
         let mut left = Vec::new(alloc);
@@ -164,7 +169,8 @@ impl Arena {
 fn put_first(cells: &mut Vec<Option<u32>>, node: u32, rep: u32)
     requires { node < length cells.old.items }
     ensures room { length cells.new.items ≡ length cells.old.items }
-    ensures put { (v : ℕ) → slice_index_or cells.new.items v None ≡ either_of (slice_index_or cells.old.items v None) (with_own node (Some rep) bare v) }
+    ensures put { (v : ℕ) → slice_index_or cells.new.items v None
+        ≡ either_of (slice_index_or cells.old.items v None) (with_own node (Some rep) bare v) }
 {
     if cells[node as usize].is_none() {
         cells[node as usize] = Some(rep);

@@ -11,8 +11,10 @@ use crate::arena::Arena;
 /// The live solutions, but for the empty one, are those that the uses that callers hold reach: a use of it is held, or
 /// of a solution that was made of it, directly or through others.
 pub fn live_is_reached(arena: &Arena)
-    ensures reached { (s : ℕ) → IsSolution (made_of arena.now) s → ∥ IsReached (made_of arena.now) (held_of (slots_of arena.now)) s ∥₁ }
-    ensures live { (s : ℕ) → IsReached (made_of arena.now) (held_of (slots_of arena.now)) s → IsSolution (made_of arena.now) s }
+    ensures reached { (s : ℕ) → IsSolution (made_of arena.now) s
+        → ∥ IsReached (made_of arena.now) (held_of (slots_of arena.now)) s ∥₁ }
+    ensures live { (s : ℕ) → IsReached (made_of arena.now) (held_of (slots_of arena.now)) s
+        → IsSolution (made_of arena.now) s }
 {
     let _ = &arena;
 }

@@ -20,7 +20,8 @@ const MOST_SLOTS: usize = 1 << 61;
 /// where there is no room; nothing changes then.
 pub(crate) fn put(slots: &mut Vec<Slot>, free: &mut u64, made: Made) -> Result<u64, Memory>
     requires { IsKept slots.old.items free.old none }
-    ensures placed { IfOk result (λ s. IsPlaced slots.old.items free.old slots.new.items free.new s (record { made = made; uses = 1 })) }
+    ensures placed { IfOk result (λ s.
+        IsPlaced slots.old.items free.old slots.new.items free.new s (record { made = made; uses = 1 })) }
     ensures unchanged { OnErr result (slots.new.items ≡ slots.old.items) }
     ensures free { OnErr result (free.new ≡ free.old) }
 {

@@ -54,7 +54,8 @@ is_mapped_twice before line = is_row before line && is_some_and (is_mapped (rows
 
 -- the name of a net begins with `*`, and is no index with a row before
 abbrev pub is_unmapped : List Line → Line → Bool
-is_unmapped before line = is_net_head before line && is_reference (second_word line) && not (is_some (name_in before line))
+is_unmapped before line =
+    is_net_head before line && is_reference (second_word line) && not (is_some (name_in before line))
 
 -- the next head of a net comes before the end of this one, or there is no end
 abbrev pub is_unended : List Line → Line → List Line → Bool
@@ -64,7 +65,8 @@ is_unended before line later = is_net_head before line && not (is_some (end_at l
 -- a line of another form in the name map, as `*1 a b`, is stray also where its index is that of a row before
 abbrev pub is_stray : List Line → Line → Bool
 is_stray before line =
-    is_lost before line || (is_row before line && not (is_some (map_line (chars_of before) line))) || (is_net_head before line && not (is_some (name_in before line)))
+    is_lost before line || (is_row before line && not (is_some (map_line (chars_of before) line)))
+    || (is_net_head before line && not (is_some (name_in before line)))
 
 -- a net before has this net's name
 abbrev pub is_net_twice : List Line → Line → Bool

@@ -24,7 +24,8 @@ pub record File : Type 0 where
 
 -- what the lines of a file say
 abbrev pub said_by : List Line → File
-said_by lines = record { chars = chars_of lines; c_places = pos (c_places_of lines); r_places = pos (r_places_of lines); names = rows_of lines; nets = nets_of lines }
+said_by lines =
+    record { chars = chars_of lines; c_places = pos (c_places_of lines); r_places = pos (r_places_of lines); names = rows_of lines; nets = nets_of lines }
 
 -- the lines of a file without its comments
 abbrev pub file_lines : List ℕ → List Line
@@ -46,4 +47,5 @@ pub record IsHeaderless (lines : List Line) (fault : LineFault SpefKind) : Type 
 
 -- the first fault of a text
 abbrev pub IsFileFault : List ℕ → LineFault SpefKind → Type 0
-IsFileFault text fault = IsFirstFault (fault_at (file_lines text)) (length (file_lines text)) 1 fault ⊎ IsHeaderless (file_lines text) fault
+IsFileFault text fault =
+    IsFirstFault (fault_at (file_lines text)) (length (file_lines text)) 1 fault ⊎ IsHeaderless (file_lines text) fault

@@ -6,7 +6,8 @@ use Rattle.vg_scan.specs.declared.chars.Chars.{Chars}
 
 -- the usual bytes: `/`, `:`, `[` and `]`
 abbrev pub USUAL : Chars
-USUAL = record { divider = 47; delimiter = 58; bus_left = 91; bus_right = 93; divides = refl; delimits = refl; encloses = refl }
+USUAL =
+    record { divider = 47; delimiter = 58; bus_left = 91; bus_right = 93; divides = refl; delimits = refl; encloses = refl }
 
 abbrev pub divided : (chars : Chars) (b : ℕ) (t : Bool) → is_separator b ≡ t → Option Chars
 divided chars b true e = Some (record chars { divider = b; divides = e })

@@ -30,7 +30,8 @@ given_by give line chars = unwrap_or (give chars line) chars
 
 -- the bytes with those of a divider's, a delimiter's and a bus delimiters' line
 abbrev pub chars_by : Line → Line → Line → Chars
-chars_by divider delimiter bus = given_by bus_in bus (given_by delimiter_in delimiter (given_by divider_in divider USUAL))
+chars_by divider delimiter bus =
+    given_by bus_in bus (given_by delimiter_in delimiter (given_by divider_in divider USUAL))
 
 -- the bytes that have a meaning in names
 unfoldable pub chars_of : List Line → Chars

@@ -93,7 +93,8 @@ fault_in (Err kind) = Some kind
 
 -- the fault of a line `*digits NAME`, by its digits and the name that its second word is
 abbrev pub given_fault : List (List ℕ × List ℕ) → Option (List ℕ) → Option (List ℕ) → Option SpefKind
-given_fault names (Some index) name = if is_mapped names index then Some MapTwice else (if is_some name then None else Some Stray)
+given_fault names (Some index) name =
+    if is_mapped names index then Some MapTwice else (if is_some name then None else Some Stray)
 given_fault names None name = Some Stray
 
 abbrev pub row_fault : Chars → List (List ℕ × List ℕ) → Line → Option SpefKind
@@ -126,7 +127,8 @@ body_fault Nothing s line later = if has_words line then nothing_fault s.region 
 unfoldable pub state_fault : State → Line → List Line → Option SpefKind
 state_fault s line later =
     if s.in_net then None
-    else (if nat_lt s.headed 14 then (if is_idle s.headed line then None else fault_in (header_line s.headed s.heading line))
+    else
+    (if nat_lt s.headed 14 then (if is_idle s.headed line then None else fault_in (header_line s.headed s.heading line))
     else body_fault (keyword_of (first_word line)) s line later)
 
 abbrev pub unless_fault : Option SpefKind → ℕ → Result State (LineFault SpefKind) → Result State (LineFault SpefKind)
@@ -140,4 +142,5 @@ read s (line ∷ later) = unless_fault (state_fault s line later) (s.count + 1) 
 
 -- what is said at the end
 abbrev pub said : State → File
-said s = record { chars = s.heading.chars; c_places = pos s.heading.c_places; r_places = pos s.heading.r_places; names = s.names; nets = s.nets }
+said s =
+    record { chars = s.heading.chars; c_places = pos s.heading.c_places; r_places = pos s.heading.r_places; names = s.names; nets = s.nets }

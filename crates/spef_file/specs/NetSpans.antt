@@ -56,7 +56,8 @@ GoesOn clear at next line = (m : ℕ) → next ≤ m → lines_of (part clear at
 
 -- the text's parts that begin at either place have the same lines
 abbrev pub KeepsLines : List ℕ → ℕ → ℕ → Type 0
-KeepsLines clear from to = (m : ℕ) → to < m → m ≤ length clear → lines_of (part clear to m) ≡ lines_of (part clear from m)
+KeepsLines clear from to =
+    (m : ℕ) → to < m → m ≤ length clear → lines_of (part clear to m) ≡ lines_of (part clear from m)
 
 -- the first word of a line, if it has one, begins at a place
 abbrev pub BeginsWord : List ℕ → ℕ → Line → Type 0

@@ -23,7 +23,8 @@ is_head line = is_net (first_word line)
 -- how many lines stand before the end of a net, which comes before the next head
 abbrev pub end_at : List Line → Option ℕ
 end_at [] = None
-end_at (line ∷ later) = if is_end line then Some 0 else (if is_head line then None else option_map (λ n. n + 1) (end_at later))
+end_at (line ∷ later) =
+    if is_end line then Some 0 else (if is_head line then None else option_map (λ n. n + 1) (end_at later))
 
 -- a net of these has this name
 abbrev pub is_taken : List NetHead → List ℕ → Bool

@@ -15,7 +15,8 @@ IsRoleOf line Inner = (is_end line ≡ false) × (is_head line ≡ false)
 
 -- where the first word of an end line ends
 abbrev pub IsPlace : List ℕ → Span → Role → Type 0
-IsPlace bytes line (End to) = (words (part bytes line.from to) ≡ codes "*END" ∷ []) × (is_solid (slice_index bytes (to - 1)) ≡ true) × (line.from < to) × (to ≤ line.to)
+IsPlace bytes line (End to) = (words (part bytes line.from to) ≡ codes "*END" ∷ [])
+    × (is_solid (slice_index bytes (to - 1)) ≡ true) × (line.from < to) × (to ≤ line.to)
 IsPlace bytes line Head = Unit {0}
 IsPlace bytes line Inner = Unit {0}
 

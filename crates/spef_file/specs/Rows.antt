@@ -34,4 +34,5 @@ is_mapped names index = is_some (mapped names index)
 
 -- the name of a net's head: an index that is mapped, or a name
 abbrev pub head_name : Chars → List (List ℕ × List ℕ) → List ℕ → Option (List ℕ)
-head_name chars names word = if is_reference word then option_and_then (mapped names) (index_of word) else canonical chars word
+head_name chars names word =
+    if is_reference word then option_and_then (mapped names) (index_of word) else canonical chars word

@@ -21,7 +21,8 @@ abbrev pub heads_in : List NetRow → List NetHead
 heads_in nets = map head_in nets
 
 abbrev pub state_of : Reader → State
-state_of r = record { headed = r.headed; heading = r.heading; region = r.region; in_net = false; count = r.count; names = r.map; nets = heads_in r.nets }
+state_of r =
+    record { headed = r.headed; heading = r.heading; region = r.region; in_net = false; count = r.count; names = r.map; nets = heads_in r.nets }
 
 -- no count is larger than it may be
 pub record IsWhole (r : Reader) : Type 0 where
@@ -46,20 +47,27 @@ Passes (Err kind) old new line = (later : List Line) → Fails kind old line lat
 
 -- reading passes a line, and those after it up to a place
 abbrev pub GoesTo : List ℕ → ℕ → Result ℕ SpefKind → State → State → Line → Type 0
-GoesTo bytes next (Ok to) old new line = read old (line ∷ lines_of (drop next bytes)) ≡ read new (lines_of (drop to bytes))
+GoesTo bytes next (Ok to) old new line =
+    read old (line ∷ lines_of (drop next bytes)) ≡ read new (lines_of (drop to bytes))
 GoesTo bytes next (Err kind) old new line = Fails kind old line (lines_of (drop next bytes))
 
 -- a row of a name map is added, or its fault is answered
-abbrev pub AddsRow : Result (Unit {0}) SpefKind → Option SpefKind → Option (List ℕ × List ℕ) → List (List ℕ × List ℕ) → List (List ℕ × List ℕ) → Type 0
-AddsRow (Ok _) fault given old new = (row : List ℕ × List ℕ) × (given ≡ Some row) × (fault ≡ None) × (new ≡ old ++ row ∷ [])
+abbrev pub AddsRow : Result (Unit {0}) SpefKind → Option SpefKind → Option (List ℕ × List ℕ) → List (List ℕ × List ℕ)
+    → List (List ℕ × List ℕ) → Type 0
+AddsRow (Ok _) fault given old new =
+    (row : List ℕ × List ℕ) × (given ≡ Some row) × (fault ≡ None) × (new ≡ old ++ row ∷ [])
 AddsRow (Err kind) fault given old new = IsFaultOrMemory fault kind
 
 -- the row of an index and a word is added, or its fault is answered
-abbrev pub AddsGiven : Result (Unit {0}) SpefKind → Chars → List ℕ → List ℕ → List (List ℕ × List ℕ) → List (List ℕ × List ℕ) → Type 0
-AddsGiven result chars index word old new = AddsRow result (given_fault old (Some index) (canonical chars word)) (row_of (Some index) (canonical chars word)) old new
+abbrev pub AddsGiven : Result (Unit {0}) SpefKind → Chars → List ℕ → List ℕ → List (List ℕ × List ℕ)
+    → List (List ℕ × List ℕ) → Type 0
+AddsGiven result chars index word old new =
+    AddsRow result (given_fault old (Some index) (canonical chars word))
+    (row_of (Some index) (canonical chars word)) old new
 
 -- the row of a line is added, or its fault is answered
-abbrev pub AddsLine : Result (Unit {0}) SpefKind → Chars → Line → List (List ℕ × List ℕ) → List (List ℕ × List ℕ) → Type 0
+abbrev pub AddsLine : Result (Unit {0}) SpefKind → Chars → Line → List (List ℕ × List ℕ)
+    → List (List ℕ × List ℕ) → Type 0
 AddsLine result chars line old new = AddsRow result (row_fault chars old line) (map_line chars line) old new
 
 -- the name that a head has, none where its text is bad
@@ -72,7 +80,8 @@ abbrev pub IsHeadName : Chars → List (List ℕ × List ℕ) → List ℕ → L
 IsHeadName chars rows word name (Ok true) = IsHead chars rows word (Some name)
 IsHeadName chars rows word name (Ok false) = IsHead chars rows word None
 IsHeadName chars rows word name (Err Memory) = Unit {0}
-IsHeadName chars rows word name (Err kind) = (kind ≡ MapUnknown) × (head_name chars rows word ≡ None) × (is_reference word ≡ true)
+IsHeadName chars rows word name (Err kind) =
+    (kind ≡ MapUnknown) × (head_name chars rows word ≡ None) × (is_reference word ≡ true)
 
 -- this name is what a word stands for, or the word is none
 abbrev pub CanonicalName : Chars → List ℕ → List ℕ → Result Bool SpefKind → Type 0

@@ -224,12 +224,15 @@ fn take_named_net(
     requires few { reader.old.count < 2 ^ 28 }
     requires line { IsLine bytes.now line next (words_at bytes.now words.now) }
     requires place { (next ≤ length bytes.now) × (length bytes.now ≤ 2 ^ 28) }
-    requires name { IsHead reader.old.heading.chars reader.old.map (second_word (words_at bytes.now words.now)) (option_map (λ name. name.now) name) }
-    ensures goes { GoesTo bytes.now next result (state_of reader.old) (state_of reader.new) (words_at bytes.now words.now) }
+    requires name { IsHead reader.old.heading.chars reader.old.map (second_word (words_at bytes.now words.now))
+        (option_map (λ name. name.now) name) }
+    ensures goes { GoesTo bytes.now next result (state_of reader.old) (state_of reader.new)
+        (words_at bytes.now words.now) }
     ensures whole { OnOk result (IsWhole reader.new) }
     ensures spans { KeepsSpans bytes.now next result reader.old reader.new (words_at bytes.now words.now) }
     ensures begins { IfOk result (BeginsLine bytes.now) }
-    ensures place { IfOk result (λ to. (next ≤ to) × (to ≤ length bytes.now) × (reader.new.count + next ≤ reader.old.count + 1 + to)) }
+    ensures place { IfOk result (λ to. (next ≤ to) × (to ≤ length bytes.now)
+        × (reader.new.count + next ≤ reader.old.count + 1 + to)) }
 {
     let Some(end) = find_end(bytes, next) else {
         return Err(SpefKind::NoEnd);
@@ -269,11 +272,13 @@ fn take_net(
     requires few { reader.old.count < 2 ^ 28 }
     requires line { IsLine bytes.now line next (words_at bytes.now words.now) }
     requires place { (next ≤ length bytes.now) × (length bytes.now ≤ 2 ^ 28) }
-    ensures goes { GoesTo bytes.now next result (state_of reader.old) (state_of reader.new) (words_at bytes.now words.now) }
+    ensures goes { GoesTo bytes.now next result (state_of reader.old) (state_of reader.new)
+        (words_at bytes.now words.now) }
     ensures whole { OnOk result (IsWhole reader.new) }
     ensures spans { KeepsSpans bytes.now next result reader.old reader.new (words_at bytes.now words.now) }
     ensures begins { IfOk result (BeginsLine bytes.now) }
-    ensures place { IfOk result (λ to. (next ≤ to) × (to ≤ length bytes.now) × (reader.new.count + next ≤ reader.old.count + 1 + to)) }
+    ensures place { IfOk result (λ to. (next ≤ to) × (to ≤ length bytes.now)
+        × (reader.new.count + next ≤ reader.old.count + 1 + to)) }
 {
     let word = second_word(bytes, words);
     match head_name(&reader.map, &reader.heading.chars, word, name) {
@@ -297,11 +302,13 @@ fn take_body_line(
     requires few { reader.old.count < 2 ^ 28 }
     requires line { IsLine bytes.now line next (words_at bytes.now words.now) }
     requires place { (next ≤ length bytes.now) × (length bytes.now ≤ 2 ^ 28) }
-    ensures goes { GoesTo bytes.now next result (state_of reader.old) (state_of reader.new) (words_at bytes.now words.now) }
+    ensures goes { GoesTo bytes.now next result (state_of reader.old) (state_of reader.new)
+        (words_at bytes.now words.now) }
     ensures whole { OnOk result (IsWhole reader.new) }
     ensures spans { KeepsSpans bytes.now next result reader.old reader.new (words_at bytes.now words.now) }
     ensures begins { IfOk result (BeginsLine bytes.now) }
-    ensures place { IfOk result (λ to. (next ≤ to) × (to ≤ length bytes.now) × (reader.new.count + next ≤ reader.old.count + 1 + to)) }
+    ensures place { IfOk result (λ to. (next ≤ to) × (to ≤ length bytes.now)
+        × (reader.new.count + next ≤ reader.old.count + 1 + to)) }
 {
     match keyword_of(first_word(bytes, words)) {
         Keyword::Map => {
@@ -336,11 +343,13 @@ fn take_words(
     requires few { reader.old.count < 2 ^ 28 }
     requires line { IsLine bytes.now line next (words_at bytes.now words.now) }
     requires place { (next ≤ length bytes.now) × (length bytes.now ≤ 2 ^ 28) }
-    ensures goes { GoesTo bytes.now next result (state_of reader.old) (state_of reader.new) (words_at bytes.now words.now) }
+    ensures goes { GoesTo bytes.now next result (state_of reader.old) (state_of reader.new)
+        (words_at bytes.now words.now) }
     ensures whole { OnOk result (IsWhole reader.new) }
     ensures spans { KeepsSpans bytes.now next result reader.old reader.new (words_at bytes.now words.now) }
     ensures begins { IfOk result (BeginsLine bytes.now) }
-    ensures place { IfOk result (λ to. (next ≤ to) × (to ≤ length bytes.now) × (reader.new.count + next ≤ reader.old.count + 1 + to)) }
+    ensures place { IfOk result (λ to. (next ≤ to) × (to ≤ length bytes.now)
+        × (reader.new.count + next ≤ reader.old.count + 1 + to)) }
 {
     if reader.headed >= 14 {
         return take_body_line(name, reader, bytes, words, line, next);
@@ -365,11 +374,13 @@ pub(crate) fn take_line(
     requires whole { IsWhole reader.old }
     requires few { reader.old.count < 2 ^ 28 }
     requires place { (next ≤ length bytes.now) × (length bytes.now ≤ 2 ^ 28) }
-    ensures goes { GoesTo bytes.now next result (state_of reader.old) (state_of reader.new) (words (part_at bytes.now line)) }
+    ensures goes { GoesTo bytes.now next result (state_of reader.old) (state_of reader.new)
+        (words (part_at bytes.now line)) }
     ensures whole { OnOk result (IsWhole reader.new) }
     ensures spans { KeepsSpans bytes.now next result reader.old reader.new (words (part_at bytes.now line)) }
     ensures begins { IfOk result (BeginsLine bytes.now) }
-    ensures place { IfOk result (λ to. (next ≤ to) × (to ≤ length bytes.now) × (reader.new.count + next ≤ reader.old.count + 1 + to)) }
+    ensures place { IfOk result (λ to. (next ≤ to) × (to ≤ length bytes.now)
+        × (reader.new.count + next ≤ reader.old.count + 1 + to)) }
 {
     match words_of(bytes, line, found) {
         Err(_) => Err(SpefKind::Memory),

@@ -36,7 +36,8 @@ pub(crate) struct NetEnd {
 /// Whether a line begins with a byte that is neither a blank nor a star: then it is neither an end nor a head.
 fn begins_otherwise(bytes: &[u8], line: Span) -> bool
     requires { IsIn bytes.now line }
-    ensures { IsTrue result → (is_end (words (part_at bytes.now line)) ≡ false) × (is_head (words (part_at bytes.now line)) ≡ false) }
+    ensures { IsTrue result → (is_end (words (part_at bytes.now line)) ≡ false)
+        × (is_head (words (part_at bytes.now line)) ≡ false) }
 {
     if line.from == line.to {
         return false;
@@ -80,11 +81,14 @@ fn role_of(bytes: &[u8], line: Span) -> Role
 pub(crate) fn find_end(bytes: &[u8], from: usize) -> Option<NetEnd>
     requires { from ≤ length bytes.now }
     ensures lines { option_map (λ end. end.lines) result ≡ end_at (lines_of (drop from bytes.now)) }
-    ensures rest { IfSome result (λ end. lines_of (drop end.next bytes.now) ≡ drop (end.lines + 1) (lines_of (drop from bytes.now))) }
-    ensures span { IfSome result (λ end. lines_of (part bytes.now from end.to) ≡ up_to_end (lines_of (drop from bytes.now))) }
+    ensures rest { IfSome result (λ end. lines_of (drop end.next bytes.now)
+        ≡ drop (end.lines + 1) (lines_of (drop from bytes.now))) }
+    ensures span { IfSome result (λ end. lines_of (part bytes.now from end.to)
+        ≡ up_to_end (lines_of (drop from bytes.now))) }
     ensures solid { IfSome result (λ end. is_solid (slice_index bytes.now (end.to - 1)) ≡ true) }
     ensures begins { IfSome result (λ end. BeginsLine bytes.now end.next) }
-    ensures place { IfSome result (λ end. (from < end.to) × (from + end.lines < end.next) × (end.to ≤ end.next) × (end.next ≤ length bytes.now)) }
+    ensures place { IfSome result (λ end. (from < end.to) × (from + end.lines < end.next) × (end.to ≤ end.next)
+        × (end.next ≤ length bytes.now)) }
 {
     let mut at = from;
     let mut lines = 0;

@@ -28,7 +28,8 @@ impl Model for Sections {
 
     ghost view = { λ sections. zip sections.names sections.rows.items };
 
-    ghost invariant = { λ sections. (length sections.names ≡ length sections.rows.items) × (length sections.names < 2 ^ 32) };
+    ghost invariant = { λ sections. (length sections.names ≡ length sections.rows.items)
+        × (length sections.names < 2 ^ 32) };
 }
 
 impl Sections {

@@ -35,7 +35,8 @@ pub record PartialNet : Type 0 where
 
 -- no line is taken yet
 abbrev pub start_of : NetNodes → PartialNet
-start_of net = record { file = net.file; net = net.net; nodes = net.nodes; notes = []; conns = []; caps = []; ress = []; inductive = false }
+start_of net =
+    record { file = net.file; net = net.net; nodes = net.nodes; notes = []; conns = []; caps = []; ress = []; inductive = false }
 
 -- both are of one net of one file
 abbrev pub IsSameSource : PartialNet → PartialNet → Type 0
@@ -50,7 +51,8 @@ ConnAdded old conn note new =
 -- the note of a `*N` line more
 abbrev pub StarAdded : PartialNet → ℕ → List ℕ → PartialNet → Type 0
 StarAdded old id note new =
-    ((i : ℕ) → note_at new.notes i ≡ (if i == id then starred note else note_at old.notes i)) × (new ≡ record old { notes = new.notes })
+    ((i : ℕ) → note_at new.notes i ≡ (if i == id then starred note else note_at old.notes i))
+    × (new ≡ record old { notes = new.notes })
 
 -- a capacitor more at the node of a number, or the fault of its value
 abbrev pub AddsCap : Result (Unit {0}) NetKind → PartialNet → ℕ → Result ℕ NumFault → PartialNet → Type 0
@@ -59,13 +61,15 @@ AddsCap (Err kind) old id value new = IsFaultOrMemory (number_fault value) kind
 
 -- a resistor more between the nodes of two numbers, or the fault of its value
 abbrev pub AddsRes : Result (Unit {0}) NetKind → PartialNet → ℕ × ℕ → Result ℕ NumFault → PartialNet → Type 0
-AddsRes (Ok _) old ends value new = (v : ℕ) × (value ≡ Ok v) × (new ≡ record old { ress = old.ress ++ (ends.0, ends.1, v) ∷ [] })
+AddsRes (Ok _) old ends value new =
+    (v : ℕ) × (value ≡ Ok v) × (new ≡ record old { ress = old.ress ++ (ends.0, ends.1, v) ∷ [] })
 AddsRes (Err kind) old ends value new = IsFaultOrMemory (number_fault value) kind
 
 -- the number of a node that is the net's, which is put last where it is new, or none
 abbrev pub Owns : Result (Option ℕ) NoRoom → List ℕ → PartialNet → NodeName → PartialNet → Type 0
 Owns (Ok (Some id)) net old node new =
-    (is_known old.nodes net node ≡ true) × (slice_get (with_node old.nodes node) id ≡ Some node) × (new ≡ record old { nodes = with_node old.nodes node })
+    (is_known old.nodes net node ≡ true) × (slice_get (with_node old.nodes node) id ≡ Some node)
+    × (new ≡ record old { nodes = with_node old.nodes node })
 Owns (Ok None) net old node new = (is_known old.nodes net node ≡ false) × (new ≡ old)
 Owns (Err _) net old node new = Unit {0}
 
@@ -79,13 +83,16 @@ abbrev pub noted_by : List (NodeName × List ℕ) → List (NodeName × List ℕ
 noted_by connections stars node = note_from (node_value connections node) (node_value stars node)
 
 -- the notes are those of the nodes: nothing is noted past them, and nothing of other nodes
-pub record AreNoted (nodes : List NodeName) (notes : List Note) (connections stars : List (NodeName × List ℕ)) : Type 0 where
-  pub here : (i : ℕ) (node : NodeName) → slice_get nodes i ≡ Some node → note_at notes i ≡ noted_by connections stars node
+pub record AreNoted (nodes : List NodeName) (notes : List Note)
+    (connections stars : List (NodeName × List ℕ)) : Type 0 where
+  pub here : (i : ℕ) (node : NodeName) → slice_get nodes i ≡ Some node
+      → note_at notes i ≡ noted_by connections stars node
   pub beyond : (i : ℕ) → length nodes ≤ i → note_at notes i ≡ fresh
   pub others : (node : NodeName) → has_node nodes node ≡ false → noted_by connections stars node ≡ fresh
 
 -- it is what the lines so far denote
-pub record IsPartialNet (connected : List NodeName) (net : List ℕ) (before : List Stated) (builder : PartialNet) : Type 0 where
+pub record IsPartialNet (connected : List NodeName) (net : List ℕ) (before : List Stated)
+    (builder : PartialNet) : Type 0 where
   pub nodes : builder.nodes ≡ nodes_of connected net before
   pub own : (node : NodeName) → is_known builder.nodes net node ≡ is_own connected net node
   pub noted : AreNoted builder.nodes builder.notes (joined_of before) (starred_of before)
@@ -96,7 +103,8 @@ pub record IsPartialNet (connected : List NodeName) (net : List ℕ) (before : L
 
 -- a line is taken after others, or its fault is answered
 abbrev pub Taken : Result (Unit {0}) NetKind → List NodeName → List ℕ → List Stated → Stated → PartialNet → Type 0
-Taken (Ok _) connected net before line new = (fault_of connected net before line ≡ None) × IsPartialNet connected net (before ++ line ∷ []) new
+Taken (Ok _) connected net before line new =
+    (fault_of connected net before line ≡ None) × IsPartialNet connected net (before ++ line ∷ []) new
 Taken (Err kind) connected net before line new = IsFaultOrMemory (fault_of connected net before line) kind
 
 -- the node of a connection is counted among those of all connections
@@ -107,7 +115,8 @@ IsCounted connected _ = Unit {0}
 -- this line is taken after whatever lines the builder was made of
 abbrev pub Takes : Result (Unit {0}) NetKind → List ℕ → PartialNet → Stated → PartialNet → Type 0
 Takes result net old line new =
-    (connected : List NodeName) (before : List Stated) → IsCounted connected line → IsPartialNet connected net before old → Taken result connected net before line new
+    (connected : List NodeName) (before : List Stated) → IsCounted connected line
+    → IsPartialNet connected net before old → Taken result connected net before line new
 
 -- the same, with the part that is open after the line
 abbrev pub Follows : Result Part NetKind → List ℕ → Part → PartialNet → Stated → PartialNet → Type 0
@@ -120,7 +129,8 @@ FollowsFrom old part result line new = Follows result old.net part old line new
 
 -- a builder has taken all lines of a section
 abbrev pub HasTaken : NetNodes → List ℕ → PartialNet → Type 0
-HasTaken nodes bytes builder = IsPartialNet (connected_of (statement_about nodes bytes)) nodes.net (statement_about nodes bytes) builder
+HasTaken nodes bytes builder =
+    IsPartialNet (connected_of (statement_about nodes bytes)) nodes.net (statement_about nodes bytes) builder
 
 -- the net of a builder
 pub record IsMade (name : List ℕ) (reduced : Bool) (builder : PartialNet) (net : ParNet) : Type 0 where

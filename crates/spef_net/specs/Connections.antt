@@ -32,7 +32,8 @@ statement_about net bytes = statements net.file (lines bytes)
 
 -- the nodes of the connections of a section's lines
 abbrev pub connections_in : File → List ℕ → List (List ℕ) → NetNodes
-connections_in file net lines = record { file = file; net = net; nodes = distinct (connected_of (statements file lines)) }
+connections_in file net lines =
+    record { file = file; net = net; nodes = distinct (connected_of (statements file lines)) }
 
 abbrev pub is_memory : NetKind → Bool
 is_memory Memory = true

@@ -18,13 +18,17 @@ number_fault (Ok _) = None
 number_fault (Err fault) = Some (Number fault)
 
 -- the fault of what is statement_of, given the rows of connections and of `*N` lines before it
-abbrev pub fault_after : List NodeName → List ℕ → List (NodeName × List ℕ) → List (NodeName × List ℕ) → Stated → Option NetKind
+abbrev pub fault_after : List NodeName → List ℕ → List (NodeName × List ℕ) → List (NodeName × List ℕ)
+    → Stated → Option NetKind
 fault_after connected net joined starred (Err kind) = Some kind
 fault_after connected net joined starred (Ok (Opens _)) = None
 fault_after connected net joined starred (Ok Nothing) = None
-fault_after connected net joined starred (Ok (Connects _ _ node _)) = if is_some (node_value joined node) || is_some (node_value starred node) then Some Conn else None
-fault_after connected net joined starred (Ok (Star node _)) = if is_inner net node && not (is_some (node_value joined node)) then None else Some Conn
-fault_after connected net joined starred (Ok (Ground node value)) = if is_own connected net node then number_fault value else Some Foreign
+fault_after connected net joined starred (Ok (Connects _ _ node _)) =
+    if is_some (node_value joined node) || is_some (node_value starred node) then Some Conn else None
+fault_after connected net joined starred (Ok (Star node _)) =
+    if is_inner net node && not (is_some (node_value joined node)) then None else Some Conn
+fault_after connected net joined starred (Ok (Ground node value)) =
+    if is_own connected net node then number_fault value else Some Foreign
 fault_after connected net joined starred (Ok (Coupling a b value)) =
     if is_own connected net a && is_own connected net b then Some SelfCoupled
     else (if is_own connected net a || is_own connected net b then number_fault value else Some Foreign)

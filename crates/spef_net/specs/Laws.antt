@@ -26,4 +26,5 @@ FaultOrNone = (name : List ℕ) (lines : List Stated) (first : ℕ) (fault : Lin
 
 -- what lines say does not depend on the nets of the file
 abbrev pub OtherNetsCountNot : Type 0
-OtherNetsCountNot = (file : File) (nets : List NetHead) (lines : List (List ℕ)) → statements (record file { nets = nets }) lines ≡ statements file lines
+OtherNetsCountNot = (file : File) (nets : List NetHead) (lines : List (List ℕ))
+    → statements (record file { nets = nets }) lines ≡ statements file lines

@@ -29,7 +29,8 @@ IsEnd conn node = (node.inner ≡ false) × (is_at conn.kind node.name ≡ true)
 pub record AreJoined (conns : List ParConn) (nodes : List ParNode) : Type 0 where
   pub few : length conns ≤ length nodes
   pub numbers : (i : ℕ) (conn : ParConn) → slice_get conns i ≡ Some conn → conn.node ≡ i
-  pub ends : (i : ℕ) (conn : ParConn) (node : ParNode) → slice_get conns i ≡ Some conn → slice_get nodes i ≡ Some node → IsEnd conn node
+  pub ends : (i : ℕ) (conn : ParConn) (node : ParNode) → slice_get conns i ≡ Some conn
+      → slice_get nodes i ≡ Some node → IsEnd conn node
   pub inner : (i : ℕ) (node : ParNode) → length conns ≤ i → slice_get nodes i ≡ Some node → node.inner ≡ true
 
 -- a byte that does not end a line
@@ -51,7 +52,8 @@ abbrev pub IsResOf : ℕ → ℕ × ℕ × ℕ → Type 0
 IsResOf count res = (res.0 < count) × (res.1 < count) × (res.2 ≤ 10 ^ 15)
 
 -- a net of this name may have these nodes, connections, capacitors and resistors
-pub record IsSound (name : List ℕ) (nodes : List ParNode) (conns : List ParConn) (caps : List (ℕ × ℕ)) (ress : List (ℕ × ℕ × ℕ)) : Type 0 where
+pub record IsSound (name : List ℕ) (nodes : List ParNode) (conns : List ParConn) (caps : List (ℕ × ℕ))
+    (ress : List (ℕ × ℕ × ℕ)) : Type 0 where
   pub named : IsPrintable name
   pub nodes_named : All IsNamed nodes
   pub distinct : AreDistinct nodes

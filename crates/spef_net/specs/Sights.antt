@@ -29,8 +29,10 @@ abbrev pub resistor_in : File → List ℕ → List ℕ → List ℕ → Stated
 resistor_in file a b value = resistor (two_in file a b) (value_in file.r_places value)
 
 -- the numbers of two nodes, one after the other
-abbrev pub SeesTwo : Result (Option ℕ × Option ℕ) NameFault → List ℕ → PartialNet → Option (NodeName × NodeName) → PartialNet → Type 0
+abbrev pub SeesTwo : Result (Option ℕ × Option ℕ) NameFault → List ℕ → PartialNet
+    → Option (NodeName × NodeName) → PartialNet → Type 0
 SeesTwo (Ok found) net old o new =
-    (a : NodeName) × (b : NodeName) × (mid : PartialNet) × (o ≡ Some (a, b)) × Owns (Ok found.0) net old a mid × Owns (Ok found.1) net mid b new
+    (a : NodeName) × (b : NodeName) × (mid : PartialNet) × (o ≡ Some (a, b)) × Owns (Ok found.0) net old a mid
+    × Owns (Ok found.1) net mid b new
 SeesTwo (Err Bad) net old o new = o ≡ None
 SeesTwo (Err Memory) net old o new = Unit {0}

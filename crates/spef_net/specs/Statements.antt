@@ -46,7 +46,8 @@ middle (Ok _) (Ok n) (Ok _) = Ok n
 
 abbrev pub value_of_parts : ℤ → List (List ℕ) → Result ℕ NumFault
 value_of_parts places (text ∷ []) = scaled places (10 ^ 15) text
-value_of_parts places (low ∷ typical ∷ high ∷ []) = middle (scaled places (10 ^ 15) low) (scaled places (10 ^ 15) typical) (scaled places (10 ^ 15) high)
+value_of_parts places (low ∷ typical ∷ high ∷ []) =
+    middle (scaled places (10 ^ 15) low) (scaled places (10 ^ 15) typical) (scaled places (10 ^ 15) high)
 value_of_parts places _ = Err Form
 
 -- a value is one number, or three joined by colons, of which the middle one is taken
@@ -65,13 +66,15 @@ is_at Pin node = not (length node.leaf == 0)
 is_at Port node = length node.leaf == 0
 
 abbrev pub connected : ConnKind → List ℕ → Option NodeName → Option Direction → Stated
-connected kind note (Some node) (Some direction) = if is_at kind node then Ok (Connects kind direction node note) else Err Conn
+connected kind note (Some node) (Some direction) =
+    if is_at kind node then Ok (Connects kind direction node note) else Err Conn
 connected kind note (Some _) None = Err Conn
 connected kind note None _ = Err Conn
 
 -- `*I node direction` or `*P node direction`, with any text after it
 abbrev pub connection : File → ConnKind → List ℕ → Line → Stated
-connection file kind line (node ∷ direction ∷ _) = connected kind (note_after 3 line) (node_in file node) (direction_in direction)
+connection file kind line (node ∷ direction ∷ _) =
+    connected kind (note_after 3 line) (node_in file node) (direction_in direction)
 connection file kind line _ = Err Conn
 
 abbrev pub starred : List ℕ → Option NodeName → Stated
@@ -111,12 +114,14 @@ resistor None value = Err Res
 -- `id node value` or `id node node value`
 unfoldable pub cap_line : File → Line → Stated
 cap_line file (_ ∷ node ∷ value ∷ []) = ground (node_in file node) (value_in file.c_places value)
-cap_line file (_ ∷ a ∷ b ∷ value ∷ []) = coupling (both (node_in file a) (node_in file b)) (value_in file.c_places value)
+cap_line file (_ ∷ a ∷ b ∷ value ∷ []) =
+    coupling (both (node_in file a) (node_in file b)) (value_in file.c_places value)
 cap_line file _ = Err Cap
 
 -- `id node node value`
 unfoldable pub res_line : File → Line → Stated
-res_line file (_ ∷ a ∷ b ∷ value ∷ []) = resistor (both (node_in file a) (node_in file b)) (value_in file.r_places value)
+res_line file (_ ∷ a ∷ b ∷ value ∷ []) =
+    resistor (both (node_in file a) (node_in file b)) (value_in file.r_places value)
 res_line file _ = Err Res
 
 -- a line that is no head, in this part
@@ -134,7 +139,8 @@ statement_or_opens None stated = stated
 -- a line, with its words
 unfoldable pub statement_of_words : File → Part → List ℕ → Line → Stated
 statement_of_words file part line [] = Ok Nothing
-statement_of_words file part line (word ∷ rest) = statement_or_opens (head_of (word ∷ rest)) (statement_in part file line (word ∷ rest))
+statement_of_words file part line (word ∷ rest) =
+    statement_or_opens (head_of (word ∷ rest)) (statement_in part file line (word ∷ rest))
 
 abbrev pub statement_of : File → Part → List ℕ → Stated
 statement_of file part line = statement_of_words file part line (words line)

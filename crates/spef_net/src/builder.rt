@@ -84,7 +84,8 @@ impl<'a> NetBuilder<'a> {
         &mut self,
         texts: (&'a [u8], &'a [u8]),
     ) -> Result<(Option<u32>, Option<u32>), NameFault>
-        ensures seen { SeesTwo result self.old.net self.old (two_in self.old.file texts.entry.0.now texts.entry.1.now) self.new }
+        ensures seen { SeesTwo result self.old.net self.old
+            (two_in self.old.file texts.entry.0.now texts.entry.1.now) self.new }
         ensures source { IsSameSource self.old self.new }
     {
         match self.see(texts.0) {
@@ -100,8 +101,10 @@ impl<'a> NetBuilder<'a> {
 
     /// The number of a node, which is put last where it is new.
     fn intern(&mut self, node: &Node) -> Result<u32, Memory>
-        ensures nodes { OnOk result (self.new ≡ record self.old { nodes = with_node self.old.nodes (named_by node.now) }) }
-        ensures number { IfOk result (λ id. slice_get (with_node self.old.nodes (named_by node.now)) id ≡ Some (named_by node.now)) }
+        ensures nodes { OnOk result (self.new
+            ≡ record self.old { nodes = with_node self.old.nodes (named_by node.now) }) }
+        ensures number { IfOk result (λ id. slice_get (with_node self.old.nodes (named_by node.now)) id
+            ≡ Some (named_by node.now)) }
     {
         let id = self.nodes.intern(node)?;
         Ok(id)
@@ -144,7 +147,8 @@ impl<'a> NetBuilder<'a> {
         node: &Node,
         note: &[u8],
     ) -> Result<(), NetKind>
-        ensures taken { Takes result self.old.net self.old (Ok (Connects kind direction (named_by node.now) note.now)) self.new }
+        ensures taken { Takes result self.old.net self.old
+            (Ok (Connects kind direction (named_by node.now) note.now)) self.new }
         ensures source { OnOk result (IsSameSource self.old self.new) }
     {
         match self.intern(node) {

@@ -44,7 +44,8 @@ fn gather_conn(
     words: Words,
     nodes: &mut NodeTable,
 ) -> Result<(), Memory>
-    ensures { OnOk result (nodes.new ≡ with_joined nodes.old (joined_in (conn_line (file_of index.now) line.now (tag.now ∷ words.entry)))) }
+    ensures { OnOk result (nodes.new
+        ≡ with_joined nodes.old (joined_in (conn_line (file_of index.now) line.now (tag.now ∷ words.entry)))) }
 {
     match read_conn(alloc, index, line, tag, words) {
         Ok(ConnLine::Joins(_, _, node)) => {
@@ -136,7 +137,8 @@ fn find_connections(
 ) -> Result<NodeTable, Memory>
     requires length { length bytes.now ≤ 2 ^ 28 }
     requires slots { (0 < slots) × (slots ≤ 2 ^ 32) }
-    ensures { IfOk result (λ nodes. nodes ≡ distinct (connected_of (statements (file_of index.now) (lines bytes.now)))) }
+    ensures { IfOk result (λ nodes.
+        nodes ≡ distinct (connected_of (statements (file_of index.now) (lines bytes.now)))) }
 {
     let mut nodes = NodeTable::new(alloc, slots)?;
     let mut part = Part::Nowhere;

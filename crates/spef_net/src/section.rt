@@ -28,7 +28,8 @@ fn read_part(
     requires mapped { All (λ row. IsPrintable row.1) index.now.map }
     ensures net { IfOk result (IsNetOf text.now (file_of index.now) (head_in (name.now, section))) }
     ensures sized { IfOk result IsSized }
-    ensures fault { IfErr result (λ fault. (fault.kind ≡ Memory) ⊎ IsFaultOf text.now (file_of index.now) (head_in (name.now, section)) fault) }
+    ensures fault { IfErr result (λ fault. (fault.kind ≡ Memory)
+        ⊎ IsFaultOf text.now (file_of index.now) (head_in (name.now, section)) fault) }
 {
     let first = section.line as usize + 1;
     if section.reduced {

@@ -20,7 +20,8 @@ fn take_conn<'a>(
     tag: &[u8],
     words: Words<'a>,
 ) -> Result<(), NetKind>
-    ensures taken { Takes result builder.old.net builder.old (conn_line builder.old.file line.now (tag.now ∷ words.entry)) builder.new }
+    ensures taken { Takes result builder.old.net builder.old
+        (conn_line builder.old.file line.now (tag.now ∷ words.entry)) builder.new }
     ensures source { OnOk result (IsSameSource builder.old builder.new) }
 {
     let nodes = &builder.nodes;
@@ -39,7 +40,8 @@ fn take_ground<'a>(
     node: &'a [u8],
     value: &[u8],
 ) -> Result<(), NetKind>
-    ensures taken { Takes result builder.old.net builder.old (ground_in builder.old.file node.now value.now) builder.new }
+    ensures taken { Takes result builder.old.net builder.old
+        (ground_in builder.old.file node.now value.now) builder.new }
     ensures source { OnOk result (IsSameSource builder.old builder.new) }
 {
     let places = builder.nodes.index().header.c_places;
@@ -57,7 +59,8 @@ fn take_coupling<'a>(
     nodes: (&'a [u8], &'a [u8]),
     value: &[u8],
 ) -> Result<(), NetKind>
-    ensures taken { Takes result builder.old.net builder.old (coupling_in builder.old.file nodes.entry.0.now nodes.entry.1.now value.now) builder.new }
+    ensures taken { Takes result builder.old.net builder.old
+        (coupling_in builder.old.file nodes.entry.0.now nodes.entry.1.now value.now) builder.new }
     ensures source { OnOk result (IsSameSource builder.old builder.new) }
 {
     let places = builder.nodes.index().header.c_places;
@@ -77,7 +80,8 @@ fn take_resistor<'a>(
     nodes: (&'a [u8], &'a [u8]),
     value: &[u8],
 ) -> Result<(), NetKind>
-    ensures taken { Takes result builder.old.net builder.old (resistor_in builder.old.file nodes.entry.0.now nodes.entry.1.now value.now) builder.new }
+    ensures taken { Takes result builder.old.net builder.old
+        (resistor_in builder.old.file nodes.entry.0.now nodes.entry.1.now value.now) builder.new }
     ensures source { OnOk result (IsSameSource builder.old builder.new) }
 {
     let places = builder.nodes.index().header.r_places;
@@ -92,7 +96,8 @@ fn take_resistor<'a>(
 
 /// A line of capacitors, by the words after the first.
 fn take_cap<'a>(builder: &mut NetBuilder<'a>, mut words: Words<'a>) -> Result<(), NetKind>
-    ensures taken { (id : List ℕ) → Takes result builder.old.net builder.old (cap_line builder.old.file (id ∷ words.entry)) builder.new }
+    ensures taken { (id : List ℕ)
+        → Takes result builder.old.net builder.old (cap_line builder.old.file (id ∷ words.entry)) builder.new }
     ensures source { OnOk result (IsSameSource builder.old builder.new) }
 {
     let (Some(node), Some(other)) = (words.next(), words.next()) else {
@@ -109,7 +114,8 @@ fn take_cap<'a>(builder: &mut NetBuilder<'a>, mut words: Words<'a>) -> Result<()
 
 /// A line of resistors, by the words after the first.
 fn take_res<'a>(builder: &mut NetBuilder<'a>, mut words: Words<'a>) -> Result<(), NetKind>
-    ensures taken { (id : List ℕ) → Takes result builder.old.net builder.old (res_line builder.old.file (id ∷ words.entry)) builder.new }
+    ensures taken { (id : List ℕ)
+        → Takes result builder.old.net builder.old (res_line builder.old.file (id ∷ words.entry)) builder.new }
     ensures source { OnOk result (IsSameSource builder.old builder.new) }
 {
     let (Some(a), Some(b), Some(value)) = (words.next(), words.next(), words.next()) else {
@@ -132,7 +138,8 @@ pub(crate) fn take_in<'a>(
     first: &[u8],
     words: Words<'a>,
 ) -> Result<(), NetKind>
-    ensures taken { Takes result builder.old.net builder.old (statement_in part builder.old.file line.now (first.now ∷ words.entry)) builder.new }
+    ensures taken { Takes result builder.old.net builder.old
+        (statement_in part builder.old.file line.now (first.now ∷ words.entry)) builder.new }
     ensures source { OnOk result (IsSameSource builder.old builder.new) }
 {
     match part {

@@ -41,7 +41,9 @@ fn three_parts<'a>(text: &'a [u8], at: usize) -> Option<(&'a [u8], &'a [u8], &'a
 fn read_middle(low: &[u8], typical: &[u8], high: &[u8], places: i32) -> Result<u64, NumFault>
     requires low { pos 0 ≤ℤ places }
     requires high { places ≤ℤ pos 9 }
-    ensures { result ≡ middle (scaled places (10 ^ 15) low.now) (scaled places (10 ^ 15) typical.now) (scaled places (10 ^ 15) high.now) }
+    ensures { result
+        ≡ middle (scaled places (10 ^ 15) low.now) (scaled places (10 ^ 15) typical.now)
+        (scaled places (10 ^ 15) high.now) }
 {
     read_scaled(low, places)?;
     let value = read_scaled(typical, places)?;

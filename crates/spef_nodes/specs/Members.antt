@@ -34,6 +34,7 @@ is_known nodes net node = has_node nodes node || is_inner net node
 
 -- the number of a node that is the net's, which is put last where it is new; none where it is another net's
 abbrev pub Owns : Result (Option ℕ) Memory → List ℕ → List NodeName → NodeName → List NodeName → Type 0
-Owns (Ok (Some id)) net old node new = (is_known old net node ≡ true) × (slice_get (with_node old node) id ≡ Some node) × (new ≡ with_node old node)
+Owns (Ok (Some id)) net old node new =
+    (is_known old net node ≡ true) × (slice_get (with_node old node) id ≡ Some node) × (new ≡ with_node old node)
 Owns (Ok None) net old node new = (is_known old net node ≡ false) × (new ≡ old)
 Owns (Err _) net old node new = Unit {0}

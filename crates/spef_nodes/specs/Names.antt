@@ -24,7 +24,8 @@ owner_in file text = if is_reference text then indexed file.names (index_of text
 
 abbrev pub node_split : File → List ℕ → Option ℕ → Option NodeName
 node_split file text None = node_of_parts (owner_in file text) (Some [])
-node_split file text (Some at) = node_of_parts (owner_in file (take at text)) (canonical file.chars (drop (at + 1) text))
+node_split file text (Some at) =
+    node_of_parts (owner_in file (take at text)) (canonical file.chars (drop (at + 1) text))
 
 -- the node that a text names: the owner before its last unescaped delimiter may be an index, the leaf after it may not.
 -- A port has no delimiter, and its leaf is empty

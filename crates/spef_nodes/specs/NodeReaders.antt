@@ -32,11 +32,13 @@ ArePlainDigits chars = (b : ℕ) → is_digit b ≡ true → (is_itself chars b 
 
 -- there is no prefix yet, or it and digits name the inner node of those digits
 abbrev pub IsPrefix : File → List ℕ → List ℕ → Type 0
-IsPrefix file net prefix = (leaf : List ℕ) → (length prefix == 0) ≡ false → are_digits leaf ≡ true → node_in file (prefix ++ leaf) ≡ Some (node_named net leaf)
+IsPrefix file net prefix = (leaf : List ℕ) → (length prefix == 0) ≡ false → are_digits leaf ≡ true
+    → node_in file (prefix ++ leaf) ≡ Some (node_named net leaf)
 
 -- the node of this number is the one whose leaf writes a number
 abbrev pub IsNumbered : NetNodes → ℕ → ℕ → Type 0
-IsNumbered reader number id = (leaf : List ℕ) → Writes leaf number → slice_get reader.nodes id ≡ Some (node_named reader.net leaf)
+IsNumbered reader number id =
+    (leaf : List ℕ) → Writes leaf number → slice_get reader.nodes id ≡ Some (node_named reader.net leaf)
 
 -- for each number that is not 0, one more than the number of the node whose leaf writes its place
 abbrev pub AreNumbers : NetNodes → List ℕ → Type 0
@@ -45,7 +47,8 @@ AreNumbers reader numbers = (number id : ℕ) → slice_index numbers number ≡
 -- a text that is known names the node of its number
 abbrev pub IsKnown : NetNodes → Option Known → Type 0
 IsKnown reader None = Unit {0}
-IsKnown reader (Some known) = (node_in reader.file known.text.now ≡ slice_get reader.nodes known.id) × (known.id < length reader.nodes)
+IsKnown reader (Some known) =
+    (node_in reader.file known.text.now ≡ slice_get reader.nodes known.id) × (known.id < length reader.nodes)
 
 abbrev pub AreKnown : NetNodes → List (Option Known) → Type 0
 AreKnown reader slots = (i : ℕ) → IsKnown reader (slice_index_or slots i None)

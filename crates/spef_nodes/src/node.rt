@@ -155,7 +155,8 @@ fn inner_node<'a>(
     owner: &'a [u8],
     leaf: &'a [u8],
 ) -> Result<Node<'a>, NameFault>
-    ensures { SpellsNode result (node_of_parts (owner_in (file_of index.now) owner.now) (canonical index.now.header.chars leaf.now)) }
+    ensures { SpellsNode result
+        (node_of_parts (owner_in (file_of index.now) owner.now) (canonical index.now.header.chars leaf.now)) }
 {
     match owner_of(alloc, index, owner) {
         Err(NameFault::Bad) => Err(NameFault::Bad),
@@ -221,7 +222,8 @@ fn plain_parts<'a>(
 ) -> Result<Node<'a>, NameFault>
     requires owner { list_all (is_itself index.now.header.chars) owner.now ≡ true }
     requires leaf { list_all (is_itself index.now.header.chars) leaf.now ≡ true }
-    ensures { SpellsNode result (node_of_parts (owner_in (file_of index.now) owner.now) (canonical index.now.header.chars leaf.now)) }
+    ensures { SpellsNode result
+        (node_of_parts (owner_in (file_of index.now) owner.now) (canonical index.now.header.chars leaf.now)) }
 {
     match plain_owner(index, owner) {
         Err(NameFault::Bad) => Err(NameFault::Bad),

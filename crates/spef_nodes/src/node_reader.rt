@@ -52,7 +52,8 @@ impl<'a> Model for NodeReader<'a> {
 
     ghost view = { λ reader. net_nodes (file_of reader.index.now) reader.net.now reader.nodes };
 
-    ghost invariant = { λ r. IsReader (net_nodes (file_of r.index.now) r.net.now r.nodes) r.prefix.now r.numbers.items r.known.items };
+    ghost invariant = { λ r.
+        IsReader (net_nodes (file_of r.index.now) r.net.now r.nodes) r.prefix.now r.numbers.items r.known.items };
 }
 
 /// The number that digits write of which the first is no zero. `None`: it is another text, or of ten bytes or more.
@@ -135,7 +136,8 @@ impl<'a> NodeReader<'a> {
 
     /// The leaf of an inner node, and the number that it writes, where a text has the prefix.
     fn inner_leaf(&self, text: &'a [u8]) -> Option<(&'a [u8], usize)>
-        ensures { IfSome result (λ found. (node_in self.now.file text.now ≡ Some (node_named self.now.net found.0.now)) × Writes found.0.now found.1) }
+        ensures { IfSome result (λ found. (node_in self.now.file text.now ≡ Some (node_named self.now.net found.0.now))
+            × Writes found.0.now found.1) }
     {
         let start = self.prefix.len();
         if start == 0 {
@@ -183,7 +185,8 @@ impl<'a> NodeReader<'a> {
     /// room.
     fn see_inner(&mut self, leaf: &[u8], number: usize) -> Result<Option<u32>, NameFault>
         requires { Writes leaf.now number }
-        ensures seen { SeesNode result self.old.net self.old.nodes (Some (node_named self.old.net leaf.now)) self.new.nodes }
+        ensures seen { SeesNode result self.old.net self.old.nodes
+            (Some (node_named self.old.net leaf.now)) self.new.nodes }
         ensures rest { self.new ≡ record self.old { nodes = self.new.nodes } }
         ensures unchanged { OnErr result (self.new ≡ self.old) }
     {
@@ -196,7 +199,8 @@ impl<'a> NodeReader<'a> {
     /// The same of one that is not found by its number.
     fn add_inner(&mut self, leaf: &[u8], number: usize) -> Result<Option<u32>, NameFault>
         requires { Writes leaf.now number }
-        ensures seen { SeesNode result self.old.net self.old.nodes (Some (node_named self.old.net leaf.now)) self.new.nodes }
+        ensures seen { SeesNode result self.old.net self.old.nodes
+            (Some (node_named self.old.net leaf.now)) self.new.nodes }
         ensures rest { self.new ≡ record self.old { nodes = self.new.nodes } }
         ensures unchanged { OnErr result (self.new ≡ self.old) }
     {
@@ -210,7 +214,8 @@ impl<'a> NodeReader<'a> {
     /// The number of a node, which is put last where it is new. Answers `Memory` where there is no room; nothing
     /// changes then.
     pub fn intern(&mut self, node: &Node) -> Result<u32, Memory>
-        ensures nodes { OnOk result (self.new ≡ record self.old { nodes = with_node self.old.nodes (named_by node.now) }) }
+        ensures nodes { OnOk result (self.new
+            ≡ record self.old { nodes = with_node self.old.nodes (named_by node.now) }) }
         ensures number { IfOk result (λ id. slice_get self.new.nodes id ≡ Some (named_by node.now)) }
         ensures unchanged { OnErr result (self.new ≡ self.old) }
     {

@@ -66,7 +66,8 @@ fn bucket_of(buckets: usize, owner: &[u8], leaf: &[u8]) -> usize
 fn add_name(owners: &mut Texts, leaves: &mut Texts, owner: &[u8], leaf: &[u8]) -> Result<(), Memory>
     requires { length owners.old ≡ length leaves.old }
     ensures even { length owners.new ≡ length leaves.new }
-    ensures last { OnOk result (nodes_in owners.new leaves.new ≡ nodes_in owners.old leaves.old ++ node_named owner.now leaf.now ∷ []) }
+    ensures last { OnOk result (nodes_in owners.new leaves.new
+        ≡ nodes_in owners.old leaves.old ++ node_named owner.now leaf.now ∷ []) }
     ensures unchanged { OnErr result (nodes_in owners.new leaves.new ≡ nodes_in owners.old leaves.old) }
 {
     owners.push(owner)?;

@@ -77,8 +77,10 @@ fn lengthen(marks: &mut Vec<Mark>, at: usize) -> Result<(), Memory>
 
 /// Puts a mark at a number. Answers `Memory` where there is no room; nothing changes then.
 fn put(marks: &mut Vec<Mark>, at: usize, mark: Mark) -> Result<(), Memory>
-    ensures put { OnOk result ((i : ℕ) → slice_index_or marks.new.items i Fresh ≡ (if i == at then mark else slice_index_or marks.old.items i Fresh)) }
-    ensures same { OnErr result ((i : ℕ) → slice_index_or marks.new.items i Fresh ≡ slice_index_or marks.old.items i Fresh) }
+    ensures put { OnOk result ((i : ℕ)
+        → slice_index_or marks.new.items i Fresh ≡ (if i == at then mark else slice_index_or marks.old.items i Fresh)) }
+    ensures same { OnErr result ((i : ℕ)
+        → slice_index_or marks.new.items i Fresh ≡ slice_index_or marks.old.items i Fresh) }
 {
     match lengthen(marks, at) {
         Ok(()) => {
@@ -147,7 +149,8 @@ impl Notes {
 
     /// Notes a connection at a number. Answers `Memory` where there is no room; nothing changes then.
     pub fn join(&mut self, at: u32, note: &[u8]) -> Result<(), Memory>
-        ensures noted { OnOk result ((i : ℕ) → note_at self.new i ≡ (if i == at then joined note.now else note_at self.old i)) }
+        ensures noted { OnOk result ((i : ℕ)
+            → note_at self.new i ≡ (if i == at then joined note.now else note_at self.old i)) }
         ensures unchanged { OnErr result ((i : ℕ) → note_at self.new i ≡ note_at self.old i) }
     {
         let Ok(id) = add_text(&mut self.texts, note) else {
@@ -161,7 +164,8 @@ impl Notes {
 
     /// Notes a `*N` line at a number. Answers `Memory` where there is no room; nothing changes then.
     pub fn star(&mut self, at: u32, note: &[u8]) -> Result<(), Memory>
-        ensures noted { OnOk result ((i : ℕ) → note_at self.new i ≡ (if i == at then starred note.now else note_at self.old i)) }
+        ensures noted { OnOk result ((i : ℕ)
+            → note_at self.new i ≡ (if i == at then starred note.now else note_at self.old i)) }
         ensures unchanged { OnErr result ((i : ℕ) → note_at self.new i ≡ note_at self.old i) }
     {
         let Ok(id) = add_text(&mut self.texts, note) else {

@@ -31,4 +31,5 @@ pub record IsFileWith (text new : List ℕ) (file : File) (all : List Place) : T
 -- a file of which nets are replaced is a file, if no two of its nets have the same name then
 abbrev pub FilesAreSpliced : Type 0
 FilesAreSpliced = (text new : List ℕ) (file : File) (front : List (List ℕ)) (splices : List Splice) → IsFileOf text file
-    → HasSplices text new front splices → AreNew [] (text_names (new_texts (all_places front splices))) → IsFileWith text new file (all_places front splices)
+    → HasSplices text new front splices → AreNew [] (text_names (new_texts (all_places front splices)))
+    → IsFileWith text new file (all_places front splices)

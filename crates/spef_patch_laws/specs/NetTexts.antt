@@ -28,7 +28,8 @@ text_at lines head = text_before (drop head.line lines) head
 abbrev pub texts_in : List Line → List (List ℕ) → List (List ℕ) → List NetText
 texts_in before [] later = []
 texts_in before (line ∷ lines) later =
-    map (text_before (lines ++ later)) (listed (net_in before (words line))) ++ texts_in (before ++ words line ∷ []) lines later
+    map (text_before (lines ++ later)) (listed (net_in before (words line)))
+    ++ texts_in (before ++ words line ∷ []) lines later
 
 abbrev pub text_names : List NetText → List (List ℕ)
 text_names texts = map (λ text. text.name) texts
@@ -104,8 +105,10 @@ abbrev pub places : List Line → List Splice → List Place
 places before [] = []
 places before (s ∷ splices) =
     let passed = before ++ map words (whole s.old) in
-    map (λ text. record { old = text; new = map new_text s.new }) (texts_in before (whole s.old) (s.kept ++ old_lines splices))
-    ++ (map stays (texts_in passed s.kept (old_lines splices)) ++ places (before ++ map words (whole s.old ++ s.kept)) splices)
+    map (λ text. record { old = text; new = map new_text s.new })
+    (texts_in before (whole s.old) (s.kept ++ old_lines splices))
+    ++ (map stays (texts_in passed s.kept (old_lines splices))
+    ++ places (before ++ map words (whole s.old ++ s.kept)) splices)
 
 -- and those of all nets, where these lines stand before the first splice
 abbrev pub all_places : List (List ℕ) → List Splice → List Place

@@ -12,7 +12,8 @@ use Rattle.spef_patch_laws.specs.Replacements.{HasQuietNotes}
 
 -- the notes of a net that is read from a text stay where comments are made blank, be it read by its head
 abbrev pub ReadNotesAreQuiet : Type 0
-ReadNotesAreQuiet = (text : List ℕ) (file : File) (head : NetHead) (net : ParNet) → IsNetOf text file head net → HasQuietNotes net
+ReadNotesAreQuiet =
+    (text : List ℕ) (file : File) (head : NetHead) (net : ParNet) → IsNetOf text file head net → HasQuietNotes net
 
 -- or by its name
 abbrev pub NamedNotesAreQuiet : Type 0

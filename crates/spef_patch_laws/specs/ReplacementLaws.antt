@@ -41,11 +41,14 @@ pub record HaveFreeNames (index : SpefIndex) (rs : List Replacement) : Type 0 wh
 pub record HaveOwnNames (index : SpefIndex) (rs : List Replacement) : Type 0 where
   pub own : All (λ r. All (λ net. is_section index.sections net.name ≡ true → net.name ≡ r.row.0) r.nets) rs
   pub inside : All (λ r. AreNew [] (names_in r)) rs
-  pub between : AllPairs (λ r other. All (λ name. is_section index.sections name ≡ false → Contains (names_in other) name → ⊥) (names_in r)) rs
+  pub between : AllPairs
+      (λ r other.
+      All (λ name. is_section index.sections name ≡ false → Contains (names_in other) name → ⊥) (names_in r)) rs
 
 -- such names are free
 abbrev pub OwnNamesAreFree : Type 0
-OwnNamesAreFree = (text : List ℕ) (index : SpefIndex) (rs : List Replacement) → IsIndexOf text index → AreReplacements index rs → HaveOwnNames index rs
+OwnNamesAreFree = (text : List ℕ) (index : SpefIndex) (rs : List Replacement) → IsIndexOf text index
+    → AreReplacements index rs → HaveOwnNames index rs
     → HaveFreeNames index rs
 
 -- a text has the net of this name that another has, or none where that has none
@@ -69,10 +72,13 @@ pub record HasReplacements (text new : List ℕ) (index : SpefIndex) (rs : List 
   pub nets : List NetHead
   pub said : IsFileOf new (record (file_of index) { nets = nets })
   pub written : All (IsReadAgain new) (written_nets rs)
-  pub kept : (name : List ℕ) → (Contains (replaced_names rs) name → ⊥) → (Contains (written_names rs) name → ⊥) → HasSameNet text new name
-  pub gone : (name : List ℕ) → Contains (replaced_names rs) name → (Contains (written_names rs) name → ⊥) → IsMissing new name
+  pub kept : (name : List ℕ) → (Contains (replaced_names rs) name → ⊥) → (Contains (written_names rs) name → ⊥)
+      → HasSameNet text new name
+  pub gone : (name : List ℕ) → Contains (replaced_names rs) name
+      → (Contains (written_names rs) name → ⊥) → IsMissing new name
 
 -- so it is of the text in which they are replaced
 abbrev pub ReplacementsAreRead : Type 0
-ReplacementsAreRead = (text : List ℕ) (index : SpefIndex) (rs : List Replacement) → IsIndexOf text index → AreReplacements index rs → HaveFreeNames index rs
+ReplacementsAreRead = (text : List ℕ) (index : SpefIndex) (rs : List Replacement) → IsIndexOf text index
+    → AreReplacements index rs → HaveFreeNames index rs
     → HasReplacements text (replaced text index rs) index rs

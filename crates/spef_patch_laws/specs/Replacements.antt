@@ -53,5 +53,6 @@ replaced text index rs = patched text (map (edit_of index.header) (map change_of
 
 -- one or more sections of a text's index may be changed where they stand in the text
 abbrev pub SectionsMayChange : Type 0
-SectionsMayChange = (text : List ℕ) (index : SpefIndex) (rs : List Replacement) → IsIndexOf text index → AreReplacements index rs → 0 < length rs
+SectionsMayChange = (text : List ℕ) (index : SpefIndex) (rs : List Replacement) → IsIndexOf text index
+    → AreReplacements index rs → 0 < length rs
     → MayChange text index.header (map change_of rs)

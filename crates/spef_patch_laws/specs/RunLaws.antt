@@ -19,7 +19,8 @@ head_behind before name = record { name = name; reduced = false; line = length b
 
 -- the lines of a net of a free name have no fault, whatever follows, and say the net alone
 abbrev pub NetsAreRead : Type 0
-NetsAreRead = (before later : List Line) (net : NetLines) (name : List ℕ) → MayBegin before → AreNetLines net → IsHeadOf before net.head name
+NetsAreRead = (before later : List Line) (net : NetLines) (name : List ℕ) → MayBegin before → AreNetLines net
+    → IsHeadOf before net.head name
     → is_taken (nets_of before) name ≡ false
     → IsRun before (all_of net) later × IsPassed before (before ++ all_of net) (head_behind before name)
 
@@ -34,5 +35,6 @@ pub record AreKept (old new lines later : List Line) : Type 0 where
 -- lines without a fault have none elsewhere, where no net there has the name of one that they add, and they add the
 -- same nets
 abbrev pub LinesAreReadElsewhere : Type 0
-LinesAreReadElsewhere = (old new lines later later_new : List Line) → IsAlike old new → IsRun old lines later → end_at later_new ≡ end_at later
+LinesAreReadElsewhere = (old new lines later later_new : List Line) → IsAlike old new → IsRun old lines later
+    → end_at later_new ≡ end_at later
     → AreKept old new lines later_new

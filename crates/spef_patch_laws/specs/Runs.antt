@@ -15,7 +15,8 @@ use Rattle.spef_file.specs.Faults.{fault_of}
 -- lines have no fault, after some lines and before others
 abbrev pub IsRun : List Line → List Line → List Line → Type 0
 IsRun before [] later = Unit {0}
-IsRun before (line ∷ lines) later = (fault_of before line (lines ++ later) ≡ None) × IsRun (before ++ line ∷ []) lines later
+IsRun before (line ∷ lines) later =
+    (fault_of before line (lines ++ later) ≡ None) × IsRun (before ++ line ∷ []) lines later
 
 -- the header is over after these lines and after those, and it and the name map have said the same
 pub record SaysSame (old new : List Line) : Type 0 where

@@ -63,4 +63,5 @@ WrittenTextsAreRead = (file : File) (header : Header) (net : ParNet) → IsMeant
 -- sections, one after another, are quiet, where the notes of their nodes are
 abbrev pub WrittenSectionsAreQuiet : Type 0
 WrittenSectionsAreQuiet = (header : Header) (nets : List ParNet) → All IsWritable nets
-    → All (λ (net : ParNet). All (λ (node : ParNode). IsQuietLine node.note) net.nodes) nets → IsQuiet (sections_text header nets)
+    → All (λ (net : ParNet). All (λ (node : ParNode). IsQuietLine node.note) net.nodes) nets
+    → IsQuiet (sections_text header nets)

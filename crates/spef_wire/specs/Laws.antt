@@ -13,7 +13,8 @@ OneNet = (text name : List ℕ) (net other : ParNet) → IsNetNamed text name ne
 -- a net has at most one tree
 abbrev pub OneTree : Type 0
 OneTree =
-    (net : ParNet) (tree other : List Node) (order places : List ℕ) → IsNetTree net tree order → IsNetTree net other places
+    (net : ParNet) (tree other : List Node) (order places : List ℕ) → IsNetTree net tree order
+    → IsNetTree net other places
     → (tree ≡ other) × (order ≡ places)
 
 -- a name has at most one refusal, by the parasitics alone
@@ -23,5 +24,6 @@ OneRefusal = (text name : List ℕ) (a b : Refusal) → IsRefusalOf text name a 
 -- where all refusals below a number are passed, none of them refuses the net
 abbrev pub PassedOrRefused : Type 0
 PassedOrRefused =
-    (text name : List ℕ) (net : ParNet) (n : ℕ) (refusal : Refusal) → IsNetNamed text name net → PassesUpTo n net → 3 ≤ n
+    (text name : List ℕ) (net : ParNet) (n : ℕ) (refusal : Refusal) → IsNetNamed text name net
+    → PassesUpTo n net → 3 ≤ n
     → IsRefusalOf text name refusal → number_of refusal < n → ⊥

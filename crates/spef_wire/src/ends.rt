@@ -64,7 +64,8 @@ fn with_driver(drivers: Drivers, driver: ParConn) -> Drivers
 
 /// The drivers with this connection, where it is one.
 fn with_conn(drivers: Drivers, conn: ParConn) -> Drivers
-    ensures { (list : List ParConn) → AreDrivers list drivers → AreDrivers (list ++ (if drives conn then conn ∷ [] else [])) result }
+    ensures { (list : List ParConn) → AreDrivers list drivers
+        → AreDrivers (list ++ (if drives conn then conn ∷ [] else [])) result }
 {
     if drives(&conn) {
         with_driver(drivers, conn)

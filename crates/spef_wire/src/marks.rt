@@ -13,7 +13,8 @@ use vg_num::Memory;
 fn mark(conn: ParConn, marks: &mut [bool])
     requires { conn.node < length marks.old }
     ensures one_each { length marks.new ≡ length marks.old }
-    ensures each { (v : ℕ) → slice_index_or marks.new v false ≡ (slice_index_or marks.old v false || (is_sink conn && (conn.node == v))) }
+    ensures each { (v : ℕ)
+        → slice_index_or marks.new v false ≡ (slice_index_or marks.old v false || (is_sink conn && (conn.node == v))) }
 {
     if is_sink(&conn) {
         marks[conn.node as usize] = true;

@@ -26,7 +26,8 @@ impl Model for SinkDelays {
 
     ghost view = { λ sinks. sink_rows sinks.owners sinks.leaves sinks.delays.items };
 
-    ghost invariant = { λ sinks. (length sinks.delays.items ≤ length sinks.owners) × (length sinks.delays.items ≤ length sinks.leaves) };
+    ghost invariant = { λ sinks. (length sinks.delays.items ≤ length sinks.owners)
+        × (length sinks.delays.items ≤ length sinks.leaves) };
 }
 
 impl SinkDelays {
@@ -74,7 +75,8 @@ impl SinkDelays {
 
     /// Puts a sink last. Answers `Memory` where there is no room, and from then on; the sinks stay as they were.
     pub(crate) fn push(&mut self, owner: &[u8], leaf: &[u8], delay: i128) -> Result<(), Memory>
-        ensures last { OnOk result (self.new ≡ self.old ++ (record { owner = owner.now; leaf = leaf.now }, delay) ∷ []) }
+        ensures last { OnOk result (self.new ≡ self.old
+            ++ (record { owner = owner.now; leaf = leaf.now }, delay) ∷ []) }
         ensures unchanged { OnErr result (self.new ≡ self.old) }
     {
         let count = self.delays.len();

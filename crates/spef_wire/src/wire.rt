@@ -80,8 +80,11 @@ fn sink_delays(
     requires tree { IsNetTree found.now.net found.now.tree.nodes found.now.order }
     requires marks { AreMarks found.now.net marks.now }
     requires room { length found.now.tree.nodes ≤ length delays.now }
-    requires delays { (i : ℕ) → i < length found.now.tree.nodes → slice_index_or delays.now i (pos 0) ≡ pos (delay_in found.now.tree.nodes i) }
-    ensures { IfOk result (λ rows. AllZip (IsDelay found.now.net found.now.tree.nodes found.now.order) (sinks_in found.now.net found.now.order) rows) }
+    requires delays { (i : ℕ) → i < length found.now.tree.nodes
+        → slice_index_or delays.now i (pos 0) ≡ pos (delay_in found.now.tree.nodes i) }
+    ensures { IfOk result (λ rows.
+        AllZip (IsDelay found.now.net found.now.tree.nodes found.now.order)
+        (sinks_in found.now.net found.now.order) rows) }
 {
     let order = found.order.as_slice();
     let mut rows = SinkDelays::new(alloc);

@@ -6,7 +6,8 @@ use Rattle.spef_write.specs.declared.printed.Place.{Place}
 
 -- what stands at a place
 abbrev pub printed_in : List ℕ → Place → PrintedNode
-printed_in text place = record { name = part text place.name place.note; inner = place.inner; note = part text place.note place.end; charge = place.charge }
+printed_in text place =
+    record { name = part text place.name place.note; inner = place.inner; note = part text place.note place.end; charge = place.charge }
 
 -- a place within a text of so many bytes
 pub record IsPlace (length : ℕ) (place : Place) : Type 0 where

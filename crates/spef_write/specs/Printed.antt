@@ -26,7 +26,8 @@ printed_at nodes k = slice_index_or nodes k NO_PRINTED
 
 -- what is printed of a node that has this capacitance
 abbrev pub printed_of : Chars → ParNode → ℕ → PrintedNode
-printed_of chars node charge = record { name = printed_node chars node.name; inner = node.inner; note = node.note; charge = charge }
+printed_of chars node charge =
+    record { name = printed_node chars node.name; inner = node.inner; note = node.note; charge = charge }
 
 -- and of nodes whose numbers count from k on, where the net has these capacitors
 unfoldable pub printed_all : Chars → List (ℕ × ℕ) → ℕ → List ParNode → List PrintedNode
@@ -36,11 +37,13 @@ printed_all chars caps k (node ∷ nodes) = printed_of chars node (total_at caps
 -- ---- lines
 
 abbrev pub head_row : Header → List ℕ → ℕ → List ℕ
-head_row header name charge = spaced (codes "*D_NET" ∷ printed header.chars name ∷ scaled_text charge (unsigned_abs header.c_places) ∷ [])
+head_row header name charge =
+    spaced (codes "*D_NET" ∷ printed header.chars name ∷ scaled_text charge (unsigned_abs header.c_places) ∷ [])
 
 abbrev pub conn_row : List PrintedNode → ParConn → List ℕ
 conn_row nodes conn =
-    noted (spaced (conn_tag conn.kind ∷ (printed_at nodes conn.node).name ∷ direction_word conn.direction ∷ [])) (printed_at nodes conn.node).note
+    noted (spaced (conn_tag conn.kind ∷ (printed_at nodes conn.node).name ∷ direction_word conn.direction ∷ []))
+    (printed_at nodes conn.node).note
 
 -- an inner node with a note, and its line
 abbrev pub is_starred : PrintedNode → Bool
@@ -66,7 +69,8 @@ cap_rows header nodes = headed (codes "*CAP") (numbered (cap_row header) 1 (filt
 abbrev pub res_row : Header → List PrintedNode → ℕ → ℕ × ℕ × ℕ → List ℕ
 res_row header nodes id res =
     spaced (
-    decimal id ∷ (printed_at nodes res.0).name ∷ (printed_at nodes res.1).name ∷ scaled_text res.2 (unsigned_abs header.r_places) ∷ []
+    decimal id ∷ (printed_at nodes res.0).name ∷ (printed_at nodes res.1).name
+    ∷ scaled_text res.2 (unsigned_abs header.r_places) ∷ []
     )
 
 abbrev pub res_rows : Header → List PrintedNode → List (ℕ × ℕ × ℕ) → List (List ℕ)

@@ -95,23 +95,27 @@ pub record IsWrittenAgain (net other : ParNet) : Type 0 where
 
 -- the net that a section denotes is the net that was written
 abbrev pub WrittenNetsAgain : Type 0
-WrittenNetsAgain = (net other : ParNet) → IsWritable net → IsNet net.name false (said_by net) other → IsWrittenAgain net other
+WrittenNetsAgain =
+    (net other : ParNet) → IsWritable net → IsNet net.name false (said_by net) other → IsWrittenAgain net other
 
 -- a section has the lines of which it is made
 abbrev pub SectionsAreLines : Type 0
 SectionsAreLines = (header : Header) (net : ParNet) (rest : List ℕ) → IsWritable net
-    → lines (section_text header net ++ rest) ≡ (head_line header net ∷ inner_lines header net) ++ lines (codes "*END" ++ rest)
+    → lines (section_text header net ++ rest)
+    ≡ (head_line header net ∷ inner_lines header net) ++ lines (codes "*END" ++ rest)
 
 -- a section is quiet, where the notes of its nodes are
 abbrev pub SectionsAreQuiet : Type 0
-SectionsAreQuiet = (header : Header) (net : ParNet) → IsWritable net → All (λ (node : ParNode). IsQuietLine node.note) net.nodes
+SectionsAreQuiet =
+    (header : Header) (net : ParNet) → IsWritable net → All (λ (node : ParNode). IsQuietLine node.note) net.nodes
     → IsQuiet (section_text header net)
 
 -- the first line of a section names the net
 pub record IsHeadOf (header : Header) (net : ParNet) : Type 0 where
   pub says :
       words (head_line header net)
-      ≡ codes "*D_NET" ∷ printed header.chars net.name ∷ scaled_text (total net.caps) (unsigned_abs header.c_places) ∷ []
+      ≡ codes "*D_NET" ∷ printed header.chars net.name
+      ∷ scaled_text (total net.caps) (unsigned_abs header.c_places) ∷ []
   pub named : canonical header.chars (printed header.chars net.name) ≡ Some net.name
   pub plain : is_reference (printed header.chars net.name) ≡ false
 

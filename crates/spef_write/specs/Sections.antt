@@ -64,7 +64,8 @@ cap_text header nodes id cap =
 abbrev pub res_text : Header → List ParNode → ℕ → ℕ × ℕ × ℕ → List ℕ
 res_text header nodes id res =
     spaced (
-    decimal id ∷ printed_node header.chars (node_at nodes res.0).name ∷ printed_node header.chars (node_at nodes res.1).name
+    decimal id ∷ printed_node header.chars (node_at nodes res.0).name
+    ∷ printed_node header.chars (node_at nodes res.1).name
     ∷ scaled_text res.2 (unsigned_abs header.r_places) ∷ []
     )
 
@@ -107,12 +108,14 @@ abbrev pub inner_lines : Header → ParNet → List (List ℕ)
 inner_lines header net =
     codes "*CONN"
     ∷ (conn_lines header.chars net.nodes net.conns
-    ++ (star_lines header.chars net.nodes ++ (cap_lines header net.nodes (charged net) ++ res_lines header net.nodes net.ress)))
+    ++ (star_lines header.chars net.nodes
+    ++ (cap_lines header net.nodes (charged net) ++ res_lines header net.nodes net.ress)))
 
 -- the first line of a section
 abbrev pub head_line : Header → ParNet → List ℕ
 head_line header net =
-    spaced (codes "*D_NET" ∷ printed header.chars net.name ∷ scaled_text (total net.caps) (unsigned_abs header.c_places) ∷ [])
+    spaced (codes "*D_NET" ∷ printed header.chars net.name
+    ∷ scaled_text (total net.caps) (unsigned_abs header.c_places) ∷ [])
 
 -- the section, without a newline behind its end
 abbrev pub section_text : Header → ParNet → List ℕ

@@ -28,7 +28,8 @@ LinesAgain = (ls : List (List ℕ)) (rest : List ℕ) → All IsLineText ls → 
 
 -- a printed node names the node, by the bytes that have a meaning in the file's names
 abbrev pub NodesAgain : Type 0
-NodesAgain = (file : File) (node : NodeName) → 0 < length node.owner → node_in file (printed_node file.chars node) ≡ Some node
+NodesAgain =
+    (file : File) (node : NodeName) → 0 < length node.owner → node_in file (printed_node file.chars node) ≡ Some node
 
 -- a printed name and a printed node are quiet
 abbrev pub NamesAreQuiet : Type 0
@@ -40,26 +41,34 @@ NodesAreQuiet = (chars : Chars) (node : NodeName) → IsQuiet (printed_node char
 -- a printed value is a word, is quiet, and is read as the value
 abbrev pub NumbersAgain : Type 0
 NumbersAgain = (n places : ℕ) → n ≤ 10 ^ 15
-    → IsWord (scaled_text n places) × IsQuiet (scaled_text n places) × (value_in (pos places) (scaled_text n places) ≡ Ok n)
+    → IsWord (scaled_text n places) × IsQuiet (scaled_text n places)
+    × (value_in (pos places) (scaled_text n places) ≡ Ok n)
 
 -- the lines of a capacitor to the ground and of a resistor, where the file's values have so many places
 abbrev pub CapsAgain : Type 0
-CapsAgain = (file : File) (id v places : ℕ) (node : NodeName) → IsNodePrintable node → id < 10 ^ 64 → v ≤ 10 ^ 15 → file.c_places ≡ pos places
-    → cap_line file (words (spaced (decimal id ∷ printed_node file.chars node ∷ scaled_text v places ∷ []))) ≡ Ok (Ground node (Ok v))
+CapsAgain = (file : File) (id v places : ℕ) (node : NodeName) → IsNodePrintable node → id < 10 ^ 64 → v ≤ 10 ^ 15
+    → file.c_places ≡ pos places
+    → cap_line file (words (spaced (decimal id ∷ printed_node file.chars node ∷ scaled_text v places ∷ [])))
+    ≡ Ok (Ground node (Ok v))
 
 abbrev pub RessAgain : Type 0
-RessAgain = (file : File) (id v places : ℕ) (a b : NodeName) → IsNodePrintable a → IsNodePrintable b → id < 10 ^ 64 → v ≤ 10 ^ 15 → file.r_places ≡ pos places
-    → res_line file (words (spaced (decimal id ∷ printed_node file.chars a ∷ printed_node file.chars b ∷ scaled_text v places ∷ []))) ≡ Ok (Resistor a b (Ok v))
+RessAgain = (file : File) (id v places : ℕ) (a b : NodeName) → IsNodePrintable a → IsNodePrintable b → id < 10 ^ 64
+    → v ≤ 10 ^ 15 → file.r_places ≡ pos places
+    → res_line file
+    (words (spaced (decimal id ∷ printed_node file.chars a ∷ printed_node file.chars b ∷ scaled_text v places ∷ [])))
+    ≡ Ok (Resistor a b (Ok v))
 
 -- what stands behind the words of a line is its note, and where nothing does, the note is empty
 abbrev pub NotesAgain : Type 0
-NotesAgain = (ws : List (List ℕ)) (note : List ℕ) → All IsWord ws → IsNote note → note_after (length ws) (noted (spaced ws) note) ≡ note
+NotesAgain = (ws : List (List ℕ)) (note : List ℕ) → All IsWord ws → IsNote note
+    → note_after (length ws) (noted (spaced ws) note) ≡ note
 
 -- the lines of a connection and of a node inside the net, each with its note
 abbrev pub ConnsAgain : Type 0
 ConnsAgain = (file : File) (kind : ConnKind) (direction : Direction) (node : NodeName) (note : List ℕ)
     → IsNodePrintable node → is_at kind node ≡ true → IsNote note
-    → conn_line file (conn_text file.chars kind direction node note) (words (conn_text file.chars kind direction node note))
+    → conn_line file (conn_text file.chars kind direction node note)
+    (words (conn_text file.chars kind direction node note))
     ≡ Ok (Connects kind direction node note)
 
 abbrev pub StarsAgain : Type 0

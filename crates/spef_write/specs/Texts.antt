@@ -68,7 +68,8 @@ noted line (b ∷ note) = line ++ 32 ∷ b ∷ note
 
 -- the line of a connection, and that of a node inside the net
 abbrev pub conn_text : Chars → ConnKind → Direction → NodeName → List ℕ → List ℕ
-conn_text chars kind direction node note = noted (spaced (conn_tag kind ∷ printed_node chars node ∷ direction_word direction ∷ [])) note
+conn_text chars kind direction node note =
+    noted (spaced (conn_tag kind ∷ printed_node chars node ∷ direction_word direction ∷ [])) note
 
 abbrev pub star_text : Chars → NodeName → List ℕ → List ℕ
 star_text chars node note = noted (spaced (codes "*N" ∷ printed_node chars node ∷ [])) note

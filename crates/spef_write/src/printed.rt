@@ -139,7 +139,8 @@ impl Printed {
         requires owner { IsPrintable node.now.owner.now }
         requires leaf { AllPass is_solid node.now.leaf.now }
         ensures { OnOk result (self.new ≡ self.old
-            ++ printed_of chars.now (record { name = record { owner = node.now.owner.now; leaf = node.now.leaf.now }; inner = node.now.inner; note = node.now.note.now }) node.now.charge ∷ []) }
+            ++ printed_of chars.now
+            (record { name = record { owner = node.now.owner.now; leaf = node.now.leaf.now }; inner = node.now.inner; note = node.now.note.now }) node.now.charge ∷ []) }
     {
         let name = self.text.len();
         print_node(node.owner, node.leaf, chars, &mut self.text)?;

@@ -63,7 +63,8 @@ fn print_next_cap(
 ) -> Result<(), Memory>
     requires at { at < length nodes.now }
     requires few { count + 1 < 2 ^ 64 }
-    ensures { OnOk result (to.new.items ≡ to.old.items ++ lined (behind count (codes "*CAP") (cap_row header.now (count + 1) (printed_at nodes.now at)))) }
+    ensures { OnOk result (to.new.items ≡ to.old.items
+        ++ lined (behind count (codes "*CAP") (cap_row header.now (count + 1) (printed_at nodes.now at)))) }
 {
     if count == 0 {
         to.extend_from_slice(b"*CAP\n")?;
@@ -81,7 +82,8 @@ fn print_caps(
     to: &mut Vec<u8>,
 ) -> Result<(), Memory>
     requires { All (λ k. k < length nodes.now) cap_nodes.now }
-    ensures { OnOk result (to.new.items ≡ to.old.items ++ lined (cap_rows header.now (map (printed_at nodes.now) cap_nodes.now))) }
+    ensures { OnOk result (to.new.items ≡ to.old.items
+        ++ lined (cap_rows header.now (map (printed_at nodes.now) cap_nodes.now))) }
 {
     let mut count = 0usize;
     'node: for i in 0..cap_nodes.len() {
@@ -131,7 +133,8 @@ fn print_ress(
 /// Prints the section of the net that has these parts, without a newline behind its end.
 fn print_section(section: &Section<'_>, header: &Header, to: &mut Vec<u8>) -> Result<(), Memory>
     requires { (net : ParNet) × IsSectionOf header.now.chars net section.now }
-    ensures { OnOk result ((net : ParNet) → IsSectionOf header.now.chars net section.now → to.new.items ≡ to.old.items ++ section_text header.now net) }
+    ensures { OnOk result ((net : ParNet) → IsSectionOf header.now.chars net section.now
+        → to.new.items ≡ to.old.items ++ section_text header.now net) }
 {
     let nodes = section.nodes;
     print_head(section.name, section.charge, header, to)?;
@@ -144,8 +147,8 @@ fn print_section(section: &Section<'_>, header: &Header, to: &mut Vec<u8>) -> Re
     Ok(())
 }
 
-/// Appends the section of the net that has these parts, without a newline behind its end. It is made in `text`, which is
-/// room to work in.
+/// Appends the section of the net that has these parts, without a newline behind its end. It is made in `text`, which
+/// is room to work in.
 ///
 /// Answers `Memory` where there is no room, and then `to` is as before.
 pub fn write_section(
@@ -155,7 +158,8 @@ pub fn write_section(
     to: &mut Vec<u8>,
 ) -> Result<(), Memory>
     requires { (net : ParNet) × IsSectionOf header.now.chars net section.now }
-    ensures written { OnOk result ((net : ParNet) → IsSectionOf header.now.chars net section.now → to.new.items ≡ to.old.items ++ section_text header.now net) }
+    ensures written { OnOk result ((net : ParNet) → IsSectionOf header.now.chars net section.now
+        → to.new.items ≡ to.old.items ++ section_text header.now net) }
     ensures unchanged { OnErr result (to.new.items ≡ to.old.items) }
 {
     text.clear();
@@ -205,8 +209,8 @@ fn section(alloc: Global, net: &ParNet, header: &Header) -> Result<Vec<u8>, Memo
 }
 
 /// Appends the section of a net, without a newline behind its end: its connections with their notes, its inner nodes
-/// with notes, the capacitance of each node that has one, in the order in which the net's capacitors name the nodes, and
-/// its resistors. What the section says is the net again.
+/// with notes, the capacitance of each node that has one, in the order in which the net's capacitors name the nodes,
+/// and its resistors. What the section says is the net again.
 ///
 /// Answers `Memory` where there is no room, and then `to` is as before.
 pub fn write_net(

@@ -61,7 +61,8 @@ pub record IsTimedStage (x : Split) (new : Design) (stages : StageNets) (k : ℕ
 -- so are all stages, by different numbers; the root's is driven from outside
 pub record AreTimedStages (x : Split) (new : Design) (stages : StageNets) : Type 0 where
   pub each : (k : ℕ) → k < length (heads (forest x)) → IsTimedStage x new stages k
-  pub once : (k u : ℕ) → k < length (heads (forest x)) → u < length (heads (forest x)) → stages.number k ≡ stages.number u → k ≡ u
+  pub once : (k u : ℕ) → k < length (heads (forest x)) → u < length (heads (forest x))
+      → stages.number k ≡ stages.number u → k ≡ u
   pub first : (net_at stages 0).above ≡ None
 
 -- then they are the nets that the placement cuts the net into

@@ -33,7 +33,8 @@ pub record IsSameByNames (net read : ParNet) : Type 0 where
 
 -- so it is where each node is a connection, or has a note, a capacitance or a resistor
 abbrev pub ReadNetsAreTheSame : Type 0
-ReadNetsAreTheSame = (net read : ParNet) → ((k : ℕ) → k < length net.nodes → is_named net k ≡ true) → IsWrittenAgain net read → IsSameByNames net read
+ReadNetsAreTheSame = (net read : ParNet) → ((k : ℕ) → k < length net.nodes → is_named net k ≡ true)
+    → IsWrittenAgain net read → IsSameByNames net read
 
 -- ---- stages
 
@@ -45,7 +46,8 @@ pub record IsReadOf (d : Design) (n : Joined) (x : Split) (k : ℕ) (read : ParN
 
 -- it has the stage's connections and nodes
 abbrev pub ReadStagesAreTheSame : Type 0
-ReadStagesAreTheSame = (d : Design) (n : Joined) (x : Split) (k : ℕ) (read : ParNet) (is : IsReadOf d n x k read) → IsSameByNames is.net read
+ReadStagesAreTheSame = (d : Design) (n : Joined) (x : Split) (k : ℕ) (read : ParNet) (is : IsReadOf d n x k read)
+    → IsSameByNames is.net read
 
 -- the node of a stage that has this name in the stage's net
 abbrev pub node_named : Split → ℕ → NodeName → ℕ
@@ -58,4 +60,5 @@ stands_for x k net j = node_named x k (name_of net j)
 -- so it is the piece of the node where the stage begins, whose number is 0
 abbrev pub ReadStagesArePieces : Type 0
 ReadStagesArePieces = (d : Design) (n : Joined) (x : Split) (k : ℕ) (read : ParNet) → IsReadOf d n x k read
-    → IsPieceNet (forest x) (head x k) (by_numbers read 0) (λ j. load_in d n x k (stands_for x k read j)) (stands_for x k read)
+    → IsPieceNet (forest x) (head x k) (by_numbers read 0)
+    (λ j. load_in d n x k (stands_for x k read j)) (stands_for x k read)

@@ -29,7 +29,8 @@ pub record IsReadStage (x : Split) (k : ℕ) (read : ParNet) : Type 0 where
   pub tree : HasTree read
 
 abbrev pub ReadStagesAreAccepted : Type 0
-ReadStagesAreAccepted = (d : Design) (n : Joined) (x : Split) (k : ℕ) (read : ParNet) → IsReadOf d n x k read → IsReadStage x k read
+ReadStagesAreAccepted =
+    (d : Design) (n : Joined) (x : Split) (k : ℕ) (read : ParNet) → IsReadOf d n x k read → IsReadStage x k read
 
 -- a node of a stage is a sink of the stage's net: a cell that ends the stage, or a sink of the net that is split
 abbrev pub is_sink_in : Split → ℕ → ℕ → Bool
@@ -43,14 +44,17 @@ HasLoadsOf d n x k new net =
 
 -- The tree of a net of a new design is a stage's piece. Its nodes stand for those of the stage by their names, and the
 -- sinks are the stage's.
-pub record IsReadPiece (x : Split) (k : ℕ) (new : Design) (net : Joined) (tree : List Node) (order : List ℕ) : Type 0 where
+pub record IsReadPiece (x : Split) (k : ℕ) (new : Design) (net : Joined) (tree : List Node)
+    (order : List ℕ) : Type 0 where
   pub a_tree : IsNetTree net.par tree order
-  pub piece : IsPieceOf (forest x) (head x k) (loaded_tree new net tree order) (λ i. stands_for x k net.par (slice_index order i))
+  pub piece : IsPieceOf (forest x) (head x k) (loaded_tree new net tree order) (λ i.
+      stands_for x k net.par (slice_index order i))
   pub names : (j : ℕ) → j < length net.par.nodes → name_in x k (stands_for x k net.par j) ≡ name_of net.par j
   pub sinks : (j : ℕ) → j < length net.par.nodes → is_sink_node net.par j ≡ is_sink_in x k (stands_for x k net.par j)
 
 -- whatever tree the net has
 abbrev pub ReadStagesHavePieces : Type 0
 ReadStagesHavePieces =
-    (d : Design) (n : Joined) (x : Split) (k : ℕ) (new : Design) (net : Joined) → IsReadOf d n x k net.par → HasLoadsOf d n x k new net
+    (d : Design) (n : Joined) (x : Split) (k : ℕ) (new : Design) (net : Joined) → IsReadOf d n x k net.par
+    → HasLoadsOf d n x k new net
     → (tree : List Node) (order : List ℕ) → IsNetTree net.par tree order → IsReadPiece x k new net tree order

@@ -28,7 +28,8 @@ pub record IsSplitOf (d : Design) (n : Joined) (x : Split) : Type 0 where
 -- so the cell at a node is the repeater there
 abbrev pub CellsAreRepeaters : Type 0
 CellsAreRepeaters =
-    (d : Design) (n : Joined) (x : Split) → IsSplitOf d n x → (w : ℕ) → is_celled x w ≡ true → (forest x).cell w ≡ Some (repeater_at x w).rep
+    (d : Design) (n : Joined) (x : Split) → IsSplitOf d n x → (w : ℕ) → is_celled x w ≡ true
+    → (forest x).cell w ≡ Some (repeater_at x w).rep
 
 -- a net by its numbers, from a root
 abbrev pub by_numbers : ParNet → ℕ → NumberedNet
@@ -49,4 +50,5 @@ pub record IsNetOfStage (d : Design) (n : Joined) (x : Split) (k : ℕ) (net : P
 -- so it is the piece of the node where the stage begins, whose number is 0
 abbrev pub StageNetsArePieces : Type 0
 StageNetsArePieces = (d : Design) (n : Joined) (x : Split) (k : ℕ) (net : ParNet) → IsNetOfStage d n x k net
-    → IsPieceNet (forest x) (head x k) (by_numbers net 0) (λ i. load_in d n x k (slice_index (nodes_in x k) i)) (slice_index (nodes_in x k))
+    → IsPieceNet (forest x) (head x k) (by_numbers net 0) (λ i. load_in d n x k (slice_index (nodes_in x k) i))
+    (slice_index (nodes_in x k))

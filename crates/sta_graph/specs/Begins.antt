@@ -38,8 +38,10 @@ pub record IsWorstEnd (g : Graph) (leading : List Bool) (times : List (Option �
   pub time : ℤ
   pub at : time_at times (owner g end.sink) ≡ Some time
   pub slack_is : end.slack ≡ end_slack g end.sink time
-  pub least : (j : ℕ) (a : ℤ) → j < n → is_marked leading j ≡ false → time_at times (owner g j) ≡ Some a → end.slack ≤ℤ end_slack g j a
-  pub first : (j : ℕ) (a : ℤ) → j < end.sink → is_marked leading j ≡ false → time_at times (owner g j) ≡ Some a → end.slack <ℤ end_slack g j a
+  pub least : (j : ℕ) (a : ℤ) → j < n → is_marked leading j ≡ false → time_at times (owner g j) ≡ Some a
+      → end.slack ≤ℤ end_slack g j a
+  pub first : (j : ℕ) (a : ℤ) → j < end.sink → is_marked leading j ≡ false → time_at times (owner g j) ≡ Some a
+      → end.slack <ℤ end_slack g j a
 
 -- the endpoint j takes effect
 pub record IsEnded (g : Graph) (j : ℕ) (before after : List (Option ℤ)) : Type 0 where
@@ -56,7 +58,8 @@ pub record IsHeldWithin (held : Option ℤ) : Type 0 where
 -- for each net before n the required time less the arrival
 pub record AreDifferences (arrivals required : List (Option ℤ)) (n : ℕ) (slacks : List ℤ) : Type 0 where
   pub count : length slacks ≡ n
-  pub each : (v : ℕ) (a r : ℤ) → v < n → time_at arrivals v ≡ Some a → time_at required v ≡ Some r → slice_index_or slacks v (pos 0) ≡ r -ℤ a
+  pub each : (v : ℕ) (a r : ℤ) → v < n → time_at arrivals v ≡ Some a → time_at required v ≡ Some r
+      → slice_index_or slacks v (pos 0) ≡ r -ℤ a
 
 -- the end that is held, or this sink where its slack is less
 pub record IsWorse (held : Option End) (sink : ℕ) (slack : ℤ) (end : End) : Type 0 where

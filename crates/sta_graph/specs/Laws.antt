@@ -10,7 +10,8 @@ LeftIsAfterCycle = (g : Graph) (order : List ℕ) (v : ℕ) → IsPeeled g order
 
 -- and a net to which all leads are listed is not
 abbrev pub ReadyIsNotAfterCycle : Type 0
-ReadyIsNotAfterCycle = (g : Graph) (order : List ℕ) (v : ℕ) → IsPeeled g order → IsReadyBy g order (length order) v → IsAfterCycle g v → ⊥
+ReadyIsNotAfterCycle =
+    (g : Graph) (order : List ℕ) (v : ℕ) → IsPeeled g order → IsReadyBy g order (length order) v → IsAfterCycle g v → ⊥
 
 -- where all leads have an order, there is no cycle
 abbrev pub OrderedHasNoCycle : Type 0

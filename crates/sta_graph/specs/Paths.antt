@@ -104,7 +104,8 @@ pub record IsLatest (g : Graph) (v : ℕ) (a : ℤ) : Type 0 where
   pub starts : IsStart g start
   pub leads : IsTrail g start trail v
   pub attained : a ≡ arrival_of g start +ℤ delay_along g trail
-  pub latest : (s : ℕ) (others : List ℕ) → IsStart g s → IsTrail g s others v → (arrival_of g s +ℤ delay_along g others) ≤ℤ a
+  pub latest : (s : ℕ) (others : List ℕ) → IsStart g s → IsTrail g s others v
+      → (arrival_of g s +ℤ delay_along g others) ≤ℤ a
 
 -- the earliest time by which a signal has to be at net v's driver
 pub record IsEarliest (g : Graph) (v : ℕ) (r : ℤ) : Type 0 where
@@ -113,7 +114,8 @@ pub record IsEarliest (g : Graph) (v : ℕ) (r : ℤ) : Type 0 where
   pub ends : IsEnd g last
   pub leads : IsTrail g v trail (owner g last)
   pub attained : r ≡ required_of g last -ℤ (delay_along g trail +ℤ delay_of g last)
-  pub earliest : (e : ℕ) (others : List ℕ) → IsEnd g e → IsTrail g v others (owner g e) → r ≤ℤ (required_of g e -ℤ (delay_along g others +ℤ delay_of g e))
+  pub earliest : (e : ℕ) (others : List ℕ) → IsEnd g e → IsTrail g v others (owner g e)
+      → r ≤ℤ (required_of g e -ℤ (delay_along g others +ℤ delay_of g e))
 
 -- the least slack of the paths through net v
 pub record IsLeastThrough (g : Graph) (v : ℕ) (x : ℤ) : Type 0 where
@@ -123,7 +125,8 @@ pub record IsLeastThrough (g : Graph) (v : ℕ) (x : ℤ) : Type 0 where
   pub path : IsPath g start trail last
   pub through : PassesThrough g trail last v
   pub attained : x ≡ slack_of g start trail last
-  pub least : (s : ℕ) (others : List ℕ) (e : ℕ) → IsPath g s others e → PassesThrough g others e v → x ≤ℤ slack_of g s others e
+  pub least : (s : ℕ) (others : List ℕ) (e : ℕ) → IsPath g s others e → PassesThrough g others e v
+      → x ≤ℤ slack_of g s others e
 
 -- the least slack of all paths
 pub record IsLeast (g : Graph) (x : ℤ) : Type 0 where
@@ -140,4 +143,5 @@ pub record IsFirstEnd (g : Graph) (x : ℤ) (e : ℕ) : Type 0 where
   pub trail : List ℕ
   pub path : IsPath g start trail e
   pub attained : x ≡ slack_of g start trail e
-  pub first : (s : ℕ) (others : List ℕ) (before : ℕ) → before < e → IsPath g s others before → x ≡ slack_of g s others before → ⊥
+  pub first : (s : ℕ) (others : List ℕ) (before : ℕ) → before < e → IsPath g s others before
+      → x ≡ slack_of g s others before → ⊥

@@ -41,8 +41,10 @@ pub record IsPeeling (g : Graph) (order ready counts : List ℕ) (p low : ℕ) :
   pub all_free : (v : ℕ) → v < net_count g → slice_index counts v ≡ 0 → IsAmong ready (length ready) v
   pub one_each : length counts ≡ net_count g
   pub left : (v : ℕ) → v < net_count g → slice_index counts v ≡ left_to (to_of g) (is_listed order) v (length g.leads)
-  pub before : (q i : ℕ) → q < p → q < length ready → i < length g.leads → from_of g i ≡ slice_index ready q → IsAmong order (length order) i
-  pub now : (i : ℕ) → i < low → p < length ready → i < length g.leads → from_of g i ≡ slice_index ready p → IsAmong order (length order) i
+  pub before : (q i : ℕ) → q < p → q < length ready → i < length g.leads → from_of g i ≡ slice_index ready q
+      → IsAmong order (length order) i
+  pub now : (i : ℕ) → i < low → p < length ready → i < length g.leads → from_of g i ≡ slice_index ready p
+      → IsAmong order (length order) i
   pub only : (k : ℕ) → k < length order
       → ((q : ℕ) × (q < p) × (q < length ready) × (from_of g (slice_index order k) ≡ slice_index ready q))
       ⊎ ((p < length ready) × (from_of g (slice_index order k) ≡ slice_index ready p) × (slice_index order k < low))

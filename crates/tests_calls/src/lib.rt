@@ -1,5 +1,5 @@
-//! Tests of public calls that no whole run over files in memory shows: numbers, names, tokens, tables, modules, and files
-//! that are read and written.
+//! Tests of public calls that no whole run over files in memory shows: numbers, names, tokens, tables, modules, and
+//! files that are read and written.
 #![tactic(auto)]
 
 #[cfg(test)]

@@ -81,7 +81,8 @@ fn met<L: Ledger>(
     requires a { IsReady pool.old a }
     requires b { IsReady pool.old b }
     requires differ { Differ (name a) (name b) }
-    ensures { IfOk result (λ _. spare pool.new ≡ spare pool.old + length (items_of pool.old a) + length (items_of pool.old b)) }
+    ensures { IfOk result (λ _. spare pool.new
+        ≡ spare pool.old + length (items_of pool.old a) + length (items_of pool.old b)) }
 {
     let list = merge(pool, arena, a, b, steps)?;
     let met = pairs(alloc, pool, &list, steps)?;

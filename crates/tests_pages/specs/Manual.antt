@@ -15,7 +15,8 @@ argument line = slice_index_or line 1 []
 
 -- the line `.SH OPTIONS` opens the section of options, and any other line `.SH` closes it
 abbrev pub is_open_after : Line → Bool → Bool
-is_open_after line is_open = if bytes_eq (request line) (codes ".SH") then bytes_eq (argument line) (codes "OPTIONS") else is_open
+is_open_after line is_open =
+    if bytes_eq (request line) (codes ".SH") then bytes_eq (argument line) (codes "OPTIONS") else is_open
 
 -- in this section a line `.BI NAME VALUE` lists an option
 abbrev pub listed_by : Line → Bool → List (List ℕ)

@@ -35,7 +35,8 @@ pub record Named : Type 0 where
 -- the places of names that were given before, where these are the names before
 unfoldable pub repeated : List (List ℕ) → List Named → List ℕ
 repeated names [] = []
-repeated names (n ∷ ns) = unless (not (list_any (bytes_eq n.name) names)) n.place ++ repeated (with_name names n.name) ns
+repeated names (n ∷ ns) =
+    unless (not (list_any (bytes_eq n.name) names)) n.place ++ repeated (with_name names n.name) ns
 
 -- the name with which a section begins
 abbrev pub named : List ℕ → Section → Named
@@ -119,7 +120,8 @@ connection_flaws text i = pin_flaws text i ++ link_flaws text i
 abbrev pub syntax_flaws : List ℕ → Section → List ℕ
 syntax_flaws text item =
     flat_map (direction_flaws (declared_of text)) (declared_by text item)
-    ++ (flat_map (port_flaws text) (ports_in item) ++ (assignment_flaws text item ++ flat_map (connection_flaws text) (instances_in item)))
+    ++ (flat_map (port_flaws text) (ports_in item)
+    ++ (assignment_flaws text item ++ flat_map (connection_flaws text) (instances_in item)))
 
 abbrev pub grammar_flaws : List ℕ → List ℕ
 grammar_flaws text = flat_map (syntax_flaws text) (items text)
@@ -133,7 +135,8 @@ flaws_at kind places = map (λ place. record { place = place; kind = kind }) pla
 -- the flaws of a text
 abbrev pub flaws_of : List ℕ → List Flaw
 flaws_of text =
-    flaws_at NameClash (clashes text) ++ (flaws_at InstanceTwice (instance_flaws text) ++ flaws_at Grammar (grammar_flaws text))
+    flaws_at NameClash (clashes text)
+    ++ (flaws_at InstanceTwice (instance_flaws text) ++ flaws_at Grammar (grammar_flaws text))
 
 -- the order of kinds at one place
 abbrev pub rank : VerKind → ℕ

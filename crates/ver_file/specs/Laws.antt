@@ -17,12 +17,14 @@ FaultsOnce = (text : List ℕ) (f g : LineFault VerKind) → IsFirstFault text f
 
 -- a text that denotes a netlist has no fault
 abbrev pub NetlistsAreFaultless : Type 0
-NetlistsAreFaultless = (text : List ℕ) (m : Netlist) (fault : LineFault VerKind) → Denotes text m → IsFirstFault text fault → ⊥
+NetlistsAreFaultless =
+    (text : List ℕ) (m : Netlist) (fault : LineFault VerKind) → Denotes text m → IsFirstFault text fault → ⊥
 
 -- links and assignments have nets of the netlist
 abbrev pub LinksAreOwn : Type 0
 LinksAreOwn =
-    (text : List ℕ) (m : Netlist) → Denotes text m → AreWithin (length m.nets) m.instances × All (λ net. net < length m.nets) m.assigned
+    (text : List ℕ) (m : Netlist) → Denotes text m
+    → AreWithin (length m.nets) m.instances × All (λ net. net < length m.nets) m.assigned
 
 -- no two nets have one name
 abbrev pub NamesAreDistinct : Type 0

@@ -72,11 +72,13 @@ link_of text (r ∷ rows) =
 -- ---- instances
 
 abbrev pub pin_of : List ℕ → Section → Pin
-pin_of text p = record { name = name_at text p.head; span = span_of (connection_of p); link = link_of text (expression_of p) }
+pin_of text p =
+    record { name = name_at text p.head; span = span_of (connection_of p); link = link_of text (expression_of p) }
 
 -- the instance that is named here, of the cell that is named there
 abbrev pub instance_of : List ℕ → Row → Section → Instance
-instance_of text cell i = record { name = name_at text i.head; cell = name_at text cell; pins = map (pin_of text) (pins_in i) }
+instance_of text cell i =
+    record { name = name_at text i.head; cell = name_at text cell; pins = map (pin_of text) (pins_in i) }
 
 -- the instances of an item
 abbrev pub instances_by : List ℕ → Section → List Instance

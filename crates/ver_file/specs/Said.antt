@@ -20,7 +20,8 @@ or_else (Some a) b = Some a
 -- what is said of an identifier, where one declaration more says this
 abbrev pub with_heading : Option Heading → Heading → Heading
 with_heading None h = h
-with_heading (Some s) h = record { direction = or_else s.direction h.direction; supply = s.supply || h.supply; range = s.range }
+with_heading (Some s) h =
+    record { direction = or_else s.direction h.direction; supply = s.supply || h.supply; range = s.range }
 
 -- what is said of an identifier, where one declaration more comes
 abbrev pub with_declared : List ℕ → Option Heading → Declared → Option Heading

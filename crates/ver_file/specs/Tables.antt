@@ -36,11 +36,13 @@ pub record AreRead (text : List ℕ) (left : List Row) (ds : List Declared) (fou
 
 -- reading these tokens, which declare these, leads from some identifiers to others
 abbrev pub Reads : List ℕ → List Row → List Declared → Identifiers → Identifiers → Type 0
-Reads text rows more old new = (left : List Row) (ds : List Declared) → AreRead text (rows ++ left) ds old → AreRead text left (ds ++ more) new
+Reads text rows more old new =
+    (left : List Row) (ds : List Declared) → AreRead text (rows ++ left) ds old → AreRead text left (ds ++ more) new
 
 -- the same of one token, where nothing is said of what it declares
 abbrev pub ReadsOne : List ℕ → Row → Identifiers → Identifiers → Type 0
-ReadsOne text r old new = (left : List Row) (ds : List Declared) → AreRead text (r ∷ left) ds old → AreRead text left ds new
+ReadsOne text r old new =
+    (left : List Row) (ds : List Declared) → AreRead text (r ∷ left) ds old → AreRead text left ds new
 
 -- these are the identifiers of a text
 pub record AreIdentifiers (text : List ℕ) (found : Identifiers) : Type 0 where

@@ -99,7 +99,8 @@ fn push_assigned(
     to: &mut Vec<u32>,
 ) -> Result<(), Memory>
     requires { IsScope scope.now }
-    ensures { OnOk result (to.new.items ≡ to.old.items ++ flat_map (nets_named scope.now.text.now) (sections (is_name_in Assignment) rows.now)) }
+    ensures { OnOk result (to.new.items ≡ to.old.items
+        ++ flat_map (nets_named scope.now.text.now) (sections (is_name_in Assignment) rows.now)) }
 {
     'name: for name in Sections::new(Begin::Assigned, rows) {
         scope.push_named(alloc, &name, to)?;

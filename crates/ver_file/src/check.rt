@@ -49,9 +49,12 @@ fn agrees(first: Option<PortDir>, direction: Option<PortDir>) -> bool
 /// direction, or those before it.
 fn check_declared(scope: &Scope<'_>, heading: Heading, row: Row, firsts: Firsts) -> Firsts
     requires { HasIdentifiers scope.now }
-    ensures clash { result.clash ≡ first_of firsts.clash (other_ranges scope.now.text.now (declared_at scope.now.text.now heading (row ∷ []))) }
+    ensures clash { result.clash
+        ≡ first_of firsts.clash (other_ranges scope.now.text.now (declared_at scope.now.text.now heading (row ∷ []))) }
     ensures twice { result.twice ≡ firsts.twice }
-    ensures grammar { result.grammar ≡ first_of firsts.grammar (other_directions scope.now.text.now (declared_at scope.now.text.now heading (row ∷ []))) }
+    ensures grammar { result.grammar
+        ≡ first_of firsts.grammar
+        (other_directions scope.now.text.now (declared_at scope.now.text.now heading (row ∷ []))) }
 {
     if !is_net_name(row) {
         return firsts;
@@ -69,9 +72,12 @@ fn check_declared(scope: &Scope<'_>, heading: Heading, row: Row, firsts: Firsts)
 /// The first flaws of a declaration's identifiers, or those before them.
 fn check_declaration(scope: &Scope<'_>, declaration: &Section<'_>, firsts: Firsts) -> Firsts
     requires { HasIdentifiers scope.now }
-    ensures clash { result.clash ≡ first_of firsts.clash (other_ranges scope.now.text.now (declared_in scope.now.text.now declaration.now)) }
+    ensures clash { result.clash
+        ≡ first_of firsts.clash (other_ranges scope.now.text.now (declared_in scope.now.text.now declaration.now)) }
     ensures twice { result.twice ≡ firsts.twice }
-    ensures grammar { result.grammar ≡ first_of firsts.grammar (other_directions scope.now.text.now (declared_in scope.now.text.now declaration.now)) }
+    ensures grammar { result.grammar
+        ≡ first_of firsts.grammar
+        (other_directions scope.now.text.now (declared_in scope.now.text.now declaration.now)) }
 {
     let heading = Heading::of(scope.text, declaration);
     let mut firsts = firsts;
@@ -109,7 +115,8 @@ fn port_flaws(scope: &Scope<'_>, rows: &[Row], first: Option<usize>) -> Option<u
 /// Whether what is selected of an identifier lies in its range. Only a bit or a part may not.
 fn fits(scope: &Scope<'_>, name: &Section<'_>) -> bool
     requires { HasIdentifiers scope.now }
-    ensures { result ≡ fits (select_before scope.now.text.now name.now.body) (range_at scope.now.text.now name.now.head) }
+    ensures { result
+        ≡ fits (select_before scope.now.text.now name.now.body) (range_at scope.now.text.now name.now.head) }
 {
     match select_before(scope.text, name.body) {
         Select::Whole => true,
@@ -170,8 +177,10 @@ fn repeated_among(
     pins: &mut Vec<Row>,
     first: Option<usize>,
 ) -> Result<Option<usize>, Memory>
-    ensures names { IfOk result (λ _. map (name_at text.now) pins.new.items ≡ with_name (map (name_at text.now) pins.old.items) (name_at text.now pin)) }
-    ensures first { IfOk result (λ found. found ≡ first_of first (repeated (map (name_at text.now) pins.old.items) (named_at text.now pin ∷ []))) }
+    ensures names { IfOk result (λ _. map (name_at text.now) pins.new.items
+        ≡ with_name (map (name_at text.now) pins.old.items) (name_at text.now pin)) }
+    ensures first { IfOk result (λ found. found
+        ≡ first_of first (repeated (map (name_at text.now) pins.old.items) (named_at text.now pin ∷ []))) }
 {
     if !is_other(text, pin, pins) {
         return Ok(unless(false, pin.from, first));
@@ -254,9 +263,11 @@ fn connection_flaws(
 /// The first flaws of an item's declarations, or those before them.
 fn check_declarations(scope: &Scope<'_>, item: &[Row], firsts: Firsts) -> Firsts
     requires { HasIdentifiers scope.now }
-    ensures clash { result.clash ≡ first_of firsts.clash (other_ranges scope.now.text.now (declared_among scope.now.text.now item.now)) }
+    ensures clash { result.clash
+        ≡ first_of firsts.clash (other_ranges scope.now.text.now (declared_among scope.now.text.now item.now)) }
     ensures twice { result.twice ≡ firsts.twice }
-    ensures grammar { result.grammar ≡ first_of firsts.grammar (other_directions scope.now.text.now (declared_among scope.now.text.now item.now)) }
+    ensures grammar { result.grammar
+        ≡ first_of firsts.grammar (other_directions scope.now.text.now (declared_among scope.now.text.now item.now)) }
 {
     let mut firsts = firsts;
     'declaration: for declaration in Sections::new(Begin::Declaration, item) {
@@ -294,10 +305,13 @@ fn check_instances(
     firsts: Firsts,
 ) -> Result<Firsts, Memory>
     requires { HasIdentifiers scope.now }
-    ensures names { IfOk result (λ _. seen.new.instances ≡ with_named scope.now.text.now seen.old.instances (instances_in item.now)) }
+    ensures names { IfOk result (λ _. seen.new.instances
+        ≡ with_named scope.now.text.now seen.old.instances (instances_in item.now)) }
     ensures clash { IfOk result (λ found. found.clash ≡ firsts.clash) }
-    ensures twice { IfOk result (λ found. found.twice ≡ first_of firsts.twice (named_twice scope.now.text.now seen.old.instances (instances_in item.now))) }
-    ensures grammar { IfOk result (λ found. found.grammar ≡ first_of firsts.grammar (connection_flaws_in scope.now.text.now item.now)) }
+    ensures twice { IfOk result (λ found. found.twice
+        ≡ first_of firsts.twice (named_twice scope.now.text.now seen.old.instances (instances_in item.now))) }
+    ensures grammar { IfOk result (λ found. found.grammar
+        ≡ first_of firsts.grammar (connection_flaws_in scope.now.text.now item.now)) }
 {
     let mut twice = firsts.twice;
     let mut grammar = firsts.grammar;
@@ -324,10 +338,14 @@ pub(crate) fn check_item(
     requires some { 0 < length rows.now }
     requires others { HasOthers rows.now others.now }
     requires table { HasIdentifiers scope.now }
-    ensures names { IfOk result (λ _. seen.new.instances ≡ with_instances scope.now.text.now seen.old.instances (section_in rows.now)) }
-    ensures clash { IfOk result (λ found. found.clash ≡ first_of firsts.clash (range_flaws_in scope.now.text.now (section_in rows.now))) }
-    ensures twice { IfOk result (λ found. found.twice ≡ first_of firsts.twice (twice_in scope.now.text.now seen.old.instances (section_in rows.now))) }
-    ensures grammar { IfOk result (λ found. found.grammar ≡ first_of firsts.grammar (flat_map (syntax_flaws scope.now.text.now) (section_in rows.now))) }
+    ensures names { IfOk result (λ _. seen.new.instances
+        ≡ with_instances scope.now.text.now seen.old.instances (section_in rows.now)) }
+    ensures clash { IfOk result (λ found. found.clash
+        ≡ first_of firsts.clash (range_flaws_in scope.now.text.now (section_in rows.now))) }
+    ensures twice { IfOk result (λ found. found.twice
+        ≡ first_of firsts.twice (twice_in scope.now.text.now seen.old.instances (section_in rows.now))) }
+    ensures grammar { IfOk result (λ found. found.grammar
+        ≡ first_of firsts.grammar (flat_map (syntax_flaws scope.now.text.now) (section_in rows.now))) }
 {
     let after = after_first(others);
     let mut firsts = check_declarations(scope, others, firsts);

@@ -82,7 +82,9 @@ impl Firsts {
 
     /// The first flaw, at one place by its kind.
     fn flaw(self) -> Option<Flaw>
-        ensures { result ≡ with_flaw (with_flaw (with_flaw None NameClash self.clash) InstanceTwice self.twice) Grammar self.grammar }
+        ensures { result
+            ≡ with_flaw
+            (with_flaw (with_flaw None NameClash self.clash) InstanceTwice self.twice) Grammar self.grammar }
     {
         let first = with_flaw(None, VerKind::NameClash, self.clash);
         let first = with_flaw(first, VerKind::InstanceTwice, self.twice);

@@ -147,7 +147,8 @@ fn room_for_items(alloc: Global, text_len: usize) -> Result<Option<KeptItems>, M
 /// With an item last, where items are kept. Answers `Memory` where there is no room.
 fn with_item(kept: Option<KeptItems>, item: &[Row]) -> Result<Option<KeptItems>, Memory>
     requires { 0 < length item.now }
-    ensures { (all left : List Section) → IfSome kept (λ k. all ≡ k ++ (section_in item.now ++ left)) → IfOk result (λ new. IfSome new (λ k. all ≡ k ++ left)) }
+    ensures { (all left : List Section) → IfSome kept (λ k. all ≡ k ++ (section_in item.now ++ left))
+        → IfOk result (λ new. IfSome new (λ k. all ≡ k ++ left)) }
 {
     match kept {
         None => Ok(None),
@@ -211,7 +212,8 @@ impl Identifiers {
     fn read(&mut self, text: &[u8], row: Row, heading: Option<Heading>) -> Result<(), Memory>
         requires { length self.old.said.items ≡ length self.old.names }
         ensures count { OnOk result (length self.new.said.items ≡ length self.new.names) }
-        ensures read { OnOk result (Reads text.now (row ∷ []) (declared_under text.now heading (row ∷ [])) self.old self.new) }
+        ensures read { OnOk result
+            (Reads text.now (row ∷ []) (declared_under text.now heading (row ∷ [])) self.old self.new) }
     {
         if !is_net_name(row) {
             return Ok(());
@@ -248,7 +250,8 @@ impl Identifiers {
         alloc: Global,
         text: &[u8],
     ) -> Result<Option<(Identifiers, Option<KeptItems>)>, Memory>
-        ensures module { IfOk result (λ found. IfSome found (λ all. HasTokens text.now × IsModule text.now × AreIdentifiers text.now all.0)) }
+        ensures module { IfOk result (λ found.
+            IfSome found (λ all. HasTokens text.now × IsModule text.now × AreIdentifiers text.now all.0)) }
         ensures kept { IfOk result (λ found. IfSome found (λ all. IfSome all.1 (λ kept. kept ≡ items text.now))) }
         ensures none { IfOk result (λ found. IfNone found (IsModule text.now → ⊥)) }
     {
@@ -304,7 +307,8 @@ impl Identifiers {
     /// The number of the identifier that a token is, by a walk over the places of identifiers from one of them back and
     /// on; and the one after it. `None`: it is not found so.
     pub fn find_from(&self, start: usize, row: Row) -> (usize, Option<u32>)
-        ensures { (text : List ℕ) → AreIdentifiers text self.now → IfSome result.1 (λ id. Some id ≡ number_of self.now.names (name_at text row)) }
+        ensures { (text : List ℕ) → AreIdentifiers text self.now
+            → IfSome result.1 (λ id. Some id ≡ number_of self.now.names (name_at text row)) }
     {
         let mut at = start.min(self.uses.len());
         'back: while at > 0 && row.from <= self.uses[at - 1].from as usize {

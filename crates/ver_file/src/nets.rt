@@ -31,7 +31,8 @@ fn push_scalar(
 ) -> Result<Option<usize>, Memory>
     requires { IsNamed scalar.now }
     ensures nets { OnOk result (nets.new ≡ with_net nets.old scalar.now) }
-    ensures clash { IfOk result (λ found. found ≡ first_of clash (repeated (names_of nets.old) (map (given place) (scalar.now ∷ [])))) }
+    ensures clash { IfOk result (λ found. found
+        ≡ first_of clash (repeated (names_of nets.old) (map (given place) (scalar.now ∷ [])))) }
 {
     let is_new = nets.push_by(scalar, guess)?;
     Ok(unless(is_new, place, clash))
@@ -48,7 +49,8 @@ fn push_bit(
     clash: Option<usize>,
 ) -> Result<Option<usize>, Memory>
     ensures nets { OnOk result (nets.new ≡ with_net nets.old (bit_of scalar.now (Some bit))) }
-    ensures clash { IfOk result (λ found. found ≡ first_of clash (repeated (names_of nets.old) (map (given place) (bit_of scalar.now (Some bit) ∷ [])))) }
+    ensures clash { IfOk result (λ found. found
+        ≡ first_of clash (repeated (names_of nets.old) (map (given place) (bit_of scalar.now (Some bit) ∷ [])))) }
 {
     let mut name = Vec::with_capacity(alloc, scalar.base.len())?;
     push_net_name(scalar.base, Some(bit), &mut name)?;
@@ -90,7 +92,8 @@ fn push_bits(
     clash: Option<usize>,
 ) -> Result<Option<usize>, Memory>
     ensures nets { OnOk result (nets.new ≡ fold with_net nets.old (map (bit_of scalar.now) (bits_of (Some range)))) }
-    ensures clash { IfOk result (λ found. found ≡ first_of clash (repeated (names_of nets.old) (given_bits place scalar.now range))) }
+    ensures clash { IfOk result (λ found. found
+        ≡ first_of clash (repeated (names_of nets.old) (given_bits place scalar.now range))) }
 {
     let mut clash = clash;
     'turn: for at in 0..range.count() {
@@ -112,7 +115,8 @@ fn push_nets(
 ) -> Result<Option<usize>, Memory>
     requires { said ≡ said_of (declared_of text.now) (name_at text.now token) }
     ensures nets { OnOk result (nets.new ≡ fold with_net nets.old (nets_at text.now (declared_of text.now) token)) }
-    ensures clash { IfOk result (λ found. found ≡ first_of clash (repeated (names_of nets.old) (named_nets text.now token))) }
+    ensures clash { IfOk result (λ found. found
+        ≡ first_of clash (repeated (names_of nets.old) (named_nets text.now token))) }
 {
     let scalar = scalar_of(text, token, said);
     match range_said(said) {
@@ -194,7 +198,8 @@ pub(crate) fn numbers_of(
 ) -> Result<Vec<u32>, Memory>
     requires table { AreIdentifiers text.now identifiers.now }
     requires nets { clash ≡ None → nets.now ≡ nets_of text.now }
-    ensures { IfOk result (λ numbers. clash ≡ None → numbers.items ≡ first_numbers text.now 0 (tokens_of_nets text.now)) }
+    ensures { IfOk result (λ numbers. clash ≡ None
+        → numbers.items ≡ first_numbers text.now 0 (tokens_of_nets text.now)) }
 {
     match clash {
         Some(_) => Ok(Vec::new(alloc)),

@@ -45,7 +45,8 @@ fn bit_in(select: Select) -> Option<u32>
 
 /// The bounds of what is selected of an identifier with this range. `None`: it is one net.
 fn several(select: Select, range: Option<Range>) -> Option<Range>
-    ensures { MatchOption result (selected select range ≡ bit_in select ∷ []) (λ r. selected select range ≡ bits_of (Some r)) }
+    ensures { MatchOption result (selected select range ≡ bit_in select ∷ []) (λ r.
+        selected select range ≡ bits_of (Some r)) }
 {
     match (select, range) {
         (Select::Part(part), _) | (Select::Whole, Some(part)) => Some(part),
@@ -161,7 +162,8 @@ impl<'a> Scope<'a> {
     ) -> Result<(), Memory>
         requires scope { IsScope self.now }
         requires found { IsLookedUp self.now found.now }
-        ensures { OnOk result (to.new.items ≡ to.old.items ++ map (number_of_bit self.now.text.now found.now.name.now) (bits_of (Some range))) }
+        ensures { OnOk result (to.new.items ≡ to.old.items
+            ++ map (number_of_bit self.now.text.now found.now.name.now) (bits_of (Some range))) }
     {
         'turn: for at in 0..range.count() {
             let number = self.number(alloc, found, Some(range.bit(at)))?;
@@ -213,7 +215,8 @@ impl<'a> Scope<'a> {
     fn one(&self, alloc: Global, named: &Section<'_>) -> Result<Option<u32>, Memory>
         requires { IsScope self.now }
         ensures one { IfOk result (λ found. is_some found ≡ is_one self.now.text.now named.now) }
-        ensures number { IfOk result (λ found. IfSome found (λ number. number ≡ one_named self.now.text.now named.now)) }
+        ensures number { IfOk result (λ found.
+            IfSome found (λ number. number ≡ one_named self.now.text.now named.now)) }
     {
         if !is_identifier(named.head) {
             return Ok(None);

@@ -30,7 +30,9 @@ first_number text (r ∷ rows) = number_at text r
 
 -- what stands after a `[`: a bit, or the bounds of a part
 abbrev pub select_in : List ℕ → List Row → Select
-select_in text (k ∷ c ∷ rows) = if is Colon c.kind then Part (record { left = number_at text k; right = first_number text rows }) else Bit (number_at text k)
+select_in text (k ∷ c ∷ rows) =
+    if is Colon c.kind then Part
+    (record { left = number_at text k; right = first_number text rows }) else Bit (number_at text k)
 select_in text _ = Whole
 
 -- what is selected of an identifier before these tokens

@@ -84,7 +84,8 @@ range_in ds name = option_and_then (λ d. d.heading.range) (first_declared ds na
 
 -- the direction of an identifier: that of its first declaration that gives one
 abbrev pub direction_in : List Declared → List ℕ → Option PortDir
-direction_in ds name = option_and_then (λ d. d.heading.direction) (find (λ d. bytes_eq name d.name && is_some d.heading.direction) ds)
+direction_in ds name =
+    option_and_then (λ d. d.heading.direction) (find (λ d. bytes_eq name d.name && is_some d.heading.direction) ds)
 
 -- an identifier is declared as a supply
 abbrev pub is_supply_in : List Declared → List ℕ → Bool

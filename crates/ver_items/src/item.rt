@@ -67,8 +67,10 @@ fn read_item_by(
 ) -> Result<bool, Memory>
     ensures cut { OnOk result (rows.old ≡ item.new.items ++ rows.new) }
     ensures ends { IfOk result (λ can. can ≡ true → IsItem item.new.items rows.new) }
-    ensures kinds { (kinds : List KindSpec) → HasKinds kinds machine.old → OnOk result (HasKinds (kinds ++ kinds_in item.new.items) machine.new) }
-    ensures refused { (kinds : List KindSpec) → HasKinds kinds machine.old → IfOk result (λ can. can ≡ false → BeginNoModule (kinds ++ kinds_in item.new.items)) }
+    ensures kinds { (kinds : List KindSpec) → HasKinds kinds machine.old
+        → OnOk result (HasKinds (kinds ++ kinds_in item.new.items) machine.new) }
+    ensures refused { (kinds : List KindSpec) → HasKinds kinds machine.old
+        → IfOk result (λ can. can ≡ false → BeginNoModule (kinds ++ kinds_in item.new.items)) }
 {
     item.clear();
     'part: loop {
@@ -144,10 +146,13 @@ impl<'a> Items<'a> {
     /// The same, where a machine reads the tokens too, and no further than a module can begin so. Answers `Memory`
     /// where there is no room.
     pub fn read_by(&mut self, machine: &mut Machine, item: &mut Vec<Row>) -> Result<Found, Memory>
-        ensures next { IfOk result (λ found. found ≡ AnItem → (self.old ≡ section_in item.new.items ++ self.new) × (0 < length item.new.items)) }
+        ensures next { IfOk result (λ found. found ≡ AnItem
+            → (self.old ≡ section_in item.new.items ++ self.new) × (0 < length item.new.items)) }
         ensures end { IfOk result (λ found. found ≡ AtEnd → (self.old ≡ []) × (item.new.items ≡ [])) }
-        ensures kinds { (kinds : List KindSpec) → HasKinds kinds machine.old → OnOk result (HasKinds (kinds ++ kinds_in item.new.items) machine.new) }
-        ensures refused { (kinds : List KindSpec) → HasKinds kinds machine.old → IfOk result (λ found. found ≡ IsRefused → AreModule (kinds ++ kinds_in (rows_in self.old)) → ⊥) }
+        ensures kinds { (kinds : List KindSpec) → HasKinds kinds machine.old
+            → OnOk result (HasKinds (kinds ++ kinds_in item.new.items) machine.new) }
+        ensures refused { (kinds : List KindSpec) → HasKinds kinds machine.old
+            → IfOk result (λ found. found ≡ IsRefused → AreModule (kinds ++ kinds_in (rows_in self.old)) → ⊥) }
     {
         match read_item_by(machine, &mut self.rows, item) {
             Ok(true) if item.is_empty() => Ok(Found::End),

@@ -151,7 +151,8 @@ fn rows_from(rows: &[Row], at: usize) -> &[Row]
 #[tactic(auto, using(crate::proofs::SectionLemmas::sections_nil, crate::proofs::SectionLemmas::sections_yes, crate::proofs::SectionLemmas::sections_no))]
 #[inline(always)]
 fn first_section(begin: Begin, rows: &[Row]) -> Option<(Section<'_>, &[Row])>
-    ensures { MatchOption result (sections (begins begin) rows.now ≡ []) (λ found. IsFirstSection (begins begin) rows.now (found.0, found.1.now)) }
+    ensures { MatchOption result (sections (begins begin) rows.now ≡ []) (λ found.
+        IsFirstSection (begins begin) rows.now (found.0, found.1.now)) }
 {
     let mut left = rows;
     'row: while let Some((head, after)) = left.split_first() {

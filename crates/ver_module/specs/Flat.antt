@@ -31,7 +31,8 @@ nets_with names rows = map (λ row. net_with (slice_index_or names row.name []) 
 pub record AreNets (names : List (List ℕ)) (rows : List NetRow) (numbers : List ℕ) : Type 0 where
   pub distinct : AreDistinct names
   pub count : length numbers ≡ length names
-  pub leads : (id net : ℕ) → (slice_get numbers id ≡ Some (suc net)) ↔ (slice_get (map (λ row. row.name) rows) net ≡ Some id)
+  pub leads : (id net : ℕ) → (slice_get numbers id ≡ Some (suc net))
+      ↔ (slice_get (map (λ row. row.name) rows) net ≡ Some id)
   pub few : length rows < 2 ^ 32
 
 -- a link, by the place of its nets among those of links to several
@@ -54,7 +55,8 @@ several (Many nets) = nets ∷ []
 
 -- a pin, by the number of its name and the place of its nets
 abbrev pub pin_with : List (List ℕ) → List (List ℕ) → PinRow → Pin
-pin_with names many row = record { name = slice_index_or names row.name []; span = record { from = row.from; to = row.to }; link = link_with many row.link }
+pin_with names many row =
+    record { name = slice_index_or names row.name []; span = record { from = row.from; to = row.to }; link = link_with many row.link }
 
 -- the name of a pin is among these names, and the nets of its link among these nets
 abbrev pub IsPinRow : List (List ℕ) → List (List ℕ) → PinRow → Type 0
@@ -84,12 +86,14 @@ instance_with tables end name row = record {
 unfoldable pub instances_with : Tables → List (List ℕ) → List InstanceRow → List Instance
 instances_with tables [] rows = []
 instances_with tables (name ∷ names) [] = []
-instances_with tables (name ∷ names) (row ∷ rows) = instance_with tables (pins_end (length tables.pins) rows) name row ∷ instances_with tables names rows
+instances_with tables (name ∷ names) (row ∷ rows) =
+    instance_with tables (pins_end (length tables.pins) rows) name row ∷ instances_with tables names rows
 
 -- the pins of instances stand one after another
 unfoldable pub StandIn : Tables → List InstanceRow → Type 0
 StandIn tables [] = ⊤
-StandIn tables (row ∷ rows) = (row.cell < length tables.cells) × (row.pins ≤ pins_end (length tables.pins) rows) × StandIn tables rows
+StandIn tables (row ∷ rows) =
+    (row.cell < length tables.cells) × (row.pins ≤ pins_end (length tables.pins) rows) × StandIn tables rows
 
 -- these rows are instances of these names
 pub record AreInstances (tables : Tables) (names : List (List ℕ)) (rows : List InstanceRow) : Type 0 where

@@ -70,7 +70,8 @@ impl<'a> Model for Instance<'a> {
       pins = map (pin_with instance.pin_names.now instance.many.now) instance.pins.now;
     } };
 
-    ghost invariant = { λ instance. All (IsPinRow instance.pin_names.now instance.many.now) instance.pins.now × (length instance.pins.now < 2 ^ 32) };
+    ghost invariant = { λ instance. All (IsPinRow instance.pin_names.now instance.many.now) instance.pins.now
+        × (length instance.pins.now < 2 ^ 32) };
 }
 
 impl<'a> Instance<'a> {
@@ -129,10 +130,12 @@ impl Model for Instances {
     ghost Value = { List InstanceSpec };
 
     ghost view = { λ all. instances_with
-        (record { cells = all.cells; pin_names = all.pin_names; many = all.many.items; pins = all.pins.items }) all.names all.rows.items };
+        (record { cells = all.cells; pin_names = all.pin_names; many = all.many.items; pins = all.pins.items })
+        all.names all.rows.items };
 
     ghost invariant = { λ all. AreInstances
-        (record { cells = all.cells; pin_names = all.pin_names; many = all.many.items; pins = all.pins.items }) all.names all.rows.items };
+        (record { cells = all.cells; pin_names = all.pin_names; many = all.many.items; pins = all.pins.items })
+        all.names all.rows.items };
 }
 
 /// Where the pins of the instance of this number end, where those of all end here.
@@ -262,7 +265,8 @@ impl Instances {
     /// Puts an instance without pins last. Answers `Memory` where there is no room, as where there are 2^32 - 1
     /// instances; nothing changes then.
     pub fn push(&mut self, name: &[u8], cell: &[u8]) -> Result<(), Memory>
-        ensures last { OnOk result (self.new ≡ self.old ++ (record { name = name.now; cell = cell.now; pins = [] }) ∷ []) }
+        ensures last { OnOk result (self.new ≡ self.old
+            ++ (record { name = name.now; cell = cell.now; pins = [] }) ∷ []) }
         ensures unchanged { OnErr result (self.new ≡ self.old) }
     {
         if MOST <= self.rows.len() {
@@ -281,7 +285,8 @@ impl Instances {
     /// are 2^32 - 1 pins, or where the expression stands 2^32 bytes or more behind the text's beginning; nothing
     /// changes then.
     pub fn push_pin(&mut self, name: &[u8], span: Span, link: Link) -> Result<(), Memory>
-        ensures last { OnOk result (self.new ≡ with_pin self.old (record { name = name.now; span = span; link = link })) }
+        ensures last { OnOk result (self.new
+            ≡ with_pin self.old (record { name = name.now; span = span; link = link })) }
         ensures unchanged { OnErr result (self.new ≡ self.old) }
     {
         if MOST <= self.pins.len() {

@@ -30,7 +30,8 @@ impl Model for Module {
 
     ghost Value = { Netlist };
 
-    ghost view = { λ m. record { name = m.name; nets = m.nets; instances = m.instances; assigned = m.assigned; head_end = m.head_end; end_at = m.end_at } };
+    ghost view = { λ m.
+        record { name = m.name; nets = m.nets; instances = m.instances; assigned = m.assigned; head_end = m.head_end; end_at = m.end_at } };
 
     ghost invariant = { λ m. IsSound
         (record { name = m.name; nets = m.nets; instances = m.instances; assigned = m.assigned; head_end = m.head_end; end_at = m.end_at }) };
@@ -48,7 +49,8 @@ impl Module {
     ) -> Module
         requires links { AreWithin (length nets) instances }
         requires assigned { All (λ net. net < length nets) assigned }
-        ensures { result ≡ record { name = name; nets = nets; instances = instances; assigned = assigned; head_end = head_end; end_at = end_at } }
+        ensures { result
+            ≡ record { name = name; nets = nets; instances = instances; assigned = assigned; head_end = head_end; end_at = end_at } }
     {
         nets.are_few();
         instances.are_few();

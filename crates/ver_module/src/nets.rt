@@ -39,7 +39,8 @@ impl<'a> Model for Net<'a> {
 
     ghost Value = { NetSpec };
 
-    ghost view = { λ net. record { name = net.name.now; base = net.base.now; bit = net.bit; escaped = net.escaped; port = net.port; supply = net.supply } };
+    ghost view = { λ net.
+        record { name = net.name.now; base = net.base.now; bit = net.bit; escaped = net.escaped; port = net.port; supply = net.supply } };
 }
 
 /// A net without its name.
@@ -109,8 +110,10 @@ fn name_by_guess(
     name: &[u8],
 ) -> Result<u32, Memory>
     ensures number { IfOk result (λ id. slice_get names.new id ≡ Some name.now) }
-    ensures nets { (rows : List NetRow) → AreNets names.old rows numbers.old.items → AreNets names.new rows numbers.new.items }
-    ensures same { (rows : List NetRow) → AreNets names.old rows numbers.old.items → nets_with names.new rows ≡ nets_with names.old rows }
+    ensures nets { (rows : List NetRow) → AreNets names.old rows numbers.old.items
+        → AreNets names.new rows numbers.new.items }
+    ensures same { (rows : List NetRow) → AreNets names.old rows numbers.old.items
+        → nets_with names.new rows ≡ nets_with names.old rows }
 {
     let count = names.len();
     numbers.reserve(1)?;
@@ -129,7 +132,8 @@ fn push_row(rows: &mut Vec<NetRow>, numbers: &mut Vec<u32>, row: NetRow) -> Resu
     ensures new { IfOk result (λ new. new ≡ (slice_index numbers.old.items row.name == 0)) }
     ensures last { IfOk result (λ new. rows.new.items ≡ (if new then rows.old.items ++ row ∷ [] else rows.old.items)) }
     ensures unchanged { OnErr result (rows.new.items ≡ rows.old.items) }
-    ensures nets { (names : List (List ℕ)) → AreNets names rows.old.items numbers.old.items → AreNets names rows.new.items numbers.new.items }
+    ensures nets { (names : List (List ℕ)) → AreNets names rows.old.items numbers.old.items
+        → AreNets names rows.new.items numbers.new.items }
 {
     if numbers[row.name as usize] != 0 {
         return Ok(false);

@@ -21,7 +21,8 @@ IsBefore a b = (a.instance < b.instance) ⊎ ((a.instance ≡ b.instance) × (a.
 
 -- the pins on a net are those whose link is this one net
 abbrev pub PinsAreLinked : Type 0
-PinsAreLinked = (netlist : Netlist) (net : ℕ) (at : PinRef) → Contains (pins_on netlist net) at ↔ HasLink netlist at (One net)
+PinsAreLinked =
+    (netlist : Netlist) (net : ℕ) (at : PinRef) → Contains (pins_on netlist net) at ↔ HasLink netlist at (One net)
 
 -- they stand in the order of the text, each once
 abbrev pub PinsRise : Type 0

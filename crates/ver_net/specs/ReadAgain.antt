@@ -35,7 +35,9 @@ identifier_at false at count = token_at Word at count
 -- a `[`, digits and a `]`, where a bit is selected
 abbrev pub select_at : Option ℕ → ℕ → List Token
 select_at None at = []
-select_at (Some bit) at = token_at (Mark 91) at 1 ∷ token_at Digits (at + 1) (length (decimal bit)) ∷ token_at (Mark 93) (at + 1 + length (decimal bit)) 1 ∷ []
+select_at (Some bit) at =
+    token_at (Mark 91) at 1 ∷ token_at Digits (at + 1) (length (decimal bit))
+    ∷ token_at (Mark 93) (at + 1 + length (decimal bit)) 1 ∷ []
 
 -- where the select of a net begins that begins here
 abbrev pub select_place : Net → ℕ → ℕ
@@ -50,7 +52,8 @@ tokens_of_net net at = identifier_at net.escaped at (length net.base) ∷ select
 pub record IsReadAt (text : List ℕ) (at : ℕ) (net : Net) : Type 0 where
   pub kind : kind_in text (identifier_at net.escaped at (length net.base)) ≡ Identifier
   pub name : name_of (part text at (identifier_at net.escaped at (length net.base)).to) ≡ net.base
-  pub number : IfSome net.bit (λ bit. value_of (part text (select_place net at + 1) (select_place net at + 1 + length (decimal bit))) ≡ bit)
+  pub number : IfSome net.bit (λ bit.
+      value_of (part text (select_place net at + 1) (select_place net at + 1 + length (decimal bit))) ≡ bit)
 
 -- from a place on, the text of a net is its tokens
 abbrev pub NetsAreTokens : Type 0
@@ -60,4 +63,5 @@ NetsAreTokens =
 
 -- and they name the net
 abbrev pub NetsAreNamed : Type 0
-NetsAreNamed = (before rest : List ℕ) (net : Net) → IsWritable net → IsReadAt (before ++ text_of net ++ rest) (length before) net
+NetsAreNamed =
+    (before rest : List ℕ) (net : Net) → IsWritable net → IsReadAt (before ++ text_of net ++ rest) (length before) net

@@ -30,5 +30,6 @@ SpansStand =
 -- such connections stand one after another, as their pins do
 abbrev pub SpansRise : Type 0
 SpansRise =
-    (text : List ℕ) (netlist : Netlist) (a b : PinRef) → Denotes text netlist → IsOnOneNet netlist a → IsOnOneNet netlist b
+    (text : List ℕ) (netlist : Netlist) (a b : PinRef) → Denotes text netlist
+    → IsOnOneNet netlist a → IsOnOneNet netlist b
     → IsBefore a b → (span_at netlist a).to ≤ (span_at netlist b).from

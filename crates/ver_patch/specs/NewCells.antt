@@ -14,4 +14,5 @@ pub record NewCell : Type 0 where
 
 -- the one of these texts
 abbrev pub cell_of : CellTexts → NewCell
-cell_of c = record { cell = c.cell.now; name = c.name.now; input = c.input.now; output = c.output.now; from = c.from.now; to = c.to.now }
+cell_of c =
+    record { cell = c.cell.now; name = c.name.now; input = c.input.now; output = c.output.now; from = c.from.now; to = c.to.now }

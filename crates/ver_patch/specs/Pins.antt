@@ -14,7 +14,8 @@ IsOnOneNet netlist at = (net : ℕ) × HasLink netlist at (One net)
 
 -- the pin of this number of the instance of this number, if there is one
 abbrev pub pin_at : Netlist → PinRef → Option Pin
-pin_at netlist at = option_and_then (λ instance. slice_get instance.pins at.pin) (slice_get netlist.instances at.instance)
+pin_at netlist at =
+    option_and_then (λ instance. slice_get instance.pins at.pin) (slice_get netlist.instances at.instance)
 
 -- where the connection of a pin stands
 abbrev pub span_at : Netlist → PinRef → Span

@@ -18,7 +18,8 @@ pin_text pin net = codes "." ++ printed pin ++ codes "(" ++ net ++ codes ")"
 
 -- an instance with its two connections, on a line
 abbrev pub cell_text : NewCell → List ℕ
-cell_text c = printed c.cell ++ codes " " ++ c.name ++ codes " (" ++ pin_text c.input c.from ++ codes ", " ++ pin_text c.output c.to ++ codes ");\n"
+cell_text c = printed c.cell ++ codes " " ++ c.name ++ codes " (" ++ pin_text c.input c.from
+    ++ codes ", " ++ pin_text c.output c.to ++ codes ");\n"
 
 abbrev pub cell_texts : List NewCell → List ℕ
 cell_texts cells = flat_map cell_text cells

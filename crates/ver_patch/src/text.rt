@@ -66,8 +66,10 @@ fn put_rewires(
 ) -> Result<(), Memory>
     requires order { All (λ n. n < length rewires.now) order.now }
     requires linked { All (λ rewire. IsOnOneNet netlist.now rewire.at) rewires.now }
-    requires rise { Rise 0 netlist.now.end_at (edits.old ++ map (rewired netlist.now) (rewires_at rewires.now order.now)) }
-    ensures edits { OnOk result (edits.new ≡ edits.old ++ map (rewired netlist.now) (rewires_at rewires.now order.now)) }
+    requires rise { Rise 0 netlist.now.end_at
+        (edits.old ++ map (rewired netlist.now) (rewires_at rewires.now order.now)) }
+    ensures edits { OnOk result (edits.new ≡ edits.old
+        ++ map (rewired netlist.now) (rewires_at rewires.now order.now)) }
     ensures rise { OnOk result (Rise 0 netlist.now.end_at edits.new) }
 {
     'order: for number in order {

@@ -35,7 +35,8 @@ taken_in netlist = map (λ n. n.name) netlist.nets ++ map (λ n. n.base) netlist
 
 -- New wires and new instances have names of their own, what is written are nets that are there, and the two pins of a
 -- new instance differ.
-pub record IsConsistent (netlist : Netlist) (rewires : List Rewire) (cells : List NewCell) (wires : List (List ℕ)) : Type 0 where
+pub record IsConsistent (netlist : Netlist) (rewires : List Rewire) (cells : List NewCell)
+    (wires : List (List ℕ)) : Type 0 where
   pub wires_new : AreNew (taken_in netlist) wires
   pub cells_new : HaveNewNames netlist cells
   pub linked : All (λ r. WritesOne netlist wires r.net) rewires

@@ -8,7 +8,8 @@ unplaced d = record { place = 0; name = d.name; heading = d.heading }
 
 -- a wire without a range
 abbrev pub wire_declared : List ℕ → Declared
-wire_declared name = record { place = 0; name = name; heading = record { direction = None; supply = false; range = None } }
+wire_declared name =
+    record { place = 0; name = name; heading = record { direction = None; supply = false; range = None } }
 
 -- the declarations of the new text are those of the text, places aside, with those of the new wires among them
 pub record AreDeclared (text : List ℕ) (wires : List (List ℕ)) (new : List ℕ) : Type 0 where

@@ -13,12 +13,14 @@ use Rattle.ver_patch_laws.specs.Shapes.{new_shape, shape_of}
 -- ones
 abbrev pub InstancesStay : Type 0
 InstancesStay =
-    (text : List ℕ) (netlist : Netlist) (rewires : List Rewire) (cells : List NewCell) (wires : List (List ℕ)) (new : List ℕ)
+    (text : List ℕ) (netlist : Netlist) (rewires : List Rewire) (cells : List NewCell)
+    (wires : List (List ℕ)) (new : List ℕ)
     → IsChanged text netlist rewires cells wires new
     → map shape_of (instances_of new) ≡ map shape_of netlist.instances ++ map new_shape cells
 
 -- where the new instances have names of their own, no instance of the new text is named twice
 abbrev pub InstancesDiffer : Type 0
 InstancesDiffer =
-    (text : List ℕ) (netlist : Netlist) (rewires : List Rewire) (cells : List NewCell) (wires : List (List ℕ)) (new : List ℕ)
+    (text : List ℕ) (netlist : Netlist) (rewires : List Rewire) (cells : List NewCell)
+    (wires : List (List ℕ)) (new : List ℕ)
     → IsChanged text netlist rewires cells wires new → HaveNewNames netlist cells → instance_flaws new ≡ []

@@ -26,7 +26,8 @@ use Rattle.ver_patch_laws.specs.Renewed.{IsRenewed}
 -- a pin of a netlist has a link to its nets exactly where the text links it to the nets of those names
 abbrev pub LinksAreNamed : Type 0
 LinksAreNamed =
-    (text : List ℕ) (netlist : Netlist) (at : PinRef) (link : Link) → Denotes text netlist → IsWithin (length netlist.nets) link
+    (text : List ℕ) (netlist : Netlist) (at : PinRef) (link : Link) → Denotes text netlist
+    → IsWithin (length netlist.nets) link
     → HasLink netlist at link ↔ IsLinked text at (named_link_of netlist link)
 
 -- what the text links a pin to is what the netlist does
@@ -38,7 +39,8 @@ NamesAreLinked =
 -- a net to which a pin is linked by its name has a number
 abbrev pub LinkedNetsAreThere : Type 0
 LinkedNetsAreThere =
-    (text : List ℕ) (netlist : Netlist) (at : PinRef) (name : NetName) → Denotes text netlist → HasNamedLink netlist at (one name)
+    (text : List ℕ) (netlist : Netlist) (at : PinRef) (name : NetName) → Denotes text netlist
+    → HasNamedLink netlist at (one name)
     → (net : ℕ) × IsNumbered netlist net name
 
 -- the name of a net determines its number: it is that of the net's name as it is written
@@ -50,7 +52,8 @@ NamesDetermineNets =
 -- so the pins on a net are those that are linked to it by its name
 abbrev pub LinksGoByNames : Type 0
 LinksGoByNames =
-    (text : List ℕ) (netlist : Netlist) (at : PinRef) (net : ℕ) (name : NetName) → Denotes text netlist → IsNumbered netlist net name
+    (text : List ℕ) (netlist : Netlist) (at : PinRef) (net : ℕ) (name : NetName) → Denotes text netlist
+    → IsNumbered netlist net name
     → HasLink netlist at (One net) ↔ HasNamedLink netlist at (one name)
 
 -- a net may be written, as its text: that is the text of its name
@@ -66,7 +69,8 @@ WiresMayBeWritten = (wire : List ℕ) → is_simple wire ≡ true → Writes wir
 -- no two pins have one name
 abbrev pub PinsDiffer : Type 0
 PinsDiffer =
-    (text : List ℕ) (netlist : Netlist) (a b : PinRef) (x y : PinName) → Denotes text netlist → HasPin netlist a x → HasPin netlist b y
+    (text : List ℕ) (netlist : Netlist) (a b : PinRef) (x y : PinName) → Denotes text netlist
+    → HasPin netlist a x → HasPin netlist b y
     → x.instance ≡ y.instance → x.pin ≡ y.pin → a ≡ b
 
 -- ---- changed texts
@@ -80,15 +84,18 @@ pub record IsReadAgain (netlist : Netlist) (rewires : List Rewire) (cells : List
 -- so it is where names are kept apart, and only nets are written that are there
 abbrev pub NetlistsAreRenewed : Type 0
 NetlistsAreRenewed =
-    (text : List ℕ) (netlist : Netlist) (rewires : List Rewire) (cells : List NewCell) (wires : List (List ℕ)) (new : List ℕ)
-    → IsChanged text netlist rewires cells wires new → IsConsistent netlist rewires cells wires → IsReadAgain netlist rewires cells new
+    (text : List ℕ) (netlist : Netlist) (rewires : List Rewire) (cells : List NewCell)
+    (wires : List (List ℕ)) (new : List ℕ)
+    → IsChanged text netlist rewires cells wires new → IsConsistent netlist rewires cells wires
+    → IsReadAgain netlist rewires cells new
 
 -- ---- renewed netlists
 
 -- its pins are the old ones and those of the new instances
 abbrev pub PinsAreRenewed : Type 0
 PinsAreRenewed =
-    (netlist : Netlist) (rewires : List Rewire) (cells : List NewCell) (renewed : Netlist) → IsRenewed netlist rewires cells renewed
+    (netlist : Netlist) (rewires : List Rewire) (cells : List NewCell) (renewed : Netlist)
+    → IsRenewed netlist rewires cells renewed
     → ArePinsOf netlist cells renewed
 
 -- a net of one netlist and a net of another are the same port, or none, and both are tied, or none is
@@ -99,15 +106,18 @@ pub record AreAlike (netlist : Netlist) (net : ℕ) (renewed : Netlist) (now : �
 -- so are two nets of one name
 abbrev pub NetsAreAlike : Type 0
 NetsAreAlike =
-    (text : List ℕ) (netlist : Netlist) (rewires : List Rewire) (cells : List NewCell) (new : List ℕ) (renewed : Netlist) (net now : ℕ) (name : NetName)
-    → Denotes text netlist → Denotes new renewed → IsRenewed netlist rewires cells renewed → IsNumbered netlist net name → IsNumbered renewed now name
+    (text : List ℕ) (netlist : Netlist) (rewires : List Rewire) (cells : List NewCell) (new : List ℕ)
+    (renewed : Netlist) (net now : ℕ) (name : NetName)
+    → Denotes text netlist → Denotes new renewed → IsRenewed netlist rewires cells renewed → IsNumbered netlist net name
+    → IsNumbered renewed now name
     → AreAlike netlist net renewed now
 
 -- a net that only the new netlist has is no port, and is not tied
 abbrev pub NewNetsAreBare : Type 0
 NewNetsAreBare =
     (netlist : Netlist) (rewires : List Rewire) (cells : List NewCell) (renewed : Netlist) (now : ℕ) (name : NetName)
-    → IsRenewed netlist rewires cells renewed → ((net : ℕ) → IsNumbered netlist net name → ⊥) → IsNumbered renewed now name
+    → IsRenewed netlist rewires cells renewed → ((net : ℕ) → IsNumbered netlist net name → ⊥)
+    → IsNumbered renewed now name
     → (port_at renewed now ≡ None) × (is_tied renewed now ≡ false)
 
 -- a new wire is such a net: none of the old netlist has its name

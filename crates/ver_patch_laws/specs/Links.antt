@@ -58,7 +58,8 @@ links_of text = flat_map (links_by text) (items text)
 
 -- this is what a pin of a text is linked to
 abbrev pub IsLinked : List ℕ → PinRef → NamedLink → Type 0
-IsLinked text at link = option_and_then (λ links. slice_get links at.pin) (slice_get (links_of text) at.instance) ≡ Some link
+IsLinked text at link =
+    option_and_then (λ links. slice_get links at.pin) (slice_get (links_of text) at.instance) ≡ Some link
 
 -- ---- what is written
 

@@ -31,11 +31,14 @@ pub record IsNewPin (netlist : Netlist) (cells : List NewCell) (at : PinRef) (na
   pub k : ℕ
   pub cell : NewCell
   pub is : slice_get cells k ≡ Some cell
-  pub which : ((at ≡ new_pin netlist k 0) × (name ≡ input_name cell)) ⊎ ((at ≡ new_pin netlist k 1) × (name ≡ output_name cell))
+  pub which : ((at ≡ new_pin netlist k 0) × (name ≡ input_name cell))
+      ⊎ ((at ≡ new_pin netlist k 1) × (name ≡ output_name cell))
 
 -- the pins of the new netlist are the old ones, at their places and with their names, and those of the new instances
 pub record ArePinsOf (netlist : Netlist) (cells : List NewCell) (renewed : Netlist) : Type 0 where
   pub old : (at : PinRef) (name : PinName) → HasPin netlist at name → HasPin renewed at name
   pub inputs : (k : ℕ) (c : NewCell) → slice_get cells k ≡ Some c → HasPin renewed (new_pin netlist k 0) (input_name c)
-  pub outputs : (k : ℕ) (c : NewCell) → slice_get cells k ≡ Some c → HasPin renewed (new_pin netlist k 1) (output_name c)
-  pub others : (at : PinRef) (name : PinName) → HasPin renewed at name → HasPin netlist at name ⊎ IsNewPin netlist cells at name
+  pub outputs : (k : ℕ) (c : NewCell) → slice_get cells k ≡ Some c
+      → HasPin renewed (new_pin netlist k 1) (output_name c)
+  pub others : (at : PinRef) (name : PinName) → HasPin renewed at name
+      → HasPin netlist at name ⊎ IsNewPin netlist cells at name

@@ -23,24 +23,33 @@ IsKept rewires at = All (λ r. r.at ≢ at) rewires
 
 -- Why a pin of the new netlist is linked to what it is: it was so and stays, it is rewired, or it is the input or the
 -- output of a new instance.
-pub data HasCause (netlist : Netlist) (rewires : List Rewire) (cells : List NewCell) (at : PinRef) (named : NamedLink) : Type 0 where
+pub data HasCause (netlist : Netlist) (rewires : List Rewire) (cells : List NewCell) (at : PinRef)
+    (named : NamedLink) : Type 0 where
   stays : HasNamedLink netlist at named → IsKept rewires at → HasCause netlist rewires cells at named
   rewired : (r : Rewire) (name : NetName) → Contains rewires r → r.at ≡ at → Writes r.net name → named ≡ one name
       → HasCause netlist rewires cells at named
-  input : (k : ℕ) (c : NewCell) (name : NetName) → slice_get cells k ≡ Some c → at ≡ new_pin netlist k 0 → Writes c.from name
+  input : (k : ℕ) (c : NewCell) (name : NetName) → slice_get cells k ≡ Some c
+      → at ≡ new_pin netlist k 0 → Writes c.from name
       → named ≡ one name → HasCause netlist rewires cells at named
-  output : (k : ℕ) (c : NewCell) (name : NetName) → slice_get cells k ≡ Some c → at ≡ new_pin netlist k 1 → Writes c.to name
+  output : (k : ℕ) (c : NewCell) (name : NetName) → slice_get cells k ≡ Some c
+      → at ≡ new_pin netlist k 1 → Writes c.to name
       → named ≡ one name → HasCause netlist rewires cells at named
 
 -- The instances are the old ones and then the new ones. Pins that are not rewired are linked to what they were, those
 -- that are to the net that is written, those of new instances to the nets that are written, and no other way. The same
 -- nets are ports, with the same directions, and the same nets are tied: new wires are neither.
-pub record IsRenewed (netlist : Netlist) (rewires : List Rewire) (cells : List NewCell) (renewed : Netlist) : Type 0 where
+pub record IsRenewed (netlist : Netlist) (rewires : List Rewire) (cells : List NewCell)
+    (renewed : Netlist) : Type 0 where
   pub instances : map shape_of renewed.instances ≡ map shape_of netlist.instances ++ map new_shape cells
-  pub stay : (at : PinRef) (named : NamedLink) → HasNamedLink netlist at named → IsKept rewires at → HasNamedLink renewed at named
-  pub rewired : (r : Rewire) (name : NetName) → Contains rewires r → Writes r.net name → HasNamedLink renewed r.at (one name)
-  pub inputs : (k : ℕ) (c : NewCell) (name : NetName) → slice_get cells k ≡ Some c → Writes c.from name → HasNamedLink renewed (new_pin netlist k 0) (one name)
-  pub outputs : (k : ℕ) (c : NewCell) (name : NetName) → slice_get cells k ≡ Some c → Writes c.to name → HasNamedLink renewed (new_pin netlist k 1) (one name)
-  pub caused : (at : PinRef) (named : NamedLink) → HasNamedLink renewed at named → HasCause netlist rewires cells at named
+  pub stay : (at : PinRef) (named : NamedLink) → HasNamedLink netlist at named → IsKept rewires at
+      → HasNamedLink renewed at named
+  pub rewired : (r : Rewire) (name : NetName) → Contains rewires r → Writes r.net name
+      → HasNamedLink renewed r.at (one name)
+  pub inputs : (k : ℕ) (c : NewCell) (name : NetName) → slice_get cells k ≡ Some c → Writes c.from name
+      → HasNamedLink renewed (new_pin netlist k 0) (one name)
+  pub outputs : (k : ℕ) (c : NewCell) (name : NetName) → slice_get cells k ≡ Some c → Writes c.to name
+      → HasNamedLink renewed (new_pin netlist k 1) (one name)
+  pub caused : (at : PinRef) (named : NamedLink) → HasNamedLink renewed at named
+      → HasCause netlist rewires cells at named
   pub ports : (name : NetName) (direction : PortDir) → IsPort netlist name direction ↔ IsPort renewed name direction
   pub tied : (name : NetName) → IsTied netlist name ↔ IsTied renewed name

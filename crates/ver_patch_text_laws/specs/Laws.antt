@@ -13,7 +13,8 @@ use Rattle.ver_patch_text_laws.specs.Texts.{AreWritten}
 use Rattle.ver_patch_text_laws.specs.Words.{words_of, words_with}
 
 -- The text of a netlist is changed, by what may be written into it.
-pub record IsChanged (text : List ℕ) (netlist : Netlist) (rewires : List Rewire) (cells : List NewCell) (wires : List (List ℕ)) (new : List ℕ) : Type 0 where
+pub record IsChanged (text : List ℕ) (netlist : Netlist) (rewires : List Rewire) (cells : List NewCell)
+    (wires : List (List ℕ)) (new : List ℕ) : Type 0 where
   pub denotes : Denotes text netlist
   pub rewirable : AreRewirable netlist rewires
   pub written : AreWritten rewires cells wires
@@ -22,12 +23,14 @@ pub record IsChanged (text : List ℕ) (netlist : Netlist) (rewires : List Rewir
 -- its words are those of the text with the same changes: no byte that is put in joins with what stands there
 abbrev pub WordsArePatched : Type 0
 WordsArePatched =
-    (text : List ℕ) (netlist : Netlist) (rewires : List Rewire) (cells : List NewCell) (wires : List (List ℕ)) (new : List ℕ)
+    (text : List ℕ) (netlist : Netlist) (rewires : List Rewire) (cells : List NewCell)
+    (wires : List (List ℕ)) (new : List ℕ)
     → (c : IsChanged text netlist rewires cells wires new)
     → words_of new ≡ words_with text (changes_of netlist c.patched.ordered cells wires) (tokens_of text)
 
 -- it is a structural module again
 abbrev pub ModulesStay : Type 0
 ModulesStay =
-    (text : List ℕ) (netlist : Netlist) (rewires : List Rewire) (cells : List NewCell) (wires : List (List ℕ)) (new : List ℕ)
+    (text : List ℕ) (netlist : Netlist) (rewires : List Rewire) (cells : List NewCell)
+    (wires : List (List ℕ)) (new : List ℕ)
     → IsChanged text netlist rewires cells wires new → HasTokens new × IsModule new

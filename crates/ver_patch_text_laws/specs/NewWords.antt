@@ -29,7 +29,8 @@ printed_word name = word Identifier (identifier_bytes (not (is_simple name)) nam
 -- the number of a bit in its brackets
 abbrev pub select_words : Option ℕ → List Word
 select_words None = []
-select_words (Some bit) = word OpenSquare (codes "[") ∷ word (digits_kind (decimal bit)) (decimal bit) ∷ word CloseSquare (codes "]") ∷ []
+select_words (Some bit) =
+    word OpenSquare (codes "[") ∷ word (digits_kind (decimal bit)) (decimal bit) ∷ word CloseSquare (codes "]") ∷ []
 
 -- a net: its identifier, and for a bit its number in brackets
 abbrev pub net_words : Net → List Word
@@ -43,13 +44,15 @@ wire_words name = word Wire (codes "wire") ∷ word Identifier name ∷ word Sem
 
 -- a connection by name
 abbrev pub pin_words : List ℕ → List Word → List Word
-pin_words pin net = word Dot (codes ".") ∷ printed_word pin ∷ word Open (codes "(") ∷ (net ++ word Close (codes ")") ∷ [])
+pin_words pin net =
+    word Dot (codes ".") ∷ printed_word pin ∷ word Open (codes "(") ∷ (net ++ word Close (codes ")") ∷ [])
 
 -- an instance with its two connections
 abbrev pub cell_words : NewCell → List Word
 cell_words c =
     printed_word c.cell ∷ word Identifier c.name ∷ word Open (codes "(")
-    ∷ (pin_words c.input (words_of c.from) ++ word Comma (codes ",") ∷ (pin_words c.output (words_of c.to) ++ word Close (codes ")") ∷ word Semicolon (codes ";") ∷ []))
+    ∷ (pin_words c.input (words_of c.from) ++ word Comma (codes ",")
+    ∷ (pin_words c.output (words_of c.to) ++ word Close (codes ")") ∷ word Semicolon (codes ";") ∷ []))
 
 -- ---- the changes
 

@@ -29,4 +29,5 @@ pub record WordEdit : Type 0 where
 abbrev pub words_with : List ℕ → List WordEdit → List Token → List Word
 words_with text [] ts = map (word_in text) ts
 words_with text (e ∷ edits) ts =
-    map (word_in text) (filter (λ t. nat_lt t.from e.from) ts) ++ (e.words ++ words_with text edits (filter (λ t. nat_le e.to t.from) ts))
+    map (word_in text) (filter (λ t. nat_lt t.from e.from) ts)
+    ++ (e.words ++ words_with text edits (filter (λ t. nat_le e.to t.from) ts))

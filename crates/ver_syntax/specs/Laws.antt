@@ -18,7 +18,8 @@ FaultsOnce = (text : List ℕ) (f g : LineFault VerKind) → IsFirstFault text f
 
 -- a module has none
 abbrev pub ModulesAreFaultless : Type 0
-ModulesAreFaultless = (text : List ℕ) (fault : LineFault VerKind) → HasTokens text → IsModule text → IsFirstFault text fault → ⊥
+ModulesAreFaultless =
+    (text : List ℕ) (fault : LineFault VerKind) → HasTokens text → IsModule text → IsFirstFault text fault → ⊥
 
 -- what the token after these stands in, where the first stands in this
 abbrev pub place_after_all : Place → List Kind → Place

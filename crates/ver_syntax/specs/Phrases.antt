@@ -16,4 +16,5 @@ pub record IsPhrase (at to : At) (kinds left : List Kind) : Type 0 where
   pub phrase : List Kind
   pub cut : kinds ≡ phrase ++ left
   pub some : 0 < length phrase
-  pub leads : (open_braces : List Brace) → moves (Some (record { at = at; open_braces = open_braces })) phrase ≡ Some (record { at = to; open_braces = [] })
+  pub leads : (open_braces : List Brace) → moves (Some (record { at = at; open_braces = open_braces })) phrase
+      ≡ Some (record { at = to; open_braces = [] })

@@ -108,7 +108,8 @@ HasTokens text = find is_bad (tokens_of text) ≡ None
 
 -- the first fault of a text: what is no token comes before all else
 abbrev pub IsFirstFault : List ℕ → LineFault VerKind → Type 0
-IsFirstFault text fault = MatchOption (find is_bad (tokens_of text)) (IsGrammarFault text fault) (IsTokenFault text fault)
+IsFirstFault text fault =
+    MatchOption (find is_bad (tokens_of text)) (IsGrammarFault text fault) (IsTokenFault text fault)
 
 -- there was no room
 pub record IsOutOfMemory (fault : LineFault VerKind) : Type 0 where

@@ -38,8 +38,10 @@ impl Machine {
     /// Reads the kind of the next token. Whether a module can go on so. Answers an error where there is no room.
     #[inline(always)]
     pub fn read(&mut self, kind: Kind) -> Result<bool, AllocError>
-        ensures kinds { (kinds : List KindSpec) → HasKinds kinds self.old → OnOk result (HasKinds (kinds ++ kind ∷ []) self.new) }
-        ensures refused { (kinds : List KindSpec) → HasKinds kinds self.old → IfOk result (λ can. can ≡ false → BeginNoModule (kinds ++ kind ∷ [])) }
+        ensures kinds { (kinds : List KindSpec) → HasKinds kinds self.old
+            → OnOk result (HasKinds (kinds ++ kind ∷ []) self.new) }
+        ensures refused { (kinds : List KindSpec) → HasKinds kinds self.old
+            → IfOk result (λ can. can ≡ false → BeginNoModule (kinds ++ kind ∷ [])) }
     {
         let Some(at) = self.at else {
             return Ok(false);
@@ -52,7 +54,8 @@ impl Machine {
     /// them. Answers an error where there is no room.
     fn read_phrase<'a>(&mut self, rows: &'a [Row]) -> Result<&'a [Row], AllocError>
         requires { 0 < length rows.now }
-        ensures kinds { (kinds : List KindSpec) → HasKinds kinds self.old → IfOk result (λ left. HasKindsBefore (kinds_in left.now) (kinds ++ kinds_in rows.now) self.new) }
+        ensures kinds { (kinds : List KindSpec) → HasKinds kinds self.old
+            → IfOk result (λ left. HasKindsBefore (kinds_in left.now) (kinds ++ kinds_in rows.now) self.new) }
         ensures fewer { IfOk result (λ left. length left.now < length rows.now) }
     {
         if let Some(at) = self.at {
@@ -68,8 +71,10 @@ impl Machine {
 
     /// Reads the kinds of the next tokens. Whether a module can go on so. Answers an error where there is no room.
     pub fn read_rows(&mut self, rows: &[Row]) -> Result<bool, AllocError>
-        ensures kinds { (kinds : List KindSpec) → HasKinds kinds self.old → OnOk result (HasKinds (kinds ++ kinds_in rows.now) self.new) }
-        ensures refused { (kinds : List KindSpec) → HasKinds kinds self.old → IfOk result (λ can. can ≡ false → BeginNoModule (kinds ++ kinds_in rows.now)) }
+        ensures kinds { (kinds : List KindSpec) → HasKinds kinds self.old
+            → OnOk result (HasKinds (kinds ++ kinds_in rows.now) self.new) }
+        ensures refused { (kinds : List KindSpec) → HasKinds kinds self.old
+            → IfOk result (λ can. can ≡ false → BeginNoModule (kinds ++ kinds_in rows.now)) }
     {
         let mut left = rows;
         'phrase: while !left.is_empty() {
@@ -80,7 +85,8 @@ impl Machine {
 
     /// Whether a text is a module all of whose tokens it has read.
     pub fn is_module(&self) -> bool
-        ensures module { (text : List ℕ) → HasKinds (kinds_of text) self.now → result ≡ true → HasTokens text × IsModule text }
+        ensures module { (text : List ℕ) → HasKinds (kinds_of text) self.now → result ≡ true
+            → HasTokens text × IsModule text }
         ensures none { (text : List ℕ) → HasKinds (kinds_of text) self.now → result ≡ false → IsModule text → ⊥ }
     {
         match self.at {

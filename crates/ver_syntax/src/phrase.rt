@@ -14,7 +14,8 @@ use ver_text::Kind;
 /// The tokens after `CELL NAME (`.
 #[inline(always)]
 fn past_name(rows: &[Row]) -> Option<&[Row]>
-    ensures { IfSome result (λ left. IsPhrase (AtItem ItemStart) (AtInstance Pins) (kinds_in rows.now) (kinds_in left.now)) }
+    ensures { IfSome result (λ left.
+        IsPhrase (AtItem ItemStart) (AtInstance Pins) (kinds_in rows.now) (kinds_in left.now)) }
 {
     let [cell, name, open, left @ ..] = rows else {
         return None;
@@ -28,7 +29,8 @@ fn past_name(rows: &[Row]) -> Option<&[Row]>
 /// The tokens after `. PIN ( NET )`.
 #[inline(always)]
 fn past_connection(rows: &[Row]) -> Option<&[Row]>
-    ensures { IfSome result (λ left. IsPhrase (AtInstance Pins) (AtInstance PinEnd) (kinds_in rows.now) (kinds_in left.now)) }
+    ensures { IfSome result (λ left.
+        IsPhrase (AtInstance Pins) (AtInstance PinEnd) (kinds_in rows.now) (kinds_in left.now)) }
 {
     let [dot, pin, open, net, close, left @ ..] = rows else {
         return None;
@@ -42,7 +44,8 @@ fn past_connection(rows: &[Row]) -> Option<&[Row]>
 /// The tokens after `, . PIN ( NET )`.
 #[inline(always)]
 fn past_next_connection(rows: &[Row]) -> Option<&[Row]>
-    ensures { IfSome result (λ left. IsPhrase (AtInstance PinEnd) (AtInstance PinEnd) (kinds_in rows.now) (kinds_in left.now)) }
+    ensures { IfSome result (λ left.
+        IsPhrase (AtInstance PinEnd) (AtInstance PinEnd) (kinds_in rows.now) (kinds_in left.now)) }
 {
     let [comma, dot, pin, open, net, close, left @ ..] = rows else {
         return None;
@@ -59,7 +62,8 @@ fn past_next_connection(rows: &[Row]) -> Option<&[Row]>
 /// The tokens after `) ;`.
 #[inline(always)]
 fn past_end(rows: &[Row]) -> Option<&[Row]>
-    ensures { IfSome result (λ left. IsPhrase (AtInstance PinEnd) (AtItem ItemStart) (kinds_in rows.now) (kinds_in left.now)) }
+    ensures { IfSome result (λ left.
+        IsPhrase (AtInstance PinEnd) (AtItem ItemStart) (kinds_in rows.now) (kinds_in left.now)) }
 {
     let [close, end, left @ ..] = rows else {
         return None;

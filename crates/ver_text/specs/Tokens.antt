@@ -65,7 +65,8 @@ unsized_before bs = if signed_length bs == 0 then token Stray 0 else token Based
 -- the identifier that begins with a backslash: it ends before a blank, a line's end or the text's end, and any other
 -- byte after it is no token itself
 abbrev pub escaped_before : List ℕ → Piece
-escaped_before bs = if prefix_len is_printable bs == 0 then token Stray 0 else token Escaped (prefix_len is_printable bs)
+escaped_before bs =
+    if prefix_len is_printable bs == 0 then token Stray 0 else token Escaped (prefix_len is_printable bs)
 
 -- ---- what is passed over
 
@@ -81,7 +82,8 @@ before_close c (b ∷ bs) = if closes c (b ∷ bs) then 0 else suc (before_close
 
 -- a comment or an attribute, after its first two bytes, up to a `*` and this byte
 abbrev pub enclosed : ℕ → List ℕ → Piece
-enclosed c bs = if before_close c bs == length bs then token Unclosed (1 + length bs) else passed (3 + before_close c bs)
+enclosed c bs =
+    if before_close c bs == length bs then token Unclosed (1 + length bs) else passed (3 + before_close c bs)
 
 -- what begins with a `/`: a comment up to its line's end or up to `*/`, whose end is sought after its two opening bytes
 abbrev pub slash_before : List ℕ → Piece

@@ -35,13 +35,16 @@ EscapedNamesAreTokens =
 abbrev pub DigitsAreTokens : Type 0
 DigitsAreTokens =
     (at : ℕ) (digits rest : List ℕ) → 0 < length digits → list_all is_digit digits ≡ true
-    → begins_with is_digit rest ≡ false → begins 39 rest ≡ false → BeginsToken Digits at (length digits) (digits ++ rest) rest
+    → begins_with is_digit rest ≡ false → begins 39 rest ≡ false
+    → BeginsToken Digits at (length digits) (digits ++ rest) rest
 
 -- so is a byte that is one, where it begins no attribute
 abbrev pub MarksAreTokens : Type 0
 MarksAreTokens =
-    (at b : ℕ) (rest : List ℕ) → is_mark b ≡ true → ((b == 40) && begins 42 rest) ≡ false → BeginsToken (Mark b) at 1 (b ∷ rest) rest
+    (at b : ℕ) (rest : List ℕ) → is_mark b ≡ true → ((b == 40) && begins 42 rest) ≡ false
+    → BeginsToken (Mark b) at 1 (b ∷ rest) rest
 
 -- a blank is passed over
 abbrev pub BlanksArePassed : Type 0
-BlanksArePassed = (at b : ℕ) (rest : List ℕ) → is_blank b ≡ true → tokens_from 0 at (b ∷ rest) ≡ tokens_from 0 (at + 1) rest
+BlanksArePassed =
+    (at b : ℕ) (rest : List ℕ) → is_blank b ≡ true → tokens_from 0 at (b ∷ rest) ≡ tokens_from 0 (at + 1) rest

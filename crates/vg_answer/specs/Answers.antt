@@ -49,7 +49,8 @@ said_by answer = record { text = answer.text.items; files = map written_by answe
 
 -- What judging the texts of a mode may answer: an answer of a kind, the line of the first fault and its input, a name
 -- that begins with the prefix, or out of memory.
-abbrev pub AnswersBy : (AnswerKind → Said → Type 0) → (List ℕ → Input → Type 0) → (List ℕ → Type 0) → Result Answer NoAnswer → Type 0
+abbrev pub AnswersBy : (AnswerKind → Said → Type 0) → (List ℕ → Input → Type 0) → (List ℕ → Type 0)
+    → Result Answer NoAnswer → Type 0
 AnswersBy Says Fails Takes (Ok answer) = Says answer.kind (said_by answer)
 AnswersBy Says Fails Takes (Err (Faulty input line)) = Fails line input
 AnswersBy Says Fails Takes (Err (Taken name)) = Takes name

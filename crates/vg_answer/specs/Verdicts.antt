@@ -62,7 +62,8 @@ status_for Refusal = 2
 status_for Invalid = 8
 
 -- of the nets of these names this is said, one after another: together it has this kind and this text
-pub record AreSaid (Says : List ℕ → Verdict → Type 0) (names : List (List ℕ)) (kind : AnswerKind) (text : List ℕ) : Type 0 where
+pub record AreSaid (Says : List ℕ → Verdict → Type 0) (names : List (List ℕ)) (kind : AnswerKind)
+    (text : List ℕ) : Type 0 where
   pub verdicts : List Verdict
   pub each : AllZip Says names verdicts
   pub kind_is : kind ≡ kind_of (map kind_in verdicts)

@@ -49,7 +49,8 @@ is_form_fault head role line = not (has_shape role line) || (has_bad_count role 
 
 -- a load that was read is negative, or over 10^11
 abbrev pub load_fault : Result ℤ NumFault → Option NumFault
-load_fault (Ok z) = cond (int_lt z (pos 0)) (Some numbers.Negative) (cond (int_lt (pos (10 ^ 11)) z) (Some numbers.TooLarge) None)
+load_fault (Ok z) =
+    cond (int_lt z (pos 0)) (Some numbers.Negative) (cond (int_lt (pos (10 ^ 11)) z) (Some numbers.TooLarge) None)
 load_fault (Err fault) = Some fault
 
 abbrev pub pair_fault : Line → Option NumFault
@@ -109,7 +110,8 @@ fault_of names head role before line =
 
 -- the fault that the line at a place has by itself
 abbrev pub own_fault : Problem → NetNames → List Line → ℕ → Option CertKind
-own_fault p names ls i = fault_of names (line_at ls 2) (role_at p ls i) (line_before p ls i (role_at p ls i)) (line_at ls i)
+own_fault p names ls i =
+    fault_of names (line_at ls 2) (role_at p ls i) (line_before p ls i (role_at p ls i)) (line_at ls i)
 
 abbrev pub is_over_role : Role → Bool
 is_over_role over = true

@@ -11,8 +11,10 @@ use Rattle.vg_cert.specs.Written.{text_of}
 
 -- the text of a certificate has no fault
 abbrev pub TextsAreFaultless : Type 0
-TextsAreFaultless = (p : Problem) (names : NetNames) (cert : Certificate) → AreNamesOf p names → Fits p cert → IsFaultless p names (text_of p names cert)
+TextsAreFaultless = (p : Problem) (names : NetNames) (cert : Certificate) → AreNamesOf p names → Fits p cert
+    → IsFaultless p names (text_of p names cert)
 
 -- and denotes that certificate
 abbrev pub TextsDenote : Type 0
-TextsDenote = (p : Problem) (names : NetNames) (cert : Certificate) → AreNamesOf p names → Fits p cert → Denotes p names (lines (text_of p names cert)) cert
+TextsDenote = (p : Problem) (names : NetNames) (cert : Certificate) → AreNamesOf p names → Fits p cert
+    → Denotes p names (lines (text_of p names cert)) cert

@@ -100,7 +100,8 @@ count_fault read = option_or (when (is_no_count read) Form) (option_map Number (
 -- and what the words of two counts are
 abbrev pub counts_fault : Result ℤ NumFault → Result ℤ NumFault → Option CertKind
 counts_fault one other =
-    option_or (when (is_no_count one || is_no_count other) Form) (option_map Number (option_or (fault_in one) (fault_in other)))
+    option_or (when (is_no_count one || is_no_count other) Form)
+    (option_map Number (option_or (fault_in one) (fault_in other)))
 
 pub record AreCounts (one other : List ℕ) (found : ℕ × ℕ) : Type 0 where
   pub evens : found.0 ≡ count_in one
@@ -222,4 +223,5 @@ is_named word nodes v = bytes_eq (text_of_node nodes v) word
 
 abbrev pub IsFound : List NodeName → ℕ → List ℕ → Option ℕ → Type 0
 IsFound nodes from word None = (v : ℕ) → from ≤ v → v < length nodes → is_named word nodes v ≡ false
-IsFound nodes from word (Some v) = (v < length nodes) × (from ≤ v) × (is_named word nodes v ≡ true) × ((u : ℕ) → from ≤ u → u < v → is_named word nodes u ≡ false)
+IsFound nodes from word (Some v) = (v < length nodes) × (from ≤ v) × (is_named word nodes v ≡ true)
+    × ((u : ℕ) → from ≤ u → u < v → is_named word nodes u ≡ false)

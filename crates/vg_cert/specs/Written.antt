@@ -40,7 +40,8 @@ abbrev pub pair_line : Pair → Line
 pair_line x = signed_decimal x.q ∷ decimal x.c ∷ []
 
 abbrev pub node_line : NetNames → ℕ → Lists → Line
-node_line names v lists = codes "node" ∷ text_of_node names.nodes v ∷ decimal (length lists.0) ∷ decimal (length lists.1) ∷ []
+node_line names v lists =
+    codes "node" ∷ text_of_node names.nodes v ∷ decimal (length lists.0) ∷ decimal (length lists.1) ∷ []
 
 -- the section of a node
 abbrev pub section_lines : NetNames → ℕ → Lists → List Line
@@ -51,15 +52,20 @@ abbrev pub node_lines : NetNames → ℕ → Bool → Lists → List Line
 node_lines names v live lists = cond live (section_lines names v lists) []
 
 abbrev pub cells_part : NetNames → List (Option ℕ) → List Line
-cells_part names cells = count_line cells ∷ flat_map (λ v. cell_lines names v (slice_index_or cells v None)) (range_with_len 0 (length cells))
+cells_part names cells =
+    count_line cells
+    ∷ flat_map (λ v. cell_lines names v (slice_index_or cells v None)) (range_with_len 0 (length cells))
 
 abbrev pub lists_part : NetNames → List Bool → List NodeLists → List Line
-lists_part names live lists = flat_map (λ v. node_lines names v (get_or live v false) (get_or (map both lists) v ([], []))) (range_with_len 0 (length live))
+lists_part names live lists =
+    flat_map (λ v. node_lines names v (get_or live v false) (get_or (map both lists) v ([], [])))
+    (range_with_len 0 (length live))
 
 -- the lines that write a certificate
 unfoldable pub lines_written : Problem → NetNames → Certificate → List Line
 lines_written p names cert =
-    head_lines names cert.slack ++ (cells_part names cert.placement.cells ++ (lists_part names p.live cert.lists.items ++ (codes "end" ∷ []) ∷ []))
+    head_lines names cert.slack
+    ++ (cells_part names cert.placement.cells ++ (lists_part names p.live cert.lists.items ++ (codes "end" ∷ []) ∷ []))
 
 unfoldable pub text_of : Problem → NetNames → Certificate → List ℕ
 text_of p names cert = flat_map line_text (lines_written p names cert)

@@ -35,7 +35,8 @@ fn is_word(word: &[u8], other: &[u8]) -> bool
 
 /// What follows the word with which a line of two words begins. `None`: it is no such line.
 fn after_word<'a>(line: &'a [u8], word: &[u8]) -> Option<&'a [u8]>
-    ensures { MatchOption result (begins_with word.now 2 (words line.now) ≡ false) (λ found. (begins_with word.now 2 (words line.now) ≡ true) × (found.now ≡ word_of (words line.now) 1)) }
+    ensures { MatchOption result (begins_with word.now 2 (words line.now) ≡ false) (λ found.
+        (begins_with word.now 2 (words line.now) ≡ true) × (found.now ≡ word_of (words line.now) 1)) }
 {
     match two_words(line) {
         Some((first, second)) if is_word(first, word) => Some(second),
@@ -45,7 +46,8 @@ fn after_word<'a>(line: &'a [u8], word: &[u8]) -> Option<&'a [u8]>
 
 /// `vgcert 1`
 pub(crate) fn heading_line(line: &[u8]) -> Result<(), CertKind>
-    ensures { (names : Names) (head : Line) → Judges result (fault_of names head heading None (words line.now)) (λ _. ⊤) }
+    ensures { (names : Names) (head : Line)
+        → Judges result (fault_of names head heading None (words line.now)) (λ _. ⊤) }
 {
     let Some(version) = after_word(line, b"vgcert") else {
         return Err(CertKind::Form);
@@ -81,7 +83,9 @@ fn number_of(word: &[u8]) -> Result<i128, CertKind>
 
 /// `slack S`
 pub(crate) fn slack_line(line: &[u8]) -> Result<Option<i128>, CertKind>
-    ensures { (names : Names) (head : Line) → Judges result (fault_of names head slack_role None (words line.now)) (λ slack. (slack ≡ slack_in (words line.now)) × IfSome slack IsTime) }
+    ensures { (names : Names) (head : Line)
+        → Judges result (fault_of names head slack_role None (words line.now)) (λ slack.
+        (slack ≡ slack_in (words line.now)) × IfSome slack IsTime) }
 {
     let Some(slack) = after_word(line, b"slack") else {
         return Err(CertKind::Form);
@@ -128,7 +132,9 @@ fn counts_of(even: &[u8], odd: &[u8]) -> Result<(usize, usize), CertKind>
 
 /// `cells N`
 pub(crate) fn cells_line(line: &[u8]) -> Result<usize, CertKind>
-    ensures { (names : Names) (head : Line) → Judges result (fault_of names head cells_role None (words line.now)) (λ n. (n ≡ count_in (word_of (words line.now) 1)) × (n ≤ 2 ^ 28)) }
+    ensures { (names : Names) (head : Line)
+        → Judges result (fault_of names head cells_role None (words line.now)) (λ n.
+        (n ≡ count_in (word_of (words line.now) 1)) × (n ≤ 2 ^ 28)) }
 {
     let Some(count) = after_word(line, b"cells") else {
         return Err(CertKind::Form);
@@ -147,7 +153,9 @@ pub(crate) fn at_line(
     requires nodes { NodesDiffer names.now }
     requires next { next ≤ length names.now.nodes }
     requires cells { length names.now.cells ≤ 2 ^ 32 }
-    ensures { Judges result (fault_from_node names.now next (words line.now)) (λ found. (found ≡ placed_in names.now (words line.now)) × (next ≤ found.0) × (found.0 < length names.now.nodes) × (found.1 < length names.now.cells)) }
+    ensures { Judges result (fault_from_node names.now next (words line.now)) (λ found.
+        (found ≡ placed_in names.now (words line.now)) × (next ≤ found.0) × (found.0 < length names.now.nodes)
+        × (found.1 < length names.now.cells)) }
 {
     let Some((at, node, cell)) = three_words(line) else {
         return Err(CertKind::Form);
@@ -179,7 +187,9 @@ pub(crate) fn node_line(
     text: &mut Vec<u8>,
 ) -> Result<(usize, usize), CertKind>
     requires { v < length names.now.nodes }
-    ensures { (head : Line) → Judges result (fault_of names.now head (node_role v) None (words line.now)) (AreCounts (word_of (words line.now) 2) (word_of (words line.now) 3)) }
+    ensures { (head : Line)
+        → Judges result (fault_of names.now head (node_role v) None (words line.now))
+        (AreCounts (word_of (words line.now) 2) (word_of (words line.now) 3)) }
 {
     let Some((first, name, even, odd)) = four_words(line) else {
         return Err(CertKind::Form);
@@ -197,7 +207,8 @@ pub(crate) fn node_line(
 
 /// A load.
 fn load_of(word: &[u8]) -> Result<u64, CertKind>
-    ensures { Judges result (option_map NumberKind (load_fault (whole_of word.now))) (λ c. (c ≡ unsigned_abs (number_in word.now)) × (c ≤ 10 ^ 11)) }
+    ensures { Judges result (option_map NumberKind (load_fault (whole_of word.now))) (λ c.
+        (c ≡ unsigned_abs (number_in word.now)) × (c ≤ 10 ^ 11)) }
 {
     let load = number_of(word)?;
     if load < 0 {
@@ -221,7 +232,8 @@ fn is_above(pair: Pair, last: Option<Pair>) -> bool
 
 /// `Q C`, after the last pair of its list.
 pub(crate) fn pair_line(line: &[u8], last: Option<Pair>) -> Result<Pair, CertKind>
-    ensures { Judges result (fault_after_pair last (words line.now)) (λ pair. (pair ≡ pair_in (words line.now)) × IsEntry pair × (is_unordered last pair ≡ false)) }
+    ensures { Judges result (fault_after_pair last (words line.now)) (λ pair. (pair ≡ pair_in (words line.now))
+        × IsEntry pair × (is_unordered last pair ≡ false)) }
 {
     let Some((q, c)) = two_words(line) else {
         return Err(CertKind::Form);
@@ -237,7 +249,8 @@ pub(crate) fn pair_line(line: &[u8], last: Option<Pair>) -> Result<Pair, CertKin
 
 /// `end`
 pub(crate) fn end_line(line: &[u8]) -> Result<(), CertKind>
-    ensures { (names : Names) (head : Line) → Judges result (fault_of names head end_role None (words line.now)) (λ _. ⊤) }
+    ensures { (names : Names) (head : Line)
+        → Judges result (fault_of names head end_role None (words line.now)) (λ _. ⊤) }
 {
     let Some(word) = one_word(line) else {
         return Err(CertKind::Form);

@@ -54,7 +54,8 @@ fn read_net(source: &Source<'_>, place: &mut Place) -> Result<(), CertFault>
 fn read_slack(source: &Source<'_>, place: &mut Place) -> Result<Option<i128>, CertFault>
     requires up_to { IsUpTo (reading source.now) place.old }
     requires due { role_of (reading source.now) place.old.count ≡ slack_role }
-    ensures { Reads result (reading source.now) place.old place.new 1 (λ slack. (slack ≡ slack_in (line_of (reading source.now) place.old.count)) × IfSome slack IsTime) }
+    ensures { Reads result (reading source.now) place.old place.new 1 (λ slack.
+        (slack ≡ slack_in (line_of (reading source.now) place.old.count)) × IfSome slack IsTime) }
 {
     let line = next_line(source.bytes, place)?;
     match slack_line(line) {
@@ -66,7 +67,8 @@ fn read_slack(source: &Source<'_>, place: &mut Place) -> Result<Option<i128>, Ce
 fn read_cell_count(source: &Source<'_>, place: &mut Place) -> Result<usize, CertFault>
     requires up_to { IsUpTo (reading source.now) place.old }
     requires due { role_of (reading source.now) place.old.count ≡ cells_role }
-    ensures { Reads result (reading source.now) place.old place.new 1 (λ n. (n ≡ count_in (word_of (line_of (reading source.now) place.old.count) 1)) × (n ≤ 2 ^ 28)) }
+    ensures { Reads result (reading source.now) place.old place.new 1 (λ n.
+        (n ≡ count_in (word_of (line_of (reading source.now) place.old.count) 1)) × (n ≤ 2 ^ 28)) }
 {
     let line = next_line(source.bytes, place)?;
     match cells_line(line) {
@@ -97,10 +99,12 @@ fn read_at(
     requires up_to { IsUpTo (reading source.now) place.old }
     requires due { role_of (reading source.now) place.old.count ≡ at_role }
     requires slack { is_none (line_of (reading source.now) 2) ≡ false }
-    requires next { node_after (reading source.now).names (line_before (reading source.now).problem (lines_of (reading source.now)) place.old.count at_role) ≡ next }
+    requires next { node_after (reading source.now).names
+        (line_before (reading source.now).problem (lines_of (reading source.now)) place.old.count at_role) ≡ next }
     requires within { next ≤ length (reading source.now).names.nodes }
     requires names { AreNamesOf (reading source.now).problem (reading source.now).names }
-    ensures { Reads result (reading source.now) place.old place.new 1 (IsCell (reading source.now).names next (line_of (reading source.now) place.old.count)) }
+    ensures { Reads result (reading source.now) place.old place.new 1
+        (IsCell (reading source.now).names next (line_of (reading source.now) place.old.count)) }
 {
     let line = next_line(source.bytes, place)?;
     match at_line(line, source.names, next, text) {
@@ -156,7 +160,8 @@ fn read_placement(
     requires start { place.old.count ≡ 4 }
     requires head { IsHead (reading source.now) head }
     requires names { AreNamesOf (reading source.now).problem (reading source.now).names }
-    ensures lines { Reads result (reading source.now) place.old place.new head.cells (λ placement. ArePlacedBy (reading source.now) 4 head.cells placement.cells) }
+    ensures lines { Reads result (reading source.now) place.old place.new head.cells (λ placement.
+        ArePlacedBy (reading source.now) 4 head.cells placement.cells) }
     ensures needless { IfOk result (λ _. head.slack ≡ None → head.cells ≡ 0) }
 {
     if is_needless(head) {
@@ -174,7 +179,8 @@ fn read_placement(
 fn read_pair(source: &Source<'_>, last: Option<Pair>, place: &mut Place) -> Result<Pair, CertFault>
     requires up_to { IsUpTo (reading source.now) place.old }
     requires due { (role : Role) × IsPairDue (reading source.now) place.old.count last role }
-    ensures { Reads result (reading source.now) place.old place.new 1 (IsPair last (line_of (reading source.now) place.old.count)) }
+    ensures { Reads result (reading source.now) place.old place.new 1
+        (IsPair last (line_of (reading source.now) place.old.count)) }
 {
     let line = next_line(source.bytes, place)?;
     match pair_line(line, last) {
@@ -201,7 +207,8 @@ fn read_list(
     requires up_to { IsUpTo (reading source.now) place.old }
     requires few { count ≤ 2 ^ 28 }
     requires due { (role : Role) × IsListDue (reading source.now) place.old.count count role }
-    ensures { Reads result (reading source.now) place.old place.new count (λ list. (list.items ≡ pairs_from (reading source.now) place.old.count count) × IsList list.items) }
+    ensures { Reads result (reading source.now) place.old place.new count (λ list.
+        (list.items ≡ pairs_from (reading source.now) place.old.count count) × IsList list.items) }
 {
     let Ok(mut list) = list_for(alloc, source.bytes.len() - place.at, count) else {
         return Err(place.fault(CertKind::Memory));
@@ -226,7 +233,9 @@ fn read_node(
     requires up_to { IsUpTo (reading source.now) place.old }
     requires due { role_of (reading source.now) place.old.count ≡ node_role v }
     requires node { v < length (reading source.now).names.nodes }
-    ensures { Reads result (reading source.now) place.old place.new 1 (AreCounts (word_of (line_of (reading source.now) place.old.count) 2) (word_of (line_of (reading source.now) place.old.count) 3)) }
+    ensures { Reads result (reading source.now) place.old place.new 1
+        (AreCounts (word_of (line_of (reading source.now) place.old.count) 2)
+        (word_of (line_of (reading source.now) place.old.count) 3)) }
 {
     let line = next_line(source.bytes, place)?;
     match node_line(line, source.names, v, text) {
@@ -246,7 +255,9 @@ fn read_section(
     requires up_to { IsUpTo (reading source.now) place.old }
     requires due { (live : List Bool) × AreSectionsDue (reading source.now) place.old.count v (true ∷ live) }
     requires node { v < length (reading source.now).names.nodes }
-    ensures { Reads result (reading source.now) place.old place.new (section_size (reading source.now) place.old.count true) (AreListsOf (reading source.now) place.old.count true) }
+    ensures { Reads result (reading source.now) place.old place.new
+        (section_size (reading source.now) place.old.count true)
+        (AreListsOf (reading source.now) place.old.count true) }
 {
     let (evens, odds) = read_node(source, v, place, text)?;
     let even = read_list(alloc, source, evens, place)?;
@@ -266,7 +277,9 @@ fn read_lists_of(
     requires up_to { IsUpTo (reading source.now) place.old }
     requires due { (rest : List Bool) × AreSectionsDue (reading source.now) place.old.count v (live ∷ rest) }
     requires node { v < length (reading source.now).names.nodes }
-    ensures { Reads result (reading source.now) place.old place.new (section_size (reading source.now) place.old.count live) (AreListsOf (reading source.now) place.old.count live) }
+    ensures { Reads result (reading source.now) place.old place.new
+        (section_size (reading source.now) place.old.count live)
+        (AreListsOf (reading source.now) place.old.count live) }
 {
     if live {
         return read_section(alloc, source, v, place, text);
@@ -319,7 +332,8 @@ fn read_end(source: &Source<'_>, place: &mut Place) -> Result<(), CertFault>
     requires up_to { IsUpTo (reading source.now) place.old }
     requires due { roles_left (reading source.now) place.old.count ≡ end_role ∷ [] }
     ensures fault { IfErr result (IsFaultOrMemory (reading source.now)) }
-    ensures faultless { OnOk result (IsFaultless (reading source.now).problem (reading source.now).names (reading source.now).text) }
+    ensures faultless { OnOk result
+        (IsFaultless (reading source.now).problem (reading source.now).names (reading source.now).text) }
 {
     read_last(source, place)?;
     if place.at < source.bytes.len() {
@@ -332,8 +346,10 @@ fn read_end(source: &Source<'_>, place: &mut Place) -> Result<(), CertFault>
 fn read_lines(alloc: Global, source: &Source<'_>) -> Result<Certificate, CertFault>
     requires few { length (reading source.now).text ≤ 2 ^ 28 }
     requires names { AreNamesOf (reading source.now).problem (reading source.now).names }
-    ensures faultless { IfOk result (λ _. IsFaultless (reading source.now).problem (reading source.now).names (reading source.now).text) }
-    ensures denotes { IfOk result (Denotes (reading source.now).problem (reading source.now).names (lines_of (reading source.now))) }
+    ensures faultless { IfOk result (λ _.
+        IsFaultless (reading source.now).problem (reading source.now).names (reading source.now).text) }
+    ensures denotes { IfOk result
+        (Denotes (reading source.now).problem (reading source.now).names (lines_of (reading source.now))) }
     ensures fits { IfOk result (Fits (reading source.now).problem) }
     ensures fault { IfErr result (IsFaultOrMemory (reading source.now)) }
 {

@@ -14,7 +14,8 @@ fn blank_at(line: &[u8]) -> Option<usize>
 
 /// A line's first word, and what stands after the blank that ends it. `None`: no line of two words or more begins so.
 fn first_word(line: &[u8]) -> Option<(&[u8], &[u8])>
-    ensures { MatchOption result (length (words line.now) ≤ 1) (λ found. words line.now ≡ put_before found.0.now (words found.1.now)) }
+    ensures { MatchOption result (length (words line.now) ≤ 1) (λ found.
+        words line.now ≡ put_before found.0.now (words found.1.now)) }
 {
     let at = match blank_at(line) {
         None => return None,
@@ -39,7 +40,8 @@ pub(crate) fn one_word(line: &[u8]) -> Option<&[u8]>
 
 /// The words of a line that has two.
 pub(crate) fn two_words(line: &[u8]) -> Option<(&[u8], &[u8])>
-    ensures { MatchOption result ((length (words line.now) == 2) ≡ false) (λ found. words line.now ≡ found.0.now ∷ found.1.now ∷ []) }
+    ensures { MatchOption result ((length (words line.now) == 2) ≡ false) (λ found.
+        words line.now ≡ found.0.now ∷ found.1.now ∷ []) }
 {
     let (first, rest) = first_word(line)?;
     let second = one_word(rest)?;
@@ -48,7 +50,8 @@ pub(crate) fn two_words(line: &[u8]) -> Option<(&[u8], &[u8])>
 
 /// The words of a line that has three.
 pub(crate) fn three_words(line: &[u8]) -> Option<(&[u8], &[u8], &[u8])>
-    ensures { MatchOption result ((length (words line.now) == 3) ≡ false) (λ found. words line.now ≡ found.0.now ∷ found.1.now ∷ found.2.now ∷ []) }
+    ensures { MatchOption result ((length (words line.now) == 3) ≡ false) (λ found.
+        words line.now ≡ found.0.now ∷ found.1.now ∷ found.2.now ∷ []) }
 {
     let (first, rest) = first_word(line)?;
     let (second, third) = two_words(rest)?;
@@ -57,7 +60,8 @@ pub(crate) fn three_words(line: &[u8]) -> Option<(&[u8], &[u8], &[u8])>
 
 /// The words of a line that has four.
 pub(crate) fn four_words(line: &[u8]) -> Option<(&[u8], &[u8], &[u8], &[u8])>
-    ensures { MatchOption result ((length (words line.now) == 4) ≡ false) (λ found. words line.now ≡ found.0.now ∷ found.1.now ∷ found.2.now ∷ found.3.now ∷ []) }
+    ensures { MatchOption result ((length (words line.now) == 4) ≡ false) (λ found.
+        words line.now ≡ found.0.now ∷ found.1.now ∷ found.2.now ∷ found.3.now ∷ []) }
 {
     let (first, rest) = first_word(line)?;
     let (second, third, fourth) = three_words(rest)?;

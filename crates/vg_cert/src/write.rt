@@ -164,7 +164,8 @@ fn write_section(
     to: &mut Vec<u8>,
 ) -> Result<(), Memory>
     requires { v < length names.now.nodes }
-    ensures printed { OnOk result (to.new.items ≡ to.old.items ++ flat_map line_text (section_lines names.now v (both lists.now))) }
+    ensures printed { OnOk result (to.new.items
+        ≡ to.old.items ++ flat_map line_text (section_lines names.now v (both lists.now))) }
     ensures begun { OnErr result (take (length to.old.items) to.new.items ≡ to.old.items) }
 {
     write_node(names, v, lists, to)?;
@@ -182,7 +183,8 @@ fn write_live(
     to: &mut Vec<u8>,
 ) -> Result<(), Memory>
     requires { v < length names.now.nodes }
-    ensures printed { OnOk result (to.new.items ≡ to.old.items ++ flat_map line_text (node_lines names.now v live (both lists.now))) }
+    ensures printed { OnOk result (to.new.items
+        ≡ to.old.items ++ flat_map line_text (node_lines names.now v live (both lists.now))) }
     ensures begun { OnErr result (take (length to.old.items) to.new.items ≡ to.old.items) }
 {
     if live {
@@ -205,7 +207,9 @@ fn write_cell_count(cells: &[Option<u32>], to: &mut Vec<u8>) -> Result<(), Memor
 fn write_cells(names: &NetNames, cells: &[Option<u32>], to: &mut Vec<u8>) -> Result<(), Memory>
     requires nodes { length cells.now ≡ length names.now.nodes }
     requires named { (v b : ℕ) → slice_index_or cells.now v None ≡ Some b → b < length names.now.cells }
-    ensures printed { OnOk result (to.new.items ≡ to.old.items ++ flat_map (λ v. flat_map line_text (cell_lines names.now v (slice_index_or cells.now v None))) (range_with_len 0 (length cells.now))) }
+    ensures printed { OnOk result (to.new.items
+        ≡ to.old.items ++ flat_map (λ v. flat_map line_text (cell_lines names.now v (slice_index_or cells.now v None)))
+        (range_with_len 0 (length cells.now))) }
     ensures begun { OnErr result (take (length to.old.items) to.new.items ≡ to.old.items) }
 {
     'node: for v in 0..cells.len() {
@@ -223,7 +227,12 @@ fn write_lists(
 ) -> Result<(), Memory>
     requires nodes { length live.now ≡ length names.now.nodes }
     requires each { length lists.now ≡ length live.now }
-    ensures printed { OnOk result (to.new.items ≡ to.old.items ++ flat_map (λ v. flat_map line_text (node_lines names.now v (get_or live.now v false) (get_or (map both lists.now) v ([], [])))) (range_with_len 0 (length live.now))) }
+    ensures printed { OnOk result (to.new.items
+        ≡ to.old.items
+        ++ flat_map
+        (λ v.
+        flat_map line_text (node_lines names.now v (get_or live.now v false) (get_or (map both lists.now) v ([], []))))
+        (range_with_len 0 (length live.now))) }
     ensures begun { OnErr result (take (length to.old.items) to.new.items ≡ to.old.items) }
 {
     'node: for v in 0..live.len() {

@@ -96,7 +96,8 @@ pub record IsChange (c : Changes) : Type 0 where
 
 -- the section of a net stands behind those that are replaced
 abbrev pub IsBehind : Changes → List ℕ → Type 0
-IsBehind c name = (index : SpefIndex) (section : Section) → IsSectionNamed c.design.spef name index section → end_of c.sections ≤ section.from
+IsBehind c name = (index : SpefIndex) (section : Section) → IsSectionNamed c.design.spef name index section
+    → end_of c.sections ≤ section.from
 
 -- no pin of the net of this number is linked anew
 abbrev pub IsFresh : Changes → ℕ → Type 0

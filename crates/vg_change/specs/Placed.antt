@@ -63,11 +63,14 @@ linked net (Some at) = record { at = at; net = net } ∷ []
 
 -- so is the net's pin at a node of a stage
 abbrev pub rewires_at : Netlist → PlacedNet → Split → ℕ → ℕ → List Rewire
-rewires_at netlist p x k w = if is_old_end x w then linked (net_of x k) (pin_on netlist p.net.id (name_of p.net.par (slice_index p.order w))) else []
+rewires_at netlist p x k w =
+    if is_old_end x w then linked (net_of x k)
+    (pin_on netlist p.net.id (name_of p.net.par (slice_index p.order w))) else []
 
 -- and each of the net's pins in a stage that has a new net
 abbrev pub rewires_in : Netlist → PlacedNet → Split → ℕ → List Rewire
-rewires_in netlist p x k = if k == x.keeper then [] else flat_map (rewires_at netlist p x k) (members (forest x) (head x k))
+rewires_in netlist p x k =
+    if k == x.keeper then [] else flat_map (rewires_at netlist p x k) (members (forest x) (head x k))
 
 abbrev pub rewires_of : Netlist → PlacedNet → Split → List Rewire
 rewires_of netlist p x = flat_map (rewires_in netlist p x) (range_with_len 0 (length (heads (forest x))))

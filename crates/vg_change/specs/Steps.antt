@@ -17,7 +17,8 @@ pub record SaysStages (header : Header) (x : Split) (n : ℕ) (text : List ℕ) 
 
 -- a posed net with these cells
 abbrev pub placed_net : PosedNet → List (Option ℕ) → PlacedNet
-placed_net posed cells = record { net = posed.ready.pinned.net; order = posed.ready.order; problem = posed.problem; cells = cells }
+placed_net posed cells =
+    record { net = posed.ready.pinned.net; order = posed.ready.order; problem = posed.problem; cells = cells }
 
 -- a net as it is split
 abbrev pub placed_by : Joined → Split → PlacedNet

@@ -9,7 +9,8 @@ use Rattle.vg_design.specs.Designs.{Design, net_names}
 abbrev pub names_of : Design → List (List ℕ)
 names_of d =
     map (λ instance. instance.name) d.netlist.instances
-    ++ (map (λ net. net.name) d.netlist.nets ++ (map (λ row. row.1) (said_by (file_lines d.spef)).names ++ net_names d.spef))
+    ++ (map (λ net. net.name) d.netlist.nets
+    ++ (map (λ row. row.1) (said_by (file_lines d.spef)).names ++ net_names d.spef))
 
 -- the first that begins with the prefix
 abbrev pub taken : Design → List ℕ → Option (List ℕ)

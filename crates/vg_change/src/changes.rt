@@ -84,7 +84,8 @@ impl<'a> Model for Changes<'a> {
 /// Where the section of the net of a name stands in the parasitics.
 fn span_of(index: &SpefIndex, name: &[u8]) -> Span
     requires { is_section index.now.sections name.now ≡ true }
-    ensures { (section : Section) × Contains index.now.sections (name.now, section) × (result ≡ record { from = section.from; to = section.to }) }
+    ensures { (section : Section) × Contains index.now.sections (name.now, section)
+        × (result ≡ record { from = section.from; to = section.to }) }
 {
     let Some(at) = index.sections.find(name) else {
         unreachable!()

@@ -24,7 +24,8 @@ fn port_node(par: &ParNet, order: &[u32]) -> Option<usize>
 pub(crate) fn port_or_root(par: &ParNet, order: &[u32]) -> usize
     requires some { 0 < length order.now }
     requires within { All (λ v. v < length par.now.nodes) order.now }
-    ensures is { result ≡ unwrap_or (find (λ w. is_port (name_of par.now (slice_index order.now w))) (nodes (length order.now))) 0 }
+    ensures is { result
+        ≡ unwrap_or (find (λ w. is_port (name_of par.now (slice_index order.now w))) (nodes (length order.now))) 0 }
     ensures node { result < length order.now }
 {
     port_node(par, order).unwrap_or(0)

@@ -41,7 +41,8 @@ fn net_with<'a>(netlist: &'a Module, prefix: &[u8]) -> Option<&'a [u8]>
 /// The first mapped name of the SPEF file that begins with a prefix.
 fn mapped_with<'a>(design: &'a Design, prefix: &[u8]) -> Option<&'a [u8]>
     ensures { option_map (λ name. name.now) result
-        ≡ find (λ name. starts_with ◌==◌ name prefix.now) (map (λ row. row.1) (said_by (file_lines design.now.spef)).names) }
+        ≡ find (λ name. starts_with ◌==◌ name prefix.now)
+        (map (λ row. row.1) (said_by (file_lines design.now.spef)).names) }
 {
     let map = &design.index().map;
     'row: for at in 0..map.len() {
@@ -55,7 +56,8 @@ fn mapped_with<'a>(design: &'a Design, prefix: &[u8]) -> Option<&'a [u8]>
 
 /// The first name of a net of the SPEF file that begins with a prefix.
 fn section_with<'a>(design: &'a Design, prefix: &[u8]) -> Option<&'a [u8]>
-    ensures { option_map (λ name. name.now) result ≡ find (λ name. starts_with ◌==◌ name prefix.now) (net_names design.now.spef) }
+    ensures { option_map (λ name. name.now) result
+        ≡ find (λ name. starts_with ◌==◌ name prefix.now) (net_names design.now.spef) }
 {
     'net: for at in 0..design.net_count() {
         let name = design.net_name(at);

@@ -57,7 +57,8 @@ fn push_rewires_in(
     requires pins { ArePins design.now pinned.now.net pinned.now.pins }
     requires par { x.now.par ≡ pinned.now.net.par }
     requires stage { stage < length (heads (forest x.now)) }
-    ensures { OnOk result (to.new ≡ to.old ++ rewires_in design.now.netlist (placed_by pinned.now.net x.now) x.now stage) }
+    ensures { OnOk result (to.new
+        ≡ to.old ++ rewires_in design.now.netlist (placed_by pinned.now.net x.now) x.now stage) }
 {
     if stage == x.keeper as usize {
         return Ok(());

@@ -28,7 +28,8 @@ CoversJoins joins entries = (odd : Bool) → AreCoveredBy (Contains (joins odd))
 -- in each class the greatest pair that the repeater makes of the joins, those of the class past it, is dominated by an
 -- entry
 abbrev pub CoversCell : Rep → ClassLists → ClassLists → Type 0
-CoversCell rep joins entries = (odd : Bool) → AreCoveredBy (IsGreatestBy rep (joins (past_cell (Some rep) odd))) (entries odd)
+CoversCell rep joins entries =
+    (odd : Bool) → AreCoveredBy (IsGreatestBy rep (joins (past_cell (Some rep) odd))) (entries odd)
 
 -- of each repeater that may stand at v
 abbrev pub CoversCells : Problem → ℕ → ClassLists → ClassLists → Type 0

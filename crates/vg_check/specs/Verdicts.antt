@@ -36,9 +36,11 @@ IsOver (Some slack) most = slack <ℤ most
 abbrev pub Finds : Problem → Certificate → Verdict → Type 0
 Finds p cert (Illegal v) = IsSome cert.slack × IsFirstIllegal p cert.placement.cells v
 Finds p cert (WrongPolarity w) = IsSome cert.slack × IsFirstWrong p cert.placement.cells w
-Finds p cert (WrongSlack written real) = (cert.slack ≡ Some written) × IsSlack p cert.placement.cells real × (written ≢ real)
+Finds p cert (WrongSlack written real) =
+    (cert.slack ≡ Some written) × IsSlack p cert.placement.cells real × (written ≢ real)
 Finds p cert (Uncovered v) = IsLastUncovered p (lists_of cert) v
-Finds p cert (NotBest written bound) = (cert.slack ≡ written) × IsRootBound p (at_root (of_lists (lists_of cert))) bound × IsOver written bound
+Finds p cert (NotBest written bound) =
+    (cert.slack ≡ written) × IsRootBound p (at_root (of_lists (lists_of cert))) bound × IsOver written bound
 Finds p cert Yes = ⊤
 
 -- in which order the parts of a certificate are looked at

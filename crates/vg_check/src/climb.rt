@@ -18,7 +18,8 @@ use vg_num::Memory;
 /// The parts of all nodes, to which no child came in yet. Answers `Memory` where there is no room.
 fn start(alloc: Global, p: &Problem) -> Result<Vec<Part>, Memory>
     ensures count { IfOk result (λ parts. length parts.items ≡ length p.now.tree.nodes) }
-    ensures parts { IfOk result (λ parts. (lists : NodeListsSpec) → AreParts p.now lists (length p.now.tree.nodes) parts.items) }
+    ensures parts { IfOk result (λ parts. (lists : NodeListsSpec)
+        → AreParts p.now lists (length p.now.tree.nodes) parts.items) }
 {
     let mut parts = Vec::new(alloc);
     'nodes: for node in 0..p.tree.nodes.len() {
@@ -78,7 +79,9 @@ pub(crate) fn last_uncovered(
 ) -> Result<Option<u32>, Memory>
     requires one_each { length lists.now ≡ length p.now.tree.nodes }
     requires lists { AreLists (lists_in lists.now) }
-    ensures { IfOk result (λ found. MatchOption found (IsCover p.now (of_lists (lists_in lists.now))) (IsLastUncovered p.now (lists_in lists.now))) }
+    ensures { IfOk result (λ found.
+        MatchOption found (IsCover p.now (of_lists (lists_in lists.now)))
+        (IsLastUncovered p.now (lists_in lists.now))) }
 {
     let mut parts = start(alloc, p)?;
     'nodes: while let Some(part) = parts.pop() {

@@ -99,7 +99,8 @@ fn covers_rep(p: &Problem, node: usize, rep: usize, lists: &NodeLists, joins: &C
     requires rep { rep < length p.now.reps }
     requires lists { (odd : Bool) → AllPairs IsBelow (entries_of lists.now odd) }
     requires joins { AreWorked (list_of joins.now) }
-    ensures { IsTrue result ↔ (Allows (allowed_at p.now.allowed node) rep → CoversCell (rep_at p.now.reps rep) (list_of joins.now) (entries_of lists.now)) }
+    ensures { IsTrue result ↔ (Allows (allowed_at p.now.allowed node) rep
+        → CoversCell (rep_at p.now.reps rep) (list_of joins.now) (entries_of lists.now)) }
 {
     !allows(p, node, rep) || covers_cell(lists, &p.reps.as_slice()[rep], joins)
 }

@@ -63,7 +63,8 @@ fn judge_bound(p: &Problem, cert: &Certificate) -> Verdict
 pub fn check(alloc: Global, p: &Problem, cert: &Certificate) -> Result<Verdict, Memory>
     requires fits { Fits p.now cert.now }
     ensures verdict { IfOk result (IsVerdict p.now cert.now) }
-    ensures valid { IfOk result (λ verdict. (verdict ≡ Yes) ↔ IsValid p.now cert.now.slack cert.now.placement.cells (lists_of cert.now)) }
+    ensures valid { IfOk result (λ verdict. (verdict ≡ Yes)
+        ↔ IsValid p.now cert.now.slack cert.now.placement.cells (lists_of cert.now)) }
     ensures shown { IfOk result (λ verdict. verdict ≡ Yes → IsShown p.now cert.now.slack cert.now.placement.cells) }
 {
     if let Some(verdict) = judge_placement(alloc, p, cert)? {

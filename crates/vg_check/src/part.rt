@@ -75,7 +75,8 @@ fn of_sink(alloc: Global, sink: Sink, c: u64) -> Result<Classes, Memory>
 fn above_wire(alloc: Global, r: u64, lists: &NodeLists) -> Result<Classes, Memory>
     requires r { r ≤ 10 ^ 12 }
     requires lists { (odd : Bool) → IsList (entries_of lists.now odd) }
-    ensures { IfOk result (λ above. (odd : Bool) → IsUndominated (Wires r (entries_of lists.now odd)) (list_of above odd)) }
+    ensures { IfOk result (λ above. (odd : Bool)
+        → IsUndominated (Wires r (entries_of lists.now odd)) (list_of above odd)) }
 {
     let evens = through_wire(alloc, r, &lists.even)?;
     let odds = through_wire(alloc, r, &lists.odd)?;
@@ -86,7 +87,8 @@ fn above_wire(alloc: Global, r: u64, lists: &NodeLists) -> Result<Classes, Memor
 fn meet(alloc: Global, xs: &Classes, ys: &Classes) -> Result<Classes, Memory>
     requires xs { AreWorked (list_of xs.now) }
     requires ys { AreWorked (list_of ys.now) }
-    ensures { IfOk result (λ both. (odd : Bool) → IsUndominated (Meets (list_of xs.now odd) (list_of ys.now odd)) (list_of both odd)) }
+    ensures { IfOk result (λ both. (odd : Bool)
+        → IsUndominated (Meets (list_of xs.now odd) (list_of ys.now odd)) (list_of both odd)) }
 {
     let evens = meet_all(alloc, &xs.evens, &ys.evens)?;
     let odds = meet_all(alloc, &xs.odds, &ys.odds)?;
@@ -108,7 +110,8 @@ impl Part {
     /// Answers `Memory` where there is no room.
     pub fn start(alloc: Global, p: &Problem, node: usize) -> Result<Part, Memory>
         requires node { node < length p.now.tree.nodes }
-        ensures { IfOk result (λ part. (lists : NodeListsSpec) → IsPart p.now lists (length p.now.tree.nodes) node part) }
+        ensures { IfOk result (λ part. (lists : NodeListsSpec)
+            → IsPart p.now lists (length p.now.tree.nodes) node part) }
     {
         let c = capacitance_of(p, node);
         match sink_at(p, node) {
@@ -127,7 +130,8 @@ impl Part {
         requires node { node < length p.now.tree.nodes }
         requires dead { is_live p.now.tree.nodes p.now.sinks node ≡ false }
         requires load { c ≡ downstream_in p.now.tree.nodes node }
-        requires upper { (lists : NodeListsSpec) × AreLists lists × IsPart p.now lists (node + 1) (parent_of p.now.tree.nodes node) self }
+        requires upper { (lists : NodeListsSpec) × AreLists lists
+            × IsPart p.now lists (node + 1) (parent_of p.now.tree.nodes node) self }
         ensures { (lists : NodeListsSpec) → IsPart p.now lists (node + 1) (parent_of p.now.tree.nodes node) self
             → IsPart p.now lists node (parent_of p.now.tree.nodes node) result }
     {

@@ -20,7 +20,8 @@ pub(crate) fn misplaced(
 ) -> Result<Option<Verdict>, Memory>
     requires placement { IsPlacement p.now cert.now.placement.cells }
     requires written { cert.now.slack ≡ Some written }
-    ensures { IfOk result (λ found. MatchOption found (IsGoodWith p.now cert.now.placement.cells written) (IsFault p.now cert.now)) }
+    ensures { IfOk result (λ found.
+        MatchOption found (IsGoodWith p.now cert.now.placement.cells written) (IsFault p.now cert.now)) }
 {
     let at = &cert.placement;
     let mut scratch = Scratch::new(alloc, p.tree.nodes.len())?;

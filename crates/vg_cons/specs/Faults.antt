@@ -19,7 +19,8 @@ fault_of_statement rows (Err kind) = Some kind
 -- the fault of a line with words: the first one is the heading, and the others state rows that its version has
 abbrev pub fault_of_words : Option Format → Rows → Line → Option ConsKind
 fault_of_words None rows line = if is_some (heading_of line) then None else Some Version
-fault_of_words (Some First) rows line = if is_of_second line then Some Word else fault_of_statement rows (statement_of line)
+fault_of_words (Some First) rows line =
+    if is_of_second line then Some Word else fault_of_statement rows (statement_of line)
 fault_of_words (Some Second) rows line = fault_of_statement rows (statement_of line)
 
 -- the fault of a line, given the version and the rows before it

@@ -7,7 +7,8 @@ use Rattle.vg_cons.specs.Statements.{Statement, default, required, arrival, want
 use Rattle.vg_cons.specs.Rows.{Rows}
 
 abbrev pub no_rows : Rows
-no_rows = record { format = None; default = None; required = []; arrival = []; want = []; drive = []; load = []; block = []; allow = []; boxes = [] }
+no_rows =
+    record { format = None; default = None; required = []; arrival = []; want = []; drive = []; load = []; block = []; allow = []; boxes = [] }
 
 -- one row more, last of its kind; a default that is there stays
 abbrev pub with_row : Rows → Statement → Rows
@@ -27,4 +28,5 @@ with_statement rows (Err _) = rows
 
 -- what one line more gives; a version that is there stays
 abbrev pub with_line : Rows → Line → Rows
-with_line rows line = record (with_statement rows (statement_of line)) { format = option_or rows.format (heading_of line) }
+with_line rows line =
+    record (with_statement rows (statement_of line)) { format = option_or rows.format (heading_of line) }

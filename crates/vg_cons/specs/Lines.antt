@@ -25,7 +25,8 @@ has_words (_ ∷ _) = true
 
 -- the format of a version
 abbrev pub format_of : List ℕ → Option Format
-format_of version = if bytes_eq version (codes "1") then Some First else (if bytes_eq version (codes "2") then Some Second else None)
+format_of version =
+    if bytes_eq version (codes "1") then Some First else (if bytes_eq version (codes "2") then Some Second else None)
 
 -- the format that a heading names: `vgcons 1` or `vgcons 2`, by its words, so blanks between them are free
 abbrev pub heading_of : Line → Option Format

@@ -13,7 +13,8 @@ use Rattle.vg_scan.specs.declared.name.NodeName.{NodeName}
 
 -- names are written with the divider `/`, the delimiter `:` and the bus delimiters `[` and `]`
 abbrev pub CHARS : Chars
-CHARS = record { divider = 47; delimiter = 58; bus_left = 91; bus_right = 93; divides = refl; delimits = refl; encloses = refl }
+CHARS =
+    record { divider = 47; delimiter = 58; bus_left = 91; bus_right = 93; divides = refl; delimits = refl; encloses = refl }
 
 -- a point by its x and y, and a box by two corners that lie across from each other
 abbrev pub Point : Type 0

@@ -62,7 +62,8 @@ Adds (Err kind) old new statement = IsFaultOrMemory (fault_of_statement old (Ok 
 
 -- a line with words is taken in a text of a version: the row that it states is added, or it has a fault
 abbrev pub TakesRow : Result (Unit {0}) ConsKind → Format → Rows → Rows → Line → Type 0
-TakesRow (Ok _) format old new line = (fault_of_words (Some format) old line ≡ None) × (new ≡ with_statement old (statement_of line))
+TakesRow (Ok _) format old new line =
+    (fault_of_words (Some format) old line ≡ None) × (new ≡ with_statement old (statement_of line))
 TakesRow (Err kind) format old new line = IsFaultOrMemory (fault_of_words (Some format) old line) kind
 
 -- a line is taken after others: what it gives is added, or it has a fault

@@ -38,7 +38,8 @@ IsFoundFor rep xs found = MatchOption found (NoneFits rep (pairs_of xs)) (IsBest
 -- the same for the repeater b, and nothing where it is not allowed
 abbrev pub IsAnswer : Allowed → List Rep → Candidates → ℕ → Option Found → Type 0
 IsAnswer allowed reps xs b found =
-    MatchOption found (Allows allowed b → NoneFits (rep_at reps b) (pairs_of xs)) (λ best. Allows allowed b × IsBestOf (rep_at reps b) xs best)
+    MatchOption found (Allows allowed b → NoneFits (rep_at reps b) (pairs_of xs)) (λ best. Allows allowed b
+    × IsBestOf (rep_at reps b) xs best)
 
 -- what stands in a row of results for the repeater b
 abbrev pub found_at : List (Option Found) → ℕ → Option Found
@@ -61,7 +62,8 @@ AreFound allowed reps xs found = (b : ℕ) → b < length reps → IsAnswer allo
 pub record AreServed (allowed : Allowed) (reps : List Rep) (xs : Candidates) (drivers : List Driver) (from to : ℕ)
     (old new : List (Option Found)) : Type 0 where
   pub row : IsRow allowed reps new
-  pub each : (i : ℕ) (d : Driver) → from ≤ i → i < to → let b = (slice_index_or drivers i d).rep in IsAnswer allowed reps xs b (found_at new b)
+  pub each : (i : ℕ) (d : Driver) → from ≤ i → i < to → let b =
+      (slice_index_or drivers i d).rep in IsAnswer allowed reps xs b (found_at new b)
   pub others : (b : ℕ) → IsAnswer allowed reps xs b (found_at old b) → IsAnswer allowed reps xs b (found_at new b)
 
 -- the work has the result of each repeater for a list, at a node that allows some of them
@@ -71,7 +73,8 @@ pub record HasFound (allowed : Allowed) (reps : List Rep) (xs : Candidates) (wor
 
 -- one work has the results for the list that the buffers drive, and the other one those for the list that the inverters
 -- drive
-pub record HaveFound (allowed : Allowed) (reps : List Rep) (lists : Bool → Candidates) (buffers inverters : Work) : Type 0 where
+pub record HaveFound (allowed : Allowed) (reps : List Rep) (lists : Bool → Candidates)
+    (buffers inverters : Work) : Type 0 where
   pub by_buffers : HasFound allowed reps (lists false) buffers
   pub by_inverters : HasFound allowed reps (lists true) inverters
 
@@ -100,7 +103,9 @@ made_pairs kept = map (λ made. made.pair) kept
 abbrev pub IsKeptAfter : List Made → List Made → Made → Made → List Made → Type 0
 IsKeptAfter old front last made new =
     ((made.pair.q ≤ℤ last.pair.q) × (new ≡ old))
-    ⊎ ((last.pair.q <ℤ made.pair.q) × (((made.pair.c ≡ last.pair.c) × (new ≡ front ++ made ∷ [])) ⊎ ((made.pair.c ≢ last.pair.c) × (new ≡ old ++ made ∷ []))))
+    ⊎ ((last.pair.q <ℤ made.pair.q)
+    × (((made.pair.c ≡ last.pair.c) × (new ≡ front ++ made ∷ []))
+    ⊎ ((made.pair.c ≢ last.pair.c) × (new ≡ old ++ made ∷ []))))
 
 -- a result goes after the last of a list with more time and more input; it takes the place of a last one with less time
 -- and as much input, and is left out after one with no less time
@@ -111,7 +116,8 @@ IsKept old made new =
 
 -- the last of some results has this pair
 abbrev pub IsLast : List Made → Pair → Type 0
-IsLast kept last = (made : Made) × (0 < length kept) × (made ≡ slice_index_or kept (length kept - 1) made) × (made.pair ≡ last)
+IsLast kept last =
+    (made : Made) × (0 < length kept) × (made ≡ slice_index_or kept (length kept - 1) made) × (made.pair ≡ last)
 
 -- the undominated ones of the results of these repeaters
 pub record AreSwept (reps : List Rep) (found : ℕ → Option Found) (order : List ℕ) (kept : List Made) : Type 0 where

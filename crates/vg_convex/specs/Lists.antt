@@ -31,7 +31,8 @@ driven reps lists b = lists (rep_at reps b).inverts
 
 -- a repeater that may stand makes z of the list that it drives, and no pair with more time
 abbrev pub IsMade : List Rep → Allowed → (Bool → Candidates) → Pair → Type 0
-IsMade reps allowed lists z = (b : ℕ) × MayStand reps allowed b × IsGreatestBy (rep_at reps b) (pairs_of (driven reps lists b)) z
+IsMade reps allowed lists z =
+    (b : ℕ) × MayStand reps allowed b × IsGreatestBy (rep_at reps b) (pairs_of (driven reps lists b)) z
 
 -- the solutions of these candidates are live, and have no cell at a node
 pub record AreBareAt (ms : List Made) (node : ℕ) (xs : Candidates) : Type 0 where

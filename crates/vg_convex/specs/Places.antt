@@ -78,4 +78,5 @@ pub record IsFrontOf (xs : Candidates) (stack : List Point) (left r : ℕ) : Typ
 
 -- the same above the resistances of the drivers from one place of an order on
 abbrev pub AreFrontOf : Candidates → List Point → ℕ → List Driver → ℕ → Type 0
-AreFrontOf xs stack left drivers from = (i : ℕ) (d : Driver) → from ≤ i → i < length drivers → IsFrontOf xs stack left (slice_index_or drivers i d).r
+AreFrontOf xs stack left drivers from =
+    (i : ℕ) (d : Driver) → from ≤ i → i < length drivers → IsFrontOf xs stack left (slice_index_or drivers i d).r

@@ -121,7 +121,8 @@ pub fn add_cells(
     inverters: &Work,
     kept: &mut Kept,
 ) -> Result<List, Memory>
-    requires found { (allowed : AllowedSpec) × (lists : Bool → Candidates) × HaveFound allowed reps.now lists buffers.now inverters.now
+    requires found { (allowed : AllowedSpec) × (lists : Bool → Candidates)
+        × HaveFound allowed reps.now lists buffers.now inverters.now
         × ((inverts : Bool) → AreBareAt (made_of arena.old) node (lists inverts)) }
     requires room { length reps.now ≤ spare pool.old }
     requires shelf { IsShelf reps.now shelf.now }
@@ -136,7 +137,8 @@ pub fn add_cells(
     ensures empty { (allowed : AllowedSpec) → HaveFound allowed reps.now (λ _. []) buffers.now inverters.now
         → IfOk result (λ list. items_of pool.new list ≡ []) }
     ensures few { IfOk result (λ list. length (items_of pool.new list) ≤ length reps.now) }
-    ensures uses { IfOk result (λ list. IsExchange (slots_of arena.old) [] (slots_of arena.new) (items_of pool.new list)) }
+    ensures uses { IfOk result (λ list.
+        IsExchange (slots_of arena.old) [] (slots_of arena.new) (items_of pool.new list)) }
     ensures solutions { KeepsSolutions (made_of arena.old) (made_of arena.new) }
     ensures restored { OnErr result (IsRestored (slots_of arena.old) (slots_of arena.new)) }
     ensures others { MatchResult result (λ list. KeepsOthers pool.old [] pool.new (name list ∷ []))

@@ -31,7 +31,8 @@ fn bends<L: Ledger>(a: Point, b: Point, c: Point, steps: &mut Steps<L>) -> bool
     requires c { IsModest (told_by c) }
     requires a_b { IsBelow (pair_in a) (pair_in b) }
     requires b_c { IsBelow (pair_in b) (pair_in c) }
-    ensures bend { MatchBool result (Bends (pair_in a) (pair_in b) (pair_in c)) (Sags (pair_in a) (pair_in b) (pair_in c)) }
+    ensures bend { MatchBool result (Bends (pair_in a) (pair_in b) (pair_in c))
+        (Sags (pair_in a) (pair_in b) (pair_in c)) }
     ensures step { steps.new ≡ suc steps.old }
 {
     steps.tick();
@@ -77,7 +78,8 @@ pub(crate) fn is_less<L: Ledger>(a: Point, b: Point, r: u64, steps: &mut Steps<L
     requires a { IsModest (told_by a) }
     requires b { IsModest (told_by b) }
     requires a_b { IsBelow (pair_in a) (pair_in b) }
-    ensures order { MatchBool result (value r (pair_in a) <ℤ value r (pair_in b)) (value r (pair_in b) ≤ℤ value r (pair_in a)) }
+    ensures order { MatchBool result (value r (pair_in a) <ℤ value r (pair_in b)) (value r (pair_in b)
+        ≤ℤ value r (pair_in a)) }
     ensures step { steps.new ≡ suc steps.old }
 {
     steps.tick();

@@ -73,9 +73,11 @@ fn keep_all(
     requires buffers { length reps.now ≤ length buffers.now }
     requires inverters { length reps.now ≤ length inverters.now }
     requires by_input { AreByInput reps.now (reps_of_pins pins.now) }
-    requires swept { AreSwept reps.now (found_by reps.now buffers.now inverters.now) (take from (reps_of_pins pins.now)) kept.old.items }
+    requires swept { AreSwept reps.now (found_by reps.now buffers.now inverters.now)
+        (take from (reps_of_pins pins.now)) kept.old.items }
     requires first { IsLast kept.old.items first }
-    ensures { OnOk result (AreSwept reps.now (found_by reps.now buffers.now inverters.now) (reps_of_pins pins.now) kept.new.items) }
+    ensures { OnOk result
+        (AreSwept reps.now (found_by reps.now buffers.now inverters.now) (reps_of_pins pins.now) kept.new.items) }
 {
     let _ = reps;
     let mut last = first;
@@ -103,7 +105,8 @@ pub(crate) fn sweep(
     requires buffers { length reps.now ≤ length buffers.now }
     requires inverters { length reps.now ≤ length inverters.now }
     requires by_input { AreByInput reps.now (reps_of_pins pins.now) }
-    ensures { OnOk result (AreSwept reps.now (found_by reps.now buffers.now inverters.now) (reps_of_pins pins.now) kept.new.items) }
+    ensures { OnOk result
+        (AreSwept reps.now (found_by reps.now buffers.now inverters.now) (reps_of_pins pins.now) kept.new.items) }
 {
     kept.clear();
     'pins: for at in 0..pins.len() {

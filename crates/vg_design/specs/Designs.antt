@@ -82,7 +82,8 @@ abbrev pub instance_at : Netlist → PinRef → Instance
 instance_at netlist at = slice_index_or netlist.instances at.instance NO_INSTANCE
 
 abbrev pub pin_name : Netlist → PinRef → NodeName
-pin_name netlist at = record { owner = (instance_at netlist at).name; leaf = (slice_index_or (instance_at netlist at).pins at.pin NO_PIN).name }
+pin_name netlist at =
+    record { owner = (instance_at netlist at).name; leaf = (slice_index_or (instance_at netlist at).pins at.pin NO_PIN).name }
 
 -- the netlist links a pin of this name to this one net
 pub record IsLinked (netlist : Netlist) (id : ℕ) (at : NodeName) : Type 0 where

@@ -21,11 +21,13 @@ pub record AreSame (a b : NetProblem) : Type 0 where
 
 -- a net of a design has one problem
 abbrev pub OneProblem : Type 0
-OneProblem = (d : Design) (name : List ℕ) (a b : NetProblem) → IsNetProblem d name a → IsNetProblem d name b → AreSame a b
+OneProblem =
+    (d : Design) (name : List ℕ) (a b : NetProblem) → IsNetProblem d name a → IsNetProblem d name b → AreSame a b
 
 -- a net that has one is not refused
 abbrev pub ProblemOrRefused : Type 0
-ProblemOrRefused = (d : Design) (name : List ℕ) (found : NetProblem) (refusal : Refusal) → IsNetProblem d name found → IsFirstRefusal d name refusal → ⊥
+ProblemOrRefused = (d : Design) (name : List ℕ) (found : NetProblem) (refusal : Refusal) → IsNetProblem d name found
+    → IsFirstRefusal d name refusal → ⊥
 
 -- a net has one first refusal
 abbrev pub OneRefusal : Type 0
@@ -34,5 +36,6 @@ OneRefusal = (d : Design) (name : List ℕ) (a b : Refusal) → IsFirstRefusal d
 -- what is refused for a missing required time alone, is not refused without the constraints, or only for its size
 abbrev pub BareAccepts : Type 0
 BareAccepts =
-    (d : Design) (name : List ℕ) (node : NodeName) (refusal : Refusal) → IsFirstRefusal d name (Unconstrained node) → IsFirstBareRefusal d name refusal
+    (d : Design) (name : List ℕ) (node : NodeName) (refusal : Refusal) → IsFirstRefusal d name (Unconstrained node)
+    → IsFirstBareRefusal d name refusal
     → number_of refusal ≡ 16

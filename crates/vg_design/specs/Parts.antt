@@ -45,7 +45,8 @@ loaded d n node v = record node { c = node.c + load_at d n v }
 
 -- the net's tree with the loads of its sinks
 abbrev pub loaded_tree : Design → Joined → List Node → List ℕ → List Node
-loaded_tree d n tree order = map (λ i. loaded d n (tree_node tree i) (slice_index order i)) (range_with_len 0 (length tree))
+loaded_tree d n tree order =
+    map (λ i. loaded d n (tree_node tree i) (slice_index order i)) (range_with_len 0 (length tree))
 
 -- what drives it
 abbrev pub driver_of : Design → Joined → List ℕ → Driver
@@ -70,7 +71,8 @@ free_of rows net order = map (λ v. is_free rows (slice_index_or net.nodes v NO_
 
 -- the places of a net: its free nodes with a sink strictly below
 abbrev pub places_in : Design → Joined → List Node → List ℕ → List Bool
-places_in d n tree order = places_of (loaded_tree d n tree order) (sinks_of d.rows n.par order) (free_of d.rows n.par order)
+places_in d n tree order =
+    places_of (loaded_tree d n tree order) (sinks_of d.rows n.par order) (free_of d.rows n.par order)
 
 -- ---- repeaters
 
@@ -83,7 +85,8 @@ cells_of repeaters = map (λ r. r.cell) repeaters
 
 -- the numbers of the repeaters whose cells are among some
 abbrev pub numbers_of : List (List ℕ) → List (List ℕ) → List ℕ
-numbers_of names cells = filter (λ b. list_any (bytes_eq (slice_index_or names b [])) cells) (range_with_len 0 (length names))
+numbers_of names cells =
+    filter (λ b. list_any (bytes_eq (slice_index_or names b [])) cells) (range_with_len 0 (length names))
 
 -- the repeaters that a row of cells allows; without a row, all
 abbrev pub allowed_by : List (List ℕ) → Option (List (List ℕ)) → Allowed

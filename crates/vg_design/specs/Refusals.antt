@@ -25,7 +25,8 @@ pub record IsWithoutDrive (d : Design) (n : Joined) : Type 0 where
 
 -- a sink that is a pin without a capacitance
 abbrev pub is_unloaded : Design → Joined → ParConn → Bool
-is_unloaded d n conn = is_sink conn && (not (is_port (name_of n.par conn.node)) && is_none (pin_cap_of d n (name_of n.par conn.node)))
+is_unloaded d n conn =
+    is_sink conn && (not (is_port (name_of n.par conn.node)) && is_none (pin_cap_of d n (name_of n.par conn.node)))
 
 -- a sink without a required time
 abbrev pub is_unconstrained : Rows → ParNet → ParConn → Bool
@@ -91,7 +92,8 @@ pub record IsFirstRefusal (d : Design) (name : List ℕ) (refusal : Refusal) : T
 
 -- whatever the constraints ask for: none but `Unconstrained` counts
 abbrev pub PassesBareUpTo : ℕ → Design → List ℕ → Type 0
-PassesBareUpTo n d name = (refusal : Refusal) → number_of refusal < n → number_of refusal ≢ 15 → Refuses d name refusal → ⊥
+PassesBareUpTo n d name =
+    (refusal : Refusal) → number_of refusal < n → number_of refusal ≢ 15 → Refuses d name refusal → ⊥
 
 pub record IsFirstBareRefusal (d : Design) (name : List ℕ) (refusal : Refusal) : Type 0 where
   pub holds : Refuses d name refusal

@@ -27,7 +27,8 @@ use Rattle.vg_design.specs.Parts.{reps_of, IsProblemOf, IsWithinLimits}
 use Rattle.vg_design.specs.Refusals.{Holds, IsFirstConn, IsFirstRefusal, IsJoined, is_unconstrained}
 
 -- what a design keeps of its parts
-pub record AreParts (text : List ℕ) (index : SpefIndex) (library : Cells) (netlist : Netlist) (found : Connections) : Type 0 where
+pub record AreParts (text : List ℕ) (index : SpefIndex) (library : Cells) (netlist : Netlist)
+    (found : Connections) : Type 0 where
   pub index_of : IsIndexOf text index
   pub rising : AreRising (reps_of library.repeaters)
   pub few : length library.repeaters ≤ 256
@@ -99,7 +100,8 @@ pin_names d n = map (pin_name d.netlist) (pins_on d.netlist n.id)
 
 -- the pin on the net of each end; or some pin on the net is no end
 abbrev pub FindsPins : Design → Joined → Option (List (Option PinRef)) → Type 0
-FindsPins d n (Some pins) = ArePins d n pins × ((at : NodeName) → has_node (pin_names d n) at ≡ true → has_node (ends_of n.par) at ≡ true)
+FindsPins d n (Some pins) =
+    ArePins d n pins × ((at : NodeName) → has_node (pin_names d n) at ≡ true → has_node (ends_of n.par) at ≡ true)
 FindsPins d n None = (at : NodeName) × (has_node (pin_names d n) at ≡ true) × (has_node (ends_of n.par) at ≡ false)
 
 -- a name is that of the port that a net of the netlist is
@@ -132,7 +134,8 @@ cell_at d n v = cell_on d.netlist n.id (name_of n.par v)
 -- ---- trees and problems
 
 -- a net with its tree, and with a sink
-pub record IsReady (d : Design) (n : Joined) (pins : List (Option PinRef)) (tree : List Node) (order : List ℕ) : Type 0 where
+pub record IsReady (d : Design) (n : Joined) (pins : List (Option PinRef)) (tree : List Node)
+    (order : List ℕ) : Type 0 where
   pub a_tree : IsNetTree n.par tree order
   pub sized : IsSized n.par
   pub some_sink : list_any is_sink n.par.conns ≡ true

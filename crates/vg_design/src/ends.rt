@@ -86,8 +86,10 @@ impl Ends {
     /// Sees a pin. Whether an end has its name; of two pins of one name the first counts. Answers `Memory` where there
     /// is no room.
     fn see(&mut self, owner: &[u8], leaf: &[u8], pin: PinRef) -> Result<bool, Memory>
-        ensures seen { IfOk result (λ found. found ≡ true → IsSeen self.old self.new (node_named owner.now leaf.now) pin) }
-        ensures none { IfOk result (λ found. found ≡ false → has_node self.old.ends (node_named owner.now leaf.now) ≡ false) }
+        ensures seen { IfOk result (λ found. found ≡ true
+            → IsSeen self.old self.new (node_named owner.now leaf.now) pin) }
+        ensures none { IfOk result (λ found. found ≡ false
+            → has_node self.old.ends (node_named owner.now leaf.now) ≡ false) }
     {
         let at = self.table.intern(owner, leaf)? as usize;
         if at >= self.pins.len() {
@@ -102,7 +104,8 @@ impl Ends {
 fn see_pin(design: &Design, at: PinRef, ends: &mut Ends) -> Result<bool, Memory>
     requires { IsPin design.now.netlist at }
     ensures seen { IfOk result (λ found. found ≡ true → IsSeen ends.old ends.new (pin_name design.now.netlist at) at) }
-    ensures none { IfOk result (λ found. found ≡ false → has_node ends.old.ends (pin_name design.now.netlist at) ≡ false) }
+    ensures none { IfOk result (λ found. found ≡ false
+        → has_node ends.old.ends (pin_name design.now.netlist at) ≡ false) }
 {
     let instance = design.instance_of(at);
     let pin = instance.pin(at.pin as usize);

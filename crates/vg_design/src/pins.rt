@@ -27,7 +27,8 @@ impl PinnedNet {
     fn cell<'a>(&self, design: &'a Design, at: usize) -> Option<&'a [u8]>
         requires pins { ArePins design.now self.now.net self.now.pins }
         requires at { at < length self.now.net.par.conns }
-        ensures { MatchOption result (cell_at design.now self.now.net at ≡ None) (λ cell. cell_at design.now self.now.net at ≡ Some cell.now) }
+        ensures { MatchOption result (cell_at design.now self.now.net at ≡ None) (λ cell.
+            cell_at design.now self.now.net at ≡ Some cell.now) }
     {
         match self.pins.as_slice()[at] {
             None => None,

@@ -147,7 +147,8 @@ fn ready_from(alloc: Global, design: &Design, net: JoinedNet) -> Result<ReadyNet
 /// The net of a name with its tree, or the first reason against it, but for those of the constraints and the limits.
 /// Answers `Memory` where there is no room.
 pub fn ready_net(alloc: Global, design: &Design, name: &Name) -> Result<ReadyNet, Refused>
-    ensures ready { IfOk result (λ ready. IsReady design.now ready.pinned.net ready.pinned.pins ready.tree.nodes ready.order) }
+    ensures ready { IfOk result (λ ready.
+        IsReady design.now ready.pinned.net ready.pinned.pins ready.tree.nodes ready.order) }
     ensures accepted { IfOk result (λ ready. IsAccepted 15 design.now name.now ready.pinned.net) }
     ensures refused { IfErr result (IsRefusedBelow 15 design.now name.now) }
 {

@@ -62,4 +62,5 @@ behind rep odd = cond rep.inverts (not odd) odd
 -- a repeater of a problem is proposed which the node allows, for a candidate of the class behind it
 abbrev pub IsCelled : Problem → ℕ → Bool → Option ℕ → (Bool → List Candidate) → Proposal → Type 0
 IsCelled p v odd cap classes q =
-    (b : ℕ) × (b < length p.reps) × Allows (allowed_at p.allowed v) b × IsDriven (stand_of p v b) cap (classes (behind (rep_at p.reps b) odd)) q
+    (b : ℕ) × (b < length p.reps) × Allows (allowed_at p.allowed v) b
+    × IsDriven (stand_of p v b) cap (classes (behind (rep_at p.reps b) odd)) q

@@ -34,18 +34,23 @@ AreSolved p Is ms xs = (x : Candidate) → Contains xs x → IsSolved p Is ms x
 
 -- the candidates of each class of node v, with those of its children from number i on that came in, and without a cell
 -- at v
-pub record IsOpenAt (p : Problem) (cap : Option ℕ) (i v : ℕ) (ms : List Made) (classes : Bool → List Candidate) : Type 0 where
+pub record IsOpenAt (p : Problem) (cap : Option ℕ) (i v : ℕ) (ms : List Made)
+    (classes : Bool → List Candidate) : Type 0 where
   pub end : HasEnd p v (live_from p v i)
-  pub part : (odd : Bool) → IsPricedPart cap (In (classes odd)) (IsPricedOpenWith p (IsPricedAt p) odd (fork_from p v i))
+  pub part : (odd : Bool)
+      → IsPricedPart cap (In (classes odd)) (IsPricedOpenWith p (IsPricedAt p) odd (fork_from p v i))
   pub solved : (odd : Bool) → AreSolved p (IsOpenSolutionOf p odd (fork_from p v i)) ms (classes odd)
 
 -- the candidates of each class of node v, with and without a cell there
-pub record IsClosedAt (p : Problem) (cap : Option ℕ) (v : ℕ) (ms : List Made) (classes : Bool → List Candidate) : Type 0 where
+pub record IsClosedAt (p : Problem) (cap : Option ℕ) (v : ℕ) (ms : List Made)
+    (classes : Bool → List Candidate) : Type 0 where
   pub part : (odd : Bool) → IsPricedPart cap (In (classes odd)) (IsPricedAt p v odd)
   pub solved : (odd : Bool) → AreSolved p (IsSolutionOf p v odd) ms (classes odd)
 
 -- the candidates with a cell at v: a part of what the classes come to with one, which beats it all within the cap
-pub record AreCells (p : Problem) (cap : Option ℕ) (v : ℕ) (odd : Bool) (G : Bool → Priced → Type 0) (zs : List Candidate) : Type 0 where
+pub record AreCells (p : Problem) (cap : Option ℕ) (v : ℕ) (odd : Bool) (G : Bool → Priced → Type 0)
+    (zs : List Candidate) : Type 0 where
   pub part : (a : Priced) → In zs a → PricedOwns p v odd G a
   pub covers : (b : ℕ) (y : Priced) → MayHave p v (Some b) y.pair.c → G (past_cell (rep_of p.reps (Some b)) odd) y
-      → IsWithin cap (with_price (rep_of p.reps (Some b)) y).cost → IsBeaten (offers_of zs) (with_price (rep_of p.reps (Some b)) y)
+      → IsWithin cap (with_price (rep_of p.reps (Some b)) y).cost
+      → IsBeaten (offers_of zs) (with_price (rep_of p.reps (Some b)) y)

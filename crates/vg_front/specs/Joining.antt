@@ -15,7 +15,8 @@ use Rattle.vg_front.specs.declared.offer.Proposal.{Proposal}
 
 -- no solution of the one list shares a node with one of the other
 abbrev pub AreAllApart : List Made → List Candidate → List Candidate → Type 0
-AreAllApart ms xs ys = (x y : Candidate) → Contains xs x → Contains ys y → AreApart (cells_of ms x.sol.0) (cells_of ms y.sol.0)
+AreAllApart ms xs ys =
+    (x y : Candidate) → Contains xs x → Contains ys y → AreApart (cells_of ms x.sol.0) (cells_of ms y.sol.0)
 
 -- the candidates of two lists together within the cap, but those that others beat
 pub record AreMet (cap : Option ℕ) (old new : List Made) (xs ys zs : List Candidate) : Type 0 where
@@ -24,7 +25,8 @@ pub record AreMet (cap : Option ℕ) (old new : List Made) (xs ys zs : List Cand
   pub made : AreMadeOf old new proposals zs
 
 -- the candidates of each class of node v, with and without a cell there, above its wire and with a load more
-pub record IsCarriedAt (p : Problem) (cap : Option ℕ) (v load : ℕ) (ms : List Made) (classes : Bool → List Candidate) : Type 0 where
+pub record IsCarriedAt (p : Problem) (cap : Option ℕ) (v load : ℕ) (ms : List Made)
+    (classes : Bool → List Candidate) : Type 0 where
   pub below : Bool → List Candidate
   pub closed : IsClosedAt p cap v ms below
   pub above : (odd : Bool) → classes odd ≡ map (carried_by (resistance p.tree.nodes v) load) (below odd)

@@ -25,7 +25,8 @@ IsMakable ms (Join a b) = IsLive ms a.0 × IsLive ms b.0 × AreApart (cells_of m
 
 -- of solutions of these candidates
 abbrev pub IsFrom : List Made → List Candidate → Origin → Type 0
-IsFrom ms xs (Cell node rep below) = (x : Candidate) × Contains xs x × (below.0 ≡ x.sol.0) × (cells_of ms x.sol.0 node ≡ None)
+IsFrom ms xs (Cell node rep below) =
+    (x : Candidate) × Contains xs x × (below.0 ≡ x.sol.0) × (cells_of ms x.sol.0 node ≡ None)
 IsFrom ms xs (Join a b) =
     (x : Candidate) × (y : Candidate) × Contains xs x × Contains xs y × (a.0 ≡ x.sol.0) × (b.0 ≡ y.sol.0)
     × AreApart (cells_of ms x.sol.0) (cells_of ms y.sol.0)

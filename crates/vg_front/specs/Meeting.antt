@@ -23,13 +23,15 @@ IsMetOf xs ys q = (x : Candidate) × (y : Candidate) × Contains xs x × Contain
 -- within the cap
 abbrev pub IsMet : Option ℕ → List Candidate → List Candidate → Proposal → Type 0
 IsMet cap xs ys q =
-    (x : Candidate) × (y : Candidate) × Contains xs x × Contains ys y × IsWithin cap (x.offer.cost + y.offer.cost) × (q ≡ met_of x y)
+    (x : Candidate) × (y : Candidate) × Contains xs x × Contains ys y
+    × IsWithin cap (x.offer.cost + y.offer.cost) × (q ≡ met_of x y)
 
 -- neither the costs nor the loads fall along the list
 abbrev pub IsRun : List Candidate → Type 0
 IsRun xs =
     (k m : ℕ) (d : Candidate) → k ≤ m → m < length xs
-    → ((slice_index_or xs k d).offer.cost ≤ (slice_index_or xs m d).offer.cost) × ((slice_index_or xs k d).offer.c ≤ (slice_index_or xs m d).offer.c)
+    → ((slice_index_or xs k d).offer.cost ≤ (slice_index_or xs m d).offer.cost)
+    × ((slice_index_or xs k d).offer.c ≤ (slice_index_or xs m d).offer.c)
 
 -- the one with the lesser time comes next in its list, or both where the times are equal
 pub record IsAdvance (x y : ℤ) (i j i' j' : ℕ) : Type 0 where
@@ -41,8 +43,10 @@ pub record IsAdvance (x y : ℤ) (i j i' j' : ℕ) : Type 0 where
 pub record IsRunAt (xs : List Candidate) (from end : ℕ) : Type 0 where
   pub some : from < end
   pub within : end ≤ length xs
-  pub costs : (k : ℕ) (d : Candidate) → from ≤ k → k < end → (slice_index_or xs k d).offer.cost ≡ (slice_index_or xs from d).offer.cost
-  pub rises : (k m : ℕ) (d : Candidate) → from ≤ k → k ≤ m → m < end → (slice_index_or xs k d).offer.c ≤ (slice_index_or xs m d).offer.c
+  pub costs : (k : ℕ) (d : Candidate) → from ≤ k → k < end
+      → (slice_index_or xs k d).offer.cost ≡ (slice_index_or xs from d).offer.cost
+  pub rises : (k m : ℕ) (d : Candidate) → from ≤ k → k ≤ m → m < end
+      → (slice_index_or xs k d).offer.c ≤ (slice_index_or xs m d).offer.c
 
 -- one more belongs to the run
 pub record GoesOn (xs : List Candidate) (from end : ℕ) : Type 0 where

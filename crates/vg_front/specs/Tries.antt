@@ -19,7 +19,8 @@ before r x = x.q -ℤ pos (r * x.c)
 -- of the first n candidates, the one of number `at` has the greatest time before the resistor
 pub record IsLatest (xs : List Candidate) (n r at : ℕ) : Type 0 where
   pub inside : at < n
-  pub latest : (k : ℕ) (d : Candidate) → k < n → before r (slice_index_or xs k d).offer ≤ℤ before r (slice_index_or xs at d).offer
+  pub latest : (k : ℕ) (d : Candidate) → k < n
+      → before r (slice_index_or xs k d).offer ≤ℤ before r (slice_index_or xs at d).offer
 
 -- a repeater of a number at a site
 abbrev pub stand_at : Site → ℕ → Rep → Stand

@@ -83,9 +83,11 @@ impl Branch {
         room: &mut Branch,
     ) -> Result<Branch, Memory>
         requires held { AreHeld (slots_of arena.old) (all_of self ++ all_of other) }
-        ensures given { MatchResult result (λ all. IsGiven (slots_of arena.old) (all_of self ++ all_of other) (slots_of arena.new) (all_of all))
+        ensures given { MatchResult result (λ all.
+            IsGiven (slots_of arena.old) (all_of self ++ all_of other) (slots_of arena.new) (all_of all))
             (λ _. IsGiven (slots_of arena.old) (all_of self ++ all_of other) (slots_of arena.new) []) }
-        ensures blend { IfOk result (λ all. (odd : Bool) → IsBlend (list_of self odd) (list_of other odd) (list_of all odd)) }
+        ensures blend { IfOk result (λ all. (odd : Bool)
+            → IsBlend (list_of self odd) (list_of other odd) (list_of all odd)) }
         ensures same { IfOk result (λ all. MeanTheSame (made_of arena.old) (made_of arena.new) (all_of all)) }
     {
         let even = self.even.len() + other.even.len();

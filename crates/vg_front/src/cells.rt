@@ -26,7 +26,8 @@ fn behind(rep: &Rep, odd: bool) -> bool
 /// Whether a node allows a repeater, by its number.
 fn allows(p: &Problem, node: usize, number: u32) -> bool
     requires node { node < length p.now.tree.nodes }
-    ensures { MatchBool result (Allows (allowed_at p.now.allowed node) number) (Allows (allowed_at p.now.allowed node) number → ⊥) }
+    ensures { MatchBool result (Allows (allowed_at p.now.allowed node) number)
+        (Allows (allowed_at p.now.allowed node) number → ⊥) }
 {
     p.allowed.as_slice()[node].allows(number)
 }
@@ -80,7 +81,8 @@ impl Branch {
     ) -> Result<(), Memory>
         requires node { node < length p.now.tree.nodes }
         requires bounded { AreBounded (list_of self.now below) }
-        ensures { OnOk result (Adds (IsUsed p.now node odd below cap (list_of self.now below)) fresh.old.items fresh.new.items) }
+        ensures { OnOk result
+            (Adds (IsUsed p.now node odd below cap (list_of self.now below)) fresh.old.items fresh.new.items) }
     {
         let numbers = usable(alloc, p, node, odd, below)?;
         let mut bests = vec![in alloc; None; p.reps.len()]?;

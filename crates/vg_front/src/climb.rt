@@ -24,7 +24,8 @@ pub(crate) fn start(
 ) -> Result<(), Memory>
     requires none { parts.old.items ≡ [] }
     ensures given { OnOk result ((slots : List Slot) → IsGiven slots [] slots (all_held parts.new.items)) }
-    ensures parts { OnOk result ((cap : Option ℕ) → AreParts p.now cap (length p.now.tree.nodes) (made_of arena.now) parts.new.items) }
+    ensures parts { OnOk result ((cap : Option ℕ)
+        → AreParts p.now cap (length p.now.tree.nodes) (made_of arena.now) parts.new.items) }
 {
     'nodes: for node in 0..p.tree.nodes.len() {
         let part = Part::start(alloc, arena, p, node)?;
@@ -50,9 +51,11 @@ fn take_in(
     requires held { AreHeld (slots_of arena.old) (held_in upper ++ held_in part) }
     requires upper { IsPart p.now cap (node + 1) (parent_of p.now.tree.nodes node) (made_of arena.old) upper }
     requires whole { IsPart p.now cap (node + 1) node (made_of arena.old) part }
-    ensures given { MatchResult result (λ taken. IsGiven (slots_of arena.old) (held_in upper ++ held_in part) (slots_of arena.new) (held_in taken))
+    ensures given { MatchResult result (λ taken.
+        IsGiven (slots_of arena.old) (held_in upper ++ held_in part) (slots_of arena.new) (held_in taken))
         (λ _. IsGiven (slots_of arena.old) (held_in upper ++ held_in part) (slots_of arena.new) []) }
-    ensures part { IfOk result (λ taken. IsPart p.now cap node (parent_of p.now.tree.nodes node) (made_of arena.new) taken) }
+    ensures part { IfOk result (λ taken.
+        IsPart p.now cap node (parent_of p.now.tree.nodes node) (made_of arena.new) taken) }
 {
     match part {
         Part::Dead(c) => Ok(upper.take_dead(p, node, c)),
@@ -83,7 +86,8 @@ fn turn(
     requires held { AreHeld (slots_of arena.old) (all_held parts.old.items) }
     requires parts { AreParts p.now cap (length parts.old.items) (made_of arena.old) parts.old.items }
     ensures fewer { length parts.new.items + 1 ≡ length parts.old.items }
-    ensures given { IsGiven (slots_of arena.old) (all_held parts.old.items) (slots_of arena.new) (all_held parts.new.items) }
+    ensures given { IsGiven (slots_of arena.old) (all_held parts.old.items) (slots_of arena.new)
+        (all_held parts.new.items) }
     ensures parts { OnOk result (AreParts p.now cap (length parts.new.items) (made_of arena.new) parts.new.items) }
 {
     let Some(part) = parts.pop() else {
@@ -108,7 +112,8 @@ pub(crate) fn climb(
 ) -> Result<(), Memory>
     requires held { AreHeld (slots_of arena.old) (all_held parts.old.items) }
     requires parts { AreParts p.now cap (length p.now.tree.nodes) (made_of arena.old) parts.old.items }
-    ensures given { IsGiven (slots_of arena.old) (all_held parts.old.items) (slots_of arena.new) (all_held parts.new.items) }
+    ensures given { IsGiven (slots_of arena.old) (all_held parts.old.items) (slots_of arena.new)
+        (all_held parts.new.items) }
     ensures parts { OnOk result (AreParts p.now cap 1 (made_of arena.new) parts.new.items) }
 {
     'nodes: while parts.len() > 1 {

@@ -29,7 +29,8 @@ impl Branch {
         requires bounded { (o : Bool) → AreBounded (list_of self o) }
         requires held { AreHeld (slots_of arena.old) (all_of self) }
         requires open { IsOpenAt p.now cap (node + 1) node (made_of arena.old) (list_of self) }
-        ensures given { MatchResult result (λ closed. IsGiven (slots_of arena.old) (all_of self) (slots_of arena.new) (all_of closed))
+        ensures given { MatchResult result (λ closed.
+            IsGiven (slots_of arena.old) (all_of self) (slots_of arena.new) (all_of closed))
             (λ _. IsGiven (slots_of arena.old) (all_of self) (slots_of arena.new) []) }
         ensures closed { IfOk result (λ closed. IsClosedAt p.now cap node (made_of arena.new) (list_of closed)) }
     {

@@ -59,7 +59,8 @@ impl Branch {
         requires apart { (odd : Bool) → AreAllApart (made_of arena.old) (list_of self.now odd) (list_of lower.now odd) }
         ensures given { MatchResult result (λ met. IsGiven (slots_of arena.old) [] (slots_of arena.new) (all_of met))
             (λ _. IsGiven (slots_of arena.old) [] (slots_of arena.new) []) }
-        ensures met { IfOk result (λ met. (odd : Bool) → AreMet cap (made_of arena.old) (made_of arena.new) (list_of self.now odd) (list_of lower.now odd)
+        ensures met { IfOk result (λ met. (odd : Bool)
+            → AreMet cap (made_of arena.old) (made_of arena.new) (list_of self.now odd) (list_of lower.now odd)
             (list_of met odd)) }
     {
         let even = meet_all(alloc, arena, &self.even, &lower.even, cap, desk)?;
@@ -88,11 +89,14 @@ impl Branch {
         requires node { node < length p.now.tree.nodes }
         requires live { is_live p.now.tree.nodes p.now.sinks node ≡ true }
         requires held { AreHeld (slots_of arena.old) (all_of self ++ all_of lower) }
-        requires upper { IsOpenAt p.now cap (node + 1) (parent_of p.now.tree.nodes node) (made_of arena.old) (list_of self) }
+        requires upper { IsOpenAt p.now cap (node + 1) (parent_of p.now.tree.nodes node)
+            (made_of arena.old) (list_of self) }
         requires lower { IsCarriedAt p.now cap node 0 (made_of arena.old) (list_of lower) }
-        ensures given { MatchResult result (λ met. IsGiven (slots_of arena.old) (all_of self ++ all_of lower) (slots_of arena.new) (all_of met))
+        ensures given { MatchResult result (λ met.
+            IsGiven (slots_of arena.old) (all_of self ++ all_of lower) (slots_of arena.new) (all_of met))
             (λ _. IsGiven (slots_of arena.old) (all_of self ++ all_of lower) (slots_of arena.new) []) }
-        ensures opened { IfOk result (λ met. IsOpenAt p.now cap node (parent_of p.now.tree.nodes node) (made_of arena.new) (list_of met)) }
+        ensures opened { IfOk result (λ met.
+            IsOpenAt p.now cap node (parent_of p.now.tree.nodes node) (made_of arena.new) (list_of met)) }
     {
         let (mut upper, mut lower) = (self, lower);
         upper.prune(arena, &mut desk.stairs);

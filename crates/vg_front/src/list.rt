@@ -72,7 +72,8 @@ pub(crate) fn carry(list: &mut Vec<Candidate>, r: u64, load: u64)
 fn next_of(xs: &[Candidate], ys: &[Candidate], i: &mut usize, j: &mut usize) -> Option<Candidate>
     requires i { i.old ≤ length xs.now }
     requires j { j.old ≤ length ys.now }
-    ensures { MatchOption result ((i.old ≡ length xs.now) × (j.old ≡ length ys.now)) (λ x. IsNext xs.now ys.now i.old j.old i.new j.new x) }
+    ensures { MatchOption result ((i.old ≡ length xs.now) × (j.old ≡ length ys.now)) (λ x.
+        IsNext xs.now ys.now i.old j.old i.new j.new x) }
 {
     let of_ys = if *i == xs.len() {
         if *j == ys.len() {

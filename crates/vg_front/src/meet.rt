@@ -106,7 +106,8 @@ fn meet_one(
     requires bounded_first { AreBounded xs.now }
     requires bounded_second { AreBounded ys.now }
     requires reached { AreReached desk.old.stairs (proposed_by desk.old.made.items) }
-    ensures met { OnOk result (Adds (IsMetOf (run_in_spec xs.now first) (run_in_spec ys.now second)) (all_in desk.old) (all_in desk.new)) }
+    ensures met { OnOk result
+        (Adds (IsMetOf (run_in_spec xs.now first) (run_in_spec ys.now second)) (all_in desk.old) (all_in desk.new)) }
     ensures reached { OnOk result (AreReached desk.new.stairs (proposed_by desk.new.made.items)) }
 {
     let first = run_in(xs, first);

@@ -113,7 +113,8 @@ impl Part {
     /// Answers `Memory` where there is no room.
     pub fn start(alloc: Global, arena: &Arena, p: &Problem, node: usize) -> Result<Part, Memory>
         requires node { node < length p.now.tree.nodes }
-        ensures part { IfOk result (λ part. (cap : Option ℕ) → IsPart p.now cap (length p.now.tree.nodes) node (made_of arena.now) part) }
+        ensures part { IfOk result (λ part. (cap : Option ℕ)
+            → IsPart p.now cap (length p.now.tree.nodes) node (made_of arena.now) part) }
         ensures given { IfOk result (λ part. (slots : List Slot) → IsGiven slots [] slots (held_in part)) }
     {
         let c = capacitance_of(p, node);
@@ -154,9 +155,11 @@ impl Part {
         requires held { AreHeld (slots_of arena.old) (held_in self ++ all_of branch) }
         requires upper { IsPart p.now cap (node + 1) (parent_of p.now.tree.nodes node) (made_of arena.old) self }
         requires closed { IsClosedAt p.now cap node (made_of arena.old) (list_of branch) }
-        ensures given { MatchResult result (λ taken. IsGiven (slots_of arena.old) (held_in self ++ all_of branch) (slots_of arena.new) (held_in taken))
+        ensures given { MatchResult result (λ taken.
+            IsGiven (slots_of arena.old) (held_in self ++ all_of branch) (slots_of arena.new) (held_in taken))
             (λ _. IsGiven (slots_of arena.old) (held_in self ++ all_of branch) (slots_of arena.new) []) }
-        ensures part { IfOk result (λ taken. IsPart p.now cap node (parent_of p.now.tree.nodes node) (made_of arena.new) taken) }
+        ensures part { IfOk result (λ taken.
+            IsPart p.now cap node (parent_of p.now.tree.nodes node) (made_of arena.new) taken) }
     {
         let mut branch = branch;
         branch.carry(resistance_of(p, node), self.load_beside());
@@ -176,9 +179,12 @@ impl Part {
         requires node { node < length p.now.tree.nodes }
         requires dead { is_live p.now.tree.nodes p.now.sinks node ≡ false }
         requires load { c ≡ downstream_in p.now.tree.nodes node }
-        requires upper { (ms : List Made) × (cap : Option ℕ) × IsPart p.now cap (node + 1) (parent_of p.now.tree.nodes node) ms self }
-        ensures given { (slots : List Slot) → AreHeld slots (held_in self) → IsGiven slots (held_in self) slots (held_in result) }
-        ensures part { (ms : List Made) (cap : Option ℕ) → IsPart p.now cap (node + 1) (parent_of p.now.tree.nodes node) ms self
+        requires upper { (ms : List Made) × (cap : Option ℕ)
+            × IsPart p.now cap (node + 1) (parent_of p.now.tree.nodes node) ms self }
+        ensures given { (slots : List Slot) → AreHeld slots (held_in self)
+            → IsGiven slots (held_in self) slots (held_in result) }
+        ensures part { (ms : List Made) (cap : Option ℕ)
+            → IsPart p.now cap (node + 1) (parent_of p.now.tree.nodes node) ms self
             → IsPart p.now cap node (parent_of p.now.tree.nodes node) ms result }
     {
         match self {

@@ -35,12 +35,14 @@ impl Branch {
         requires place { slice_index_or p.now.places node false ≡ true }
         requires bounded { (o : Bool) → AreBounded (list_of self.now o) }
         requires held { AreHeld (slots_of arena.old) (all_of self.now) }
-        requires solved { (o : Bool) → AreSolved p.now (IsOpenSolutionOf p.now o (fork_from p.now node (node + 1))) (made_of arena.old)
+        requires solved { (o : Bool)
+            → AreSolved p.now (IsOpenSolutionOf p.now o (fork_from p.now node (node + 1))) (made_of arena.old)
             (list_of self.now o) }
         ensures given { MatchResult result (λ cells. IsGiven (slots_of arena.old) [] (slots_of arena.new) cells.items)
             (λ _. IsGiven (slots_of arena.old) [] (slots_of arena.new) []) }
         ensures cells { IfOk result (λ cells. AreCells p.now cap node odd (λ o. In (list_of self.now o)) cells.items) }
-        ensures solved { IfOk result (λ cells. AreSolved p.now (IsSolutionOf p.now node odd) (made_of arena.new) cells.items) }
+        ensures solved { IfOk result (λ cells.
+            AreSolved p.now (IsSolutionOf p.now node odd) (made_of arena.new) cells.items) }
     {
         self.propose_cells(alloc, p, node, odd, cap, desk)?;
         let cells = make_all(alloc, arena, &desk.made)?;
@@ -62,12 +64,16 @@ impl Branch {
         requires place { slice_index_or p.now.places node false ≡ true }
         requires bounded { (o : Bool) → AreBounded (list_of self.now o) }
         requires held { AreHeld (slots_of arena.old) (all_of self.now) }
-        requires solved { (o : Bool) → AreSolved p.now (IsOpenSolutionOf p.now o (fork_from p.now node (node + 1))) (made_of arena.old)
+        requires solved { (o : Bool)
+            → AreSolved p.now (IsOpenSolutionOf p.now o (fork_from p.now node (node + 1))) (made_of arena.old)
             (list_of self.now o) }
-        ensures given { MatchResult result (λ cells. IsGiven (slots_of arena.old) [] (slots_of arena.new) (all_of cells))
+        ensures given { MatchResult result (λ cells.
+            IsGiven (slots_of arena.old) [] (slots_of arena.new) (all_of cells))
             (λ _. IsGiven (slots_of arena.old) [] (slots_of arena.new) []) }
-        ensures cells { IfOk result (λ cells. (odd : Bool) → AreCells p.now cap node odd (λ o. In (list_of self.now o)) (list_of cells odd)) }
-        ensures solved { IfOk result (λ cells. (odd : Bool) → AreSolved p.now (IsSolutionOf p.now node odd) (made_of arena.new) (list_of cells odd)) }
+        ensures cells { IfOk result (λ cells. (odd : Bool)
+            → AreCells p.now cap node odd (λ o. In (list_of self.now o)) (list_of cells odd)) }
+        ensures solved { IfOk result (λ cells. (odd : Bool)
+            → AreSolved p.now (IsSolutionOf p.now node odd) (made_of arena.new) (list_of cells odd)) }
     {
         let even = self.cells(alloc, arena, p, node, false, cap, desk)?;
         match self.cells(alloc, arena, p, node, true, cap, desk) {

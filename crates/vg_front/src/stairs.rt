@@ -175,7 +175,8 @@ impl Stairs {
 
     /// Whether a candidate is beaten by one that was seen before, as far as the stairs tell. It is not seen itself.
     pub fn beats(&mut self, offer: Offer) -> bool
-        ensures told { (zs : List Priced) → AreReached self.old zs → (IsTrue result → IsBeaten zs (priced offer)) × AreReached self.new zs }
+        ensures told { (zs : List Priced) → AreReached self.old zs
+            → (IsTrue result → IsBeaten zs (priced offer)) × AreReached self.new zs }
         ensures cost { self.new.cost ≡ self.old.cost }
     {
         self.go_to(offer.c);
@@ -186,7 +187,8 @@ impl Stairs {
     /// Where the candidates come by rising cost, and by rising load among those of one cost, nothing that was seen is
     /// forgotten.
     pub fn admits(&mut self, offer: Offer) -> bool
-        ensures { (zs : List Priced) → AreReached self.old zs → MatchBool result (AreReached self.new (zs ++ priced offer ∷ []))
+        ensures { (zs : List Priced) → AreReached self.old zs
+            → MatchBool result (AreReached self.new (zs ++ priced offer ∷ []))
             (IsBeaten zs (priced offer) × AreReached self.new zs) }
     {
         self.reach(offer.cost);

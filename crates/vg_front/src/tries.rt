@@ -107,7 +107,8 @@ fn drive(
     requires rep { IsRepWithin rep.now }
     requires bounded { AreBounded xs.now }
     requires best { IsReached made.old.items best.old }
-    ensures driven { OnOk result (Adds (IsDriven (stand_at site number rep.now) site.cap xs.now) made.old.items made.new.items) }
+    ensures driven { OnOk result
+        (Adds (IsDriven (stand_at site number rep.now) site.cap xs.now) made.old.items made.new.items) }
     ensures best { OnOk result (IsReached made.new.items best.new) }
 {
     'candidates: for x in xs {
@@ -162,7 +163,8 @@ fn try_each(
     requires numbers { AreNumbers reps.now numbers.now }
     requires bounded { AreBounded xs.now }
     requires bests { AreBests reps.now made.old.items bests.old }
-    ensures tried { OnOk result (Adds (OfSome numbers.now (IsTriedBy site reps.now xs.now)) made.old.items made.new.items) }
+    ensures tried { OnOk result
+        (Adds (OfSome numbers.now (IsTriedBy site reps.now xs.now)) made.old.items made.new.items) }
     ensures bests { OnOk result (AreBests reps.now made.new.items bests.new) }
 {
     'numbers: for number in numbers {
@@ -218,7 +220,8 @@ fn try_halves(
     requires bounded { AreBounded xs.now }
     requires charge { (x : CandidateSpec) → Contains xs.now x → DriveAll reps.now numbers.now x.offer.c }
     requires bests { AreBests reps.now made.old.items bests.old }
-    ensures tried { OnOk result (Adds (OfSome numbers.now (IsTriedBy site reps.now xs.now)) made.old.items made.new.items) }
+    ensures tried { OnOk result
+        (Adds (OfSome numbers.now (IsTriedBy site reps.now xs.now)) made.old.items made.new.items) }
     ensures bests { OnOk result (AreBests reps.now made.new.items bests.new) }
 {
     let len = numbers.len();
@@ -246,7 +249,8 @@ fn try_run(
     requires run { IsRunAt xs.now 0 (length xs.now) }
     requires bounded { AreBounded xs.now }
     requires bests { AreBests reps.now made.old.items bests.old }
-    ensures tried { OnOk result (Adds (OfSome numbers.now (IsTriedBy site reps.now xs.now)) made.old.items made.new.items) }
+    ensures tried { OnOk result
+        (Adds (OfSome numbers.now (IsTriedBy site reps.now xs.now)) made.old.items made.new.items) }
     ensures bests { OnOk result (AreBests reps.now made.new.items bests.new) }
 {
     if drive_all(reps, numbers, xs[xs.len() - 1].offer.c) {

@@ -16,7 +16,8 @@ pub record LinesAreNumbered (size : ℕ) : Type 0 where
   pub ress : length (res_lines size) ≡ size + 1 + branch_count size + 1
   pub res : (k : ℕ) → 1 ≤ k → k ≤ size → line_at (res_lines size) k ≡ res_line k (line_resistor k (resistance size k))
   pub last : line_at (res_lines size) (size + 1) ≡ res_line (size + 1) (last_resistor size)
-  pub branch : (j : ℕ) → 1 ≤ j → j ≤ branch_count size → line_at (res_lines size) (size + 1 + j) ≡ res_line (size + 1 + j) (branch_resistor j)
+  pub branch : (j : ℕ) → 1 ≤ j → j ≤ branch_count size
+      → line_at (res_lines size) (size + 1 + j) ≡ res_line (size + 1 + j) (branch_resistor j)
 
 -- a resistor of the line has 100 to 199 ohms, a capacitor 10 to 19 fF, and all capacitors are together so many times
 -- that

@@ -50,7 +50,9 @@ res_lines size = codes "*RES" ∷ (line_ress size ++ (res_line (size + 1) (last_
 -- the SPEF text
 abbrev pub spef_lines : ℕ → List (List ℕ)
 spef_lines size =
-    header_lines ++ (head_line (total size) ∷ (conn_lines (branch_count size) ++ (cap_lines size ++ (res_lines size ++ codes "*END" ∷ []))))
+    header_lines
+    ++ (head_line (total size)
+    ∷ (conn_lines (branch_count size) ++ (cap_lines size ++ (res_lines size ++ codes "*END" ∷ []))))
 
 abbrev pub spef_text : ℕ → List ℕ
 spef_text size = lined (spef_lines size)

@@ -41,7 +41,8 @@ pub(crate) fn print_cap(i: u32, femtofarads: u32, to: &mut Vec<u8>) -> Result<()
 
 /// Prints the two nodes of a resistor.
 fn print_ends(resistor: Resistor, to: &mut Vec<u8>) -> Result<(), Memory>
-    ensures { OnOk result (to.new.items ≡ to.old.items ++ spaced (node_text resistor.from ∷ node_text resistor.to ∷ [])) }
+    ensures { OnOk result (to.new.items ≡ to.old.items
+        ++ spaced (node_text resistor.from ∷ node_text resistor.to ∷ [])) }
 {
     print_node(resistor.from, to)?;
     to.push(b' ')?;

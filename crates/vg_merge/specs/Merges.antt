@@ -19,7 +19,8 @@ pub record CanMeet (slots : List Slot) (xs ys : Candidates) : Type 0 where
   pub xs_modest : AreModest xs
   pub ys_modest : AreModest ys
   pub held : HoldsFor slots (xs ++ ys)
-  pub apart : (x y : Candidate) → Contains xs x → Contains ys y → AreApart (cells_of (made_in slots) x.tag) (cells_of (made_in slots) y.tag)
+  pub apart : (x y : Candidate) → Contains xs x → Contains ys y
+      → AreApart (cells_of (made_in slots) x.tag) (cells_of (made_in slots) y.tag)
 
 -- z is x and y together: the lesser q, the sum of c, and the cells of both solutions
 pub record IsMeetOf (old new : List Made) (x y z : Candidate) : Type 0 where

@@ -48,7 +48,8 @@ fn first_solutions<L: Ledger>(
 /// Gives up the use of a solution that was taken off a list, if one was.
 fn release_taken(arena: &mut Arena, tag: Option<u64>)
     requires { ForSome tag (λ sol. sol ≢ none → 0 < held_of (slots_of arena.old) sol) }
-    ensures { MatchOption tag (slots_of arena.new ≡ slots_of arena.old) (λ sol. IsReleased (slots_of arena.old) (slots_of arena.new) sol) }
+    ensures { MatchOption tag (slots_of arena.new ≡ slots_of arena.old) (λ sol.
+        IsReleased (slots_of arena.old) (slots_of arena.new) sol) }
 {
     if let Some(tag) = tag {
         arena.release(Sol(tag));
@@ -73,8 +74,10 @@ fn turn<L: Ledger>(
     requires apart { AreApart (cells_of (made_of arena.old) sols.0.0) (cells_of (made_of arena.old) sols.1.0) }
     ensures joined { OnOk result ((x y : Candidate) (zs xs ys : Candidates) → AreAt pool.old at.old zs (x ∷ xs) (y ∷ ys)
         → (sol : ℕ) × AreAt pool.new at.new (zs ++ formed x y sol ∷ []) (left_of x y xs) (left_of y x ys)
-        × IsJoined (slots_of arena.old) (slots_of arena.new) x y sol × (spare pool.new ≡ spare_after x y (spare pool.old))) }
-    ensures unchanged { OnErr result ((pool.new ≡ pool.old) × (at.new ≡ at.old) × (slots_of arena.new ≡ slots_of arena.old)) }
+        × IsJoined (slots_of arena.old) (slots_of arena.new) x y sol
+        × (spare pool.new ≡ spare_after x y (spare pool.old))) }
+    ensures unchanged { OnErr result ((pool.new ≡ pool.old) × (at.new ≡ at.old)
+        × (slots_of arena.new ≡ slots_of arena.old)) }
     ensures others { KeepsOthers pool.old (names at.old) pool.new (names at.new) }
     ensures steps { steps.new ≤ steps.old + 2 }
 {
@@ -100,12 +103,16 @@ fn join_firsts<L: Ledger>(
     requires made { items_of pool.old at.old.list ≡ [] }
     requires meet { CanMeet (slots_of arena.old) (items_of pool.old at.old.a) (items_of pool.old at.old.b) }
     ensures live { AreLive pool.new at.new }
-    ensures merge { OnOk result (IsMergeOf (made_of arena.old) (made_of arena.new) (items_of pool.old at.old.a) (items_of pool.old at.old.b)
+    ensures merge { OnOk result
+        (IsMergeOf (made_of arena.old) (made_of arena.new) (items_of pool.old at.old.a) (items_of pool.old at.old.b)
         (items_of pool.new at.new.list)) }
-    ensures uses { IsExchange (slots_of arena.old) (all_of pool.old at.old) (slots_of arena.new) (all_of pool.new at.new) }
-    ensures spare { spare pool.new + length (all_of pool.new at.new) ≡ spare pool.old + length (all_of pool.old at.old) }
+    ensures uses { IsExchange (slots_of arena.old) (all_of pool.old at.old) (slots_of arena.new)
+        (all_of pool.new at.new) }
+    ensures spare { spare pool.new + length (all_of pool.new at.new)
+        ≡ spare pool.old + length (all_of pool.old at.old) }
     ensures others { KeepsOthers pool.old (names at.old) pool.new (names at.new) }
-    ensures steps { steps.new ≤ steps.old + 4 * (length (items_of pool.old at.old.a) + length (items_of pool.old at.old.b)) }
+    ensures steps { steps.new
+        ≤ steps.old + 4 * (length (items_of pool.old at.old.a) + length (items_of pool.old at.old.b)) }
 {
     'turns: while let Some(sols) = first_solutions(pool, at, steps) {
         turn(pool, arena, at, sols, steps)?;
@@ -118,8 +125,10 @@ fn end_branches(pool: &mut Pool, arena: &mut Arena, at: Branches) -> List
     requires live { AreLive pool.old at }
     requires held { HoldsFor (slots_of arena.old) (items_of pool.old at.a ++ items_of pool.old at.b) }
     ensures list { Holds pool.new result (items_of pool.old at.list) }
-    ensures uses { IsExchange (slots_of arena.old) (items_of pool.old at.a ++ items_of pool.old at.b) (slots_of arena.new) [] }
-    ensures spare { spare pool.new ≡ spare pool.old + length (items_of pool.old at.a) + length (items_of pool.old at.b) }
+    ensures uses { IsExchange (slots_of arena.old) (items_of pool.old at.a ++ items_of pool.old at.b)
+        (slots_of arena.new) [] }
+    ensures spare { spare pool.new ≡ spare pool.old + length (items_of pool.old at.a)
+        + length (items_of pool.old at.b) }
     ensures others { KeepsOthers pool.old (names at) pool.new (name result ∷ []) }
 {
     let Branches { list, a, b } = at;
@@ -146,14 +155,17 @@ pub fn merge<L: Ledger>(
     ensures merge { (xs ys : Candidates) → Holds pool.old a xs → Holds pool.old b ys
         → IfOk result (λ list. IsMergeOf (made_of arena.old) (made_of arena.new) xs ys (items_of pool.new list)) }
     ensures uses { (xs ys : Candidates) → Holds pool.old a xs → Holds pool.old b ys
-        → MatchResult result (λ list. IsExchange (slots_of arena.old) (xs ++ ys) (slots_of arena.new) (items_of pool.new list))
+        → MatchResult result (λ list.
+        IsExchange (slots_of arena.old) (xs ++ ys) (slots_of arena.new) (items_of pool.new list))
         (λ _. IsExchange (slots_of arena.old) (xs ++ ys) (slots_of arena.new) []) }
     ensures spare { (xs ys : Candidates) → Holds pool.old a xs → Holds pool.old b ys
-        → MatchResult result (λ list. spare pool.new + length (items_of pool.new list) ≡ spare pool.old + length xs + length ys)
+        → MatchResult result (λ list. spare pool.new + length (items_of pool.new list)
+        ≡ spare pool.old + length xs + length ys)
         (λ _. spare pool.new ≡ spare pool.old + length xs + length ys) }
     ensures others { MatchResult result (λ list. KeepsOthers pool.old (name a ∷ name b ∷ []) pool.new (name list ∷ []))
         (λ _. KeepsOthers pool.old (name a ∷ name b ∷ []) pool.new []) }
-    ensures steps { (xs ys : Candidates) → Holds pool.old a xs → Holds pool.old b ys → steps.new ≤ steps.old + 4 * (length xs + length ys) }
+    ensures steps { (xs ys : Candidates) → Holds pool.old a xs → Holds pool.old b ys
+        → steps.new ≤ steps.old + 4 * (length xs + length ys) }
 {
     let mut at = Branches {
         list: pool.none(),

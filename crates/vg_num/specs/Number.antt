@@ -64,7 +64,8 @@ has_exponent text = is_some (position is_e text)
 
 -- digits with at most one point; where there is an e, a sign and digits after it
 unfoldable pub is_number : List ℕ → Bool
-is_number text = are_digits (digits text) && (not (has_exponent text) || are_digits (without_leading_sign (exponent text)))
+is_number text =
+    are_digits (digits text) && (not (has_exponent text) || are_digits (without_leading_sign (exponent text)))
 
 -- the number that all digits write, without the point
 unfoldable pub coefficient : List ℕ → ℕ
@@ -89,7 +90,8 @@ IsNearest n num den = (2 * n * den ≤ 2 * num + den) × (2 * num < 2 * n * den 
 
 -- n stands for the size of the value of the text times ten to the places
 abbrev pub StandsFor : ℤ → List ℕ → ℕ → Type 0
-StandsFor places text n = IsNearest n (numerator (power places text) (coefficient text)) (denominator (power places text))
+StandsFor places text n =
+    IsNearest n (numerator (power places text) (coefficient text)) (denominator (power places text))
 
 -- a minus before a value that is not zero
 unfoldable pub is_negative : List ℕ → Bool
@@ -98,7 +100,8 @@ is_negative text = starts_with_minus text && nat_lt 0 (coefficient text)
 abbrev pub IsFault : ℤ → ℕ → List ℕ → NumFault → Type 0
 IsFault places most text Form = is_number text ≡ false
 IsFault places most text Negative = (is_number text ≡ true) × (is_negative text ≡ true)
-IsFault places most text TooLarge = (is_number text ≡ true) × (is_negative text ≡ false) × (n : ℕ) × (most < n) × StandsFor places text n
+IsFault places most text TooLarge =
+    (is_number text ≡ true) × (is_negative text ≡ false) × (n : ℕ) × (most < n) × StandsFor places text n
 
 -- the text is a number, not negative, and stands for n
 pub record IsScaled (places : ℤ) (most : ℕ) (text : List ℕ) (n : ℕ) : Type 0 where
@@ -113,7 +116,8 @@ nearest_to num den = (2 * num + den) / (2 * den)
 
 -- the size of the text's value times ten to the places, rounded
 abbrev pub nearest_size : ℤ → List ℕ → ℕ
-nearest_size places text = nearest_to (numerator (power places text) (coefficient text)) (denominator (power places text))
+nearest_size places text =
+    nearest_to (numerator (power places text) (coefficient text)) (denominator (power places text))
 
 -- what reading gives: the text's value times ten to the places, rounded, or the first fault
 unfoldable pub scaled : ℤ → ℕ → List ℕ → Result ℕ NumFault

@@ -188,7 +188,8 @@ fn nearest_whole(whole: &[u8], fraction: &[u8], power: i128) -> u128
     requires few { length whole.now + length fraction.now < 2 ^ 64 }
     requires low { negsuc (10 ^ 33) ≤ℤ power }
     requires high { power ≤ℤ pos (10 ^ 33) }
-    ensures { (n : ℕ) × IsNearest n (numerator power (value_of (whole.now ++ fraction.now))) (denominator power) × (result ≡ min n CAP) }
+    ensures { (n : ℕ) × IsNearest n (numerator power (value_of (whole.now ++ fraction.now))) (denominator power)
+        × (result ≡ min n CAP) }
 {
     if power >= 0 {
         digits_times_power(whole, fraction, power as u128)

@@ -9,7 +9,8 @@ kept text e = record { from = e.from; to = e.to; text = part text e.from e.to }
 
 -- a text of which each part is replaced by what stands there is the text
 abbrev pub KeptPartsStay : Type 0
-KeptPartsStay = (text : List ℕ) (edits : List Edit) → Rise 0 (length text) edits → patched text (map (kept text) edits) ≡ text
+KeptPartsStay =
+    (text : List ℕ) (edits : List Edit) → Rise 0 (length text) edits → patched text (map (kept text) edits) ≡ text
 
 -- a part among others divides a text with replaced parts in two
 abbrev pub PatchesAreSplit : Type 0

@@ -18,7 +18,8 @@ fn keep(text: &mut [u8], comment: Span, kept: &mut Patch) -> Result<(), Memory>
     requires part { (comment.from ≤ comment.to) × (comment.to ≤ length text.old) }
     ensures kept { OnOk result (kept.new ≡ kept.old ++ edit_of comment (part text.old comment.from comment.to) ∷ []) }
     ensures blank { OnOk result (text.new
-        ≡ take comment.from text.old ++ (map blanked (part text.old comment.from comment.to) ++ drop comment.to text.old)) }
+        ≡ take comment.from text.old
+        ++ (map blanked (part text.old comment.from comment.to) ++ drop comment.to text.old)) }
 {
     kept.replace(comment, text_at(text, comment))?;
     blank(text, comment);

@@ -38,7 +38,8 @@ polarity_text (Some node) = codes "wrong " ++ printed_node node
 
 -- `net NAME slack S polarity `, with S in zs, before the rest of its line
 abbrev pub slack_before : List ℕ → ℤ → List ℕ → List ℕ
-slack_before name slack rest = codes "net " ++ (name ++ (codes " slack " ++ (signed_decimal slack ++ (codes " polarity " ++ rest))))
+slack_before name slack rest =
+    codes "net " ++ (name ++ (codes " slack " ++ (signed_decimal slack ++ (codes " polarity " ++ rest))))
 
 -- `net NAME slack S polarity right`, or `net NAME slack S polarity wrong NODE`
 abbrev pub slack_line : List ℕ → Timed → List ℕ
@@ -47,7 +48,9 @@ slack_line name timed = slack_before name timed.slack (polarity_text timed.wrong
 -- `net NAME slack S cost K cells M`, with S in zs and K in thousandths
 abbrev pub best_line : List ℕ → ℤ → ℕ → ℕ → List ℕ
 best_line name slack cost count =
-    codes "net " ++ (name ++ (codes " slack " ++ (signed_decimal slack ++ (codes " cost " ++ (decimal cost ++ (codes " cells " ++ (decimal count ++ codes "\n")))))))
+    codes "net " ++ (name
+    ++ (codes " slack " ++ (signed_decimal slack
+    ++ (codes " cost " ++ (decimal cost ++ (codes " cells " ++ (decimal count ++ codes "\n")))))))
 
 -- `at NODE CELL`
 abbrev pub at_line : NodeName → List ℕ → List ℕ
@@ -73,7 +76,8 @@ cell_count placed = length (filter is_some placed)
 -- the slack (zs), the cost (thousandths) and the cells of a placement of repeaters with these cells
 abbrev pub best_report : List ℕ → List (List ℕ) → NetProblem → Best → List ℕ
 best_report name cells net best =
-    best_line name best.slack (cost_of net.problem best.placement.cells) (cell_count best.placement.cells) ++ cell_lines cells net.names best.placement.cells
+    best_line name best.slack (cost_of net.problem best.placement.cells) (cell_count best.placement.cells)
+    ++ cell_lines cells net.names best.placement.cells
 
 -- `net NAME points P`
 abbrev pub points_line : List ℕ → ℕ → List ℕ
@@ -82,7 +86,8 @@ points_line name count = codes "net " ++ (name ++ (codes " points " ++ (decimal 
 -- `point K S cells M`, with K in thousandths and S in zs
 abbrev pub point_line : ℕ → ℤ → ℕ → List ℕ
 point_line cost slack count =
-    codes "point " ++ (decimal cost ++ (codes " " ++ (signed_decimal slack ++ (codes " cells " ++ (decimal count ++ codes "\n")))))
+    codes "point " ++ (decimal cost
+    ++ (codes " " ++ (signed_decimal slack ++ (codes " cells " ++ (decimal count ++ codes "\n")))))
 
 -- the cost (thousandths), the slack (zs) and the cells of a point of a frontier
 abbrev pub point_report : List (List ℕ) → List NodeName → Point → List ℕ
@@ -113,7 +118,8 @@ entries_text entries = codes " entries " ++ (decimal entries ++ codes " certific
 -- `gen places N bare B best S cells M entries E certificate valid`, with B and S in zs
 abbrev pub gen_line : ℕ → ℤ → Option Best → ℕ → List ℕ
 gen_line places bare found entries =
-    codes "gen places " ++ (decimal places ++ (codes " bare " ++ (signed_decimal bare ++ (codes " best " ++ (found_text found ++ entries_text entries)))))
+    codes "gen places " ++ (decimal places
+    ++ (codes " bare " ++ (signed_decimal bare ++ (codes " best " ++ (found_text found ++ entries_text entries)))))
 
 -- the kind of a refusal, and what it tells
 abbrev pub refusal_kind : Refusal → List ℕ
@@ -136,7 +142,8 @@ refusal_kind TooLarge = codes "TooLarge"
 
 -- `net NAME refused NUMBER KIND`
 abbrev pub refused_line : List ℕ → ℕ → List ℕ → List ℕ
-refused_line name number kind = codes "net " ++ name ++ codes " refused " ++ decimal number ++ codes " " ++ kind ++ codes "\n"
+refused_line name number kind =
+    codes "net " ++ name ++ codes " refused " ++ decimal number ++ codes " " ++ kind ++ codes "\n"
 
 abbrev pub refusal_line : List ℕ → Refusal → List ℕ
 refusal_line name refusal = refused_line name (number_of refusal) (refusal_kind refusal)

@@ -35,7 +35,8 @@ fn print_cells(
     to: &mut Vec<u8>,
 ) -> Result<(), Memory>
     requires { IsPlacementOf (length names.now) (length repeaters.now) placement.now.cells }
-    ensures printed { OnOk result (to.new.items ≡ to.old.items ++ cell_lines (cells_of repeaters.now) names.now placement.now.cells) }
+    ensures printed { OnOk result (to.new.items
+        ≡ to.old.items ++ cell_lines (cells_of repeaters.now) names.now placement.now.cells) }
     ensures begun { OnErr result (take (length to.old.items) to.new.items ≡ to.old.items) }
 {
     let cells = placement.cells.as_slice();
@@ -58,7 +59,8 @@ fn print_placed(
 ) -> Result<(), Memory>
     requires placement { IsPlacement net.now.problem best.now.placement.cells }
     requires named { IsPlacementOf (length net.now.names) (length repeaters.now) best.now.placement.cells }
-    ensures printed { OnOk result (to.new.items ≡ to.old.items ++ best_report name.now (cells_of repeaters.now) net.now best.now) }
+    ensures printed { OnOk result (to.new.items
+        ≡ to.old.items ++ best_report name.now (cells_of repeaters.now) net.now best.now) }
     ensures begun { OnErr result (take (length to.old.items) to.new.items ≡ to.old.items) }
 {
     let cost = cost(&net.problem, &best.placement);
@@ -79,7 +81,8 @@ pub fn report_best(
 ) -> Result<(), Memory>
     requires placement { IsPlacement net.now.problem best.now.placement.cells }
     requires named { IsPlacementOf (length net.now.names) (length repeaters.now) best.now.placement.cells }
-    ensures printed { OnOk result (to.new.items ≡ to.old.items ++ best_report name.now (cells_of repeaters.now) net.now best.now) }
+    ensures printed { OnOk result (to.new.items
+        ≡ to.old.items ++ best_report name.now (cells_of repeaters.now) net.now best.now) }
     ensures unchanged { OnErr result (to.new.items ≡ to.old.items) }
 {
     let before = to.len();
@@ -98,7 +101,8 @@ fn report_point(
     to: &mut Vec<u8>,
 ) -> Result<(), Memory>
     requires { IsPlacementOf (length names.now) (length repeaters.now) point.now.placement.cells }
-    ensures printed { OnOk result (to.new.items ≡ to.old.items ++ point_report (cells_of repeaters.now) names.now point.now) }
+    ensures printed { OnOk result (to.new.items
+        ≡ to.old.items ++ point_report (cells_of repeaters.now) names.now point.now) }
     ensures begun { OnErr result (take (length to.old.items) to.new.items ≡ to.old.items) }
 {
     let count = count_cells(&point.placement);
@@ -115,7 +119,8 @@ fn print_points(
     to: &mut Vec<u8>,
 ) -> Result<(), Memory>
     requires { All (λ point. IsPlacementOf (length names.now) (length repeaters.now) point.placement.cells) points.now }
-    ensures printed { OnOk result (to.new.items ≡ to.old.items ++ flat_map (point_report (cells_of repeaters.now) names.now) points.now) }
+    ensures printed { OnOk result (to.new.items
+        ≡ to.old.items ++ flat_map (point_report (cells_of repeaters.now) names.now) points.now) }
     ensures begun { OnErr result (take (length to.old.items) to.new.items ≡ to.old.items) }
 {
     'point: for at in 0..points.len() {
@@ -132,8 +137,10 @@ fn print_front(
     points: &[Point],
     to: &mut Vec<u8>,
 ) -> Result<(), Memory>
-    requires { All (λ point. IsPlacementOf (length net.now.names) (length repeaters.now) point.placement.cells) points.now }
-    ensures printed { OnOk result (to.new.items ≡ to.old.items ++ front_report name.now (cells_of repeaters.now) net.now points.now) }
+    requires { All
+        (λ point. IsPlacementOf (length net.now.names) (length repeaters.now) point.placement.cells) points.now }
+    ensures printed { OnOk result (to.new.items
+        ≡ to.old.items ++ front_report name.now (cells_of repeaters.now) net.now points.now) }
     ensures begun { OnErr result (take (length to.old.items) to.new.items ≡ to.old.items) }
 {
     print_count(name, points.len(), to)?;
@@ -149,8 +156,10 @@ pub fn report_front(
     points: &[Point],
     to: &mut Vec<u8>,
 ) -> Result<(), Memory>
-    requires { All (λ point. IsPlacementOf (length net.now.names) (length repeaters.now) point.placement.cells) points.now }
-    ensures printed { OnOk result (to.new.items ≡ to.old.items ++ front_report name.now (cells_of repeaters.now) net.now points.now) }
+    requires { All
+        (λ point. IsPlacementOf (length net.now.names) (length repeaters.now) point.placement.cells) points.now }
+    ensures printed { OnOk result (to.new.items
+        ≡ to.old.items ++ front_report name.now (cells_of repeaters.now) net.now points.now) }
     ensures unchanged { OnErr result (to.new.items ≡ to.old.items) }
 {
     let before = to.len();

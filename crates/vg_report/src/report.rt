@@ -17,7 +17,8 @@ pub fn push(bytes: &[u8], to: &mut Vec<u8>) -> Result<(), Memory>
 
 /// Appends the node of an owner and a leaf: the owner, and after a colon the leaf, where it is not empty.
 fn print_parts(owner: &[u8], leaf: &[u8], to: &mut Vec<u8>) -> Result<(), Memory>
-    ensures printed { OnOk result (to.new.items ≡ to.old.items ++ printed_node (record { owner = owner.now; leaf = leaf.now })) }
+    ensures printed { OnOk result (to.new.items
+        ≡ to.old.items ++ printed_node (record { owner = owner.now; leaf = leaf.now })) }
     ensures begun { OnErr result (take (length to.old.items) to.new.items ≡ to.old.items) }
 {
     push(owner, to)?;
@@ -44,7 +45,8 @@ pub fn print_node(node: &NodeName, to: &mut Vec<u8>) -> Result<(), Memory>
 
 /// Appends `net NAME total T`, with T in attofarads.
 pub fn print_total(name: &[u8], total: i128, to: &mut Vec<u8>) -> Result<(), Memory>
-    ensures { OnOk result (to.new.items ≡ to.old.items ++ (codes "net " ++ name.now ++ codes " total " ++ signed_decimal total ++ codes "\n")) }
+    ensures { OnOk result (to.new.items ≡ to.old.items
+        ++ (codes "net " ++ name.now ++ codes " total " ++ signed_decimal total ++ codes "\n")) }
 {
     push(b"net ", to)?;
     push(name, to)?;
@@ -56,7 +58,8 @@ pub fn print_total(name: &[u8], total: i128, to: &mut Vec<u8>) -> Result<(), Mem
 
 /// Appends `sink NODE D`, with the owner and the leaf of the node, and D in zeptoseconds.
 pub fn print_sink(owner: &[u8], leaf: &[u8], delay: i128, to: &mut Vec<u8>) -> Result<(), Memory>
-    ensures { OnOk result (to.new.items ≡ to.old.items ++ sink_line (record { owner = owner.now; leaf = leaf.now }, delay)) }
+    ensures { OnOk result (to.new.items ≡ to.old.items
+        ++ sink_line (record { owner = owner.now; leaf = leaf.now }, delay)) }
 {
     push(b"sink ", to)?;
     print_parts(owner, leaf, to)?;
@@ -83,7 +86,8 @@ pub fn print_refused(name: &[u8], number: u8, kind: &[u8], to: &mut Vec<u8>) -> 
 
 /// Appends `net NAME slack S`, with S in zeptoseconds.
 fn print_value(name: &[u8], slack: i128, to: &mut Vec<u8>) -> Result<(), Memory>
-    ensures printed { OnOk result (to.new.items ≡ to.old.items ++ (codes "net " ++ (name.now ++ (codes " slack " ++ signed_decimal slack)))) }
+    ensures printed { OnOk result (to.new.items
+        ≡ to.old.items ++ (codes "net " ++ (name.now ++ (codes " slack " ++ signed_decimal slack)))) }
     ensures begun { OnErr result (take (length to.old.items) to.new.items ≡ to.old.items) }
 {
     push(b"net ", to)?;
@@ -95,7 +99,8 @@ fn print_value(name: &[u8], slack: i128, to: &mut Vec<u8>) -> Result<(), Memory>
 
 /// Appends ` cost K cells M` and the line's end, with K in thousandths.
 fn print_cost(cost: u64, count: usize, to: &mut Vec<u8>) -> Result<(), Memory>
-    ensures printed { OnOk result (to.new.items ≡ to.old.items ++ (codes " cost " ++ (decimal cost ++ (codes " cells " ++ (decimal count ++ codes "\n"))))) }
+    ensures printed { OnOk result (to.new.items
+        ≡ to.old.items ++ (codes " cost " ++ (decimal cost ++ (codes " cells " ++ (decimal count ++ codes "\n"))))) }
     ensures begun { OnErr result (take (length to.old.items) to.new.items ≡ to.old.items) }
 {
     push(b" cost ", to)?;
@@ -152,7 +157,8 @@ pub fn print_point(cost: u64, slack: i128, count: usize, to: &mut Vec<u8>) -> Re
 
 /// Appends `at NODE CELL`, with the owner and the leaf of the node.
 pub fn print_at(owner: &[u8], leaf: &[u8], cell: &[u8], to: &mut Vec<u8>) -> Result<(), Memory>
-    ensures printed { OnOk result (to.new.items ≡ to.old.items ++ at_line (record { owner = owner.now; leaf = leaf.now }) cell.now) }
+    ensures printed { OnOk result (to.new.items
+        ≡ to.old.items ++ at_line (record { owner = owner.now; leaf = leaf.now }) cell.now) }
     ensures begun { OnErr result (take (length to.old.items) to.new.items ≡ to.old.items) }
 {
     push(b"at ", to)?;
@@ -189,7 +195,8 @@ pub fn print_none(name: &[u8], to: &mut Vec<u8>) -> Result<(), Memory>
 
 /// Appends ` polarity POLARITY` and the line's end; the polarity is told in two pieces.
 fn print_polarity(polarity: &[u8], node: &[u8], to: &mut Vec<u8>) -> Result<(), Memory>
-    ensures printed { OnOk result (to.new.items ≡ to.old.items ++ (codes " polarity " ++ (polarity.now ++ (node.now ++ codes "\n")))) }
+    ensures printed { OnOk result (to.new.items
+        ≡ to.old.items ++ (codes " polarity " ++ (polarity.now ++ (node.now ++ codes "\n")))) }
     ensures begun { OnErr result (take (length to.old.items) to.new.items ≡ to.old.items) }
 {
     push(b" polarity ", to)?;
@@ -207,7 +214,8 @@ pub fn print_slack(
     node: &[u8],
     to: &mut Vec<u8>,
 ) -> Result<(), Memory>
-    ensures printed { OnOk result (to.new.items ≡ to.old.items ++ slack_before name.now slack (polarity.now ++ (node.now ++ codes "\n"))) }
+    ensures printed { OnOk result (to.new.items
+        ≡ to.old.items ++ slack_before name.now slack (polarity.now ++ (node.now ++ codes "\n"))) }
     ensures begun { OnErr result (take (length to.old.items) to.new.items ≡ to.old.items) }
 {
     print_value(name, slack, to)?;

@@ -33,7 +33,8 @@ passage_of d prefix instance = option_map (λ r. record { instance = instance; r
 
 -- the cell that was put in one of whose pins, of this name, is on a net
 abbrev pub passage_at : Design → List ℕ → Joined → NodeName → Option Passage
-passage_at d prefix n at = option_and_then (λ pin. passage_of d prefix (instance_at d.netlist pin)) (pin_on d.netlist n.id at)
+passage_at d prefix n at =
+    option_and_then (λ pin. passage_of d prefix (instance_at d.netlist pin)) (pin_on d.netlist n.id at)
 
 abbrev pub only_if : Bool → Passage → Option Passage
 only_if is passage = if is then Some passage else None

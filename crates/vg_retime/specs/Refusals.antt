@@ -13,7 +13,8 @@ use Rattle.vg_retime.specs.Passages.{into_at}
 
 -- a sink that is not passed, without a required time
 abbrev pub is_unconstrained_here : Design → List ℕ → Joined → ParConn → Bool
-is_unconstrained_here d prefix n conn = is_unconstrained d.rows n.par conn && is_none (into_at d prefix n (name_of n.par conn.node))
+is_unconstrained_here d prefix n conn =
+    is_unconstrained d.rows n.par conn && is_none (into_at d prefix n (name_of n.par conn.node))
 
 -- in the net of this name, the first of them has this name
 pub record HasUnconstrained (d : Design) (prefix name : List ℕ) (at : NodeName) : Type 0 where

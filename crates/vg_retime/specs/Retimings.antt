@@ -24,10 +24,13 @@ pub record Retimes (k : ℕ) (d : Design) (prefix asked : List ℕ) (timed : Tim
 -- the way down, or at the end
 pub data IsFirstRefusal (d : Design) (prefix asked : List ℕ) (refusal : Refusal) : Type 0 where
   unknown : net_number d.netlist asked ≡ None → refusal ≡ UnknownNet → IsFirstRefusal d prefix asked refusal
-  upward : (id : ℕ) → net_number d.netlist asked ≡ Some id → IsStoppedUp d prefix id refusal → IsFirstRefusal d prefix asked refusal
-  downward : (id : ℕ) (first : First) → net_number d.netlist asked ≡ Some id → IsFirstNet 17 d prefix id first → IsStoppedDown d prefix first refusal
+  upward : (id : ℕ) → net_number d.netlist asked ≡ Some id → IsStoppedUp d prefix id refusal
       → IsFirstRefusal d prefix asked refusal
-  at_end : (way : Way) → IsWay 17 d prefix asked way → IsSinkless way → refusal ≡ NoSink → IsFirstRefusal d prefix asked refusal
+  downward : (id : ℕ) (first : First) → net_number d.netlist asked ≡ Some id → IsFirstNet 17 d prefix id first
+      → IsStoppedDown d prefix first refusal
+      → IsFirstRefusal d prefix asked refusal
+  at_end : (way : Way) → IsWay 17 d prefix asked way → IsSinkless way → refusal ≡ NoSink
+      → IsFirstRefusal d prefix asked refusal
 
 abbrev pub IsRefused : Design → List ℕ → List ℕ → Refused → Type 0
 IsRefused d prefix asked (Net refusal) = IsFirstRefusal d prefix asked refusal

@@ -16,7 +16,8 @@ use Rattle.vg_retime.specs.declared.walk_net.Above.TheVariants.{Open}
 
 -- a net stops a walk, where these came before: it is one of them, which is a loop; or it is new, and is refused
 abbrev pub Stops : Design → List ℕ → List ℕ → ℕ → Refusal → Type 0
-Stops d prefix before at refusal = (Contains before at × (refusal ≡ Loop)) ⊎ ((Contains before at → ⊥) × IsFirstHere d prefix (net_name d at) refusal)
+Stops d prefix before at refusal =
+    (Contains before at × (refusal ≡ Loop)) ⊎ ((Contains before at → ⊥) × IsFirstHere d prefix (net_name d at) refusal)
 
 -- the net is not refused, but the cell that drives it has no net at its input
 pub record IsLost (d : Design) (prefix : List ℕ) (nets : Nets) (at : ℕ) : Type 0 where
@@ -26,7 +27,8 @@ pub record IsLost (d : Design) (prefix : List ℕ) (nets : Nets) (at : ℕ) : Ty
 -- upward from net number id over these nets, each driven by a cell at whose input the next one is, to the net `at`
 abbrev pub IsRise : (ℕ → TimedNet) → ℕ → List ℕ → ℕ → Type 0
 IsRise nets id [] at = id ≡ at
-IsRise nets id (below ∷ more) at = (id ≡ below) × ((next : ℕ) × ((nets id).above ≡ Some next) × IsRise nets next more at)
+IsRise nets id (below ∷ more) at =
+    (id ≡ below) × ((next : ℕ) × ((nets id).above ≡ Some next) × IsRise nets next more at)
 
 -- the climb from net number id stops at the first net that is refused, that came before, or above which no net is found
 pub record IsStoppedUp (d : Design) (prefix : List ℕ) (id : ℕ) (refusal : Refusal) : Type 0 where
@@ -36,7 +38,8 @@ pub record IsStoppedUp (d : Design) (prefix : List ℕ) (id : ℕ) (refusal : Re
   pub rise : IsRise (timed_nets nets) id before at
   pub accepted : All (λ i. IsNetIn 17 d prefix i (nets i)) before
   pub once : AllPairs (λ a b. a ≢ b) before
-  pub stops : Stops d prefix before at refusal ⊎ ((Contains before at → ⊥) × IsLost d prefix nets at × (refusal ≡ NoDriver))
+  pub stops : Stops d prefix before at refusal
+      ⊎ ((Contains before at → ⊥) × IsLost d prefix nets at × (refusal ≡ NoDriver))
 
 -- the way down stops at the first signal whose net is refused, or came before
 pub record IsStoppedDown (d : Design) (prefix : List ℕ) (first : First) (refusal : Refusal) : Type 0 where

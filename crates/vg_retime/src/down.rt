@@ -32,7 +32,8 @@ pub(crate) struct Walk {
 
 /// The walk at the first net. Answers `Memory` where there is no room.
 fn begin(alloc: Global, first: First) -> Result<Walk, Memory>
-    ensures walk { IfOk result (λ walk. (design : DesignValue) (prefix : List ℕ) → IsFirstWithin (length design.netlist.nets) first → IsUnderWay design prefix 0 walk) }
+    ensures walk { IfOk result (λ walk. (design : DesignValue) (prefix : List ℕ)
+        → IsFirstWithin (length design.netlist.nets) first → IsUnderWay design prefix 0 walk) }
     ensures first { IfOk result (λ walk. walk.first ≡ first) }
 {
     let mut signals = Vec::new(alloc);

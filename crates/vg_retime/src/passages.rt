@@ -29,7 +29,8 @@ impl<'a> Model for Passage<'a> {
 
 /// The repeater of a cell, if it is one.
 fn repeater_of<'a>(design: &'a Design, cell: &[u8]) -> Option<&'a Repeater>
-    ensures { MatchOption result (repeater_of design.now.library cell.now ≡ None) (λ r. repeater_of design.now.library cell.now ≡ Some r.now) }
+    ensures { MatchOption result (repeater_of design.now.library cell.now ≡ None) (λ r.
+        repeater_of design.now.library cell.now ≡ Some r.now) }
 {
     let repeaters = design.repeaters();
     'repeater: for repeater in repeaters {
@@ -42,7 +43,8 @@ fn repeater_of<'a>(design: &'a Design, cell: &[u8]) -> Option<&'a Repeater>
 
 /// The repeater that an instance is, where it was put in: its name begins with the prefix.
 fn put_in<'a>(design: &'a Design, prefix: &[u8], instance: &Instance<'_>) -> Option<&'a Repeater>
-    ensures { MatchOption result (put_in design.now prefix.now instance.now ≡ None) (λ r. put_in design.now prefix.now instance.now ≡ Some r.now) }
+    ensures { MatchOption result (put_in design.now prefix.now instance.now ≡ None) (λ r.
+        put_in design.now prefix.now instance.now ≡ Some r.now) }
 {
     if !instance.name.starts_with(prefix) {
         return None;

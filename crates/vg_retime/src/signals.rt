@@ -98,7 +98,8 @@ pub(crate) fn pass_on(
     requires signal { IsSizedSignal (2 ^ 32) (2 ^ 32) (signal_of signal.now) }
     requires lates { lates.now ≡ lates_in (timed net.now) (signal_of signal.now) }
     requires small { (i : ℕ) → slice_index lates.now i ≤ 2 ^ 33 * 10 ^ 24 }
-    ensures { OnOk result (map signal_of signals.new.items ≡ map signal_of signals.old.items ++ passed_on (timed net.now) (signal_of signal.now)) }
+    ensures { OnOk result (map signal_of signals.new.items
+        ≡ map signal_of signals.old.items ++ passed_on (timed net.now) (signal_of signal.now)) }
 {
     'node: for i in 0..lates.len() {
         if let Some(next) = passed(signal, net.ends[i], lates[i]) {
@@ -141,7 +142,8 @@ pub(crate) fn least_in(net: &WalkNet, lates: &[u128], before: Option<i128>) -> O
     requires net { IsSizedNet (2 ^ 32) net.now }
     requires small { (i : ℕ) → slice_index lates.now i ≤ 2 ^ 33 * 10 ^ 24 }
     requires one_each { length lates.now ≡ length net.now.tree }
-    ensures least { (s : SignalSpec) → lates.now ≡ lates_in (timed net.now) s → IsLeastWith (lefts_in (timed net.now) s) before result }
+    ensures least { (s : SignalSpec) → lates.now ≡ lates_in (timed net.now) s
+        → IsLeastWith (lefts_in (timed net.now) s) before result }
     ensures small { IfSome before IsTime → IfSome result IsTime }
 {
     let mut least = before;

@@ -49,8 +49,8 @@ AreInForm Wire ask texts = IsSpef (texts Spef)
 AreInForm Gen ask texts = IsAccepted (size_of ask)
 AreInForm mode ask texts = AreADesign (design_texts texts)
 
--- The inputs of a request are told, have at most 2^28 bytes each and are in their form, and no name of the design begins
--- with the prefix where the mode makes new names.
+-- The inputs of a request are told, have at most 2^28 bytes each and are in their form, and no name of the design
+-- begins with the prefix where the mode makes new names.
 pub record AreFit (files : FilesState) (ask : Ask) (texts : Input → List ℕ) : Type 0 where
   pub told : AreTold files ask texts
   pub short : AreShort ask texts

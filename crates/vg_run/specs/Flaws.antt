@@ -12,8 +12,10 @@ use Rattle.vg_run.specs.Modes.{IsFaultFor}
 -- the first flaw: an input could not be read or is too long, and those before it were read; or all were read, one has a
 -- fault, and those before it are in their form
 abbrev pub IsFirstFlaw : FilesState → Ask → (Input → List ℕ) → Flaw → Input → Type 0
-IsFirstFlaw files ask texts Failed input = IsFirst (λ i. IsRead (told files ask i) (texts i)) (λ i. Unit {0}) (inputs ask.mode) input
-IsFirstFlaw files ask texts TooLong input = IsFirst (λ i. IsRead (told files ask i) (texts i)) (λ i. IsLong (told files ask i)) (inputs ask.mode) input
+IsFirstFlaw files ask texts Failed input =
+    IsFirst (λ i. IsRead (told files ask i) (texts i)) (λ i. Unit {0}) (inputs ask.mode) input
+IsFirstFlaw files ask texts TooLong input =
+    IsFirst (λ i. IsRead (told files ask i) (texts i)) (λ i. IsLong (told files ask i)) (inputs ask.mode) input
 IsFirstFlaw files ask texts (Faulty line) input = AreRead files ask texts × IsFaultFor ask texts line input
 
 -- where the input could not be read, a fault rose, and that input is blamed

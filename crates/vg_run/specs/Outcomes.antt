@@ -35,7 +35,8 @@ IsPrinted out text wanted outcome =
 abbrev pub IsDelivered : Ask → Change FilesState → Change OutState → Answer → Outcome → Type 0
 IsDelivered ask files out answer outcome =
     (IsPrinted out answer.text.items (Printed answer.kind) outcome × AreWritten files ask (said_by answer).files)
-    ⊎ ((output : Output) × (outcome ≡ Unwritten output) × (out.1.written ≡ out.0.written) × IsUnwritten ask files answer output)
+    ⊎ ((output : Output) × (outcome ≡ Unwritten output) × (out.1.written ≡ out.0.written)
+    × IsUnwritten ask files answer output)
 
 -- why the inputs were not read, and at which of them reading ended
 abbrev pub IsUnread : Ask → Change FilesState → Input × ReadAll → Type 0
@@ -46,7 +47,8 @@ IsUnread ask files (input, ReadMemory) = Unit {0}
 -- what an outcome says of the files and of standard output
 abbrev pub Ends : Ask → Change FilesState → Change OutState → Outcome → Type 0
 Ends ask files out (Printed kind) = Prints kind files (Gains out.0 out.1) ask
-Ends ask files out (Flawed input flaw) = IsFlawed ask files input flaw × AreUntouched files × (out.1.written ≡ out.0.written)
+Ends ask files out (Flawed input flaw) =
+    IsFlawed ask files input flaw × AreUntouched files × (out.1.written ≡ out.0.written)
 Ends ask files out (Taken name) = TakesName files.0 ask name × AreUntouched files × (out.1.written ≡ out.0.written)
 Ends ask files out (Unwritten output) = FailsToWrite ask files output × (out.1.written ≡ out.0.written)
 Ends ask files out WriteFault = Rose out.0.faults out.1.faults × PrintsSome files (GainsPrefix out.0 out.1) ask

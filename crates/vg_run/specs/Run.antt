@@ -58,7 +58,9 @@ refused_line Unread = codes "vginsert: words refused\n"
 refused_line (Missing option) = codes "vginsert: words refused: missing option " ++ (option_name option ++ codes "\n")
 refused_line (Excluded option) = codes "vginsert: words refused: excluded option " ++ (option_name option ++ codes "\n")
 refused_line (BadValue option) = codes "vginsert: words refused: bad value " ++ (option_name option ++ codes "\n")
-refused_line (Equal one other) = codes "vginsert: words refused: equal names " ++ (option_name one ++ (codes " " ++ (option_name other ++ codes "\n")))
+refused_line (Equal one other) =
+    codes "vginsert: words refused: equal names " ++ (option_name one
+    ++ (codes " " ++ (option_name other ++ codes "\n")))
 refused_line NoRoom = codes "vginsert: out of memory\n"
 
 -- the words name this file as one that is written
@@ -95,11 +97,14 @@ AreHeld files ask said = All (λ w. HoldsAt files.1 (output_name ask w.output) w
 
 -- no two of them have one name
 abbrev pub AreApartIn : Ask → List Written → Type 0
-AreApartIn ask said = AllPairs (λ one other. (file : List ℕ) → output_name ask one.output ≡ Some file → output_name ask other.output ≡ Some file → ⊥) said
+AreApartIn ask said =
+    AllPairs (λ one other. (file : List ℕ) → output_name ask one.output ≡ Some file
+    → output_name ask other.output ≡ Some file → ⊥) said
 
 -- a file that is none of them holds what it held
 abbrev pub OthersStay : Change FilesState → Ask → List Written → Type 0
-OthersStay files ask said = (file : List ℕ) → All (λ w. output_name ask w.output ≢ Some file) said → files.1.holds file ≡ files.0.holds file
+OthersStay files ask said =
+    (file : List ℕ) → All (λ w. output_name ask w.output ≢ Some file) said → files.1.holds file ≡ files.0.holds file
 
 -- the files of a list were written, and no other; where there are none, none was created
 pub record AreWritten (files : Change FilesState) (ask : Ask) (said : List Written) : Type 0 where
@@ -159,7 +164,8 @@ taken_line name = codes "vginsert: prefix taken: " ++ (name ++ codes "\n")
 -- an input has the first flaw, its flaw gives this status, and a line tells it
 abbrev pub TellsFlaw : ℕ → Change FilesState → (List ℕ → Type 0) → Ask → Type 0
 TellsFlaw status files Said ask =
-    (input : Input) × (flaw : Flaw) × (flaw_status flaw ≡ status) × IsFlawed ask files input flaw × Said (flaw_line (name_of ask input) flaw)
+    (input : Input) × (flaw : Flaw) × (flaw_status flaw ≡ status) × IsFlawed ask files input flaw
+    × Said (flaw_line (name_of ask input) flaw)
 
 -- of the texts that were read this name begins with the prefix, which mode `best` refuses
 abbrev pub TakesName : FilesState → Ask → List ℕ → Type 0
@@ -167,13 +173,16 @@ TakesName files ask name = (texts : Input → List ℕ) × AreRead files ask tex
 
 -- an input has the first flaw, with status 4, or a name begins with the prefix, and a line tells it
 abbrev pub TellsRefusedInput : Change FilesState → (List ℕ → Type 0) → Ask → Type 0
-TellsRefusedInput files Said ask = TellsFlaw 4 files Said ask ⊎ ((name : List ℕ) × TakesName files.0 ask name × Said (taken_line name))
+TellsRefusedInput files Said ask =
+    TellsFlaw 4 files Said ask ⊎ ((name : List ℕ) × TakesName files.0 ask name × Said (taken_line name))
 
 -- writing standard output failed, after the files were written, or writing one of these did, and a line tells it
 abbrev pub TellsWriteFault : Change FilesState → Change OutState → (List ℕ → Type 0) → Ask → Type 0
 TellsWriteFault files out Said ask =
-    (Rose out.0.faults out.1.faults × PrintsSome files (GainsPrefix out.0 out.1) ask × Said (codes "vginsert: write failed: standard output\n"))
-    ⊎ ((output : Output) × FailsToWrite ask files output × (out.1.written ≡ out.0.written) × Said (write_failed_line (unwrap_or (output_name ask output) [])))
+    (Rose out.0.faults out.1.faults × PrintsSome files (GainsPrefix out.0 out.1) ask
+    × Said (codes "vginsert: write failed: standard output\n"))
+    ⊎ ((output : Output) × FailsToWrite ask files output × (out.1.written ≡ out.0.written)
+    × Said (write_failed_line (unwrap_or (output_name ask output) [])))
 
 -- the words are a request, and an answer of this kind to it was printed whole, with its files written
 abbrev pub Answered : AnswerKind → List (List ℕ) → Change FilesState → Change OutState → Type 0
@@ -200,7 +209,8 @@ pub record IsStatusFor (ask : Ask) (texts : Input → List ℕ) (status : ℕ) :
   pub too_long : (AreShort ask texts → ⊥) → status ≡ 4
   pub faulty : AreShort ask texts → (line : List ℕ) (input : Input) → IsFaultFor ask texts line input → status ≡ 4
   pub taken : AreShort ask texts → (name : List ℕ) → IsTakenFor ask texts name → status ≡ 4
-  pub answer : AreShort ask texts → (kind : AnswerKind) (said : Said) → IsAnswerFor ask texts kind said → status ≡ status_for kind
+  pub answer : AreShort ask texts → (kind : AnswerKind) (said : Said) → IsAnswerFor ask texts kind said
+      → status ≡ status_for kind
 
 -- where nothing failed, the status is exactly the one that the files and the request ask for
 abbrev pub IsExact : List (List ℕ) → FilesState → ℕ → Type 0

@@ -38,9 +38,12 @@ fn write_output<F: Files>(
     files: &mut F,
 ) -> Result<(), Failed>
     ensures whole { OnOk result (HoldsAt (F.state files.new) (output_name ask.now output) (text_of text.now)) }
-    ensures prefix { OnErr result (StaysOrBegins (F.state files.old, F.state files.new) (output_name ask.now output) (text_of text.now)) }
-    ensures others { (other : List ℕ) → output_name ask.now output ≢ Some other → (F.state files.new).holds other ≡ (F.state files.old).holds other }
-    ensures failed { OnErr result (WriteFaultAt (F.state files.old) (F.state files.new) (λ blamed. output_name ask.now output ≡ Some blamed)) }
+    ensures prefix { OnErr result
+        (StaysOrBegins (F.state files.old, F.state files.new) (output_name ask.now output) (text_of text.now)) }
+    ensures others { (other : List ℕ) → output_name ask.now output ≢ Some other
+        → (F.state files.new).holds other ≡ (F.state files.old).holds other }
+    ensures failed { OnErr result
+        (WriteFaultAt (F.state files.old) (F.state files.new) (λ blamed. output_name ask.now output ≡ Some blamed)) }
     ensures never_falls { (F.state files.old).write_faults ≤ (F.state files.new).write_faults }
 {
     match output_name(ask, output) {
@@ -52,9 +55,12 @@ fn write_output<F: Files>(
 /// Writes the files of an answer in order. An error tells at which of them writing failed.
 fn write_files<F: Files>(ask: &Ask, written: &[NewFile], files: &mut F) -> Result<(), Output>
     requires apart { AreApartIn ask.now (map written_by written.now) }
-    ensures written { OnOk result (AreWritten (F.state files.old, F.state files.new) ask.now (map written_by written.now)) }
-    ensures failed { IfErr result (HoldAfter (F.state files.old, F.state files.new) ask.now (map written_by written.now)) }
-    ensures cause { IfErr result (λ output. WriteFaultAt (F.state files.old) (F.state files.new) (λ blamed. output_name ask.now output ≡ Some blamed)) }
+    ensures written { OnOk result
+        (AreWritten (F.state files.old, F.state files.new) ask.now (map written_by written.now)) }
+    ensures failed { IfErr result
+        (HoldAfter (F.state files.old, F.state files.new) ask.now (map written_by written.now)) }
+    ensures cause { IfErr result (λ output.
+        WriteFaultAt (F.state files.old) (F.state files.new) (λ blamed. output_name ask.now output ≡ Some blamed)) }
     ensures others { OthersStay (F.state files.old, F.state files.new) ask.now (map written_by written.now) }
 {
     'file: for file in written {
@@ -68,7 +74,8 @@ fn write_files<F: Files>(ask: &Ask, written: &[NewFile], files: &mut F) -> Resul
 /// Writes the files of an answer, and prints its text.
 fn deliver<F: Files, O: Out>(ask: &Ask, answer: &Answer, files: &mut F, out: &mut O) -> Outcome
     requires apart { AreApartIn ask.now (map written_by answer.now.files.items) }
-    ensures delivered { IsDelivered ask.now (F.state files.old, F.state files.new) (O.state out.old, O.state out.new) answer.now result }
+    ensures delivered { IsDelivered ask.now (F.state files.old, F.state files.new)
+        (O.state out.old, O.state out.new) answer.now result }
     ensures others { OthersStay (F.state files.old, F.state files.new) ask.now (map written_by answer.now.files.items) }
 {
     if let Err(output) = write_files(ask, &answer.files, files) {
@@ -83,7 +90,8 @@ fn execute<F: Files, O: Out>(alloc: Global, ask: &Ask, files: &mut F, out: &mut 
     requires prefix { AllPass is_solid (prefix_of ask.now) }
     requires size { IsSized ask.now }
     ensures ends { Ends ask.now (F.state files.old, F.state files.new) (O.state out.old, O.state out.new) result }
-    ensures kept { (file : List ℕ) → (IsOutput ask.now file → ⊥) → (F.state files.new).holds file ≡ (F.state files.old).holds file }
+    ensures kept { (file : List ℕ) → (IsOutput ask.now file → ⊥)
+        → (F.state files.new).holds file ≡ (F.state files.old).holds file }
 {
     let texts = match read_inputs(alloc, ask, files) {
         Ok(texts) => texts,
@@ -120,8 +128,10 @@ pub fn run_request<F: Files, O: Out, E: Out>(
     requires apart { AreApart ask.now }
     requires prefix { AllPass is_solid (prefix_of ask.now) }
     requires size { IsSized ask.now }
-    ensures ends { IsStatusOf ask.now (F.state files.old, F.state files.new) (O.state out.old, O.state out.new) (E.state err.old, E.state err.new) result }
-    ensures kept { (file : List ℕ) → (IsOutput ask.now file → ⊥) → (F.state files.new).holds file ≡ (F.state files.old).holds file }
+    ensures ends { IsStatusOf ask.now (F.state files.old, F.state files.new) (O.state out.old, O.state out.new)
+        (E.state err.old, E.state err.new) result }
+    ensures kept { (file : List ℕ) → (IsOutput ask.now file → ⊥)
+        → (F.state files.new).holds file ≡ (F.state files.old).holds file }
 {
     let outcome = execute(alloc, ask, files, out);
     tell(err, ask, &outcome);

@@ -15,7 +15,8 @@ use vg_words::{Ask, WordFault};
 /// Writes three pieces to an output, one after another, until a fault.
 fn put_three<E: Out>(err: &mut E, front: &[u8], name: &[u8], back: &[u8]) -> Result<(), Failed>
     ensures all { OnOk result (Gains (E.state err.old) (E.state err.new) (front.now ++ (name.now ++ back.now))) }
-    ensures prefix { OnErr result (GainsPrefix (E.state err.old) (E.state err.new) (front.now ++ (name.now ++ back.now))) }
+    ensures prefix { OnErr result
+        (GainsPrefix (E.state err.old) (E.state err.new) (front.now ++ (name.now ++ back.now))) }
     ensures cause { HasCause (E.state err.old).faults (E.state err.new).faults result }
 {
     put_all(err, front)?;
@@ -33,8 +34,10 @@ fn put_five<E: Out>(
     kind: &[u8],
     back: &[u8],
 ) -> Result<(), Failed>
-    ensures all { OnOk result (Gains (E.state err.old) (E.state err.new) (in_five front.now name.now middle.now kind.now back.now)) }
-    ensures prefix { OnErr result (GainsPrefix (E.state err.old) (E.state err.new) (in_five front.now name.now middle.now kind.now back.now)) }
+    ensures all { OnOk result
+        (Gains (E.state err.old) (E.state err.new) (in_five front.now name.now middle.now kind.now back.now)) }
+    ensures prefix { OnErr result
+        (GainsPrefix (E.state err.old) (E.state err.new) (in_five front.now name.now middle.now kind.now back.now)) }
     ensures cause { HasCause (E.state err.old).faults (E.state err.new).faults result }
 {
     put_three(err, front, name, middle)?;

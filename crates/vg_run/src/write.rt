@@ -21,9 +21,12 @@ fn append_gathered<F: Files>(
     piece: &[u8],
 ) -> Result<(), Failed>
     requires is_created { (F.state files.old).writing ≡ true }
-    ensures all { OnOk result ((gained : List ℕ) × FileGains (F.state files.old) (F.state files.new) gained × (waiting.old.items ++ piece.now ≡ gained ++ waiting.new.items)) }
-    ensures prefix { OnErr result (FileGainsPrefix (F.state files.old) (F.state files.new) (waiting.old.items ++ piece.now)) }
-    ensures failed { OnErr result (WriteFaultAt (F.state files.old) (F.state files.new) (λ blamed. (F.state files.old).target ≡ Some blamed)) }
+    ensures all { OnOk result ((gained : List ℕ) × FileGains (F.state files.old) (F.state files.new) gained
+        × (waiting.old.items ++ piece.now ≡ gained ++ waiting.new.items)) }
+    ensures prefix { OnErr result
+        (FileGainsPrefix (F.state files.old) (F.state files.new) (waiting.old.items ++ piece.now)) }
+    ensures failed { OnErr result
+        (WriteFaultAt (F.state files.old) (F.state files.new) (λ blamed. (F.state files.old).target ≡ Some blamed)) }
     ensures never_falls { (F.state files.old).write_faults ≤ (F.state files.new).write_faults }
     ensures still_writing { (F.state files.new).writing ≡ true }
     ensures same_target { (F.state files.new).target ≡ (F.state files.old).target }
@@ -48,7 +51,8 @@ fn append_pieces<F: Files>(files: &mut F, text: &Patched) -> Result<(), Failed>
     requires is_created { (F.state files.old).writing ≡ true }
     ensures all { OnOk result (FileGains (F.state files.old) (F.state files.new) text.now) }
     ensures prefix { OnErr result (FileGainsPrefix (F.state files.old) (F.state files.new) text.now) }
-    ensures failed { OnErr result (WriteFaultAt (F.state files.old) (F.state files.new) (λ blamed. (F.state files.old).target ≡ Some blamed)) }
+    ensures failed { OnErr result
+        (WriteFaultAt (F.state files.old) (F.state files.new) (λ blamed. (F.state files.old).target ≡ Some blamed)) }
     ensures never_falls { (F.state files.old).write_faults ≤ (F.state files.new).write_faults }
     ensures still_writing { (F.state files.new).writing ≡ true }
     ensures same_target { (F.state files.new).target ≡ (F.state files.old).target }
@@ -70,8 +74,10 @@ fn append_pieces<F: Files>(files: &mut F, text: &Patched) -> Result<(), Failed>
 /// are one write.
 pub fn write_patched<F: Files>(files: &mut F, name: &str, text: &Patched) -> Result<(), Failed>
     ensures whole { OnOk result (IfSome ((F.state files.new).holds name.now) (λ file. file ≡ text.now)) }
-    ensures prefix { OnErr result (StaysOrPrefix ((F.state files.old).holds name.now) ((F.state files.new).holds name.now) text.now) }
-    ensures others { (other : List ℕ) → other ≢ name.now → (F.state files.new).holds other ≡ (F.state files.old).holds other }
+    ensures prefix { OnErr result
+        (StaysOrPrefix ((F.state files.old).holds name.now) ((F.state files.new).holds name.now) text.now) }
+    ensures others { (other : List ℕ) → other ≢ name.now
+        → (F.state files.new).holds other ≡ (F.state files.old).holds other }
     ensures failed { OnErr result (WriteFaultAt (F.state files.old) (F.state files.new) (λ blamed. blamed ≡ name.now)) }
     ensures never_falls { (F.state files.old).write_faults ≤ (F.state files.new).write_faults }
     ensures ended { OnOk result ((F.state files.new).writing ≡ false) }
@@ -87,8 +93,10 @@ pub fn write_patched<F: Files>(files: &mut F, name: &str, text: &Patched) -> Res
 /// Writes a new file whole, as `write_patched` does: a text of which parts are replaced in pieces, another in one.
 pub fn write_text<F: Files>(files: &mut F, name: &str, text: &NewText) -> Result<(), Failed>
     ensures whole { OnOk result (IfSome ((F.state files.new).holds name.now) (λ file. file ≡ text_of text.now)) }
-    ensures prefix { OnErr result (StaysOrPrefix ((F.state files.old).holds name.now) ((F.state files.new).holds name.now) (text_of text.now)) }
-    ensures others { (other : List ℕ) → other ≢ name.now → (F.state files.new).holds other ≡ (F.state files.old).holds other }
+    ensures prefix { OnErr result
+        (StaysOrPrefix ((F.state files.old).holds name.now) ((F.state files.new).holds name.now) (text_of text.now)) }
+    ensures others { (other : List ℕ) → other ≢ name.now
+        → (F.state files.new).holds other ≡ (F.state files.old).holds other }
     ensures failed { OnErr result (WriteFaultAt (F.state files.old) (F.state files.new) (λ blamed. blamed ≡ name.now)) }
     ensures never_falls { (F.state files.old).write_faults ≤ (F.state files.new).write_faults }
     ensures ended { OnOk result ((F.state files.new).writing ≡ false) }

@@ -35,7 +35,8 @@ piece_length (b ∷ c ∷ bs) =
 unfoldable pub some_pieces : ℕ → List ℕ → List (List ℕ)
 some_pieces zero text = []
 some_pieces (suc n) [] = []
-some_pieces (suc n) (b ∷ bs) = take (piece_length (b ∷ bs)) (b ∷ bs) ∷ some_pieces n (drop (piece_length (b ∷ bs)) (b ∷ bs))
+some_pieces (suc n) (b ∷ bs) =
+    take (piece_length (b ∷ bs)) (b ∷ bs) ∷ some_pieces n (drop (piece_length (b ∷ bs)) (b ∷ bs))
 
 -- the pieces of a text
 unfoldable pub pieces : List ℕ → List (List ℕ)

@@ -41,7 +41,8 @@ unfoldable pub some_liberty_pieces : ℕ → List ℕ → List (List ℕ)
 some_liberty_pieces zero text = []
 some_liberty_pieces (suc n) [] = []
 some_liberty_pieces (suc n) (b ∷ bs) =
-    take (liberty_piece_length (b ∷ bs)) (b ∷ bs) ∷ some_liberty_pieces n (drop (liberty_piece_length (b ∷ bs)) (b ∷ bs))
+    take (liberty_piece_length (b ∷ bs)) (b ∷ bs)
+    ∷ some_liberty_pieces n (drop (liberty_piece_length (b ∷ bs)) (b ∷ bs))
 
 -- the pieces of a text
 unfoldable pub liberty_pieces : List ℕ → List (List ℕ)

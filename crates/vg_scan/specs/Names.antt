@@ -60,7 +60,8 @@ pub record IsLastBare (byte : ℕ) (text : List ℕ) (at : ℕ) : Type 0 where
 
 -- a text that gives no name: it is empty, its end is escaped, or a quote stands unescaped in it
 abbrev pub IsBad : List ℕ → Type 0
-IsBad text = (text ≡ []) ⊎ (is_escaped text (length text) ≡ true) ⊎ ((at : ℕ) × (at < length text) × (is_bare 34 text at ≡ true))
+IsBad text =
+    (text ≡ []) ⊎ (is_escaped text (length text) ≡ true) ⊎ ((at : ℕ) × (at < length text) × (is_bare 34 text at ≡ true))
 
 -- a byte that stands for itself where nothing escapes it
 abbrev pub is_ordinary : Chars → ℕ → Bool

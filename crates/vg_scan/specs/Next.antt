@@ -13,4 +13,5 @@ pub record IsNextComment (kind : Comments) (text : List ℕ) (at from to : ℕ) 
   pub within : to ≤ length text
   pub begins : begins_comment kind (drop from text) ≡ true
   pub whole : part text from to ≡ take (first_length kind (drop from text)) (drop from text)
-  pub clear : without_comments kind (drop at text) ≡ part text at from ++ (map blanked (part text from to) ++ without_comments kind (drop to text))
+  pub clear : without_comments kind (drop at text)
+      ≡ part text at from ++ (map blanked (part text from to) ++ without_comments kind (drop to text))

@@ -15,6 +15,7 @@ pub record IsFirstSolid (text : List ℕ) (at : ℕ) : Type 0 where
 
 -- a part of a text, from the first word of a line to the end of a word, has the comments that it has in the text
 abbrev pub PartsKeepComments : Type 0
-PartsKeepComments = (text : List ℕ) (from to : ℕ) → IsFirstSolid (without_comments Spef text) from → from < to → to ≤ length text
+PartsKeepComments =
+    (text : List ℕ) (from to : ℕ) → IsFirstSolid (without_comments Spef text) from → from < to → to ≤ length text
     → is_solid (slice_index (without_comments Spef text) (to - 1)) ≡ true
     → without_comments Spef (part text from to) ≡ part (without_comments Spef text) from to

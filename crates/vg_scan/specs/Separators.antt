@@ -8,4 +8,5 @@ is_separator b = (b == 47) || (b == 46) || (b == 58) || (b == 124)
 -- `[` and `]`, `{` and `}`, `(` and `)`, or `<` and `>`
 abbrev pub is_bus_pair : ℕ → ℕ → Bool
 is_bus_pair left right =
-    ((left == 91) && (right == 93)) || ((left == 123) && (right == 125)) || ((left == 40) && (right == 41)) || ((left == 60) && (right == 62))
+    ((left == 91) && (right == 93)) || ((left == 123) && (right == 125)) || ((left == 40) && (right == 41))
+    || ((left == 60) && (right == 62))

@@ -28,15 +28,18 @@ AreFirstWords bytes at found = lines_of (drop at bytes) ≡ words (part_at bytes
 
 -- so they are where the text ends in a later line
 abbrev pub AreFirstOfParts : List ℕ → ℕ → FoundLine → Type 0
-AreFirstOfParts bytes at found = (m : ℕ) → found.1 ≤ m → lines_of (part bytes at m) ≡ words (part_at bytes found.0) ∷ lines_of (part bytes found.1 m)
+AreFirstOfParts bytes at found =
+    (m : ℕ) → found.1 ≤ m → lines_of (part bytes at m) ≡ words (part_at bytes found.0) ∷ lines_of (part bytes found.1 m)
 
 -- where the text ends in this line, what is left of it is the only one
 abbrev pub IsAloneWhereCut : List ℕ → ℕ → FoundLine → Type 0
-IsAloneWhereCut bytes at found = (m : ℕ) → at < m → m ≤ found.0.to → lines_of (part bytes at m) ≡ words (part bytes at m) ∷ []
+IsAloneWhereCut bytes at found =
+    (m : ℕ) → at < m → m ≤ found.0.to → lines_of (part bytes at m) ≡ words (part bytes at m) ∷ []
 
 -- the line begins at the place, and has an end before the next one
 abbrev pub BeginsAt : List ℕ → ℕ → FoundLine → Type 0
-BeginsAt bytes at found = (found.0.from ≡ at) × (at ≤ found.0.to) × (found.0.to ≤ found.1) × (at < found.1) × (found.1 ≤ length bytes)
+BeginsAt bytes at found =
+    (found.0.from ≡ at) × (at ≤ found.0.to) × (found.0.to ≤ found.1) × (at < found.1) × (found.1 ≤ length bytes)
 
 -- a word, and the rest of the part in which it stands
 abbrev pub FoundWord : Type 0
@@ -53,4 +56,5 @@ IsAfterBlanks bytes within found = (k : ℕ) → within.from ≤ k → k < found
 -- the word stands in the part, and the rest is what follows it
 abbrev pub FollowsWord : Span → FoundWord → Type 0
 FollowsWord within found =
-    (within.from ≤ found.0.from) × (found.0.from < found.0.to) × (found.1.from ≡ found.0.to) × (found.1.from ≤ found.1.to) × (found.1.to ≡ within.to)
+    (within.from ≤ found.0.from) × (found.0.from < found.0.to) × (found.1.from ≡ found.0.to)
+    × (found.1.from ≤ found.1.to) × (found.1.to ≡ within.to)

@@ -16,7 +16,8 @@ fn blanked(byte: u8) -> u8
 /// Puts a space in place of each byte of a part of a text that is no newline.
 pub fn blank(text: &mut [u8], span: Span)
     requires { (span.from ≤ span.to) × (span.to ≤ length text.old) }
-    ensures blank { text.new ≡ take span.from text.old ++ (map blanked (part text.old span.from span.to) ++ drop span.to text.old) }
+    ensures blank { text.new ≡ take span.from text.old
+        ++ (map blanked (part text.old span.from span.to) ++ drop span.to text.old) }
     ensures length { length text.new ≡ length text.old }
 {
     'place: for place in span.from..span.to {

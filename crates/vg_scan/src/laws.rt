@@ -13,7 +13,8 @@ ghost use Rattle.vg_scan.specs.References.{is_reference};
 /// What `print_spef_name` prints is one word, whose canonical name is the name that was printed, and no reference to an
 /// index.
 pub fn reads_names_again()
-    ensures again { (chars : Chars) (name : List ℕ) → IsPrintable name → canonical chars (printed chars name) ≡ Some name }
+    ensures again { (chars : Chars) (name : List ℕ) → IsPrintable name
+        → canonical chars (printed chars name) ≡ Some name }
     ensures word { (chars : Chars) (name : List ℕ) → IsPrintable name → AllPass is_solid (printed chars name) }
     ensures reference { (chars : Chars) (name : List ℕ) → is_reference (printed chars name) ≡ false }
 {}

@@ -42,7 +42,8 @@ fn line_lengths(text: &[u8]) -> (usize, usize)
     requires { 0 < length text.now }
     ensures line { lines text.now ≡ take result.0 text.now ∷ lines (drop result.1 text.now) }
     // The same of the text's parts from its start on.
-    ensures cut { (m : ℕ) → result.1 ≤ m → lines (take m text.now) ≡ take result.0 text.now ∷ lines (take (m - result.1) (drop result.1 text.now)) }
+    ensures cut { (m : ℕ) → result.1 ≤ m
+        → lines (take m text.now) ≡ take result.0 text.now ∷ lines (take (m - result.1) (drop result.1 text.now)) }
     ensures last { (m : ℕ) → 0 < m → m ≤ result.0 → lines (take m text.now) ≡ take m text.now ∷ [] }
     ensures newline { result.1 < length text.now → slice_index text.now (result.1 - 1) ≡ 10 }
     ensures place { (result.0 ≤ result.1) × (0 < result.1) × (result.1 ≤ length text.now) }
@@ -89,7 +90,8 @@ pub fn next_line(bytes: &[u8], at: usize) -> Option<(Span, usize)>
 /// Where the first word of a line begins and ends.
 fn word_in(line: &[u8]) -> Option<(usize, usize)>
     ensures blank { IsNone result ↔ AllPass is_blank line.now }
-    ensures word { MatchOption result (words line.now ≡ []) (λ found. words line.now ≡ part line.now found.0 found.1 ∷ words (drop found.1 line.now)) }
+    ensures word { MatchOption result (words line.now ≡ []) (λ found.
+        words line.now ≡ part line.now found.0 found.1 ∷ words (drop found.1 line.now)) }
     ensures before { MatchOption result ⊤ (λ found. (k : ℕ) → k < found.0 → is_blank (slice_index line.now k) ≡ true) }
     ensures ink { MatchOption result ⊤ (λ found. is_ink (slice_index line.now found.0) ≡ true) }
     ensures alone { MatchOption result ⊤ (λ found. words (take found.1 line.now) ≡ part line.now found.0 found.1 ∷ []) }
@@ -112,7 +114,8 @@ pub fn next_word(bytes: &[u8], within: Span) -> Option<(Span, Span)>
     // Only blanks stand before the word, and it is the only word up to its end.
     ensures before { MatchOption result ⊤ (IsAfterBlanks bytes.now within) }
     ensures ink { MatchOption result ⊤ (λ found. is_ink (slice_index bytes.now found.0.from) ≡ true) }
-    ensures alone { MatchOption result ⊤ (λ found. words (part bytes.now within.from found.0.to) ≡ part bytes.now found.0.from found.0.to ∷ []) }
+    ensures alone { MatchOption result ⊤ (λ found.
+        words (part bytes.now within.from found.0.to) ≡ part bytes.now found.0.from found.0.to ∷ []) }
     ensures place { MatchOption result ⊤ (FollowsWord within) }
 {
     let start = within.from;

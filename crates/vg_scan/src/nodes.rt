@@ -31,8 +31,10 @@ fn parted_name(
     leaf: &[u8],
     chars: &Chars,
 ) -> Result<NodeName, NameFault>
-    ensures name { IfOk result (λ name. node_of_parts (canonical chars.now owner.now) (canonical chars.now leaf.now) ≡ Some name) }
-    ensures bad { result ≡ Err NameFault.Bad → node_of_parts (canonical chars.now owner.now) (canonical chars.now leaf.now) ≡ None }
+    ensures name { IfOk result (λ name.
+        node_of_parts (canonical chars.now owner.now) (canonical chars.now leaf.now) ≡ Some name) }
+    ensures bad { result ≡ Err NameFault.Bad
+        → node_of_parts (canonical chars.now owner.now) (canonical chars.now leaf.now) ≡ None }
 {
     let owner = spef_name(alloc, owner, chars)?;
     let leaf = spef_name(alloc, leaf, chars)?;

@@ -125,8 +125,10 @@ fn last_bare(text: &[u8], byte: u8) -> Option<usize>
 /// The parts of a node's text before and after its last unescaped delimiter. `None`: it has no unescaped one.
 pub fn split_node(text: &[u8], delimiter: u8) -> Option<(Span, Span)>
     ensures place { option_map (λ parts. parts.0.to) result ≡ last_bare delimiter text.now (length text.now) }
-    ensures last { MatchOption result (IsNowhereBare delimiter text.now 0) (λ parts. IsLastBare delimiter text.now parts.0.to) }
-    ensures parts { IfSome result (λ parts. (parts.0.from ≡ 0) × (parts.1.from ≡ parts.0.to + 1) × (parts.1.to ≡ length text.now)) }
+    ensures last { MatchOption result (IsNowhereBare delimiter text.now 0) (λ parts.
+        IsLastBare delimiter text.now parts.0.to) }
+    ensures parts { IfSome result (λ parts. (parts.0.from ≡ 0) × (parts.1.from ≡ parts.0.to + 1)
+        × (parts.1.to ≡ length text.now)) }
 {
     let end = text.len();
     match last_bare(text, delimiter) {

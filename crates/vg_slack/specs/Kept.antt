@@ -46,5 +46,6 @@ AreAllKept p lists = (v : ℕ) → v < length p.tree.nodes → IsKeptOf p lists 
 
 -- those of all nodes are kept, or none
 abbrev pub AreListsOf : Problem → Bool → Lists → Type 0
-AreListsOf p true lists = (length lists.nodes.items ≡ length p.tree.nodes) × ((v : ℕ) → v < length p.tree.nodes → IsKeptAt p v (lists_at lists v))
+AreListsOf p true lists = (length lists.nodes.items ≡ length p.tree.nodes)
+    × ((v : ℕ) → v < length p.tree.nodes → IsKeptAt p v (lists_at lists v))
 AreListsOf p false lists = lists.nodes.items ≡ []

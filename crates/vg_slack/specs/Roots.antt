@@ -25,7 +25,8 @@ pub record IsChosen (p : Problem) (xs : Candidates) (slack : ℤ) (sol : ℕ) : 
 -- one of these was chosen, or none of them is one whose load the driver may charge
 abbrev pub IsChoice : Problem → Candidates → Option Choice → Type 0
 IsChoice p xs choice =
-    MatchOption choice (DrivesNone p (Contains (pairs_of xs))) (λ (choice : Choice). IsChosen p xs choice.slack choice.sol.0)
+    MatchOption choice (DrivesNone p (Contains (pairs_of xs))) (λ (choice : Choice).
+    IsChosen p xs choice.slack choice.sol.0)
 
 -- this was chosen of the candidates of the root: all undominated pairs there, each with a solution in use that comes to
 -- it

@@ -32,7 +32,8 @@ pub(crate) fn start(
 ) -> Result<(), Memory>
     requires none { parts.old.items ≡ [] }
     ensures all { OnOk result (length parts.new.items ≡ length p.now.tree.nodes) }
-    ensures turn { OnOk result ((slots : Slots) → IsTurn (at_slots pool.old slots) [] (at_slots pool.new slots) (all_lists parts.new.items)) }
+    ensures turn { OnOk result ((slots : Slots)
+        → IsTurn (at_slots pool.old slots) [] (at_slots pool.new slots) (all_lists parts.new.items)) }
     ensures begun { OnOk result (AreBegun p.now (made_of arena.now) pool.new parts.new.items) }
 {
     'nodes: for node in 0..p.tree.nodes.len() {
@@ -122,9 +123,12 @@ fn take_in<L: Ledger>(
     requires none { AreEmpty (lists_at lists.old node) }
     ensures tools { AreToolsOf p.now tools.new }
     ensures turn { MatchResult result
-        (λ taken. IsTurn (search pool.old arena.old) (lists_in upper ++ lists_in part) (search pool.new arena.new) (lists_in taken))
+        (λ taken.
+        IsTurn (search pool.old arena.old) (lists_in upper ++ lists_in part)
+        (search pool.new arena.new) (lists_in taken))
         (λ _. IsSwap (search pool.old arena.old) (lists_in upper ++ lists_in part) (search pool.new arena.new) []) }
-    ensures part { IfOk result (λ taken. IsSoFar p.now node (parent_of p.now.tree.nodes node) (made_of arena.new) pool.new taken) }
+    ensures part { IfOk result (λ taken.
+        IsSoFar p.now node (parent_of p.now.tree.nodes node) (made_of arena.new) pool.new taken) }
     ensures nodes { length lists.new.nodes.items ≡ length lists.old.nodes.items }
     ensures others { (v : ℕ) → v ≢ node → lists_at lists.new v ≡ lists_at lists.old v }
     ensures kept { IfOk result (λ _. IsKeptOf p.now lists.new node) }
@@ -166,7 +170,8 @@ fn turn<L: Ledger>(
     ensures waiting { OnOk result (IsWaiting p.now waiting.new (parent_of p.now.tree.nodes node)) }
     ensures fewer { OnOk result (sum waiting.new.last.items < sum waiting.old.last.items) }
     ensures tools { AreToolsOf p.now tools.new }
-    ensures turn { IsTurn (search pool.old arena.old) (all_lists parts.old.items) (search pool.new arena.new) (all_lists parts.new.items) }
+    ensures turn { IsTurn (search pool.old arena.old) (all_lists parts.old.items) (search pool.new arena.new)
+        (all_lists parts.new.items) }
     ensures parts { OnOk result (AreParts p.now waiting.new (made_of arena.new) pool.new parts.new.items) }
     ensures nodes { length lists.new.nodes.items ≡ length lists.old.nodes.items }
     ensures kept { OnOk result (AreKept p.now waiting.new lists.new) }
@@ -198,7 +203,8 @@ pub(crate) fn climb<L: Ledger>(
     requires kept { AreKept p.now waiting.old lists.old }
     ensures root { OnOk result (IsAtRoot p.now waiting.new) }
     ensures tools { AreToolsOf p.now tools.new }
-    ensures turn { IsTurn (search pool.old arena.old) (all_lists parts.old.items) (search pool.new arena.new) (all_lists parts.new.items) }
+    ensures turn { IsTurn (search pool.old arena.old) (all_lists parts.old.items) (search pool.new arena.new)
+        (all_lists parts.new.items) }
     ensures parts { OnOk result (AreParts p.now waiting.new (made_of arena.new) pool.new parts.new.items) }
     ensures nodes { length lists.new.nodes.items ≡ length lists.old.nodes.items }
     ensures kept { OnOk result (AreKept p.now waiting.new lists.new) }

@@ -58,8 +58,10 @@ impl NodeLists {
     ) -> Result<(), Memory>
         requires live { (odd : Bool) → IsLive pool.now (list_of branch.now odd) }
         requires none { AreEmpty (kept_in self.old) }
-        ensures kept { OnOk result ((odd : Bool) → kept_in self.new odd ≡ pairs_of (classes_in pool.now branch.now odd)) }
-        ensures steps { steps.new ≤ steps.old + length (classes_in pool.now branch.now false) + length (classes_in pool.now branch.now true) }
+        ensures kept { OnOk result ((odd : Bool)
+            → kept_in self.new odd ≡ pairs_of (classes_in pool.now branch.now odd)) }
+        ensures steps { steps.new ≤ steps.old + length (classes_in pool.now branch.now false)
+            + length (classes_in pool.now branch.now true) }
     {
         copy(pool, &branch.even, &mut self.even, steps)?;
         copy(pool, &branch.odd, &mut self.odd, steps)
@@ -96,7 +98,8 @@ impl Lists {
         ensures others { (v : ℕ) → v ≢ node → lists_at self.new v ≡ lists_at self.old v }
         ensures kept { OnOk result (node < length self.old.nodes.items → (odd : Bool)
             → lists_at self.new node odd ≡ pairs_of (classes_in pool.now branch.now odd)) }
-        ensures steps { steps.new ≤ steps.old + length (classes_in pool.now branch.now false) + length (classes_in pool.now branch.now true) }
+        ensures steps { steps.new ≤ steps.old + length (classes_in pool.now branch.now false)
+            + length (classes_in pool.now branch.now true) }
     {
         let Some(kept) = self.nodes.get_mut(node) else {
             return Ok(());

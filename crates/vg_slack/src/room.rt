@@ -46,7 +46,8 @@ impl Room {
     ) -> Result<Answer, Memory>
         ensures found { IfOk result (λ answer. IsAnswer p.now answer.found) }
         ensures lists { IfOk result (λ answer. AreListsOf p.now keep answer.lists) }
-        ensures swap { OnOk result (IsSwap (search self.old.pool self.old.arena) [] (search self.new.pool self.new.arena) []) }
+        ensures swap { OnOk result
+            (IsSwap (search self.old.pool self.old.arena) [] (search self.new.pool self.new.arena) []) }
         ensures restored { IsRestored (slots_of self.old.arena) (slots_of self.new.arena) }
     {
         best_with(alloc, p, keep, &mut self.pool, &mut self.arena, steps)

@@ -58,7 +58,8 @@ net_of x k = if k == x.keeper then x.par.name else net_name x.prefix (number_of 
 
 -- past the last repeater there is none
 abbrev pub NO_REPEATER : Repeater
-NO_REPEATER = record { cell = []; input = []; output = []; rep = record { inverts = false; cin = 0; k = 0; r = 0; cost = 0; limit = None } }
+NO_REPEATER =
+    record { cell = []; input = []; output = []; rep = record { inverts = false; cin = 0; k = 0; r = 0; cost = 0; limit = None } }
 
 -- the cell at a node
 abbrev pub repeater_at : Split → ℕ → Repeater
@@ -85,14 +86,17 @@ is_end x w = is_celled x w || not (old_node x w).inner
 abbrev pub name_in : Split → ℕ → ℕ → NodeName
 name_in x k w =
     if is_celled x w then record { owner = cell_name x.prefix (number_of x (stage_from x w)); leaf = pin_in x k w }
-    else (if (old_node x w).inner then record { owner = net_of x k; leaf = (old_node x w).name.leaf } else (old_node x w).name)
+    else
+    (if (old_node x w).inner then
+    record { owner = net_of x k; leaf = (old_node x w).name.leaf } else (old_node x w).name)
 
 -- a note with the cell of a pin, as SPEF has it (IEEE Std 1481-1999)
 abbrev pub with_cell : Chars → List ℕ → List ℕ → List ℕ
 with_cell chars note cell = (if length note == 0 then [] else note ++ codes " ") ++ codes "*D " ++ printed chars cell
 
 abbrev pub note_in : Chars → Split → ℕ → List ℕ
-note_in chars x w = if is_celled x w then with_cell chars (old_node x w).note (repeater_at x w).cell else (old_node x w).note
+note_in chars x w =
+    if is_celled x w then with_cell chars (old_node x w).note (repeater_at x w).cell else (old_node x w).note
 
 abbrev pub node_in : Chars → Split → ℕ → ℕ → ParNode
 node_in chars x k w = record { name = name_in x k w; inner = not (is_end x w); note = note_in chars x w }
@@ -124,7 +128,8 @@ way_in x k w = if is_celled x w then (if w == head x k then Out else In) else (o
 
 -- the connection of a number
 abbrev pub conn_in : Split → ℕ → ℕ → ParConn
-conn_in x k i = record { kind = kind_of x (slice_index (ends_in x k) i); node = i; direction = way_in x k (slice_index (ends_in x k) i) }
+conn_in x k i =
+    record { kind = kind_of x (slice_index (ends_in x k) i); node = i; direction = way_in x k (slice_index (ends_in x k) i) }
 
 -- the capacitance at a node of a stage; that at a cell is behind it
 abbrev pub cap_in : Split → ℕ → ℕ → ℕ

@@ -26,7 +26,8 @@ row_in chars x k w = printed_of chars (node_in chars x k w) (cap_in x k w)
 
 -- an inner node, where the net has this name
 abbrev pub inner_node : Split → List ℕ → ℕ → ParNode
-inner_node x net w = record { name = record { owner = net; leaf = (old_node x w).name.leaf }; inner = true; note = (old_node x w).note }
+inner_node x net w =
+    record { name = record { owner = net; leaf = (old_node x w).name.leaf }; inner = true; note = (old_node x w).note }
 
 abbrev pub inner_row : Chars → Split → List ℕ → ℕ → PrintedNode
 inner_row chars x net w = printed_of chars (inner_node x net w) (total_at x.par.caps (slice_index x.order w))
@@ -54,7 +55,8 @@ abbrev pub inner_to : Split → ℕ → ℕ → List ℕ
 inner_to x k i = kept_to (λ w. not (is_end x w)) x k i
 
 -- the parts of which the net of a stage is put together; `places` has for each of its nodes the number
-pub record AreParts (chars : Chars) (x : Split) (k : ℕ) (name : List ℕ) (nodes : List ParNode) (conns : List ParConn) (caps : List (ℕ × ℕ))
+pub record AreParts (chars : Chars) (x : Split) (k : ℕ) (name : List ℕ) (nodes : List ParNode)
+    (conns : List ParConn) (caps : List (ℕ × ℕ))
     (ress : List (ℕ × ℕ × ℕ)) : Type 0 where
   pub places : List ℕ
   pub numbered : AreNumbered places (nodes_in x k)
@@ -65,7 +67,8 @@ pub record AreParts (chars : Chars) (x : Split) (k : ℕ) (name : List ℕ) (nod
   pub ress_are : ress ≡ map (res_in x k) (drop 1 (members (forest x) (head x k)))
 
 -- the same parts, where nodes are printed and capacitances stand with their nodes
-pub record ArePrintedParts (chars : Chars) (x : Split) (k : ℕ) (places name : List ℕ) (nodes : List PrintedNode) (conns : List ParConn)
+pub record ArePrintedParts (chars : Chars) (x : Split) (k : ℕ) (places name : List ℕ)
+    (nodes : List PrintedNode) (conns : List ParConn)
     (cap_nodes : List ℕ) (ress : List (ℕ × ℕ × ℕ)) : Type 0 where
   pub numbered : AreNumbered places (nodes_in x k)
   pub name_is : name ≡ net_of x k

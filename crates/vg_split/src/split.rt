@@ -140,7 +140,8 @@ impl<'a> Split<'a> {
     pub fn members(&self, stage: usize) -> &[u32]
         requires { stage < length (heads (forest self.now)) }
         ensures are { result.now ≡ members (forest self.now) (head self.now stage) }
-        ensures within { (i : ℕ) → i < length result.now → slice_index result.now i < length self.now.problem.tree.nodes }
+        ensures within { (i : ℕ) → i < length result.now
+            → slice_index result.now i < length self.now.problem.tree.nodes }
     {
         self.stages.nodes[stage].as_slice()
     }
@@ -149,7 +150,8 @@ impl<'a> Split<'a> {
     pub(crate) fn below(&self, stage: usize) -> &[u32]
         requires { stage < length (heads (forest self.now)) }
         ensures are { result.now ≡ drop 1 (members (forest self.now) (head self.now stage)) }
-        ensures within { (i : ℕ) → i < length result.now → slice_index result.now i < length self.now.problem.tree.nodes }
+        ensures within { (i : ℕ) → i < length result.now
+            → slice_index result.now i < length self.now.problem.tree.nodes }
     {
         let members = self.members(stage);
         &members[1..]

@@ -185,7 +185,8 @@ fn join(
     requires few { length nodes.old < 2 ^ 32 }
     requires places { length scratch.old.places.items ≡ length x.now.problem.tree.nodes }
     ensures nodes { OnOk result (nodes.new ≡ nodes.old ++ row_in chars.now x.now stage node ∷ []) }
-    ensures conns { OnOk result (conns.new.items ≡ conns.old.items ++ conn_of x.now stage node (length nodes.old) ∷ []) }
+    ensures conns { OnOk result (conns.new.items
+        ≡ conns.old.items ++ conn_of x.now stage node (length nodes.old) ∷ []) }
     ensures places { scratch.new.places.items ≡ slice_set scratch.old.places.items node (length nodes.old) }
 {
     let number = nodes.len() as u32;
@@ -266,7 +267,8 @@ fn push_inners(
     requires numbered { AreNumbered scratch.old.places.items (ends_in x.now stage) }
     requires name { scratch.old.name.items ≡ net_of x.now stage }
     ensures places { length scratch.new.places.items ≡ length x.now.problem.tree.nodes }
-    ensures nodes { OnOk result (nodes.new ≡ nodes.old ++ map (inner_row chars.now x.now (net_of x.now stage)) (inner_in x.now stage)) }
+    ensures nodes { OnOk result (nodes.new ≡ nodes.old
+        ++ map (inner_row chars.now x.now (net_of x.now stage)) (inner_in x.now stage)) }
     ensures numbered { OnOk result (AreNumbered scratch.new.places.items (nodes_in x.now stage)) }
     ensures name { scratch.new.name.items ≡ net_of x.now stage }
 {
@@ -325,7 +327,8 @@ fn push_ress(
     requires places { length places.now ≡ length x.now.problem.tree.nodes }
     requires numbered { AreNumbered places.now (nodes_in x.now stage) }
     requires none { ress.old.items ≡ [] }
-    ensures { OnOk result (ress.new.items ≡ map (res_in x.now stage) (drop 1 (members (forest x.now) (head x.now stage)))) }
+    ensures { OnOk result (ress.new.items
+        ≡ map (res_in x.now stage) (drop 1 (members (forest x.now) (head x.now stage)))) }
 {
     'node: for node in x.below(stage) {
         let at = *node as usize;
@@ -339,7 +342,8 @@ fn push_ress(
 fn make_parts(x: &Split<'_>, stage: usize, chars: &Chars, room: &mut Room) -> Result<(), Memory>
     requires stage { stage < length (heads (forest x.now)) }
     requires places { length room.old.scratch.places.items ≡ length x.now.problem.tree.nodes }
-    ensures parts { OnOk result (ArePrintedParts chars.now x.now stage room.new.scratch.places.items room.new.scratch.name.items room.new.nodes
+    ensures parts { OnOk result
+        (ArePrintedParts chars.now x.now stage room.new.scratch.places.items room.new.scratch.name.items room.new.nodes
         room.new.conns.items room.new.cap_nodes.items room.new.ress.items) }
     ensures places { length room.new.scratch.places.items ≡ length x.now.problem.tree.nodes }
 {

@@ -51,8 +51,10 @@ impl Stages {
         requires some { 0 < node }
         requires node { node < length p.now.tree.nodes }
         requires stages { (cells : List (Option ℕ)) × AreStagesTo (forest_of p.now cells) node node self.old }
-        ensures above { IfOk result (λ above. (cells : List (Option ℕ)) → AreStagesTo (forest_of p.now cells) node node self.old
-            → IsInStage (forest_of p.now cells) (heads_to (forest_of p.now cells) node) above (parent_of p.now.tree.nodes node)) }
+        ensures above { IfOk result (λ above. (cells : List (Option ℕ))
+            → AreStagesTo (forest_of p.now cells) node node self.old
+            → IsInStage (forest_of p.now cells) (heads_to (forest_of p.now cells) node) above
+            (parent_of p.now.tree.nodes node)) }
         ensures stages { OnOk result ((cells : List (Option ℕ)) → AreStagesTo (forest_of p.now cells) node node self.old
             → AreStagesTo (forest_of p.now cells) node (node + 1) self.new) }
     {
@@ -65,7 +67,8 @@ impl Stages {
     fn begin(&mut self, alloc: Global, node: usize) -> Result<(), Memory>
         requires node { node < 2 ^ 32 }
         requires stages { (f : Forest) × AreStagesTo f node (node + 1) self.old }
-        ensures { OnOk result ((f : Forest) → Falls f.parent → is_head f.cell node ≡ true → AreStagesTo f node (node + 1) self.old
+        ensures { OnOk result ((f : Forest) → Falls f.parent → is_head f.cell node ≡ true
+            → AreStagesTo f node (node + 1) self.old
             → AreStagesTo f (node + 1) (node + 1) self.new) }
     {
         let number = self.nodes.len() as u32;

@@ -47,7 +47,8 @@ StaysOrEmpty old new = (new ≡ old) ⊎ (new ≡ Some [])
 
 -- a file stays, or holds some first bytes of these, where it is told
 abbrev pub StaysOrPrefix : Option (List ℕ) → Option (List ℕ) → List ℕ → Type 0
-StaysOrPrefix old new bytes = (new ≡ old) ⊎ IfSome new (λ file. (count : ℕ) × (count ≤ length bytes) × (file ≡ take count bytes))
+StaysOrPrefix old new bytes =
+    (new ≡ old) ⊎ IfSome new (λ file. (count : ℕ) × (count ≤ length bytes) × (file ≡ take count bytes))
 
 -- writing failed: the count of write faults rose, and this holds of the file that is blamed, where it is told
 abbrev pub WriteFaultAt : FilesState → FilesState → (List ℕ → Type 0) → Type 0

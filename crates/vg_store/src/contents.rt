@@ -17,7 +17,8 @@ pub fn put_empty(
     ensures named { IfOk result (λ number. named files.new (Some number) ≡ Some name.now) }
     ensures stands { IfOk result (λ number. number < index_map_len files.new) }
     ensures longer { index_map_len files.old ≤ index_map_len files.new }
-    ensures same_names { (number : Option ℕ) → ((n : ℕ) → number ≡ Some n → n < index_map_len files.old) → named files.new number ≡ named files.old number }
+    ensures same_names { (number : Option ℕ) → ((n : ℕ) → number ≡ Some n → n < index_map_len files.old)
+        → named files.new number ≡ named files.old number }
     ensures failed { OnErr result ((bytes_of files.old name.now ≡ None) × (files.new.entries ≡ files.old.entries)) }
 {
     if let Some(number) = files.get_index_of(name) {
@@ -33,7 +34,8 @@ pub fn put_empty(
 fn empty_at(files: &mut IndexMap<String, Vec<u8>>, number: usize)
     requires stands { number < index_map_len files.old }
     ensures empty { (name : List ℕ) → named files.old (Some number) ≡ Some name → bytes_of files.new name ≡ Some [] }
-    ensures others { (other : List ℕ) → named files.old (Some number) ≢ Some other → bytes_of files.new other ≡ bytes_of files.old other }
+    ensures others { (other : List ℕ) → named files.old (Some number) ≢ Some other
+        → bytes_of files.new other ≡ bytes_of files.old other }
     ensures same_names { (other : Option ℕ) → named files.new other ≡ named files.old other }
     ensures same_length { index_map_len files.new ≡ index_map_len files.old }
 {
@@ -51,8 +53,10 @@ pub fn append_at(
     bytes: &[u8],
 ) -> Result<(), AllocError>
     requires stands { number < index_map_len files.old }
-    ensures gained { OnOk result ((name : List ℕ) → named files.old (Some number) ≡ Some name → bytes_of files.new name ≡ option_map (λ held. held ++ bytes.now) (bytes_of files.old name)) }
-    ensures others { (other : List ℕ) → named files.old (Some number) ≢ Some other → bytes_of files.new other ≡ bytes_of files.old other }
+    ensures gained { OnOk result ((name : List ℕ) → named files.old (Some number) ≡ Some name
+        → bytes_of files.new name ≡ option_map (λ held. held ++ bytes.now) (bytes_of files.old name)) }
+    ensures others { (other : List ℕ) → named files.old (Some number) ≢ Some other
+        → bytes_of files.new other ≡ bytes_of files.old other }
     ensures stays { OnErr result ((name : List ℕ) → bytes_of files.new name ≡ bytes_of files.old name) }
     ensures same_names { (other : Option ℕ) → named files.new other ≡ named files.old other }
     ensures same_length { index_map_len files.new ≡ index_map_len files.old }
@@ -85,7 +89,8 @@ pub fn forget(files: &mut IndexMap<String, Told>, name: &str)
 fn forget_at(files: &mut IndexMap<String, Told>, number: usize)
     requires stands { number < index_map_len files.old }
     ensures forgotten { (name : List ℕ) → named files.old (Some number) ≡ Some name → told_of files.new name ≡ None }
-    ensures others { (other : List ℕ) → named files.old (Some number) ≢ Some other → told_of files.new other ≡ told_of files.old other }
+    ensures others { (other : List ℕ) → named files.old (Some number) ≢ Some other
+        → told_of files.new other ≡ told_of files.old other }
     ensures same_names { (other : Option ℕ) → named files.new other ≡ named files.old other }
     ensures same_length { index_map_len files.new ≡ index_map_len files.old }
 {

@@ -30,14 +30,17 @@ pub trait Files {
         requires some_room { 0 < length buf.old }
         requires is_open { (state self.old).reading ≡ true }
         requires countable { (state self.old).taken + length buf.old < 2 ^ 64 }
-        ensures count { IfOk result (λ count. (count ≤ length buf.old) × ((state self.new).taken ≡ (state self.old).taken + count)) }
-        ensures bytes { IfOk result (λ count. IfSome (read_file (state self.old)) (λ file. IsNextPiece file (state self.old).taken count buf.new)) }
+        ensures count { IfOk result (λ count. (count ≤ length buf.old)
+            × ((state self.new).taken ≡ (state self.old).taken + count)) }
+        ensures bytes { IfOk result (λ count.
+            IfSome (read_file (state self.old)) (λ file. IsNextPiece file (state self.old).taken count buf.new)) }
         ensures unmoved { OnErr result ((state self.new).taken ≡ (state self.old).taken) }
         ensures still_open { (state self.new).reading ≡ true }
         ensures same_source { (state self.new).source ≡ (state self.old).source }
         ensures kept { (file : List ℕ) → (state self.new).holds file ≡ (state self.old).holds file }
         ensures cause { HasCause (state self.old).read_faults (state self.new).read_faults result }
-        ensures blamed { OnErr result (IfSome (state self.new).read_blame (λ blamed. (state self.old).source ≡ Some blamed)) }
+        ensures blamed { OnErr result
+            (IfSome (state self.new).read_blame (λ blamed. (state self.old).source ≡ Some blamed)) }
         ensures same_blame { OnOk result ((state self.new).read_blame ≡ (state self.old).read_blame) }
         ensures writing { KeepsWriting (state self.old) (state self.new) };
 
@@ -46,8 +49,10 @@ pub trait Files {
     fn create(&mut self, name: &str) -> Result<(), Failed>
         ensures begun { OnOk result (BeginsWriting name.now (state self.new)) }
         ensures shut { OnErr result ((state self.new).writing ≡ false) }
-        ensures stays { OnErr result (StaysOrEmpty ((state self.old).holds name.now) ((state self.new).holds name.now)) }
-        ensures others { (other : List ℕ) → other ≢ name.now → (state self.new).holds other ≡ (state self.old).holds other }
+        ensures stays { OnErr result
+            (StaysOrEmpty ((state self.old).holds name.now) ((state self.new).holds name.now)) }
+        ensures others { (other : List ℕ) → other ≢ name.now
+            → (state self.new).holds other ≡ (state self.old).holds other }
         ensures cause { HasCause (state self.old).write_faults (state self.new).write_faults result }
         ensures blamed { OnErr result (IfSome (state self.new).write_blame (λ blamed. blamed ≡ name.now)) }
         ensures same_blame { OnOk result ((state self.new).write_blame ≡ (state self.old).write_blame) }
@@ -63,7 +68,8 @@ pub trait Files {
         ensures still_writing { (state self.new).writing ≡ true }
         ensures same_target { (state self.new).target ≡ (state self.old).target }
         ensures cause { HasCause (state self.old).write_faults (state self.new).write_faults result }
-        ensures blamed { OnErr result (IfSome (state self.new).write_blame (λ blamed. (state self.old).target ≡ Some blamed)) }
+        ensures blamed { OnErr result
+            (IfSome (state self.new).write_blame (λ blamed. (state self.old).target ≡ Some blamed)) }
         ensures same_blame { OnOk result ((state self.new).write_blame ≡ (state self.old).write_blame) }
         ensures reading { KeepsReading (state self.old) (state self.new) };
 
@@ -74,7 +80,8 @@ pub trait Files {
         ensures same_target { (state self.new).target ≡ (state self.old).target }
         ensures kept { (file : List ℕ) → (state self.new).holds file ≡ (state self.old).holds file }
         ensures cause { HasCause (state self.old).write_faults (state self.new).write_faults result }
-        ensures blamed { OnErr result (IfSome (state self.new).write_blame (λ blamed. (state self.old).target ≡ Some blamed)) }
+        ensures blamed { OnErr result
+            (IfSome (state self.new).write_blame (λ blamed. (state self.old).target ≡ Some blamed)) }
         ensures same_blame { OnOk result ((state self.new).write_blame ≡ (state self.old).write_blame) }
         ensures reading { KeepsReading (state self.old) (state self.new) };
 }

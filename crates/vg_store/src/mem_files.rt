@@ -93,7 +93,8 @@ impl MemFiles {
 
     /// The bytes of the file of this name, and `None` exactly where there is none. It takes no memory.
     pub fn get(&self, name: &str) -> Option<&[u8]>
-        ensures { MatchOption result (held self.now name.now ≡ None) (λ bytes. held self.now name.now ≡ Some bytes.now) }
+        ensures { MatchOption result (held self.now name.now ≡ None) (λ bytes.
+            held self.now name.now ≡ Some bytes.now) }
     {
         match self.files.get(name) {
             Some(file) => Some(file.as_slice()),
@@ -133,7 +134,8 @@ impl Files for MemFiles {
         ensures writing { KeepsWriting (state_of self.old) (state_of self.new) }
 
         ensures told { OnOk result (source_of self.new ≡ Some name.now) }
-        ensures failed { IsErr result ↔ (Contains (fails_of self.old) (calls_of self.old) ⊎ (held self.old name.now ≡ None)) }
+        ensures failed { IsErr result
+            ↔ (Contains (fails_of self.old) (calls_of self.old) ⊎ (held self.old name.now ≡ None)) }
         ensures told_blame { OnErr result (IsSome (held self.old name.now) → read_blame_of self.new ≡ Some name.now) }
         ensures counted { calls_of self.new ≡ min (calls_of self.old + 1) (2 ^ 64 - 1) }
         ensures ok_faults { OnOk result (read_faults_of self.new ≡ read_faults_of self.old) }
@@ -159,8 +161,10 @@ impl Files for MemFiles {
         requires some_room { 0 < length buf.old }
         requires is_open { is_reading self.old ≡ true }
         requires countable { taken_of self.old + length buf.old < 2 ^ 64 }
-        ensures count { IfOk result (λ count. (count ≤ length buf.old) × (taken_of self.new ≡ taken_of self.old + count)) }
-        ensures bytes { IfOk result (λ count. IfSome (read_file (state_of self.old)) (λ file. IsNextPiece file (taken_of self.old) count buf.new)) }
+        ensures count { IfOk result (λ count. (count ≤ length buf.old)
+            × (taken_of self.new ≡ taken_of self.old + count)) }
+        ensures bytes { IfOk result (λ count.
+            IfSome (read_file (state_of self.old)) (λ file. IsNextPiece file (taken_of self.old) count buf.new)) }
         ensures unmoved { OnErr result (taken_of self.new ≡ taken_of self.old) }
         ensures still_open { is_reading self.new ≡ true }
         ensures same_source { source_of self.new ≡ source_of self.old }
@@ -171,7 +175,8 @@ impl Files for MemFiles {
         ensures writing { KeepsWriting (state_of self.old) (state_of self.new) }
 
         ensures listed { IsErr result ↔ Contains (fails_of self.old) (calls_of self.old) }
-        ensures moved { IfOk result (λ count. count ≡ min (min (chunk_of self.old) (length buf.old)) (length (left_of self.old))) }
+        ensures moved { IfOk result (λ count. count
+            ≡ min (min (chunk_of self.old) (length buf.old)) (length (left_of self.old))) }
         ensures untouched { OnErr result (buf.new ≡ buf.old) }
         ensures counted { calls_of self.new ≡ min (calls_of self.old + 1) (2 ^ 64 - 1) }
         ensures ok_faults { OnOk result (read_faults_of self.new ≡ read_faults_of self.old) }
@@ -208,7 +213,8 @@ impl Files for MemFiles {
         ensures kept { OnErr result ((file : List ℕ) → held self.new file ≡ held self.old file) }
         ensures same_target { OnErr result (target_of self.new ≡ target_of self.old) }
         ensures listed { Contains (fails_of self.old) (calls_of self.old) → IsErr result }
-        ensures failed { OnErr result (Contains (fails_of self.old) (calls_of self.old) ⊎ (held self.old name.now ≡ None)) }
+        ensures failed { OnErr result (Contains (fails_of self.old) (calls_of self.old)
+            ⊎ (held self.old name.now ≡ None)) }
         ensures told_blame { OnErr result (IsSome (held self.old name.now) → write_blame_of self.new ≡ Some name.now) }
         ensures counted { calls_of self.new ≡ min (calls_of self.old + 1) (2 ^ 64 - 1) }
         ensures ok_faults { OnOk result (write_faults_of self.new ≡ write_faults_of self.old) }
@@ -236,7 +242,8 @@ impl Files for MemFiles {
     fn put(&mut self, bytes: &[u8]) -> Result<usize, Failed>
         requires is_created { is_writing self.old ≡ true }
         ensures bound { IfOk result (λ count. (count ≤ length bytes.now) × (0 < length bytes.now → 0 < count)) }
-        ensures gained { IfOk result (λ count. FileGains (state_of self.old) (state_of self.new) (take count bytes.now)) }
+        ensures gained { IfOk result (λ count.
+            FileGains (state_of self.old) (state_of self.new) (take count bytes.now)) }
         ensures prefix { OnErr result (FileGainsPrefix (state_of self.old) (state_of self.new) bytes.now) }
         ensures still_writing { is_writing self.new ≡ true }
         ensures same_target { target_of self.new ≡ target_of self.old }
@@ -248,7 +255,8 @@ impl Files for MemFiles {
         ensures moved { IfOk result (λ count. count ≡ min (chunk_of self.old) (length bytes.now)) }
         ensures kept { OnErr result ((file : List ℕ) → held self.new file ≡ held self.old file) }
         ensures listed { Contains (fails_of self.old) (calls_of self.old) → IsErr result }
-        ensures failed { OnErr result (Contains (fails_of self.old) (calls_of self.old) ⊎ (room_of self.old < min (chunk_of self.old) (length bytes.now))) }
+        ensures failed { OnErr result (Contains (fails_of self.old) (calls_of self.old)
+            ⊎ (room_of self.old < min (chunk_of self.old) (length bytes.now))) }
         ensures told_blame { OnErr result (write_blame_of self.new ≡ target_of self.old) }
         ensures counted { calls_of self.new ≡ min (calls_of self.old + 1) (2 ^ 64 - 1) }
         ensures ok_faults { OnOk result (write_faults_of self.new ≡ write_faults_of self.old) }

@@ -69,7 +69,8 @@ impl Out for MemOut {
         ensures moved { IfOk result (λ count. count ≡ min (chunk_of self.old) (length bytes.now)) }
         ensures nothing { OnErr result (written_to self.new ≡ written_to self.old) }
         ensures listed { Contains (fails_of self.old) (calls_of self.old) → IsErr result }
-        ensures failed { OnErr result (Contains (fails_of self.old) (calls_of self.old) ⊎ (room_of self.old < min (chunk_of self.old) (length bytes.now))) }
+        ensures failed { OnErr result (Contains (fails_of self.old) (calls_of self.old)
+            ⊎ (room_of self.old < min (chunk_of self.old) (length bytes.now))) }
         ensures counted { calls_of self.new ≡ min (calls_of self.old + 1) (2 ^ 64 - 1) }
         ensures ok_faults { OnOk result (faults_of self.new ≡ faults_of self.old) }
         ensures err_faults { OnErr result (faults_of self.new ≡ min (faults_of self.old + 1) (2 ^ 64 - 1)) }

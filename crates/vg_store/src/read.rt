@@ -57,7 +57,8 @@ fn take_piece<F: Files>(
     ensures more { OnOk result (HasRead (F.state files.new) bytes.new.items) }
     ensures count { IfOk result (λ count. vec_len bytes.new ≡ vec_len bytes.old + count) }
     ensures bound { OnOk result (vec_len bytes.new ≤ 2 ^ 28 + 1) }
-    ensures ended { IfOk result (λ count. count ≡ 0 → IfSome (read_file (F.state files.old)) (λ file. bytes.new.items ≡ file)) }
+    ensures ended { IfOk result (λ count. count ≡ 0
+        → IfSome (read_file (F.state files.old)) (λ file. bytes.new.items ≡ file)) }
     ensures failed { IsErrOf result ReadAll.Failed → FailsOnOpenFile (F.state files.old) (F.state files.new) }
     ensures never_too_long { IsErrOf result ReadAll.TooLong → ⊥ }
     ensures never_falls { (F.state files.old).read_faults ≤ (F.state files.new).read_faults }
@@ -78,7 +79,8 @@ fn take_pieces<F: Files>(alloc: Global, files: &mut F, buf: &mut [u8]) -> Result
     requires some_room { 0 < length buf.old }
     requires begun { HasRead (F.state files.old) [] }
     ensures whole { IfOk result (λ bytes. IfSome (read_file (F.state files.old)) (λ file. bytes.items ≡ file)) }
-    ensures all_taken { IfOk result (λ bytes. (length bytes.items ≡ (F.state files.new).taken) × ((F.state files.new).taken ≤ 2 ^ 28)) }
+    ensures all_taken { IfOk result (λ bytes. (length bytes.items ≡ (F.state files.new).taken)
+        × ((F.state files.new).taken ≤ 2 ^ 28)) }
     ensures too_long { IsErrOf result ReadAll.TooLong → IsTooLong (F.state files.new) (read_file (F.state files.old)) }
     ensures failed { IsErrOf result ReadAll.Failed → FailsOnOpenFile (F.state files.old) (F.state files.new) }
     ensures never_falls { (F.state files.old).read_faults ≤ (F.state files.new).read_faults }
@@ -110,9 +112,12 @@ fn make_buffer(alloc: Global) -> Result<Vec<u8>, AllocError>
 /// - `Memory`: there was no room for the bytes.
 pub fn read_all<F: Files>(alloc: Global, files: &mut F, name: &str) -> Result<Vec<u8>, ReadAll>
     ensures whole { IfOk result (λ bytes. IfSome ((F.state files.old).holds name.now) (λ file. bytes.items ≡ file)) }
-    ensures all_taken { IfOk result (λ bytes. (length bytes.items ≡ (F.state files.new).taken) × ((F.state files.new).taken ≤ 2 ^ 28)) }
-    ensures too_long { IsErrOf result ReadAll.TooLong → IsTooLong (F.state files.new) ((F.state files.old).holds name.now) }
-    ensures failed { IsErrOf result ReadAll.Failed → ReadFaultAt (F.state files.old) (F.state files.new) (λ blamed. blamed ≡ name.now) }
+    ensures all_taken { IfOk result (λ bytes. (length bytes.items ≡ (F.state files.new).taken)
+        × ((F.state files.new).taken ≤ 2 ^ 28)) }
+    ensures too_long { IsErrOf result ReadAll.TooLong
+        → IsTooLong (F.state files.new) ((F.state files.old).holds name.now) }
+    ensures failed { IsErrOf result ReadAll.Failed
+        → ReadFaultAt (F.state files.old) (F.state files.new) (λ blamed. blamed ≡ name.now) }
     ensures never_falls { (F.state files.old).read_faults ≤ (F.state files.new).read_faults }
     ensures kept { (file : List ℕ) → (F.state files.new).holds file ≡ (F.state files.old).holds file }
     ensures writing { KeepsWriting (F.state files.old) (F.state files.new) }

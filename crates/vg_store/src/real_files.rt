@@ -87,7 +87,8 @@ impl<R: std::rt::Files> Files for RealFiles<'_, R> {
         ensures same_blame { OnOk result (◌≡◌ {A = Option (List ℕ)} None None) }
 
         // What the system's file is known to have left shrank by the bytes that were taken, and after a fault by none.
-        ensures reached { IfSome self.old.reader (λ a. IfSome self.new.reader (λ b. ReadConsumes (R.File.remaining a) (R.File.remaining b) result buf.new)) }
+        ensures reached { IfSome self.old.reader (λ a.
+            IfSome self.new.reader (λ b. ReadConsumes (R.File.remaining a) (R.File.remaining b) result buf.new)) }
     {
         let Some(file) = &mut self.reader else {
             unreachable!();
@@ -128,13 +129,15 @@ impl<R: std::rt::Files> Files for RealFiles<'_, R> {
         ensures reading { KeepsReading (state_of self.old) (state_of self.new) }
 
         // Neither bytes nor names are told, so these clauses of the trait claim nothing.
-        ensures gained { IfOk result (λ count. FileGains (state_of self.old) (state_of self.new) (take count bytes.now)) }
+        ensures gained { IfOk result (λ count.
+            FileGains (state_of self.old) (state_of self.new) (take count bytes.now)) }
         ensures prefix { OnErr result (FileGainsPrefix (state_of self.old) (state_of self.new) bytes.now) }
         ensures blamed { OnErr result (Unit {0}) }
         ensures same_blame { OnOk result (◌≡◌ {A = Option (List ℕ)} None None) }
 
         // What the system's file is known to hold grew by the bytes that were taken, and after a fault by none.
-        ensures reached { IfSome self.old.writer (λ a. IfSome self.new.writer (λ b. WriteAppends (R.File.contents a) (R.File.contents b) result bytes.now)) }
+        ensures reached { IfSome self.old.writer (λ a.
+            IfSome self.new.writer (λ b. WriteAppends (R.File.contents a) (R.File.contents b) result bytes.now)) }
     {
         if bytes.is_empty() {
             return Ok(0);

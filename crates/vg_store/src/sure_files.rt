@@ -108,14 +108,17 @@ impl Files for SureFiles {
         requires some_room { 0 < length buf.old }
         requires is_open { (state_of self.old).reading ≡ true }
         requires countable { (state_of self.old).taken + length buf.old < 2 ^ 64 }
-        ensures count { IfOk result (λ count. (count ≤ length buf.old) × ((state_of self.new).taken ≡ (state_of self.old).taken + count)) }
-        ensures bytes { IfOk result (λ count. IfSome (read_file (state_of self.old)) (λ file. IsNextPiece file (state_of self.old).taken count buf.new)) }
+        ensures count { IfOk result (λ count. (count ≤ length buf.old)
+            × ((state_of self.new).taken ≡ (state_of self.old).taken + count)) }
+        ensures bytes { IfOk result (λ count.
+            IfSome (read_file (state_of self.old)) (λ file. IsNextPiece file (state_of self.old).taken count buf.new)) }
         ensures unmoved { OnErr result ((state_of self.new).taken ≡ (state_of self.old).taken) }
         ensures still_open { (state_of self.new).reading ≡ true }
         ensures same_source { (state_of self.new).source ≡ (state_of self.old).source }
         ensures kept { (file : List ℕ) → told_in self.new file ≡ told_in self.old file }
         ensures cause { HasCause (state_of self.old).read_faults (state_of self.new).read_faults result }
-        ensures blamed { OnErr result (IfSome (state_of self.new).read_blame (λ blamed. (state_of self.old).source ≡ Some blamed)) }
+        ensures blamed { OnErr result
+            (IfSome (state_of self.new).read_blame (λ blamed. (state_of self.old).source ≡ Some blamed)) }
         ensures same_blame { OnOk result ((state_of self.new).read_blame ≡ (state_of self.old).read_blame) }
         ensures writing { KeepsWriting (state_of self.old) (state_of self.new) }
 
@@ -152,12 +155,14 @@ impl Files for SureFiles {
     fn put(&mut self, bytes: &[u8]) -> Result<usize, Failed>
         requires is_created { (state_of self.old).writing ≡ true }
         ensures bound { IfOk result (λ count. (count ≤ length bytes.now) × (0 < length bytes.now → 0 < count)) }
-        ensures gained { IfOk result (λ count. FileGains (state_of self.old) (state_of self.new) (take count bytes.now)) }
+        ensures gained { IfOk result (λ count.
+            FileGains (state_of self.old) (state_of self.new) (take count bytes.now)) }
         ensures prefix { OnErr result (FileGainsPrefix (state_of self.old) (state_of self.new) bytes.now) }
         ensures still_writing { (state_of self.new).writing ≡ true }
         ensures same_target { (state_of self.new).target ≡ (state_of self.old).target }
         ensures cause { HasCause (state_of self.old).write_faults (state_of self.new).write_faults result }
-        ensures blamed { OnErr result (IfSome (state_of self.new).write_blame (λ blamed. (state_of self.old).target ≡ Some blamed)) }
+        ensures blamed { OnErr result
+            (IfSome (state_of self.new).write_blame (λ blamed. (state_of self.old).target ≡ Some blamed)) }
         ensures same_blame { OnOk result ((state_of self.new).write_blame ≡ (state_of self.old).write_blame) }
         ensures reading { KeepsReading (state_of self.old) (state_of self.new) }
 
@@ -175,7 +180,8 @@ impl Files for SureFiles {
         ensures same_target { (state_of self.new).target ≡ (state_of self.old).target }
         ensures kept { (file : List ℕ) → told_in self.new file ≡ told_in self.old file }
         ensures cause { HasCause (state_of self.old).write_faults (state_of self.new).write_faults result }
-        ensures blamed { OnErr result (IfSome (state_of self.new).write_blame (λ blamed. (state_of self.old).target ≡ Some blamed)) }
+        ensures blamed { OnErr result
+            (IfSome (state_of self.new).write_blame (λ blamed. (state_of self.old).target ≡ Some blamed)) }
         ensures same_blame { OnOk result ((state_of self.new).write_blame ≡ (state_of self.old).write_blame) }
         ensures reading { KeepsReading (state_of self.old) (state_of self.new) }
 

@@ -12,7 +12,8 @@ pub fn append<F: Files>(files: &mut F, bytes: &[u8]) -> Result<(), Failed>
     requires is_created { (F.state files.old).writing ≡ true }
     ensures all { OnOk result (FileGains (F.state files.old) (F.state files.new) bytes.now) }
     ensures prefix { OnErr result (FileGainsPrefix (F.state files.old) (F.state files.new) bytes.now) }
-    ensures failed { OnErr result (WriteFaultAt (F.state files.old) (F.state files.new) (λ blamed. (F.state files.old).target ≡ Some blamed)) }
+    ensures failed { OnErr result
+        (WriteFaultAt (F.state files.old) (F.state files.new) (λ blamed. (F.state files.old).target ≡ Some blamed)) }
     ensures never_falls { (F.state files.old).write_faults ≤ (F.state files.new).write_faults }
     ensures still_writing { (F.state files.new).writing ≡ true }
     ensures same_target { (F.state files.new).target ≡ (F.state files.old).target }
@@ -31,8 +32,10 @@ pub fn append<F: Files>(files: &mut F, bytes: &[u8]) -> Result<(), Failed>
 /// It takes no memory.
 pub fn write_file<F: Files>(files: &mut F, name: &str, bytes: &[u8]) -> Result<(), Failed>
     ensures whole { OnOk result (IfSome ((F.state files.new).holds name.now) (λ file. file ≡ bytes.now)) }
-    ensures prefix { OnErr result (StaysOrPrefix ((F.state files.old).holds name.now) ((F.state files.new).holds name.now) bytes.now) }
-    ensures others { (other : List ℕ) → other ≢ name.now → (F.state files.new).holds other ≡ (F.state files.old).holds other }
+    ensures prefix { OnErr result
+        (StaysOrPrefix ((F.state files.old).holds name.now) ((F.state files.new).holds name.now) bytes.now) }
+    ensures others { (other : List ℕ) → other ≢ name.now
+        → (F.state files.new).holds other ≡ (F.state files.old).holds other }
     ensures failed { OnErr result (WriteFaultAt (F.state files.old) (F.state files.new) (λ blamed. blamed ≡ name.now)) }
     ensures never_falls { (F.state files.old).write_faults ≤ (F.state files.new).write_faults }
     ensures ended { OnOk result ((F.state files.new).writing ≡ false) }

@@ -37,7 +37,8 @@ pub record Writes (p : Problem) (names : NetNames) (text : List ℕ) (cert : Cer
 -- valid one. Whoever made it, a valid one shows that its placement is best, with its slack, or, where it has none, that
 -- no placement is good.
 pub data IsJudged (p : Problem) (names : NetNames) (text : List ℕ) (valid : Bool) (line : List ℕ) : Type 0 where
-  told_fault : (fault : LineFault CertKind) → IsFaultIn p names text fault → valid ≡ false → line ≡ fault_line names fault
+  told_fault : (fault : LineFault CertKind) → IsFaultIn p names text fault → valid ≡ false
+      → line ≡ fault_line names fault
       → IsJudged p names text valid line
   told_verdict : (cert : Certificate) → Writes p names text cert → (verdict : Verdict) → IsVerdict p cert verdict
       → (verdict ≡ Yes → IsShown p cert.slack cert.placement.cells) → valid ≡ is_yes verdict

@@ -17,7 +17,8 @@ use Rattle.vg_verdict.specs.Lines.{names_for, verdict_line}
 
 -- the names of a net of a design
 abbrev pub names_in : Design → List ℕ → PosedNet → NetNames
-names_in d name posed = names_for name (cells_of d.library.repeaters) (names_of posed.ready.pinned.net.par posed.ready.order)
+names_in d name posed =
+    names_for name (cells_of d.library.repeaters) (names_of posed.ready.pinned.net.par posed.ready.order)
 
 -- the names of each posed net of a design can stand in a certificate
 abbrev pub AreFitNames : Design → Type 0
@@ -30,7 +31,8 @@ NamesFit = (texts : Texts) (d : Design) (name : List ℕ) (posed : PosedNet) →
 
 -- what is written of a best placement is found to be valid, with the slack that was found
 abbrev pub WrittenAreValid : Type 0
-WrittenAreValid = (p : Problem) (names : NetNames) (found : Option Best) (text : List ℕ) (valid : Bool) (line : List ℕ) → AreNamesOf p names
+WrittenAreValid = (p : Problem) (names : NetNames) (found : Option Best) (text : List ℕ) (valid : Bool) (line : List ℕ)
+    → AreNamesOf p names
     → IsCertificateOf p names found text → IsJudged p names text valid line
     → (valid ≡ true) × (line ≡ verdict_line names (option_map (λ best. best.slack) found) Yes)
 
@@ -53,5 +55,6 @@ pub record ShowsBest (p : Problem) (names : NetNames) (text line : List ℕ) : T
 
 -- what is called a valid certificate shows that its placement is best, or that none is good, whoever made it
 abbrev pub ValidAreBest : Type 0
-ValidAreBest = (p : Problem) (names : NetNames) (text : List ℕ) (valid : Bool) (line : List ℕ) → IsJudged p names text valid line
+ValidAreBest =
+    (p : Problem) (names : NetNames) (text : List ℕ) (valid : Bool) (line : List ℕ) → IsJudged p names text valid line
     → IsCalledValid names valid line → ShowsBest p names text line

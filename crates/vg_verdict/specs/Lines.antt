@@ -38,9 +38,11 @@ abbrev pub verdict_text : NetNames → Option ℤ → Verdict → List ℕ
 verdict_text names slack Yes = valid_text slack
 verdict_text names slack (Illegal v) = codes "illegal " ++ node_text names v
 verdict_text names slack (WrongPolarity w) = codes "polarity " ++ node_text names w
-verdict_text names slack (WrongSlack written real) = codes "slack " ++ (signed_decimal written ++ (codes " " ++ signed_decimal real))
+verdict_text names slack (WrongSlack written real) =
+    codes "slack " ++ (signed_decimal written ++ (codes " " ++ signed_decimal real))
 verdict_text names slack (Uncovered v) = codes "uncovered " ++ node_text names v
-verdict_text names slack (NotBest written bound) = codes "bound " ++ (slack_word written ++ (codes " " ++ signed_decimal bound))
+verdict_text names slack (NotBest written bound) =
+    codes "bound " ++ (slack_word written ++ (codes " " ++ signed_decimal bound))
 
 abbrev pub verdict_line : NetNames → Option ℤ → Verdict → List ℕ
 verdict_line names slack verdict = certificate_line names (verdict_text names slack verdict)

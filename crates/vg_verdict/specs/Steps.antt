@@ -21,7 +21,8 @@ NamesWithin n (Uncovered v) = v < n
 NamesWithin n (NotBest written bound) = Unit {0}
 
 -- the line of the verdict on a certificate was appended
-pub record TellsVerdict (p : Problem) (names : NetNames) (cert : Certificate) (old new : List ℕ) (valid : Bool) : Type 0 where
+pub record TellsVerdict (p : Problem) (names : NetNames) (cert : Certificate) (old new : List ℕ)
+    (valid : Bool) : Type 0 where
   pub verdict : Verdict
   pub is : IsVerdict p cert verdict
   pub shown : verdict ≡ Yes → IsShown p cert.slack cert.placement.cells

@@ -82,7 +82,8 @@ fn print_valid(slack: Option<i128>, to: &mut Vec<u8>) -> Result<(), Memory>
 
 /// Appends `slack WRITTEN REAL`, in zeptoseconds.
 fn print_slacks(written: i128, real: i128, to: &mut Vec<u8>) -> Result<(), Memory>
-    ensures { OnOk result (to.new.items ≡ to.old.items ++ (codes "slack " ++ (signed_decimal written ++ (codes " " ++ signed_decimal real)))) }
+    ensures { OnOk result (to.new.items ≡ to.old.items
+        ++ (codes "slack " ++ (signed_decimal written ++ (codes " " ++ signed_decimal real)))) }
 {
     push(b"slack ", to)?;
     print_signed(written, to)?;
@@ -93,7 +94,8 @@ fn print_slacks(written: i128, real: i128, to: &mut Vec<u8>) -> Result<(), Memor
 
 /// Appends `bound WRITTEN BOUND`, in zeptoseconds.
 fn print_bound(written: Option<i128>, bound: i128, to: &mut Vec<u8>) -> Result<(), Memory>
-    ensures { OnOk result (to.new.items ≡ to.old.items ++ (codes "bound " ++ (slack_word written ++ (codes " " ++ signed_decimal bound)))) }
+    ensures { OnOk result (to.new.items ≡ to.old.items
+        ++ (codes "bound " ++ (slack_word written ++ (codes " " ++ signed_decimal bound)))) }
 {
     push(b"bound ", to)?;
     print_slack(written, to)?;

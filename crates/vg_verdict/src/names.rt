@@ -46,7 +46,8 @@ pub fn net_names(
     net: &PosedNet,
 ) -> Result<NetNames, Memory>
     requires { All (λ v. v < length net.now.ready.pinned.net.par.nodes) net.now.ready.order }
-    ensures { IfOk result (λ names. names ≡ names_for name.now (cells_of repeaters.now) (names_of net.now.ready.pinned.net.par net.now.ready.order)) }
+    ensures { IfOk result (λ names. names
+        ≡ names_for name.now (cells_of repeaters.now) (names_of net.now.ready.pinned.net.par net.now.ready.order)) }
 {
     let own = Name::from_bytes(alloc, name)?;
     let nodes = node_names(alloc, net)?;

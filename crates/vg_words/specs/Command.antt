@@ -23,7 +23,8 @@ action_for option = if is_flag option then SetTrue else Set
 
 -- the argument of an option
 abbrev pub rule_for : Opt → Rule
-rule_for option = record (new_rule (long_name option)) { long = Some (long_name option); action = Some (action_for option) }
+rule_for option =
+    record (new_rule (long_name option)) { long = Some (long_name option); action = Some (action_for option) }
 
 -- the command without options
 abbrev pub bare : App

@@ -43,13 +43,16 @@ CertsAreOfOneNet = (words : List (List ℕ)) (ask : Ask) → IsRequest words ask
 
 -- in a request no two options name one file
 abbrev pub FilesDiffer : Type 0
-FilesDiffer = (words : List (List ℕ)) (ask : Ask) → IsRequest words ask → (one other : Opt) → names_file one ≡ true → names_file other ≡ true
+FilesDiffer = (words : List (List ℕ)) (ask : Ask) → IsRequest words ask → (one other : Opt) → names_file one ≡ true
+    → names_file other ≡ true
     → one ≢ other → (a b : List ℕ) → value ask one ≡ Some a → value ask other ≡ Some b → a ≢ b
 
 -- a request with a cap asks for the number that it writes
 abbrev pub CapsAreRead : Type 0
-CapsAreRead = (words : List (List ℕ)) (ask : Ask) → IsRequest words ask → (text : List ℕ) → ask.cap ≡ Some text → cap_of ask ≡ Some (number_of text)
+CapsAreRead = (words : List (List ℕ)) (ask : Ask) → IsRequest words ask → (text : List ℕ) → ask.cap ≡ Some text
+    → cap_of ask ≡ Some (number_of text)
 
 -- in mode `gen` a request asks for a size of 1 to 4000
 abbrev pub SizesAreSmall : Type 0
-SizesAreSmall = (words : List (List ℕ)) (ask : Ask) → IsRequest words ask → ask.mode ≡ Gen → (1 ≤ size_of ask) × (size_of ask ≤ 4000)
+SizesAreSmall = (words : List (List ℕ)) (ask : Ask) → IsRequest words ask → ask.mode ≡ Gen
+    → (1 ≤ size_of ask) × (size_of ask ≤ 4000)

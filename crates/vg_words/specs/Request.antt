@@ -89,11 +89,13 @@ has_no_use_beside values option = false
 
 -- the option is given, and the mode has no use for it, or has none beside what else is given
 abbrev pub is_excluded : ModeSpec → Values → Opt → Bool
-is_excluded mode values option = is_given values option && (not (may_be_given mode option) || has_no_use_beside values option)
+is_excluded mode values option =
+    is_given values option && (not (may_be_given mode option) || has_no_use_beside values option)
 
 -- one to four digits, which write 1 to 4000
 abbrev pub is_size : List ℕ → Bool
-is_size text = are_digits text && (nat_le (length text) 4 && (nat_le 1 (number_of text) && nat_le (number_of text) 4000))
+is_size text =
+    are_digits text && (nat_le (length text) 4 && (nat_le 1 (number_of text) && nat_le (number_of text) 4000))
 
 -- one to 18 digits
 abbrev pub is_cap : List ℕ → Bool
@@ -137,7 +139,8 @@ with_one one (Some other) later = Some (one, other)
 -- the first two options of a list that have equal values: the first one, and then the first that equals it
 unfoldable pub first_equal : Values → List Opt → Option (Opt × Opt)
 first_equal values [] = None
-first_equal values (one ∷ others) = with_one one (find (λ other. are_equal (values one) (values other)) others) (first_equal values others)
+first_equal values (one ∷ others) =
+    with_one one (find (λ other. are_equal (values one) (values other)) others) (first_equal values others)
 
 -- the first missing option, else the first that is excluded, else the first bad value, else equal names
 abbrev pub fault_in : ModeSpec → Values → Option WordFault

@@ -10,7 +10,8 @@ use Rattle.vg_words.specs.declared.given.Given.{Given}
 use Rattle.vg_words.specs.declared.option.Opt.{Opt}
 
 abbrev pub given_by : Given → Values
-given_by given option = if is_flag option then flag_value given.all else first_value (found_of given.matches) (long_name option)
+given_by given option =
+    if is_flag option then flag_value given.all else first_value (found_of given.matches) (long_name option)
 
 -- the words are settings, with these values
 pub record AreValues (words : List (List ℕ)) (values : Values) : Type 0 where

@@ -38,22 +38,29 @@ use Rattle.run_laws.specs.Laws.{IsFoundAndValid, ShowsInFiles, with_files}
 -- to this slack; or they say that no placement is good; or they name the first reason against the net.
 pub data BestOf (d : Design) (written : Texts) (prefix name lines : List ℕ) : Type 0 where
   placed : (net : NetProblem) → IsNetProblem d name net → (best : Best) → IsFound net.problem best
-      → lines ≡ best_report name (cells_of d.library.repeaters) net best → RetimesInTexts written prefix name best.slack → BestOf d written prefix name lines
-  none_good : (net : NetProblem) → IsNetProblem d name net → HasNoGood net.problem → lines ≡ none_line name → BestOf d written prefix name lines
-  refused : (refusal : Refusal) → IsFirstRefusal d name refusal → lines ≡ refusal_line name refusal → BestOf d written prefix name lines
+      → lines ≡ best_report name (cells_of d.library.repeaters) net best → RetimesInTexts written prefix name best.slack
+      → BestOf d written prefix name lines
+  none_good : (net : NetProblem) → IsNetProblem d name net → HasNoGood net.problem → lines ≡ none_line name
+      → BestOf d written prefix name lines
+  refused : (refusal : Refusal) → IsFirstRefusal d name refusal → lines ≡ refusal_line name refusal
+      → BestOf d written prefix name lines
 
 -- The lines of a net in mode `frontier`: exactly the pairs of cost and slack of its good placements within the cap that
 -- no other such pair dominates, by rising cost, each with such a placement; or that there is none; or the first reason
 -- against the net.
 pub data FrontOf (d : Design) (cap : Option ℕ) (name lines : List ℕ) : Type 0 where
-  points : (net : NetProblem) → IsNetProblem d name net → (points : List Point) → IsFrontierOf net.problem cap points → points ≢ []
+  points : (net : NetProblem) → IsNetProblem d name net → (points : List Point)
+      → IsFrontierOf net.problem cap points → points ≢ []
       → lines ≡ front_report name (cells_of d.library.repeaters) net points → FrontOf d cap name lines
-  none_within : (net : NetProblem) → IsNetProblem d name net → HasNoneWithin net.problem cap → lines ≡ none_line name → FrontOf d cap name lines
-  refused : (refusal : Refusal) → IsFirstRefusal d name refusal → lines ≡ refusal_line name refusal → FrontOf d cap name lines
+  none_within : (net : NetProblem) → IsNetProblem d name net → HasNoneWithin net.problem cap → lines ≡ none_line name
+      → FrontOf d cap name lines
+  refused : (refusal : Refusal) → IsFirstRefusal d name refusal → lines ≡ refusal_line name refusal
+      → FrontOf d cap name lines
 
 -- The four files that were read denote a design, and an output gained the lines of the nets that are asked for, one net
 -- after another, each as `Tells` has it.
-pub record Reports (files : FilesState) (out : Change OutState) (ask : Ask) (Tells : Texts → Design → List ℕ → List ℕ → Type 0) : Type 0 where
+pub record Reports (files : FilesState) (out : Change OutState) (ask : Ask)
+    (Tells : Texts → Design → List ℕ → List ℕ → Type 0) : Type 0 where
   pub texts : Input → List ℕ
   pub read : AreRead files ask texts
   pub design : Design
@@ -68,7 +75,8 @@ pub record BestHeadline (files : Change FilesState) (out : Change OutState) (ask
   pub written : Files
   pub netlist : HoldsAt files.1 ask.out_verilog written.verilog
   pub parasitics : HoldsAt files.1 ask.out_spef written.spef
-  pub reports : Reports files.0 out ask (λ texts d name lines. BestOf d (with_files texts written) (prefix_of ask) name lines)
+  pub reports : Reports files.0 out ask (λ texts d name lines.
+      BestOf d (with_files texts written) (prefix_of ask) name lines)
 
 -- what the reports of modes `best` and `frontier` say
 abbrev pub HeadlineIn : Mode → Change FilesState → Change OutState → Ask → Type 0
@@ -81,7 +89,7 @@ Headline files out ask = HeadlineIn ask.mode files out ask
 
 -- ---- certificates
 
--- The file that the words name as a certificate holds one of the net that is asked for, with the placement and the slack
+-- The file that the words name as a certificate holds one of the net asked for, with the placement and the slack
 -- that are reported, or with none. Whatever mode `check` answers of it, with the same four files, is that it is valid,
 -- with the reported slack, or none.
 pub record HasCertificate (files : Change FilesState) (out : Change OutState) (ask : Ask) : Type 0 where

@@ -44,30 +44,39 @@ pub fn run<F: Files, O: Out, E: Out>(
     out: &mut O,
     err: &mut E,
 ) -> u8
-    ensures done { result ≡ 0 → Answered Kind.Report (texts words.now) (F.state files.old, F.state files.new) (O.state out.old, O.state out.new) }
-    ensures none_good { result ≡ 1 → Answered Kind.NoneGood (texts words.now) (F.state files.old, F.state files.new) (O.state out.old, O.state out.new) }
-    ensures refused { result ≡ 2 → Answered Kind.Refusal (texts words.now) (F.state files.old, F.state files.new) (O.state out.old, O.state out.new) }
-    ensures invalid { result ≡ 8 → Answered Kind.Invalid (texts words.now) (F.state files.old, F.state files.new) (O.state out.old, O.state out.new) }
+    ensures done { result ≡ 0 → Answered Kind.Report (texts words.now) (F.state files.old, F.state files.new)
+        (O.state out.old, O.state out.new) }
+    ensures none_good { result ≡ 1 → Answered Kind.NoneGood (texts words.now) (F.state files.old, F.state files.new)
+        (O.state out.old, O.state out.new) }
+    ensures refused { result ≡ 2 → Answered Kind.Refusal (texts words.now) (F.state files.old, F.state files.new)
+        (O.state out.old, O.state out.new) }
+    ensures invalid { result ≡ 8 → Answered Kind.Invalid (texts words.now) (F.state files.old, F.state files.new)
+        (O.state out.old, O.state out.new) }
     ensures unread { result ≡ 3 → (request : Request) → IsRequest (texts words.now) request → ⊥ }
     ensures no_request { ((request : Request) → IsRequest (texts words.now) request → ⊥) → (result ≡ 3) ⊎ (result ≡ 7) }
     ensures unread_line { result ≡ 3 → AreRefused (texts words.now) (Says (E.state err.old) (E.state err.new)) }
     ensures unreadable { result ≡ 4 → ForRequest (texts words.now)
         (TellsRefusedInput (F.state files.old, F.state files.new) (Says (E.state err.old) (E.state err.new))) }
-    ensures read_fault { result ≡ 5 → EndsFlawed 5 (texts words.now) (F.state files.old, F.state files.new) (E.state err.old, E.state err.new) }
+    ensures read_fault { result ≡ 5
+        → EndsFlawed 5 (texts words.now) (F.state files.old, F.state files.new) (E.state err.old, E.state err.new) }
     ensures read_cause { result ≡ 5 → Rose (F.state files.old).read_faults (F.state files.new).read_faults }
     ensures write_fault { result ≡ 6 → ForRequest (texts words.now)
-        (TellsWriteFault (F.state files.old, F.state files.new) (O.state out.old, O.state out.new) (Says (E.state err.old) (E.state err.new))) }
+        (TellsWriteFault (F.state files.old, F.state files.new) (O.state out.old, O.state out.new)
+        (Says (E.state err.old) (E.state err.new))) }
     ensures statuses { IsTrue (is_status result) }
     ensures nothing_printed { IsTrue (prints_nothing result) → (O.state out.new).written ≡ (O.state out.old).written }
     // Standard error has exactly its line, or a prefix of it after a fault of its own.
-    ensures error_line { ErrorLine result (Says (E.state err.old) (E.state err.new)) ((E.state err.new).written ≡ (E.state err.old).written) }
+    ensures error_line { ErrorLine result (Says (E.state err.old) (E.state err.new))
+        ((E.state err.new).written ≡ (E.state err.old).written) }
     ensures nothing_written { IsTrue (creates_nothing result) → AreUntouched (F.state files.old, F.state files.new) }
-    ensures kept { (file : List ℕ) → ((request : Request) → IsRequest (texts words.now) request → IsOutput request file → ⊥)
+    ensures kept { (file : List ℕ)
+        → ((request : Request) → IsRequest (texts words.now) request → IsOutput request file → ⊥)
         → (F.state files.new).holds file ≡ (F.state files.old).holds file }
     // Where nothing failed, the status is exactly the one that the files and the request ask for.
     ensures exact { IsExact (texts words.now) (F.state files.old) result }
     // Where the inputs are in their form and nothing fails, the run answers, or is out of memory.
-    ensures complete { IsComplete (texts words.now) (F.state files.old, F.state files.new) (O.state out.old, O.state out.new) result }
+    ensures complete { IsComplete (texts words.now) (F.state files.old, F.state files.new)
+        (O.state out.old, O.state out.new) result }
     // Each reported placement is best, and the written files re-time to its slack; each printed frontier is exact.
     ensures headline { (result ≡ 0) ⊎ ((result ≡ 1) ⊎ (result ≡ 2)) → ForRequest (texts words.now)
         (Headline (F.state files.old, F.state files.new) (O.state out.old, O.state out.new)) }
@@ -75,7 +84,8 @@ pub fn run<F: Files, O: Out, E: Out>(
     ensures certified { (result ≡ 0) ⊎ (result ≡ 1) → ForRequest (texts words.now)
         (Certified (F.state files.old, F.state files.new) (O.state out.old, O.state out.new)) }
     // A valid certificate's placement is best, whoever made it.
-    ensures shown { result ≡ 0 → ForRequest (texts words.now) (Shown (F.state files.old, F.state files.new) (O.state out.old, O.state out.new)) }
+    ensures shown { result ≡ 0 → ForRequest (texts words.now)
+        (Shown (F.state files.old, F.state files.new) (O.state out.old, O.state out.new)) }
 {
     match read_words(alloc, words) {
         Ok(ask) => run_request(alloc, &ask, files, out, err),
