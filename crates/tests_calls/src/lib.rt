@@ -5,6 +5,8 @@
 #[cfg(test)]
 mod texts_comments;
 #[cfg(test)]
+mod texts_cons;
+#[cfg(test)]
 mod texts_designs;
 #[cfg(test)]
 mod texts_files;
