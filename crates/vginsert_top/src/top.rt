@@ -20,7 +20,7 @@ use vg_words::read_words;
 /// written to `files` where mode `best` names outputs, and printed to `out`; a line on `err` tells of everything but a
 /// printed answer.
 ///
-/// | status | comes |
+/// | status | when |
 /// |---|---|
 /// | 0 | the report was printed, of all nets that are asked for |
 /// | 1 | modes `best` and `frontier`: it was printed, and tells of some net that no placement on it is good, or none within the cap; no net is refused |
@@ -34,9 +34,9 @@ use vg_words::read_words;
 ///
 /// In mode `best` the netlist is written first, then the parasitics, then the certificate, where it is asked for and
 /// the net is not refused, and then the report is printed. A net without a cell keeps its part of both texts. After 3,
-/// 4, 5, 7 and 8 no file was created or changed, and after the first four nothing was printed. After 6 the files that were finished before are
-/// whole, the one whose writing failed is as it was or holds a prefix of its text, and later ones are as they were. A
-/// fault of `err` never changes the status. Files that the words do not name as outputs stay.
+/// 4, 5, 7 and 8 no file was created or changed, and after the first four nothing was printed. After 6 the files that
+/// were finished before are whole, the one whose writing failed is as it was or holds a prefix of its text, and later
+/// ones are as they were. A fault of `err` never changes the status. Files that the words do not name as outputs stay.
 pub fn run<F: Files, O: Out, E: Out>(
     alloc: Global,
     words: &[String],
