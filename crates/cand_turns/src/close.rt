@@ -29,7 +29,7 @@ use vg_convex::{Kept, Shelf, Work, add_cells, find_each};
 use vg_num::Memory;
 
 /// Finds for each repeater that a place allows the greatest time that it makes of a list there, and keeps it in the
-/// work. Answers `Memory` where there is no room.
+/// work.
 fn find_at<L: Ledger>(
     pool: &Pool,
     p: &Problem,
@@ -52,8 +52,7 @@ fn find_at<L: Ledger>(
 }
 
 /// The candidates with a cell of one class of a place, where one work has what was found for the list of that class,
-/// which the buffers drive there, and the other one for the list of the other class, which the inverters drive. Answers
-/// `Memory` where there is no room.
+/// which the buffers drive there, and the other one for the list of the other class, which the inverters drive.
 fn add_at(
     pool: &mut Pool,
     arena: &mut Arena,
@@ -96,7 +95,7 @@ fn add_at(
 
 impl Branch {
     /// Finds for each repeater that a place allows the greatest time that it makes of either class, and keeps it in the
-    /// tools. Answers `Memory` where there is no room.
+    /// tools.
     fn find<L: Ledger>(
         &self,
         pool: &Pool,
@@ -123,8 +122,7 @@ impl Branch {
         Ok(())
     }
 
-    /// The candidates with a cell at a place, where these are those without one; these stay. Answers `Memory` where
-    /// there is no room.
+    /// The candidates with a cell at a place, where these are those without one; these stay.
     fn with_cells<L: Ledger>(
         &self,
         pool: &mut Pool,

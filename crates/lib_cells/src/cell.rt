@@ -38,7 +38,7 @@ fn area_of(cell: &Group<'_>) -> u64
     given(cell, b"area", 3).unwrap_or(0)
 }
 
-/// A cell. Answers `Memory` where there is no room.
+/// A cell.
 fn cell_info(alloc: Global, units: Units, cell: &Group<'_>) -> Result<CellInfo, Memory>
     requires { AreUnits units }
     ensures { IfOk result (λ info. info ≡ cell_info units cell.now) }

@@ -145,8 +145,7 @@ fn twice_flaw(names: &Names, cell: &Group<'_>) -> Option<Flaw>
     }
 }
 
-/// The names of a library's cells, each once, and the first cell whose name was used before. Answers `Memory` where
-/// there is no room.
+/// The names of a library's cells, each once, and the first cell whose name was used before.
 fn names_of_cells(
     alloc: Global,
     bytes: &[u8],

@@ -152,7 +152,7 @@ struct Shared {
 }
 
 impl Shared {
-    /// What the pins of a group share. Answers `Memory` where there is no room.
+    /// What the pins of a group share.
     fn of(alloc: Global, units: Units, pin: &Group<'_>) -> Result<Shared, Memory>
         requires { AreUnits units }
         ensures { IfOk result (λ shared. (name : List ℕ) → named shared name ≡ pin_info units pin.now name) }
@@ -168,7 +168,7 @@ impl Shared {
         })
     }
 
-    /// The pin of this name. Answers `Memory` where there is no room.
+    /// The pin of this name.
     fn named(&self, alloc: Global, name: &[u8]) -> Result<PinInfo, Memory>
         ensures { IfOk result (λ info. info ≡ named self.now name.now) }
     {
@@ -183,7 +183,7 @@ impl Shared {
     }
 }
 
-/// Appends the pins of a pin group. Answers `Memory` where there is no room.
+/// Appends the pins of a pin group.
 fn push_pins(
     alloc: Global,
     units: Units,
@@ -200,7 +200,7 @@ fn push_pins(
     Ok(())
 }
 
-/// The pins of a cell. Answers `Memory` where there is no room.
+/// The pins of a cell.
 pub(crate) fn pins_of(alloc: Global, units: Units, cell: &Group<'_>) -> Result<Row<PinInfo>, Memory>
     requires { AreUnits units }
     ensures { IfOk result (λ pins. pins ≡ pins_of units cell.now) }

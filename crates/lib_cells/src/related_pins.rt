@@ -15,7 +15,7 @@ use vg_scan::{Name, Words};
 /// The most names that a table takes.
 const MOST_NAMES: usize = 4_294_967_295;
 
-/// Puts a name last where it is new. Answers `Memory` where there is no room.
+/// Puts a name last where it is new.
 pub(crate) fn add_name(names: &mut Names, name: &[u8]) -> Result<(), Memory>
     ensures { IfOk result (λ _. names.new ≡ with_name names.old name.now) }
 {
@@ -71,7 +71,7 @@ pub(crate) fn related_of(
     list_of(alloc, &names)
 }
 
-/// The same names, in memory of their own. Answers `Memory` where there is no room.
+/// The same names, in memory of their own.
 pub(crate) fn copy_names(alloc: Global, names: &[Name]) -> Result<Row<Name>, Memory>
     ensures { IfOk result (λ copies. copies ≡ names.now) }
 {

@@ -17,7 +17,7 @@ fn rank(a: &Repeater, b: &Repeater) -> Ordering
         .then_with(|| a.cell.as_bytes().cmp(b.cell.as_bytes()))
 }
 
-/// Puts repeaters into their order. Answers `Memory` where there is no room.
+/// Puts repeaters into their order.
 pub(crate) fn put_in_order(repeaters: &mut Vec<Repeater>) -> Result<(), Memory>
     ensures { OnOk result (IsInOrder repeaters.old.items repeaters.new.items) }
 {

@@ -202,7 +202,7 @@ fn parts_of<'a>(
     Some((input, output, rep))
 }
 
-/// The repeater that a cell is, if it is one. Answers `Memory` where there is no room.
+/// The repeater that a cell is, if it is one.
 pub(crate) fn repeater_of(
     alloc: Global,
     units: Units,

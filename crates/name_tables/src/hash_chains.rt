@@ -49,7 +49,7 @@ impl HashChains {
         }
     }
 
-    /// So many buckets without rows. Answers `Memory` where there is no room.
+    /// So many buckets without rows.
     pub(crate) fn new(alloc: Global, buckets: usize) -> Result<HashChains, Memory>
         ensures rows { IfOk result (λ chains. AreHashChains chains []) }
         ensures buckets { IfOk result (λ chains. length chains.lasts.items ≡ buckets) }
@@ -59,7 +59,7 @@ impl HashChains {
         Ok(HashChains { lasts, befores })
     }
 
-    /// The same rows in the same buckets once more. Answers `Memory` where there is no room.
+    /// The same rows in the same buckets once more.
     pub(crate) fn copy(&self, alloc: Global) -> Result<HashChains, Memory>
         ensures rows { (hashes : List ℕ) → AreHashChains self.now hashes
             → IfOk result (λ chains. AreHashChains chains hashes) }
@@ -107,7 +107,7 @@ impl HashChains {
         Ok(())
     }
 
-    /// Puts a row last, of this hash. Answers `Memory` where there is no room.
+    /// Puts a row last, of this hash.
     pub(crate) fn push(&mut self, hash: u32) -> Result<(), Memory>
         requires some { 0 < length self.old.lasts.items }
         requires few { length self.old.befores.items < 2 ^ 32 - 1 }

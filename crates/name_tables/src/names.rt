@@ -69,7 +69,7 @@ fn row_of(texts: &Texts, chains: &HashChains, name: &[u8], hash: u32) -> Option<
     None
 }
 
-/// Texts in chains over so many buckets. Answers `Memory` where there is no room.
+/// Texts in chains over so many buckets.
 fn chain(alloc: Global, texts: &Texts, buckets: usize) -> Result<HashChains, Memory>
     requires some { 0 < buckets }
     requires few { length texts.now < 2 ^ 32 - 1 }

@@ -71,7 +71,7 @@ impl NameMap {
         self.names.get(at)
     }
 
-    /// Puts a row last where its index is new, and says whether it was. Answers `Memory` where there is no room.
+    /// Puts a row last where its index is new, and says whether it was.
     pub(crate) fn add(&mut self, digits: &[u8], name: &[u8]) -> Result<bool, Memory>
         requires { length self.old < 2 ^ 32 - 1 }
         ensures fresh { IfOk result (λ fresh. fresh ≡ not (is_mapped self.old digits.now)) }

@@ -84,7 +84,7 @@ impl Sections {
         self.rows.as_slice()[at]
     }
 
-    /// Puts a net last where its name is new, and says whether it was. Answers `Memory` where there is no room.
+    /// Puts a net last where its name is new, and says whether it was.
     pub(crate) fn add(&mut self, name: &[u8], section: Section) -> Result<bool, Memory>
         requires { length self.old < 2 ^ 32 - 1 }
         ensures fresh { IfOk result (λ fresh. fresh ≡ not (is_section self.old name.now)) }

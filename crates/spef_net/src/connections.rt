@@ -127,8 +127,7 @@ fn slots_for(bytes: usize) -> usize
     slots
 }
 
-/// The nodes of a section's connections, each once, in a table of so many slots. Answers `Memory` where there is no
-/// room.
+/// The nodes of a section's connections, each once, in a table of so many slots.
 fn find_connections(
     alloc: Global,
     index: &SpefIndex,
@@ -155,7 +154,7 @@ fn find_connections(
     Ok(nodes)
 }
 
-/// The reader of a net's nodes, which has those of its connections. Answers `Memory` where there is no room.
+/// The reader of a net's nodes, which has those of its connections.
 pub(crate) fn read_connections<'a>(
     alloc: Global,
     index: &'a SpefIndex,

@@ -181,8 +181,7 @@ impl<'a> NodeReader<'a> {
         }
     }
 
-    /// The number of the inner node of a leaf, which is put last where it is new. Answers `Memory` where there is no
-    /// room.
+    /// The number of the inner node of a leaf, which is put last where it is new.
     fn see_inner(&mut self, leaf: &[u8], number: usize) -> Result<Option<u32>, NameFault>
         requires { Writes leaf.now number }
         ensures seen { SeesNode result self.old.net self.old.nodes

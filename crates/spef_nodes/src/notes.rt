@@ -62,7 +62,7 @@ fn text_in(texts: &Texts, mark: Mark) -> &[u8]
     }
 }
 
-/// Makes the marks more than so many. Answers `Memory` where there is no room.
+/// Makes the marks more than so many.
 fn lengthen(marks: &mut Vec<Mark>, at: usize) -> Result<(), Memory>
     ensures same { (i : ℕ) → slice_index_or marks.new.items i Fresh ≡ slice_index_or marks.old.items i Fresh }
     ensures longer { OnOk result (at < vec_len marks.new) }

@@ -52,8 +52,7 @@ pub fn sums(alloc: Global, count: usize, caps: &[(u32, u64)]) -> Result<Vec<u64>
     Ok(sums)
 }
 
-/// The nodes that capacitors name, each once, in the order in which they name them first. Answers `Memory` where there
-/// is no room.
+/// The nodes that capacitors name, each once, in the order in which they name them first.
 pub(crate) fn cap_nodes(
     alloc: Global,
     count: usize,

@@ -168,7 +168,7 @@ pub fn write_section(
     Ok(())
 }
 
-/// What is printed of the nodes of a net with these capacitances. Answers `Memory` where there is no room.
+/// What is printed of the nodes of a net with these capacitances.
 fn print_nodes(alloc: Global, net: &ParNet, sums: &[u64], chars: &Chars) -> Result<Printed, Memory>
     requires { AreSums (length net.now.nodes) net.now.caps sums.now }
     ensures { IfOk result (λ nodes. nodes ≡ printed_all chars.now net.now.caps 0 net.now.nodes) }
@@ -187,7 +187,7 @@ fn print_nodes(alloc: Global, net: &ParNet, sums: &[u64], chars: &Chars) -> Resu
     Ok(nodes)
 }
 
-/// The section of a net. Answers `Memory` where there is no room.
+/// The section of a net.
 fn section(alloc: Global, net: &ParNet, header: &Header) -> Result<Vec<u8>, Memory>
     requires { total net.now.caps ≤ 10 ^ 15 }
     ensures { IfOk result (λ text. text.items ≡ section_text header.now net.now) }

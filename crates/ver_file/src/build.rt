@@ -24,7 +24,7 @@ use ver_text::Kind;
 use vg_num::Memory;
 use vg_scan::Name;
 
-/// Puts a pin last in the last instance. Answers `Memory` where there is no room.
+/// Puts a pin last in the last instance.
 fn push_pin(
     alloc: Global,
     scope: &Scope<'_>,
@@ -40,7 +40,7 @@ fn push_pin(
     Ok(())
 }
 
-/// Puts pins last in the last instance. Answers `Memory` where there is no room.
+/// Puts pins last in the last instance.
 fn push_pins(
     alloc: Global,
     scope: &Scope<'_>,
@@ -56,7 +56,7 @@ fn push_pins(
     Ok(())
 }
 
-/// Puts an instance of this cell last. Answers `Memory` where there is no room.
+/// Puts an instance of this cell last.
 fn push_instance(
     alloc: Global,
     scope: &Scope<'_>,
@@ -75,7 +75,7 @@ fn push_instance(
     Ok(())
 }
 
-/// Puts the instances of an item last. Answers `Memory` where there is no room.
+/// Puts the instances of an item last.
 fn push_instances(
     alloc: Global,
     scope: &Scope<'_>,
@@ -91,7 +91,7 @@ fn push_instances(
     Ok(())
 }
 
-/// Puts the nets in assignments among some tokens last. Answers `Memory` where there is no room.
+/// Puts the nets in assignments among some tokens last.
 fn push_assigned(
     alloc: Global,
     scope: &Scope<'_>,
@@ -132,8 +132,7 @@ pub(crate) struct Body {
 }
 
 /// What the items of a text hold, and what is wrong with it, where this is the first place at which two nets have one
-/// name and its items may be kept. Nothing more is built once something is wrong. Answers `Memory` where there is no
-/// room.
+/// name and its items may be kept. Nothing more is built once something is wrong.
 pub(crate) fn read_body(
     alloc: Global,
     scope: &Scope<'_>,
@@ -209,7 +208,7 @@ fn name_token(text: &[u8]) -> Option<Row>
     None
 }
 
-/// The name of a module. Answers `Memory` where there is no room.
+/// The name of a module.
 pub(crate) fn module_name(alloc: Global, text: &[u8]) -> Result<Name, Memory>
     ensures { IfOk result (λ name. name ≡ module_name text.now) }
 {

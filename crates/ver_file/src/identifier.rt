@@ -133,7 +133,7 @@ impl Use {
     }
 }
 
-/// No items, where those of a text of this length are kept. Answers `Memory` where there is no room.
+/// No items, where those of a text of this length are kept.
 fn room_for_items(alloc: Global, text_len: usize) -> Result<Option<KeptItems>, Memory>
     ensures { IfOk result (λ room. IfSome room (λ kept. kept ≡ [])) }
 {
@@ -144,7 +144,7 @@ fn room_for_items(alloc: Global, text_len: usize) -> Result<Option<KeptItems>, M
     Ok(Some(kept))
 }
 
-/// With an item last, where items are kept. Answers `Memory` where there is no room.
+/// With an item last, where items are kept.
 fn with_item(kept: Option<KeptItems>, item: &[Row]) -> Result<Option<KeptItems>, Memory>
     requires { 0 < length item.now }
     ensures { (all left : List Section) → IfSome kept (λ k. all ≡ k ++ (section_in item.now ++ left))
@@ -185,8 +185,7 @@ impl Identifiers {
         })
     }
 
-    /// The number of the identifier of nets that a token is, which is put last where it is new. Answers `Memory` where
-    /// there is no room.
+    /// The number of the identifier of nets that a token is, which is put last where it is new.
     fn intern(&mut self, text: &[u8], row: Row) -> Result<usize, Memory>
         requires name { is_net_name row ≡ true }
         requires count { length self.old.said.items ≡ length self.old.names }
@@ -207,8 +206,7 @@ impl Identifiers {
         Ok(at)
     }
 
-    /// Reads a token, which stands in a declaration that says this of its identifiers, or in none. Answers `Memory`
-    /// where there is no room.
+    /// Reads a token, which stands in a declaration that says this of its identifiers, or in none.
     fn read(&mut self, text: &[u8], row: Row, heading: Option<Heading>) -> Result<(), Memory>
         requires { length self.old.said.items ≡ length self.old.names }
         ensures count { OnOk result (length self.new.said.items ≡ length self.new.names) }
@@ -225,7 +223,7 @@ impl Identifiers {
         Ok(())
     }
 
-    /// Reads the tokens of an item. Answers `Memory` where there is no room.
+    /// Reads the tokens of an item.
     fn read_item(&mut self, text: &[u8], item: &[Row]) -> Result<(), Memory>
         requires { length self.old.said.items ≡ length self.old.names }
         ensures count { OnOk result (length self.new.said.items ≡ length self.new.names) }

@@ -21,7 +21,7 @@ use ver_text::is_escaped;
 use vg_num::Memory;
 
 /// Puts a scalar last, where its name is new, by a guess of this name's number, and tells the first place at which a
-/// name is not. Answers `Memory` where there is no room.
+/// name is not.
 fn push_scalar(
     scalar: &Net<'_>,
     guess: u32,
@@ -38,8 +38,7 @@ fn push_scalar(
     Ok(unless(is_new, place, clash))
 }
 
-/// Puts a bit of an identifier last, where its name is new, and tells the first place at which a name is not. Answers
-/// `Memory` where there is no room.
+/// Puts a bit of an identifier last, where its name is new, and tells the first place at which a name is not.
 fn push_bit(
     alloc: Global,
     scalar: &Net<'_>,
@@ -82,7 +81,6 @@ fn scalar_of<'a>(text: &'a [u8], token: Row, said: Option<Heading>) -> Net<'a>
 }
 
 /// Puts the bits of a vector last, from its left bound on, and tells the first place at which a name is not new.
-/// Answers `Memory` where there is no room.
 fn push_bits(
     alloc: Global,
     scalar: &Net<'_>,
@@ -103,7 +101,7 @@ fn push_bits(
 }
 
 /// Puts the nets of an identifier last, by its number, its first token and what is said of it, and tells the first
-/// place at which a name is not new. Answers `Memory` where there is no room.
+/// place at which a name is not new.
 fn push_nets(
     alloc: Global,
     text: &[u8],
@@ -131,8 +129,7 @@ fn push_nets(
     }
 }
 
-/// The nets of a text, each name once, and the first place at which a name is not new. Answers `Memory` where there is
-/// no room.
+/// The nets of a text, each name once, and the first place at which a name is not new.
 pub(crate) fn nets_of(
     alloc: Global,
     text: &[u8],
@@ -166,7 +163,7 @@ fn net_count(range: Option<Range>) -> usize
     }
 }
 
-/// The number of the first net of each identifier. Answers `Memory` where there is no room.
+/// The number of the first net of each identifier.
 fn first_numbers(
     alloc: Global,
     text: &[u8],
@@ -187,8 +184,7 @@ fn first_numbers(
     Ok(numbers)
 }
 
-/// The same, where no two nets have one name: this is the first place at which two have. Answers `Memory` where there
-/// is no room.
+/// The same, where no two nets have one name: this is the first place at which two have.
 pub(crate) fn numbers_of(
     alloc: Global,
     text: &[u8],

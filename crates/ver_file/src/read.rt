@@ -28,7 +28,7 @@ const OUT_OF_MEMORY: VerFault = VerFault {
 };
 
 /// The module of a text that has the grammar of one, with these identifiers, or the first of its flaws. Its items may
-/// be kept. Answers `Memory` where there is no room.
+/// be kept.
 fn build(
     alloc: Global,
     text: &[u8],
@@ -60,7 +60,7 @@ fn build(
     }
 }
 
-/// The module of a text without a flaw. Answers `Memory` where there is no room.
+/// The module of a text without a flaw.
 fn assemble(alloc: Global, text: &[u8], nets: Nets, body: Body) -> Result<Module, Memory>
     requires nets { nets ≡ nets_of text.now }
     requires body { IsBody text.now body }

@@ -137,7 +137,7 @@ impl<'a> Scope<'a> {
         Some(number)
     }
 
-    /// The number of a bit of an identifier among the nets, or of its one net. Answers `Memory` where there is no room.
+    /// The number of a bit of an identifier among the nets, or of its one net.
     fn number(&self, alloc: Global, found: &Found<'_>, bit: Option<u32>) -> Result<u32, Memory>
         requires scope { IsScope self.now }
         requires found { IsLookedUp self.now found.now }
@@ -152,7 +152,7 @@ impl<'a> Scope<'a> {
         Ok(self.nets.number(&name))
     }
 
-    /// Puts the bits of a range last. Answers `Memory` where there is no room.
+    /// Puts the bits of a range last.
     fn push_bits(
         &self,
         alloc: Global,
@@ -198,7 +198,7 @@ impl<'a> Scope<'a> {
         }
     }
 
-    /// The nets in an expression. Answers `Memory` where there is no room.
+    /// The nets in an expression.
     fn nets_in(&self, alloc: Global, expression: &[Row]) -> Result<Vec<u32>, Memory>
         requires { IsScope self.now }
         ensures { IfOk result (λ nets. nets.items ≡ nets_in self.now.text.now expression.now) }
@@ -210,8 +210,7 @@ impl<'a> Scope<'a> {
         Ok(nets)
     }
 
-    /// The net that this is, where it is an identifier and with what follows it one net. `None`: it is not. Answers
-    /// `Memory` where there is no room.
+    /// The net that this is, where it is an identifier and with what follows it one net. `None`: it is not.
     fn one(&self, alloc: Global, named: &Section<'_>) -> Result<Option<u32>, Memory>
         requires { IsScope self.now }
         ensures one { IfOk result (λ found. is_some found ≡ is_one self.now.text.now named.now) }

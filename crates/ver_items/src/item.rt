@@ -21,8 +21,7 @@ use vg_num::Memory;
 /// The most tokens that are read before a machine reads them.
 const MOST: usize = 1024;
 
-/// Puts the tokens up to the next `;`, or all that are left, in place of what the list held. Answers `Memory` where
-/// there is no room.
+/// Puts the tokens up to the next `;`, or all that are left, in place of what the list held.
 fn read_item(rows: &mut Rows<'_>, item: &mut Vec<Row>) -> Result<(), Memory>
     ensures cut { OnOk result (rows.old ≡ item.new.items ++ rows.new) }
     ensures ends { OnOk result (IsItem item.new.items rows.new) }
@@ -37,8 +36,7 @@ fn read_item(rows: &mut Rows<'_>, item: &mut Vec<Row>) -> Result<(), Memory>
     Ok(())
 }
 
-/// Puts the next tokens last, up to the next `;`, but no more than a part has. Whether an item ends with them. Answers
-/// `Memory` where there is no room.
+/// Puts the next tokens last, up to the next `;`, but no more than a part has. Whether an item ends with them.
 fn read_part(rows: &mut Rows<'_>, item: &mut Vec<Row>) -> Result<bool, Memory>
     requires { list_any (λ r. is Semicolon r.kind) item.old.items ≡ false }
     ensures cut { OnOk result (item.old.items ++ rows.old ≡ item.new.items ++ rows.new) }

@@ -65,7 +65,7 @@ fn keep_rows(kept: &mut Vec<KeptRow>, item: &[Row]) -> Result<(), Memory>
     Ok(())
 }
 
-/// Puts tokens that were kept in place of what the list held. Answers `Memory` where there is no room.
+/// Puts tokens that were kept in place of what the list held.
 fn read_kept(kept: &[KeptRow], item: &mut Vec<Row>) -> Result<(), Memory>
     ensures { OnOk result (item.new.items ≡ map row_of kept.now) }
 {

@@ -15,7 +15,7 @@ use std::mem;
 use vg_cert::NodeLists;
 use vg_num::Memory;
 
-/// The parts of all nodes, to which no child came in yet. Answers `Memory` where there is no room.
+/// The parts of all nodes, to which no child came in yet.
 fn start(alloc: Global, p: &Problem) -> Result<Vec<Part>, Memory>
     ensures count { IfOk result (λ parts. length parts.items ≡ length p.now.tree.nodes) }
     ensures parts { IfOk result (λ parts. (lists : NodeListsSpec)
@@ -44,7 +44,7 @@ fn is_covered(p: &Problem, node: usize, part: &Part, lists: &[NodeLists]) -> boo
 }
 
 /// A node to which all its children came in comes in to its parent, if it has one: its number is that of the parts
-/// before it. Answers `Memory` where there is no room.
+/// before it.
 fn come_in(
     alloc: Global,
     p: &Problem,
@@ -70,8 +70,7 @@ fn come_in(
     Ok(())
 }
 
-/// The node of greatest number that the lists do not cover. None where they cover all nodes. Answers `Memory` where
-/// there is no room.
+/// The node of greatest number that the lists do not cover. None where they cover all nodes.
 pub(crate) fn last_uncovered(
     alloc: Global,
     p: &Problem,

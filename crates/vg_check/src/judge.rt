@@ -16,8 +16,7 @@ use std::alloc::Global;
 use vg_cert::Certificate;
 use vg_num::Memory;
 
-/// What is wrong with the placement of a certificate. None where nothing is, or where no slack is written. Answers
-/// `Memory` where there is no room.
+/// What is wrong with the placement of a certificate. None where nothing is, or where no slack is written.
 fn judge_placement(
     alloc: Global,
     p: &Problem,

@@ -52,8 +52,7 @@ fn sink_at(p: &Problem, node: usize) -> Option<Sink>
     p.sinks.as_slice()[node]
 }
 
-/// The pairs of a sink alone, at a node of this capacitance (aF): one, for the signal that the sink wants. Answers
-/// `Memory` where there is no room.
+/// The pairs of a sink alone, at a node of this capacitance (aF): one, for the signal that the sink wants.
 fn of_sink(alloc: Global, sink: Sink, c: u64) -> Result<Classes, Memory>
     ensures { IfOk result (λ classes. (odd : Bool) → list_of classes odd ≡ alone sink c odd) }
 {
@@ -71,7 +70,7 @@ fn of_sink(alloc: Global, sink: Sink, c: u64) -> Result<Classes, Memory>
     Ok(Classes { evens, odds })
 }
 
-/// What a wire makes of the lists of a node. Answers `Memory` where there is no room.
+/// What a wire makes of the lists of a node.
 fn above_wire(alloc: Global, r: u64, lists: &NodeLists) -> Result<Classes, Memory>
     requires r { r ≤ 10 ^ 12 }
     requires lists { (odd : Bool) → IsList (entries_of lists.now odd) }
@@ -83,7 +82,7 @@ fn above_wire(alloc: Global, r: u64, lists: &NodeLists) -> Result<Classes, Memor
     Ok(Classes { evens, odds })
 }
 
-/// The pairs of two branches together, class by class. Answers `Memory` where there is no room.
+/// The pairs of two branches together, class by class.
 fn meet(alloc: Global, xs: &Classes, ys: &Classes) -> Result<Classes, Memory>
     requires xs { AreWorked (list_of xs.now) }
     requires ys { AreWorked (list_of ys.now) }
@@ -145,8 +144,7 @@ impl Part {
         }
     }
 
-    /// A live node comes in to its parent, whose part this is: with the pairs of its lists, above its wire. Answers
-    /// `Memory` where there is no room.
+    /// A live node comes in to its parent, whose part this is: with the pairs of its lists, above its wire.
     fn take_live(
         self,
         alloc: Global,

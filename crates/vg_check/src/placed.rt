@@ -10,8 +10,7 @@ use std::alloc::Global;
 use vg_cert::Certificate;
 use vg_num::Memory;
 
-/// What is wrong with a placement of which this slack (zs) was written. None where nothing is. Answers `Memory` where
-/// there is no room.
+/// What is wrong with a placement of which this slack (zs) was written. None where nothing is.
 pub(crate) fn misplaced(
     alloc: Global,
     p: &Problem,

@@ -39,8 +39,7 @@ fn bends<L: Ledger>(a: Point, b: Point, c: Point, steps: &mut Steps<L>) -> bool
     is_product_less(c.q - b.q, b.c - a.c, b.q - a.q, c.c - b.c)
 }
 
-/// Puts a point on the hull of those before it. What then no longer bends comes off (Graham 1972). Answers `Memory`
-/// where there is no room.
+/// Puts a point on the hull of those before it. What then no longer bends comes off (Graham 1972).
 pub(crate) fn put_on<L: Ledger>(
     stack: &mut Vec<Point>,
     point: Point,

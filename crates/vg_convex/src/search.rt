@@ -23,7 +23,7 @@ use std::sync::ledger::Ledger;
 use vg_num::Memory;
 
 /// Puts the points of the further candidates that are within a limit on the hull, and answers the place of the first
-/// that is not. Answers `Memory` where there is no room.
+/// that is not.
 fn grow<L: Ledger>(
     pool: &Pool,
     limit: Option<u64>,
@@ -273,7 +273,7 @@ fn find_each_free<L: Ledger>(
 
 /// The greatest time of each repeater of a shelf that is allowed, in its place of the row: of those with a limit while
 /// the hull grows, and then of those without one on the hull of the whole list, which is found where one of them is
-/// allowed. Answers `Memory` where there is no room.
+/// allowed.
 pub(crate) fn find_all<L: Ledger>(
     pool: &Pool,
     from: &List,

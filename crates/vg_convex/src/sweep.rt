@@ -11,7 +11,7 @@ use elmore::{Pair, Rep};
 use vg_num::Memory;
 
 /// Puts a result after those of an undominated list, none of which has more input capacitance, and answers the pair of
-/// the last one. Answers `Memory` where there is no room.
+/// the last one.
 fn keep(kept: &mut Vec<Made>, last: Pair, made: Made) -> Result<Pair, Memory>
     requires { IsLast kept.old.items last }
     ensures kept { OnOk result (IsKept kept.old.items made kept.new.items) }
@@ -58,7 +58,7 @@ fn made_of(pin: Pin, best: Found) -> Made
 }
 
 /// Puts the results of the repeaters of an order from a place on after those of an undominated list, whose last pair
-/// this is. Answers `Memory` where there is no room.
+/// this is.
 fn keep_all(
     reps: &[Rep],
     pins: &[Pin],
@@ -91,7 +91,7 @@ fn keep_all(
 }
 
 /// The undominated ones of the results of these repeaters, which are in the order of their input capacitances: those of
-/// buffers stand in one row, and those of inverters in the other. Answers `Memory` where there is no room.
+/// buffers stand in one row, and those of inverters in the other.
 // Inlined, it would keep less in registers.
 #[inline(never)]
 pub(crate) fn sweep(

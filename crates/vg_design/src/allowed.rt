@@ -23,7 +23,7 @@ fn is_among(name: &Name, names: &[Name]) -> bool
     names.iter().any(|other| name == other)
 }
 
-/// The numbers of the repeaters whose cells are among some. Answers `Memory` where there is no room.
+/// The numbers of the repeaters whose cells are among some.
 fn numbers_of(alloc: Global, repeaters: &[Repeater], cells: &[Name]) -> Result<Vec<u32>, Memory>
     requires few { length repeaters.now < 2 ^ 32 }
     ensures { IfOk result (λ numbers. numbers.items ≡ numbers_of (cells_of repeaters.now) cells.now) }
@@ -36,7 +36,7 @@ fn numbers_of(alloc: Global, repeaters: &[Repeater], cells: &[Name]) -> Result<V
     Ok(numbers)
 }
 
-/// The repeaters that a node of a net allows. Answers `Memory` where there is no room.
+/// The repeaters that a node of a net allows.
 fn allowed_at(alloc: Global, design: &Design, net: &ParNet, v: u32) -> Result<Allowed, Memory>
     requires { v < length net.now.nodes }
     ensures { IfOk result (λ allowed. allowed ≡ allowance_at design.now net.now v) }
@@ -50,7 +50,7 @@ fn allowed_at(alloc: Global, design: &Design, net: &ParNet, v: u32) -> Result<Al
     }
 }
 
-/// The repeaters that each node of the tree allows. Answers `Memory` where there is no room.
+/// The repeaters that each node of the tree allows.
 pub(crate) fn allowed_of(
     alloc: Global,
     design: &Design,

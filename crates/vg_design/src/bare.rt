@@ -26,7 +26,7 @@ pub struct BareNet {
     pub sinks: Row<u32>,
 }
 
-/// The nodes of the tree that are sinks. Answers `Memory` where there is no room.
+/// The nodes of the tree that are sinks.
 fn sink_nodes(alloc: Global, sinks: &[Option<Sink>]) -> Result<Vec<u32>, Memory>
     requires { length sinks.now < 2 ^ 32 }
     ensures { IfOk result (λ nodes. nodes.items ≡ filter (is_sink sinks.now) (range_with_len 0 (length sinks.now))) }

@@ -47,7 +47,7 @@ fn buckets_for(ends: usize) -> usize
     buckets
 }
 
-/// The names of a net's connections, in a table. Answers `Memory` where there is no room.
+/// The names of a net's connections, in a table.
 fn table_of(alloc: Global, net: &ParNet) -> Result<NodeTable, Memory>
     ensures { IfOk result (λ table. table ≡ ends_of net.now) }
 {
@@ -72,7 +72,7 @@ fn keep_first(pins: &mut Vec<Option<PinRef>>, at: usize, pin: PinRef)
 }
 
 impl Ends {
-    /// The ends of a net, of which no pin was seen. Answers `Memory` where there is no room.
+    /// The ends of a net, of which no pin was seen.
     fn of(alloc: Global, net: &ParNet) -> Result<Ends, Memory>
         ensures ends { IfOk result (λ s. s.ends ≡ ends_of net.now) }
         ensures size { IfOk result (λ s. length s.pins ≡ length (ends_of net.now)) }
@@ -83,8 +83,7 @@ impl Ends {
         Ok(Ends { table, pins })
     }
 
-    /// Sees a pin. Whether an end has its name; of two pins of one name the first counts. Answers `Memory` where there
-    /// is no room.
+    /// Sees a pin. Whether an end has its name; of two pins of one name the first counts.
     fn see(&mut self, owner: &[u8], leaf: &[u8], pin: PinRef) -> Result<bool, Memory>
         ensures seen { IfOk result (λ found. found ≡ true
             → IsSeen self.old self.new (node_named owner.now leaf.now) pin) }
@@ -100,7 +99,7 @@ impl Ends {
     }
 }
 
-/// Sees a pin of the netlist. Whether an end has its name. Answers `Memory` where there is no room.
+/// Sees a pin of the netlist. Whether an end has its name.
 fn see_pin(design: &Design, at: PinRef, ends: &mut Ends) -> Result<bool, Memory>
     requires { IsPin design.now.netlist at }
     ensures seen { IfOk result (λ found. found ≡ true → IsSeen ends.old ends.new (pin_name design.now.netlist at) at) }
@@ -125,7 +124,7 @@ fn is_named(design: &Design, pin: PinRef, net: &ParNet, at: usize) -> bool
 }
 
 /// The pins on a net, where they are its connections one after another. `None`: they come in another order, or are not
-/// the same. Answers `Memory` where there is no room.
+/// the same.
 fn pins_in_order(
     alloc: Global,
     design: &Design,
@@ -151,7 +150,7 @@ fn pins_in_order(
 }
 
 /// For each connection of a net the pin on it that has its name, found by that, whatever order they come in. `None`:
-/// some pin on the net is no connection. Answers `Memory` where there is no room.
+/// some pin on the net is no connection.
 fn pins_by_name(
     alloc: Global,
     design: &Design,
@@ -170,7 +169,7 @@ fn pins_by_name(
 }
 
 /// For each connection of a net the pin on it that has its name, if there is one. `None`: some pin on the net is no
-/// connection. Answers `Memory` where there is no room.
+/// connection.
 pub(crate) fn pins_of(
     alloc: Global,
     design: &Design,

@@ -30,8 +30,7 @@ impl Model for JoinedNet {
     ghost view = { λ net. record { par = net.par; id = net.id } };
 }
 
-/// The net of a name, or why it is refused: one of the files has no such net, or its parasitics have a fault. Answers
-/// `Memory` where there is no room.
+/// The net of a name, or why it is refused: one of the files has no such net, or its parasitics have a fault.
 pub(crate) fn joined_net(alloc: Global, design: &Design, name: &Name) -> Result<JoinedNet, Refused>
     ensures joined { IfOk result (IsJoined design.now name.now) }
     ensures within { IfOk result (λ net. net.id < length design.now.netlist.nets) }

@@ -57,7 +57,7 @@ fn first_unconstrained(cons: &Constraints, net: &ParNet) -> Option<ParConn>
     None
 }
 
-/// The name of the first sink without a required time, if there is one. Answers `Memory` where there is no room.
+/// The name of the first sink without a required time, if there is one.
 fn unconstrained_sink(
     alloc: Global,
     design: &Design,
@@ -72,7 +72,7 @@ fn unconstrained_sink(
     }
 }
 
-/// The tree of a net with the loads of its sinks. Answers `Memory` where there is no room.
+/// The tree of a net with the loads of its sinks.
 fn loaded_tree(
     alloc: Global,
     design: &Design,
@@ -91,8 +91,7 @@ fn loaded_tree(
     })
 }
 
-/// The problem of a net of few capacitors, with these parasitics and this tree, where it passes no limit. Answers
-/// `Memory` where there is no room.
+/// The problem of a net of few capacitors, with these parasitics and this tree, where it passes no limit.
 fn problem_within(
     alloc: Global,
     design: &Design,

@@ -4,7 +4,7 @@ ghost use Rattle.std.specs.Prelude.{◌≡◌, ◌++◌, ◌∷◌, [], OnOk, if
 
 use vg_num::Memory;
 
-/// Puts a number last, where it passes. Answers `Memory` where there is no room.
+/// Puts a number last, where it passes.
 pub(crate) fn push_where(passes: bool, number: u32, to: &mut Vec<u32>) -> Result<(), Memory>
     ensures { OnOk result (to.new.items ≡ to.old.items ++ (if passes then number ∷ [] else [])) }
 {

@@ -24,7 +24,7 @@ use vg_cons::{
 use vg_num::Memory;
 use vg_scan::{Name, NodeName};
 
-/// The name of a node of a net. Answers `Memory` where there is no room.
+/// The name of a node of a net.
 pub(crate) fn name_of(alloc: Global, net: &ParNet, v: u32) -> Result<NodeName, Memory>
     requires { v < length net.now.nodes }
     ensures { IfOk result (λ name. name ≡ name_in net.now v) }
@@ -68,7 +68,7 @@ fn sink_at(cons: &Constraints, net: &ParNet, marks: &[bool], v: u32) -> Option<S
     }
 }
 
-/// For each node of the tree its sink, if it has one. Answers `Memory` where there is no room.
+/// For each node of the tree its sink, if it has one.
 pub(crate) fn sinks_of(
     alloc: Global,
     cons: &Constraints,
@@ -87,7 +87,7 @@ pub(crate) fn sinks_of(
     Ok(sinks)
 }
 
-/// The load of the sink that a connection of a net is (aF). Answers `Memory` where there is no room.
+/// The load of the sink that a connection of a net is (aF).
 fn sink_load(alloc: Global, design: &Design, net: &PinnedNet, at: usize) -> Result<u64, Memory>
     requires pins { ArePins design.now net.now.net net.now.pins }
     requires at { at < length net.now.net.par.conns }
@@ -101,7 +101,7 @@ fn sink_load(alloc: Global, design: &Design, net: &PinnedNet, at: usize) -> Resu
     Ok(net.cap(design, at).unwrap_or(0))
 }
 
-/// The load of the sink at a node of a net (aF), if it is one. Answers `Memory` where there is no room.
+/// The load of the sink at a node of a net (aF), if it is one.
 fn load_at(
     alloc: Global,
     design: &Design,
@@ -144,7 +144,7 @@ fn node_with_load(
     })
 }
 
-/// The nodes of the tree with their loads. Answers `Memory` where there is no room.
+/// The nodes of the tree with their loads.
 pub(crate) fn loaded_nodes(
     alloc: Global,
     design: &Design,
@@ -197,7 +197,7 @@ fn pin_driver(design: &Design, net: &PinnedNet, at: usize, name: &NodeName) -> D
     }
 }
 
-/// What drives a net, where this is the connection. Answers `Memory` where there is no room.
+/// What drives a net, where this is the connection.
 pub(crate) fn driver_at(
     alloc: Global,
     design: &Design,
@@ -237,7 +237,7 @@ fn is_free(cons: &Constraints, net: &ParNet, v: u32) -> bool
         && !is_boxed(cons, net.nodes.note(at))
 }
 
-/// For each node of the tree whether it may have a cell. Answers `Memory` where there is no room.
+/// For each node of the tree whether it may have a cell.
 pub(crate) fn free_of(
     alloc: Global,
     cons: &Constraints,
@@ -254,7 +254,7 @@ pub(crate) fn free_of(
     Ok(free)
 }
 
-/// The repeaters of a library, as a problem has them. Answers `Memory` where there is no room.
+/// The repeaters of a library, as a problem has them.
 pub(crate) fn reps_of(alloc: Global, design: &Design) -> Result<Vec<Rep>, Memory>
     ensures reps { IfOk result (λ reps. reps.items ≡ reps_in design.now.library.repeaters) }
     ensures rising { IfOk result (λ reps. AreRising reps.items) }

@@ -49,7 +49,6 @@ impl ReadyNet {
 }
 
 /// A net with the pins that its connections are, or why it is refused: its connections are not its ends in the netlist.
-/// Answers `Memory` where there is no room.
 fn pinned_net(alloc: Global, design: &Design, net: JoinedNet) -> Result<PinnedNet, Refused>
     requires within { net.id < length design.now.netlist.nets }
     requires accepted { PassesNet 8 design.now net }
@@ -71,7 +70,7 @@ fn pinned_net(alloc: Global, design: &Design, net: JoinedNet) -> Result<PinnedNe
 }
 
 /// Whether the netlist and the library have what a net needs that this connection drives, or the first reason against
-/// it. Answers `Memory` where there is no room.
+/// it.
 fn check_pins(
     alloc: Global,
     design: &Design,
@@ -98,8 +97,7 @@ fn check_pins(
     Ok(())
 }
 
-/// The tree of a net that this connection drives, or the first reason against it. Answers `Memory` where there is no
-/// room.
+/// The tree of a net that this connection drives, or the first reason against it.
 fn tree_of(
     alloc: Global,
     design: &Design,
@@ -119,8 +117,7 @@ fn tree_of(
     Ok(built)
 }
 
-/// A net with its tree, or the first reason against it, but for those of the constraints and the limits. Answers
-/// `Memory` where there is no room.
+/// A net with its tree, or the first reason against it, but for those of the constraints and the limits.
 fn ready_from(alloc: Global, design: &Design, net: JoinedNet) -> Result<ReadyNet, Refused>
     requires within { net.id < length design.now.netlist.nets }
     requires sized { IsSized net.par }

@@ -34,7 +34,7 @@ fn bare_timing(alloc: Global, problem: &Problem) -> Result<(i128, Option<u32>), 
     Ok((slack, wrong))
 }
 
-/// The name of a node of the tree, if there is one. Answers `Memory` where there is no room.
+/// The name of a node of the tree, if there is one.
 fn name_in(alloc: Global, names: &TreeNames, node: Option<u32>) -> Result<Option<NodeName>, Memory>
     requires { IfSome node (λ i. i < length names.now) }
     ensures { IfOk result (λ name. name ≡ option_map (name_at names.now) node) }

@@ -45,7 +45,7 @@ fn is_usable(p: &Problem, node: usize, odd: bool, below: bool, number: usize) ->
 }
 
 /// The numbers of the repeaters that a node allows and that are reached in one class with the class `below` behind
-/// them, by rising resistance. Answers `Memory` where there is no room.
+/// them, by rising resistance.
 fn usable(
     alloc: Global,
     p: &Problem,
@@ -68,7 +68,7 @@ fn usable(
 
 impl Branch {
     /// Proposes the repeaters that a place allows before the candidates of the class `below` behind them, for one class
-    /// before the cells. Answers `Memory` where there is no room.
+    /// before the cells.
     fn propose_behind(
         &self,
         alloc: Global,

@@ -15,7 +15,7 @@ use std::alloc::Global;
 use std::mem;
 use vg_num::Memory;
 
-/// The parts of all nodes, to which no child came in yet. Answers `Memory` where there is no room.
+/// The parts of all nodes, to which no child came in yet.
 pub(crate) fn start(
     alloc: Global,
     arena: &Arena,
@@ -72,7 +72,7 @@ fn take_in(
     }
 }
 
-/// The last node, to which all its children came in, comes in to its parent. Answers `Memory` where there is no room.
+/// The last node, to which all its children came in, comes in to its parent.
 fn turn(
     alloc: Global,
     arena: &mut Arena,
@@ -100,8 +100,7 @@ fn turn(
     Ok(())
 }
 
-/// All nodes but the root come in, each to its parent, from the last to the first. Answers `Memory` where there is no
-/// room.
+/// All nodes but the root come in, each to its parent, from the last to the first.
 pub(crate) fn climb(
     alloc: Global,
     arena: &mut Arena,

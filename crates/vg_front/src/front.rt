@@ -16,8 +16,7 @@ use sol_arena::Arena;
 use std::alloc::Global;
 use vg_num::Memory;
 
-/// The points that the part of the root comes to when all other nodes came in. The part is given up. Answers `Memory`
-/// where there is no room.
+/// The points that the part of the root comes to when all other nodes came in. The part is given up.
 fn points_at_root(
     alloc: Global,
     arena: &mut Arena,
@@ -38,7 +37,7 @@ fn points_at_root(
     found
 }
 
-/// The points that the parts of all nodes come to. The parts are given up. Answers `Memory` where there is no room.
+/// The points that the parts of all nodes come to. The parts are given up.
 fn points_of_parts(
     alloc: Global,
     arena: &mut Arena,

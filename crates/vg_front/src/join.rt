@@ -20,7 +20,7 @@ use sol_arena::Arena;
 use std::alloc::Global;
 use vg_num::Memory;
 
-/// The candidates of two lists together within the cap; these stay. Answers `Memory` where there is no room.
+/// The candidates of two lists together within the cap; these stay.
 fn meet_all(
     alloc: Global,
     arena: &mut Arena,
@@ -43,8 +43,7 @@ fn meet_all(
 }
 
 impl Branch {
-    /// The candidates of this branch and of another one together within the cap; these stay. Answers `Memory` where
-    /// there is no room.
+    /// The candidates of this branch and of another one together within the cap; these stay.
     fn met_with(
         &self,
         alloc: Global,

@@ -45,7 +45,7 @@ fn put(arena: &mut Arena, made: &mut Vec<Candidate>, z: Candidate) -> Result<(),
     Ok(())
 }
 
-/// Makes the candidate of a proposal, and puts it at the end of others. Answers `Memory` where there is no room.
+/// Makes the candidate of a proposal, and puts it at the end of others.
 fn add(arena: &mut Arena, x: Proposal, made: &mut Vec<Candidate>) -> Result<(), Memory>
     requires { IsMakable (made_of arena.old) x.origin }
     ensures added { OnOk result ((z : CandidateSpec) × (made.new.items ≡ made.old.items ++ z ∷ [])
@@ -59,7 +59,7 @@ fn add(arena: &mut Arena, x: Proposal, made: &mut Vec<Candidate>) -> Result<(), 
     Ok(())
 }
 
-/// Makes the candidates of all these proposals, one after the other. Answers `Memory` where there is no room.
+/// Makes the candidates of all these proposals, one after the other.
 fn make_each(
     arena: &mut Arena,
     proposals: &[Proposal],

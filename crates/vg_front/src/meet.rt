@@ -70,8 +70,7 @@ fn advance(x: Offer, y: Offer, i: &mut usize, j: &mut usize)
     *j += 1;
 }
 
-/// Proposes the pairs of two runs, but those that others beat (van Ginneken 1990). Answers `Memory` where there is no
-/// room.
+/// Proposes the pairs of two runs, but those that others beat (van Ginneken 1990).
 fn meet_runs(xs: &[Candidate], ys: &[Candidate], desk: &mut Desk) -> Result<(), Memory>
     requires first { IsRun xs.now }
     requires second { IsRun ys.now }
@@ -92,8 +91,7 @@ fn meet_runs(xs: &[Candidate], ys: &[Candidate], desk: &mut Desk) -> Result<(), 
     Ok(())
 }
 
-/// Proposes the pairs of a run of each of two lists, but those that others beat. Answers `Memory` where there is no
-/// room.
+/// Proposes the pairs of a run of each of two lists, but those that others beat.
 fn meet_one(
     xs: &[Candidate],
     ys: &[Candidate],
@@ -116,8 +114,7 @@ fn meet_one(
     Ok(())
 }
 
-/// Where another cost begins, keeps what no others beat of what was proposed at the cost before. Answers `Memory` where
-/// there is no room.
+/// Where another cost begins, keeps what no others beat of what was proposed at the cost before.
 fn turn_to(cost: u64, at: &mut u64, desk: &mut Desk) -> Result<(), Memory>
     requires reached { AreReached desk.old.stairs (proposed_by desk.old.made.items) }
     ensures kept { OnOk result (IsPartOf (Contains (all_in desk.old)) (all_in desk.new)) }
@@ -132,8 +129,7 @@ fn turn_to(cost: u64, at: &mut u64, desk: &mut Desk) -> Result<(), Memory>
 }
 
 /// Proposes the pairs of all runs of two lists within the cap, turn by turn, but those that others beat: the pairs of
-/// one cost after those of another, so that only pairs of one cost are to be put in order. Answers `Memory` where there
-/// is no room.
+/// one cost after those of another, so that only pairs of one cost are to be put in order.
 fn meet_by_turns(
     xs: &[Candidate],
     ys: &[Candidate],
@@ -162,7 +158,7 @@ fn meet_by_turns(
     Ok(())
 }
 
-/// Proposes the pairs of two lists within the cap, but those that others beat. Answers `Memory` where there is no room.
+/// Proposes the pairs of two lists within the cap, but those that others beat.
 pub(crate) fn meet_lists(
     alloc: Global,
     xs: &[Candidate],

@@ -68,7 +68,7 @@ fn sink_offer(sink: Sink, c: u64) -> Offer
 
 impl Branch {
     /// The branch of a sink alone, at a node of this capacitance (aF): one candidate, for the signal that the sink
-    /// wants. Answers `Memory` where there is no room.
+    /// wants.
     fn of_sink(alloc: Global, arena: &Arena, sink: Sink, c: u64) -> Result<Branch, Memory>
         ensures alone { IfOk result (λ branch. (odd : Bool) → IsSinkAlone sink c odd (list_of branch odd)) }
         ensures given { IfOk result (λ branch. (slots : List Slot) → IsGiven slots [] slots (all_of branch)) }

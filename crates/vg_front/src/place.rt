@@ -19,8 +19,7 @@ use std::alloc::Global;
 use vg_num::Memory;
 
 impl Branch {
-    /// The candidates of one class at a place with a cell there, where these are those without one; these stay. Answers
-    /// `Memory` where there is no room.
+    /// The candidates of one class at a place with a cell there, where these are those without one; these stay.
     fn cells(
         &self,
         alloc: Global,

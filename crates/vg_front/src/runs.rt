@@ -41,7 +41,7 @@ pub(crate) fn run_end(xs: &[Candidate], from: usize) -> usize
     end
 }
 
-/// The runs of a list. Answers `Memory` where there is no room.
+/// The runs of a list.
 pub(crate) fn runs_of(alloc: Global, xs: &[Candidate]) -> Result<Vec<Run>, Memory>
     requires bounded { AreBounded xs.now }
     ensures { IfOk result (λ runs. AreRunsOf xs.now xs.now runs.items) }

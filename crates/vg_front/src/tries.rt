@@ -62,7 +62,7 @@ fn is_beaten(best: Option<Offer>, x: Offer) -> bool
 }
 
 /// Proposes a repeater for a candidate, if it may drive it within the cap, unless what was proposed for it last beats
-/// that. Answers `Memory` where there is no room.
+/// that.
 fn drive_one(
     site: Site,
     number: u32,
@@ -95,7 +95,6 @@ fn drive_one(
 }
 
 /// Proposes a repeater for each of these candidates that it may drive within the cap, but those that others beat.
-/// Answers `Memory` where there is no room.
 fn drive(
     site: Site,
     number: u32,
@@ -150,7 +149,7 @@ fn drive_all(reps: &[Rep], numbers: &[u32], c: u64) -> bool
     true
 }
 
-/// Tries each of these repeaters before each of these candidates. Answers `Memory` where there is no room.
+/// Tries each of these repeaters before each of these candidates.
 fn try_each(
     site: Site,
     reps: &[Rep],
@@ -177,7 +176,7 @@ fn try_each(
 }
 
 /// Tries a repeater before a run of candidates all of which it may charge, and answers the number of the best one for
-/// it. Answers `Memory` where there is no room.
+/// it.
 fn try_one(
     site: Site,
     reps: &[Rep],
@@ -204,8 +203,7 @@ fn try_one(
     Ok(at)
 }
 
-/// Tries repeaters by rising resistance before a run of candidates all of which they may charge, by halves. Answers
-/// `Memory` where there is no room.
+/// Tries repeaters by rising resistance before a run of candidates all of which they may charge, by halves.
 fn try_halves(
     site: Site,
     reps: &[Rep],
@@ -235,7 +233,7 @@ fn try_halves(
     Ok(())
 }
 
-/// Tries repeaters by rising resistance before a run of candidates. Answers `Memory` where there is no room.
+/// Tries repeaters by rising resistance before a run of candidates.
 fn try_run(
     site: Site,
     reps: &[Rep],
@@ -261,8 +259,7 @@ fn try_run(
     Ok(())
 }
 
-/// Tries repeaters by rising resistance before all candidates of a list, run by run. Answers `Memory` where there is no
-/// room.
+/// Tries repeaters by rising resistance before all candidates of a list, run by run.
 pub(crate) fn try_all(
     site: Site,
     reps: &[Rep],

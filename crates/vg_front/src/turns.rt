@@ -22,7 +22,7 @@ pub(crate) struct Turn {
 }
 
 /// Puts the turn of a run with the first of the others, from number `from` on, that it meets within the cap, if there
-/// is one. Answers `Memory` where there is no room.
+/// is one.
 pub(crate) fn put(
     turns: &mut BinaryHeap<Reverse<Turn>, Global>,
     first: Run,
@@ -50,7 +50,7 @@ pub(crate) fn put(
     Ok(())
 }
 
-/// Puts the first turn of each of these runs with the others within the cap. Answers `Memory` where there is no room.
+/// Puts the first turn of each of these runs with the others within the cap.
 pub(crate) fn put_all(
     turns: &mut BinaryHeap<Reverse<Turn>, Global>,
     firsts: &[Run],

@@ -12,7 +12,7 @@ use std::alloc::Global;
 use vg_num::Memory;
 use vg_scan::{Comments, Span, blank, next_comment, text_at};
 
-/// Keeps a comment behind others, and makes it blank. Answers `Memory` where there is no room.
+/// Keeps a comment behind others, and makes it blank.
 fn keep(text: &mut [u8], comment: Span, kept: &mut Patch) -> Result<(), Memory>
     requires behind { end_of kept.old ≤ comment.from }
     requires part { (comment.from ≤ comment.to) × (comment.to ≤ length text.old) }

@@ -21,8 +21,7 @@ pub(crate) struct First {
     pub driver: Driver,
 }
 
-/// What is above the net of this number, and what drives the net, or the first reason of `Refusal` against it. Answers
-/// `Memory` where there is no room.
+/// What is above the net of this number, and what drives the net, or the first reason of `Refusal` against it.
 fn look_up(
     alloc: Global,
     design: &Design,
@@ -39,7 +38,6 @@ fn look_up(
 
 /// The first net above the net of this number: as long as a cell that was put in drives a net, the net at its input is
 /// next. Or the first reason against a net on the way: it is refused, its cell's input is at no net, or it came before.
-/// Answers `Memory` where there is no room.
 pub(crate) fn climb(
     alloc: Global,
     design: &Design,

@@ -30,7 +30,7 @@ pub(crate) struct Walk {
     pub wrong: Option<NodeName>,
 }
 
-/// The walk at the first net. Answers `Memory` where there is no room.
+/// The walk at the first net.
 fn begin(alloc: Global, first: First) -> Result<Walk, Memory>
     ensures walk { IfOk result (λ walk. (design : DesignValue) (prefix : List ℕ)
         → IsFirstWithin (length design.netlist.nets) first → IsUnderWay design prefix 0 walk) }
@@ -52,8 +52,7 @@ fn begin(alloc: Global, first: First) -> Result<Walk, Memory>
     })
 }
 
-/// Notes the first sink of the wrong polarity in a net, where none was noted before. Answers `Memory` where there is no
-/// room.
+/// Notes the first sink of the wrong polarity in a net, where none was noted before.
 fn note_wrong(
     alloc: Global,
     net: &WalkNet,
@@ -69,7 +68,7 @@ fn note_wrong(
     Ok(())
 }
 
-/// Meets the sinks of a net to which a signal comes, and passes it on. Answers `Memory` where there is no room.
+/// Meets the sinks of a net to which a signal comes, and passes it on.
 fn visit(alloc: Global, net: &WalkNet, signal: &Signal, walk: &mut Walk) -> Result<(), Memory>
     requires net { IsSizedNet (2 ^ 32) net.now }
     requires signal { IsSizedSignal (2 ^ 32) (2 ^ 32) (signal_of signal.now) }
@@ -83,7 +82,6 @@ fn visit(alloc: Global, net: &WalkNet, signal: &Signal, walk: &mut Walk) -> Resu
 }
 
 /// Passes on the signal of this number, or tells the first reason against its net: it came before, or is refused.
-/// Answers `Memory` where there is no room.
 fn turn(
     alloc: Global,
     design: &Design,
@@ -107,7 +105,7 @@ fn turn(
     Ok(())
 }
 
-/// The walk down from the first net, or the first reason against a net on it. Answers `Memory` where there is no room.
+/// The walk down from the first net, or the first reason against a net on it.
 pub(crate) fn go_down(
     alloc: Global,
     design: &Design,

@@ -50,7 +50,7 @@ fn delay_at(delays: &[i128], node: usize) -> u128
     delays[node] as u128
 }
 
-/// When a signal comes to each node of the net's tree (zs). Answers `Memory` where there is no room.
+/// When a signal comes to each node of the net's tree (zs).
 pub(crate) fn lates(alloc: Global, net: &WalkNet, signal: &Signal) -> Result<Vec<u128>, Memory>
     requires net { IsSizedNet (2 ^ 32) net.now }
     requires signal { IsSizedSignal (2 ^ 32) (2 ^ 32) (signal_of signal.now) }
@@ -87,7 +87,7 @@ fn passed(signal: &Signal, end: End, late: u128) -> Option<Signal>
     }
 }
 
-/// Puts the signals last that a net passes on, in tree order. Answers `Memory` where there is no room.
+/// Puts the signals last that a net passes on, in tree order.
 pub(crate) fn pass_on(
     net: &WalkNet,
     signal: &Signal,
@@ -165,8 +165,7 @@ fn is_wrong(inverted: bool, end: End) -> bool
     }
 }
 
-/// The name of the first sink of the net, in tree order, that wants the other polarity than the signal has. Answers
-/// `Memory` where there is no room.
+/// The name of the first sink of the net, in tree order, that wants the other polarity than the signal has.
 pub(crate) fn wrong_in(
     alloc: Global,
     net: &WalkNet,

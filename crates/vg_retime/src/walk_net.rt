@@ -92,8 +92,7 @@ fn first_unconstrained(design: &Design, prefix: &[u8], net: &PinnedNet) -> Optio
     None
 }
 
-/// The name of the first sink that is not passed and has no required time, if there is one. Answers `Memory` where
-/// there is no room.
+/// The name of the first sink that is not passed and has no required time, if there is one.
 fn unconstrained_sink(
     alloc: Global,
     design: &Design,
@@ -124,7 +123,7 @@ fn end_at(design: &Design, prefix: &[u8], net: &PinnedNet, v: u32, sink: Option<
     }
 }
 
-/// What stands at each node of the tree, where these are the sinks. Answers `Memory` where there is no room.
+/// What stands at each node of the tree, where these are the sinks.
 fn ends_of(
     alloc: Global,
     design: &Design,
@@ -160,7 +159,7 @@ fn above_of(design: &Design, prefix: &[u8], net: &PinnedNet, driver: usize) -> A
 }
 
 /// The net of a name as a walk comes to it, or the first reason of `Refusal` against it, where only a sink that is not
-/// passed needs a required time. Answers `Memory` where there is no room.
+/// passed needs a required time.
 fn net_named(alloc: Global, design: &Design, prefix: &[u8], name: &Name) -> Result<WalkNet, Refused>
     ensures net { IfOk result (IsNetOf 17 design.now prefix.now name.now) }
     ensures sized { IfOk result (IsSizedNet (length design.now.netlist.nets)) }
@@ -187,7 +186,7 @@ fn net_named(alloc: Global, design: &Design, prefix: &[u8], name: &Name) -> Resu
     })
 }
 
-/// The name of the net of this number. Answers `Memory` where there is no room.
+/// The name of the net of this number.
 fn name_of_net(alloc: Global, design: &Design, id: u32) -> Result<Name, Memory>
     requires { id < length design.now.netlist.nets }
     ensures { IfOk result (λ name. name ≡ net_name design.now id) }
@@ -198,7 +197,7 @@ fn name_of_net(alloc: Global, design: &Design, id: u32) -> Result<Name, Memory>
 }
 
 /// The net of this number as a walk comes to it, or the first reason of `Refusal` against it, where only a sink that is
-/// not passed needs a required time. Answers `Memory` where there is no room.
+/// not passed needs a required time.
 pub(crate) fn walk_net(
     alloc: Global,
     design: &Design,

@@ -45,7 +45,7 @@ fn is_good_with(p: &Problem, at: &Placement, most: i128, scratch: &mut Scratch) 
     own == most
 }
 
-/// The placement without a cell, where it is good and has this slack (zs). Answers `Memory` where there is no room.
+/// The placement without a cell, where it is good and has this slack (zs).
 fn bare_with(alloc: Global, p: &Problem, most: i128) -> Result<Option<Placement>, Memory>
     ensures { IfOk result (λ at. MatchOption at (NoneIsBare p.now most) (λ at. IsBare p.now most at.cells)) }
 {
@@ -59,8 +59,7 @@ fn bare_with(alloc: Global, p: &Problem, most: i128) -> Result<Option<Placement>
 }
 
 /// The best placement that the candidates of the root come to, where this one of them was chosen: the one without a
-/// cell where it is best, and else that of the candidate's solution. `None`: no placement is good. Answers `Memory`
-/// where there is no room.
+/// cell where it is best, and else that of the candidate's solution. `None`: no placement is good.
 pub(crate) fn best_placement(
     alloc: Global,
     arena: &Arena,

@@ -23,7 +23,7 @@ use std::mem;
 use std::sync::ledger::Ledger;
 use vg_num::Memory;
 
-/// The parts of all nodes, to which no child came in yet. Answers `Memory` where there is no room.
+/// The parts of all nodes, to which no child came in yet.
 pub(crate) fn start(
     pool: &mut Pool,
     arena: &Arena,
@@ -148,7 +148,7 @@ fn take_in<L: Ledger>(
     }
 }
 
-/// A node to which all its children came in comes in to its parent. Answers `Memory` where there is no room.
+/// A node to which all its children came in comes in to its parent.
 fn turn<L: Ledger>(
     pool: &mut Pool,
     arena: &mut Arena,
@@ -185,7 +185,6 @@ fn turn<L: Ledger>(
 }
 
 /// All nodes but the root come in, each to its parent, depth first: a node as soon as all nodes below it are in.
-/// Answers `Memory` where there is no room.
 pub(crate) fn climb<L: Ledger>(
     pool: &mut Pool,
     arena: &mut Arena,

@@ -28,7 +28,7 @@ pub(crate) fn parent_of(p: &Problem, node: usize) -> usize
     p.tree.nodes.as_slice()[node].parent as usize
 }
 
-/// The numbers of so many nodes. Answers `Memory` where there is no room.
+/// The numbers of so many nodes.
 fn numbers(alloc: Global, n: usize) -> Result<Vec<u32>, Memory>
     requires few { n < 2 ^ 32 }
     ensures count { IfOk result (λ numbers. length numbers.items ≡ n) }
@@ -42,7 +42,7 @@ fn numbers(alloc: Global, n: usize) -> Result<Vec<u32>, Memory>
 }
 
 impl Waiting {
-    /// All nodes of a net, of which none came in yet. Answers `Memory` where there is no room.
+    /// All nodes of a net, of which none came in yet.
     pub(crate) fn of(alloc: Global, p: &Problem) -> Result<Waiting, Memory>
         ensures { IfOk result (AreAllWaiting p.now) }
     {

@@ -338,7 +338,7 @@ fn push_ress(
     Ok(())
 }
 
-/// Makes the parts of a stage's net anew; its name stands in the scratch. Answers `Memory` where there is no room.
+/// Makes the parts of a stage's net anew; its name stands in the scratch.
 fn make_parts(x: &Split<'_>, stage: usize, chars: &Chars, room: &mut Room) -> Result<(), Memory>
     requires stage { stage < length (heads (forest x.now)) }
     requires places { length room.old.scratch.places.items ≡ length x.now.problem.tree.nodes }

@@ -36,7 +36,7 @@ fn parent_of(p: &Problem, node: usize) -> usize
     p.tree.nodes.as_slice()[node].parent as usize
 }
 
-/// The nodes of a stage that begins at a node, so far. Answers `Memory` where there is no room.
+/// The nodes of a stage that begins at a node, so far.
 fn begun(alloc: Global, node: u32) -> Result<Vec<u32>, Memory>
     ensures { IfOk result (λ members. members.items ≡ node ∷ []) }
 {
@@ -46,7 +46,7 @@ fn begun(alloc: Global, node: u32) -> Result<Vec<u32>, Memory>
 }
 
 impl Stages {
-    /// Puts a node into the stage above it. Answers `Memory` where there is no room.
+    /// Puts a node into the stage above it.
     fn end(&mut self, p: &Problem, node: usize) -> Result<u32, Memory>
         requires some { 0 < node }
         requires node { node < length p.now.tree.nodes }
@@ -63,7 +63,7 @@ impl Stages {
         Ok(above)
     }
 
-    /// Begins a stage at a node. Answers `Memory` where there is no room.
+    /// Begins a stage at a node.
     fn begin(&mut self, alloc: Global, node: usize) -> Result<(), Memory>
         requires node { node < 2 ^ 32 }
         requires stages { (f : Forest) × AreStagesTo f node (node + 1) self.old }
@@ -77,8 +77,7 @@ impl Stages {
         Ok(())
     }
 
-    /// Puts a node into the stage above it, and begins its own, where it has a cell. Answers `Memory` where there is no
-    /// room.
+    /// Puts a node into the stage above it, and begins its own, where it has a cell.
     fn put(
         &mut self,
         alloc: Global,

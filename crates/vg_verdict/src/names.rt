@@ -12,7 +12,7 @@ use vg_design::PosedNet;
 use vg_num::{Memory, Row};
 use vg_scan::{Name, NetNames, NodeName};
 
-/// The names of the nodes of a net's tree, each in memory of its own. Answers `Memory` where there is no room.
+/// The names of the nodes of a net's tree, each in memory of its own.
 fn node_names(alloc: Global, net: &PosedNet) -> Result<Vec<NodeName>, Memory>
     requires { All (λ v. v < length net.now.ready.pinned.net.par.nodes) net.now.ready.order }
     ensures { IfOk result (λ names. names.items ≡ names_of net.now.ready.pinned.net.par net.now.ready.order) }
@@ -26,7 +26,7 @@ fn node_names(alloc: Global, net: &PosedNet) -> Result<Vec<NodeName>, Memory>
     Ok(names)
 }
 
-/// The names of the cells of repeaters. Answers `Memory` where there is no room.
+/// The names of the cells of repeaters.
 fn cell_names(alloc: Global, repeaters: &[Repeater]) -> Result<Vec<Name>, Memory>
     ensures { IfOk result (λ names. names.items ≡ cells_of repeaters.now) }
 {
