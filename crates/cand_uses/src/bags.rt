@@ -19,8 +19,8 @@ pub fn give_up(pool: &mut Pool, arena: &mut Arena, bag: Bag)
         → IsExchange (slots_of arena.old) xs (slots_of arena.new) [] }
     ensures spare { (xs : Candidates) → HoldsBag pool.old bag xs → spare pool.new ≡ spare pool.old + length xs }
     ensures others { KeepsOthers pool.old (bag_name bag ∷ []) pool.new [] }
-    ensures lists { (list : NamedList) (xs : Candidates) → Differ (name list) (bag_name bag) → Holds pool.old list xs
-        → Holds pool.new list xs }
+    ensures lists { (list : NamedList) (xs : Candidates) → Differ (name list) (bag_name bag)
+        → Holds pool.old list xs → Holds pool.new list xs }
 {
     let mut bag = bag;
     'tags: while let Some(tag) = pool.take(&mut bag) {
@@ -36,8 +36,8 @@ pub fn end_list(pool: &mut Pool, arena: &mut Arena, list: List)
     ensures uses { IsExchange (slots_of arena.old) (items_of pool.old list) (slots_of arena.new) [] }
     ensures spare { spare pool.new ≡ spare pool.old + length (items_of pool.old list) }
     ensures others { KeepsOthers pool.old (name list ∷ []) pool.new [] }
-    ensures lists { (other : NamedList) (xs : Candidates) → Differ (name other) (name list) → Holds pool.old other xs
-        → Holds pool.new other xs }
+    ensures lists { (other : NamedList) (xs : Candidates) → Differ (name other) (name list)
+        → Holds pool.old other xs → Holds pool.new other xs }
 {
     let bag = pool.discard(list);
     give_up(pool, arena, bag);

@@ -38,8 +38,8 @@ pub fn build(
     edges: &[(u32, u32, u64)],
 ) -> Result<Built, TreeFault>
     requires { IsNet n root caps.now edges.now }
-    ensures { MatchResult result (λ built. IsTreeOf n root caps.now edges.now built.tree.nodes built.order) (λ fault.
-        IsFaultOf n edges.now root fault) }
+    ensures { MatchResult result (λ built. IsTreeOf n root caps.now edges.now built.tree.nodes built.order)
+        (λ fault. IsFaultOf n edges.now root fault) }
 {
     let links = link(alloc, n, edges)?;
     let reached = search(alloc, n, root, edges, &links)?;

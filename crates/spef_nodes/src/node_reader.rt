@@ -136,7 +136,8 @@ impl<'a> NodeReader<'a> {
 
     /// The leaf of an inner node, and the number that it writes, where a text has the prefix.
     fn inner_leaf(&self, text: &'a [u8]) -> Option<(&'a [u8], usize)>
-        ensures { IfSome result (λ found. (node_in self.now.file text.now ≡ Some (node_named self.now.net found.0.now))
+        ensures { IfSome result (λ found.
+            (node_in self.now.file text.now ≡ Some (node_named self.now.net found.0.now))
             × Writes found.0.now found.1) }
     {
         let start = self.prefix.len();

@@ -2,7 +2,7 @@
 use Rattle.std.specs.Prelude.{◌≡◌, ℕ, ◌<◌, ◌⊎◌, Bool, true, false, ◌+◌, ◌^◌, List, length, slice_index_or, slice_set, ℤ, pos, ◌-ℤ◌, ◌≤ℤ◌, ◌<ℤ◌, Option, Some, None}
 use Rattle.sta_graph.specs.declared.graph.Graph.{Graph}
 use Rattle.sta_graph.specs.declared.slacks.End.{End}
-use Rattle.sta_graph.specs.Paths.{net_count, owner, delay_of, required_of, arrival_of}
+use Rattle.sta_graph.specs.Paths.{net_count, owner, delay_of, required_of, arrival_of, to_of, lead_sink}
 use Rattle.sta_graph.specs.Passes.{time_at, IsDeadline, IsWithin, IsHeld, IsEarlier}
 
 abbrev pub is_marked : List Bool → ℕ → Bool
@@ -13,6 +13,14 @@ pub record AreMarked (n m : ℕ) (f : ℕ → ℕ) (marks : List Bool) : Type 0 
   pub one_each : length marks ≡ n
   pub set : (i : ℕ) → i < m → is_marked marks (f i) ≡ true
   pub only : (v : ℕ) → is_marked marks v ≡ true → (i : ℕ) × (i < m) × (f i ≡ v)
+
+-- marked are the nets to which a sink leads
+abbrev pub AreLedNets : Graph → List Bool → Type 0
+AreLedNets g marks = AreMarked (net_count g) (length g.leads) (to_of g) marks
+
+-- marked are the sinks that lead to a net
+abbrev pub AreLeadingSinks : Graph → List Bool → Type 0
+AreLeadingSinks g marks = AreMarked (length g.sinks) (length g.leads) (lead_sink g) marks
 
 -- of the nets before n the starts have their arrivals
 pub record AreStarts (g : Graph) (led : List Bool) (n : ℕ) (times : List (Option ℤ)) : Type 0 where

@@ -71,7 +71,8 @@ fn carry_on(g: &Graph, i: usize, times: &mut [Option<i128>])
     requires lead { i < length g.now.leads }
     requires nets { length times.old ≡ net_count g.now }
     requires from { is_some (time_at times.old (from_of g.now i)) ≡ true }
-    requires bounded { (v : ℕ) (a : ℤ) → time_at times.old v ≡ Some a → IsWithin (length g.now.leads + 1) a }
+    requires bounded { (v : ℕ) (a : ℤ) → time_at times.old v ≡ Some a
+        → IsWithin (length g.now.leads + 1) a }
     ensures { IsCarriedOn g.now i times.old times.new }
 {
     let step = step_at(g, i);
@@ -87,7 +88,8 @@ fn carry_back(g: &Graph, i: usize, times: &mut [Option<i128>])
     requires lead { i < length g.now.leads }
     requires nets { length times.old ≡ net_count g.now }
     requires to { is_some (time_at times.old (to_of g.now i)) ≡ true }
-    requires bounded { (v : ℕ) (r : ℤ) → time_at times.old v ≡ Some r → IsWithin (length g.now.leads + 2) r }
+    requires bounded { (v : ℕ) (r : ℤ) → time_at times.old v ≡ Some r
+        → IsWithin (length g.now.leads + 2) r }
     ensures { IsCarriedBack g.now i times.old times.new }
 {
     let step = step_at(g, i);

@@ -109,7 +109,8 @@ fn take_lead(g: &Graph, i: u32, peel: &mut Worklist) -> Result<(), Memory>
     requires low { to_of g.now i < 2 ^ 30 }
     requires counted { 0 < slice_index peel.old.counts.items (to_of g.now i) }
     ensures order { IfOk result (λ _. peel.new.order.items ≡ peel.old.order.items ++ i ∷ []) }
-    ensures counts { IfOk result (λ _. peel.new.counts.items ≡ with_one_less peel.old.counts.items (to_of g.now i)) }
+    ensures counts { IfOk result (λ _. peel.new.counts.items
+        ≡ with_one_less peel.old.counts.items (to_of g.now i)) }
     ensures ready { IfOk result (λ _. peel.new.ready.items
         ≡ with_ready_at peel.old.counts.items peel.old.ready.items (to_of g.now i)) }
 {

@@ -1,10 +1,10 @@
 //! The least slacks of the paths of a graph.
 
 ghost use Rattle.std.specs.Prelude.{◌≡◌, ◌<◌, ◌≤◌, ◌+◌, ◌^◌, ℕ, length, slice_index, List, IfOk, IfErr, MatchOption, false, is_some, true, ℤ, Some, None};
-ghost use Rattle.sta_graph.specs.Paths.{IsGraph, IsLeast, IsFirstEnd, IsAfterCycle, net_count, to_of, lead_sink, sink_at, arrival_of, owner};
+ghost use Rattle.sta_graph.specs.Paths.{IsGraph, IsLeast, IsFirstEnd, IsAfterCycle, net_count, sink_at, arrival_of, owner};
 ghost use Rattle.sta_graph.specs.Orders.{IsWholeOrder};
 ghost use Rattle.sta_graph.specs.Passes.{IsSmall, IsForward, IsBackward, IsWithin, time_at};
-ghost use Rattle.sta_graph.specs.Begins.{AreMarked, AreStarts, AreEnds, IsWorstEnd, IsEnded, IsHeldWithin, AreDifferences, IsWorse, IsWorstSo, IsSlackTo, is_marked};
+ghost use Rattle.sta_graph.specs.Begins.{AreLedNets, AreLeadingSinks, AreStarts, AreEnds, IsWorstEnd, IsEnded, IsHeldWithin, AreDifferences, IsWorse, IsWorstSo, IsSlackTo, is_marked};
 ghost use Rattle.sta_graph.specs.Answers.{AreSlacks, IsFaultOf};
 ghost use Rattle.sta_graph.specs.Peeling.{IsFirstCounted, NoneCounted};
 
@@ -44,7 +44,7 @@ pub(crate) struct End {
 /// For each net whether a sink leads to it.
 fn led_nets(alloc: Global, g: &Graph) -> Result<Vec<bool>, Memory>
     requires { IsGraph g.now }
-    ensures { IfOk result (λ marks. AreMarked (net_count g.now) (length g.now.leads) (to_of g.now) marks.items) }
+    ensures { IfOk result (λ marks. AreLedNets g.now marks.items) }
 {
     let mut marks = vec![in alloc; false; g.arrivals.len()]?;
     'leads: for i in 0..g.leads.len() {
@@ -57,7 +57,7 @@ fn led_nets(alloc: Global, g: &Graph) -> Result<Vec<bool>, Memory>
 /// For each sink whether it leads to a net.
 fn leading_sinks(alloc: Global, g: &Graph) -> Result<Vec<bool>, Memory>
     requires { IsGraph g.now }
-    ensures { IfOk result (λ marks. AreMarked (length g.now.sinks) (length g.now.leads) (lead_sink g.now) marks.items) }
+    ensures { IfOk result (λ marks. AreLeadingSinks g.now marks.items) }
 {
     let mut marks = vec![in alloc; false; g.sinks.len()]?;
     'leads: for i in 0..g.leads.len() {
@@ -121,7 +121,7 @@ fn sink_at(g: &Graph, j: usize) -> Sink
 
 /// The arrivals at the starts.
 fn first_arrivals(alloc: Global, g: &Graph, led: &[bool]) -> Result<Vec<Option<i128>>, Memory>
-    requires { AreMarked (net_count g.now) (length g.now.leads) (to_of g.now) led.now }
+    requires { AreLedNets g.now led.now }
     ensures { IfOk result (λ times. (order : List ℕ) → IsSmall g.now → IsForward g.now order 0 times.items) }
 {
     let mut times = no_times(alloc, g.arrivals.len())?;
@@ -151,7 +151,7 @@ fn hold_end(g: &Graph, j: usize, times: &mut [Option<i128>])
 fn hold_ends(g: &Graph, leading: &[bool], times: &mut [Option<i128>])
     requires graph { IsGraph g.now }
     requires small { IsSmall g.now }
-    requires leading { AreMarked (length g.now.sinks) (length g.now.leads) (lead_sink g.now) leading.now }
+    requires leading { AreLeadingSinks g.now leading.now }
     requires begun { AreEnds g.now leading.now 0 times.old }
     ensures { AreEnds g.now leading.now (length g.now.sinks) times.new }
 {
@@ -166,7 +166,7 @@ fn hold_ends(g: &Graph, leading: &[bool], times: &mut [Option<i128>])
 fn last_times(alloc: Global, g: &Graph, leading: &[bool]) -> Result<Vec<Option<i128>>, Memory>
     requires graph { IsGraph g.now }
     requires small { IsSmall g.now }
-    requires leading { AreMarked (length g.now.sinks) (length g.now.leads) (lead_sink g.now) leading.now }
+    requires leading { AreLeadingSinks g.now leading.now }
     ensures { IfOk result (λ times. (order : List ℕ) → IsBackward g.now order (length order) 2 times.items) }
 {
     let mut times = no_times(alloc, g.arrivals.len())?;
@@ -264,7 +264,7 @@ fn required_of(
     requires graph { IsGraph g.now }
     requires small { IsSmall g.now }
     requires order { IsWholeOrder g.now order.now }
-    requires leading { AreMarked (length g.now.sinks) (length g.now.leads) (lead_sink g.now) leading.now }
+    requires leading { AreLeadingSinks g.now leading.now }
     ensures { IfOk result (λ times. IsBackward g.now order.now 0 (length order.now + 2) times.items) }
 {
     let mut times = last_times(alloc, g, leading)?;

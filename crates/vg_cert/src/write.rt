@@ -43,7 +43,8 @@ fn write_pair(pair: Pair, to: &mut Vec<u8>) -> Result<(), Memory>
 
 /// `Q C` for each pair
 fn write_list(pairs: &[Pair], to: &mut Vec<u8>) -> Result<(), Memory>
-    ensures printed { OnOk result (to.new.items ≡ to.old.items ++ flat_map (λ x. line_text (pair_line x)) pairs.now) }
+    ensures printed { OnOk result (to.new.items
+        ≡ to.old.items ++ flat_map (λ x. line_text (pair_line x)) pairs.now) }
     ensures begun { OnErr result (take (length to.old.items) to.new.items ≡ to.old.items) }
 {
     'pair: for pair in pairs {
@@ -107,7 +108,8 @@ fn write_name(names: &NetNames, v: usize, to: &mut Vec<u8>) -> Result<(), Memory
 fn write_cell(names: &NetNames, v: usize, cell: Option<u32>, to: &mut Vec<u8>) -> Result<(), Memory>
     requires node { v < length names.now.nodes }
     requires cell { (b : ℕ) → cell ≡ Some b → b < length names.now.cells }
-    ensures printed { OnOk result (to.new.items ≡ to.old.items ++ flat_map line_text (cell_lines names.now v cell)) }
+    ensures printed { OnOk result (to.new.items
+        ≡ to.old.items ++ flat_map line_text (cell_lines names.now v cell)) }
     ensures begun { OnErr result (take (length to.old.items) to.new.items ≡ to.old.items) }
 {
     let Some(cell) = cell else {
@@ -135,7 +137,8 @@ fn count_cells(cells: &[Option<u32>]) -> u64
 
 /// `A B` and the end of the line
 fn write_counts(even: u64, odd: u64, to: &mut Vec<u8>) -> Result<(), Memory>
-    ensures printed { OnOk result (to.new.items ≡ to.old.items ++ ((decimal even ++ 32 ∷ decimal odd) ++ 10 ∷ [])) }
+    ensures printed { OnOk result (to.new.items
+        ≡ to.old.items ++ ((decimal even ++ 32 ∷ decimal odd) ++ 10 ∷ [])) }
     ensures begun { OnErr result (take (length to.old.items) to.new.items ≡ to.old.items) }
 {
     write_count(even, to)?;
@@ -147,7 +150,8 @@ fn write_counts(even: u64, odd: u64, to: &mut Vec<u8>) -> Result<(), Memory>
 /// `node NODE A B`
 fn write_node(names: &NetNames, v: usize, lists: &NodeLists, to: &mut Vec<u8>) -> Result<(), Memory>
     requires { v < length names.now.nodes }
-    ensures printed { OnOk result (to.new.items ≡ to.old.items ++ line_text (node_line names.now v (both lists.now))) }
+    ensures printed { OnOk result (to.new.items
+        ≡ to.old.items ++ line_text (node_line names.now v (both lists.now))) }
     ensures begun { OnErr result (take (length to.old.items) to.new.items ≡ to.old.items) }
 {
     write_bytes(b"node ", to)?;

@@ -308,7 +308,8 @@ fn push_numbers(
     requires places { length places.now ≡ length x.now.problem.tree.nodes }
     requires numbered { AreNumbered places.now (nodes_in x.now stage) }
     requires none { numbers.old.items ≡ [] }
-    ensures { OnOk result (numbers.new.items ≡ map (place_in x.now stage) (members (forest x.now) (head x.now stage))) }
+    ensures { OnOk result (numbers.new.items
+        ≡ map (place_in x.now stage) (members (forest x.now) (head x.now stage))) }
 {
     'node: for node in x.members(stage) {
         numbers.push(places[*node as usize])?;

@@ -75,7 +75,8 @@ pub type Told = Option<Vec<u8>>;
 /// Tells the bytes of the file of this name no longer.
 pub fn forget(files: &mut IndexMap<String, Told>, name: &str)
     ensures forgotten { told_of files.new name.now ≡ None }
-    ensures others { (other : List ℕ) → other ≢ name.now → told_of files.new other ≡ told_of files.old other }
+    ensures others { (other : List ℕ) → other ≢ name.now
+        → told_of files.new other ≡ told_of files.old other }
     ensures same_names { (number : Option ℕ) → named files.new number ≡ named files.old number }
     ensures same_length { index_map_len files.new ≡ index_map_len files.old }
 {
@@ -88,7 +89,8 @@ pub fn forget(files: &mut IndexMap<String, Told>, name: &str)
 // Tells the bytes of the file of this number no longer.
 fn forget_at(files: &mut IndexMap<String, Told>, number: usize)
     requires stands { number < index_map_len files.old }
-    ensures forgotten { (name : List ℕ) → named files.old (Some number) ≡ Some name → told_of files.new name ≡ None }
+    ensures forgotten { (name : List ℕ) → named files.old (Some number) ≡ Some name
+        → told_of files.new name ≡ None }
     ensures others { (other : List ℕ) → named files.old (Some number) ≢ Some other
         → told_of files.new other ≡ told_of files.old other }
     ensures same_names { (other : Option ℕ) → named files.new other ≡ named files.old other }

@@ -50,7 +50,8 @@ impl SureFiles {
     /// `Memory`: there was no room for it. The files are as before.
     pub fn add(&mut self, name: &str, bytes: &[u8]) -> Result<(), Memory>
         ensures added { OnOk result (told_in self.new name.now ≡ Some bytes.now) }
-        ensures others { (other : List ℕ) → other ≢ name.now → told_in self.new other ≡ told_in self.old other }
+        ensures others { (other : List ℕ) → other ≢ name.now
+            → told_in self.new other ≡ told_in self.old other }
         ensures failed { OnErr result ((file : List ℕ) → told_in self.new file ≡ told_in self.old file) }
         ensures reading { KeepsReading (state_of self.old) (state_of self.new) }
         ensures writing { KeepsWriting (state_of self.old) (state_of self.new) }
@@ -137,7 +138,8 @@ impl Files for SureFiles {
         ensures begun { OnOk result (BeginsWriting name.now (state_of self.new)) }
         ensures shut { OnErr result ((state_of self.new).writing ≡ false) }
         ensures stays { OnErr result (StaysOrEmpty (told_in self.old name.now) (told_in self.new name.now)) }
-        ensures others { (other : List ℕ) → other ≢ name.now → told_in self.new other ≡ told_in self.old other }
+        ensures others { (other : List ℕ) → other ≢ name.now
+            → told_in self.new other ≡ told_in self.old other }
         ensures cause { HasCause (state_of self.old).write_faults (state_of self.new).write_faults result }
         ensures blamed { OnErr result (IfSome (state_of self.new).write_blame (λ blamed. blamed ≡ name.now)) }
         ensures same_blame { OnOk result ((state_of self.new).write_blame ≡ (state_of self.old).write_blame) }

@@ -46,7 +46,8 @@ pub fn run<F: Files, O: Out, E: Out>(
 ) -> u8
     ensures done { result ≡ 0 → Answered Kind.Report (texts words.now) (F.state files.old, F.state files.new)
         (O.state out.old, O.state out.new) }
-    ensures none_good { result ≡ 1 → Answered Kind.NoneGood (texts words.now) (F.state files.old, F.state files.new)
+    ensures none_good { result ≡ 1
+        → Answered Kind.NoneGood (texts words.now) (F.state files.old, F.state files.new)
         (O.state out.old, O.state out.new) }
     ensures refused { result ≡ 2 → Answered Kind.Refusal (texts words.now) (F.state files.old, F.state files.new)
         (O.state out.old, O.state out.new) }
@@ -68,7 +69,8 @@ pub fn run<F: Files, O: Out, E: Out>(
     // Standard error has exactly its line, or a prefix of it after a fault of its own.
     ensures error_line { ErrorLine result (Says (E.state err.old) (E.state err.new))
         ((E.state err.new).written ≡ (E.state err.old).written) }
-    ensures nothing_written { IsTrue (creates_nothing result) → AreUntouched (F.state files.old, F.state files.new) }
+    ensures nothing_written { IsTrue (creates_nothing result)
+        → AreUntouched (F.state files.old, F.state files.new) }
     ensures kept { (file : List ℕ)
         → ((request : Request) → IsRequest (texts words.now) request → IsOutput request file → ⊥)
         → (F.state files.new).holds file ≡ (F.state files.old).holds file }
