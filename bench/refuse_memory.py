@@ -48,6 +48,7 @@ RUNS = {
     "`time --all`": ["time", *SOC, "--all"],
     "`wire`": ["wire", "--spef", os.path.join(EXAMPLES, "fork.spef"), "--net", "n1"],
     "`gen`": ["gen", "--size", "16"],
+    "`sta`": ["sta", *SOC],
 }
 
 

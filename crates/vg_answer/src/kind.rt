@@ -10,7 +10,7 @@ pub enum AnswerKind {
     Report,
     /// That no placement of repeaters on a net is good.
     NoneGood,
-    /// Why a net is refused.
+    /// Why a net is refused, or a whole design.
     Refusal,
     /// That a certificate is not in its form or not valid.
     Invalid,

@@ -11,9 +11,9 @@ use Rattle.spef_wire.specs.Refusals.{number_of, IsNetTree}
 use Rattle.spef_wire.specs.declared.refusal.Refusal.{Refusal}
 use Rattle.spef_wire.specs.declared.refusal.Refusal.TheVariants.{UnknownNet, Section, Reduced, Inductive, Bidirectional, NoDriver, ManyDrivers, Mismatch, Tied, NoDrive, NoLoad, Floating, Loop, NoSink, Unconstrained, TooLarge}
 use Rattle.vg_design.specs.Designs.{Design, Joined, name_of}
-use Rattle.vg_design.specs.Laws.{AreSame, BareAccepts, OneProblem, OneRefusal, ProblemOrRefused}
-use Rattle.vg_design.specs.Nets.{names_of}
-use Rattle.vg_design.specs.Parts.{IsProblemOf}
+use Rattle.vg_design.specs.Laws.{AreSame, BareAccepts, BareOrRefused, OneBareNet, OneProblem, OneRefusal, ProblemOrRefused}
+use Rattle.vg_design.specs.Nets.{names_of, sink_nodes}
+use Rattle.vg_design.specs.Parts.{driver_of, loaded_tree, IsProblemOf}
 use Rattle.vg_design.specs.Refusals.{HasNet, Holds, IsFirstConn, Refuses, is_unconstrained, is_unloaded}
 use Rattle.vg_design.specs.declared.net_problem.NetProblem.{NetProblem}
 use Rattle.vg_design.proofs.NameLemmas.{joined_once}
@@ -98,3 +98,17 @@ one_problem d name a b p q =
     let there : IsProblemOf d q.net q.tree q.order a.problem =
     subst (λ (t : List Node). IsProblemOf d q.net t q.order a.problem) trees.0 (subst (λ (o : List ℕ). IsProblemOf d q.net p.tree o a.problem) trees.1 here) in
     same_parts d q.net q.tree q.order a b there q.problem (p.names ∙ (λ i. names_of (nets i).par (trees.1 i)) ∙ sym q.names)
+
+pub one_bare_net : OneBareNet
+one_bare_net d name a b p q =
+    let nets : p.net ≡ q.net = joined_once d name p.net q.net p.joined q.joined in
+    let trees = trees_are q.net.par p.tree q.tree p.order q.order (subst (λ (n : Joined). IsNetTree n.par p.tree p.order) nets p.a_tree) q.a_tree in
+    record {
+      tree = p.tree_is ∙ (λ i. loaded_tree d (nets i) (trees.0 i) (trees.1 i)) ∙ sym q.tree_is;
+      driver = p.driver ∙ (λ i. driver_of d (nets i) (trees.1 i)) ∙ sym q.driver;
+      names = p.names ∙ (λ i. names_of (nets i).par (trees.1 i)) ∙ sym q.names;
+      sinks = p.sinks ∙ (λ i. sink_nodes (nets i).par (trees.1 i)) ∙ sym q.sinks;
+    }
+
+pub bare_or_refused : BareOrRefused
+bare_or_refused d name bare r is first = is.accepted r (few_refusals r) first.counts first.holds

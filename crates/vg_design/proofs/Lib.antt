@@ -12,4 +12,5 @@ pub mod PartLemmas
 pub mod ReadyLemmas
 pub mod AcceptLemmas
 pub mod TimeLemmas
+pub mod BareLemmas
 pub mod NameListLemmas

@@ -1,11 +1,11 @@
 -- The names of the nets of a SPEF text are those of its index.
-use Rattle.std.proofs.Common.{◌≡◌, ℕ, List, map, length, slice_get, sym, ap, ◌∙◌, Option, Some, None, option_map, refl}
+use Rattle.std.proofs.Common.{◌≡◌, ℕ, List, [], ◌∷◌, map, length, slice_get, sym, ap, ◌∙◌, Option, Some, None, option_map, refl}
 use Rattle.std.proofs.lemmas.List.{length-map}
 use Rattle.std.proofs.lemmas.Option.{slice_get-map}
 use Rattle.spef_file.specs.Files.{File}
 use Rattle.spef_file.specs.Indexes.{IsIndexOf}
 use Rattle.spef_file.specs.Nets.{NetHead}
-use Rattle.spef_file.specs.Tables.{NetRow}
+use Rattle.spef_file.specs.Tables.{NetRow, names_of}
 use Rattle.spef_file.specs.Views.{head_in, heads_in}
 use Rattle.spef_file.specs.declared.spef_index.SpefIndex.{SpefIndex}
 use Rattle.vg_design.specs.Designs.{net_names}
@@ -28,3 +28,11 @@ module _ (text : List ℕ) (index : SpefIndex) (of : IsIndexOf text index) where
       same : (o : Option NetRow) → option_map (λ (head : NetHead). head.name) (option_map head_in o) ≡ option_map (λ (net : NetRow). net.0) o
       same None = refl
       same (Some net) = refl
+
+  -- so a name has the place that the index gives it
+  pub names_same : names_of index.sections ≡ net_names text
+  names_same = rows index.sections ∙ sym names_are
+    where
+      rows : (nets : List NetRow) → names_of nets ≡ map (λ (head : NetHead). head.name) (heads_in nets)
+      rows [] = refl
+      rows (net ∷ nets) = ap (λ (names : List (List ℕ)). net.0 ∷ names) (rows nets)

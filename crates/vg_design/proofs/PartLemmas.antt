@@ -126,7 +126,7 @@ module _ (d : Design) (n : Joined) (pins : List (Option PinRef)) (tree : List No
       list_any_at is_some (sinks_of d.rows n.par order) i None (omega (arith, below, size, count)) (ap is_some (there ∙ given))
 
   -- a sink of the tree is at a connection
-  sink_conn : (v : ℕ) → is_sink_node n.par v ≡ true → v < length n.par.conns
+  pub sink_conn : (v : ℕ) → is_sink_node n.par v ≡ true → v < length n.par.conns
   sink_conn v marked =
       let (k, conn, low, is, sink) = Any-from_list_any (λ (c : ParConn). is_sink c && (c.node == v)) n.par.conns marked in
       let same : conn.node ≡ v = eq_is conn.node v (second (is_sink conn) (conn.node == v) sink) in

@@ -5,8 +5,9 @@ use Rattle.spef_wire.specs.Refusals.{number_of}
 use Rattle.spef_wire.specs.declared.refusal.Refusal.{Refusal}
 use Rattle.spef_wire.specs.declared.refusal.Refusal.TheVariants.{Unconstrained}
 use Rattle.vg_design.specs.Designs.{Design}
-use Rattle.vg_design.specs.Nets.{IsNetProblem}
+use Rattle.vg_design.specs.Nets.{IsNetProblem, IsBareNet}
 use Rattle.vg_design.specs.Refusals.{IsFirstRefusal, IsFirstBareRefusal}
+use Rattle.vg_design.specs.declared.bare_parts.BareNet.{BareNet}
 use Rattle.vg_design.specs.declared.net_problem.NetProblem.{NetProblem}
 
 -- two problems have the same parts
@@ -39,3 +40,20 @@ BareAccepts =
     (d : Design) (name : List ℕ) (node : NodeName) (refusal : Refusal) → IsFirstRefusal d name (Unconstrained node)
     → IsFirstBareRefusal d name refusal
     → number_of refusal ≡ 16
+
+-- without the constraints, two nets have the same parts
+pub record AreSameBare (a b : BareNet) : Type 0 where
+  pub tree : a.tree.nodes ≡ b.tree.nodes
+  pub driver : a.driver ≡ b.driver
+  pub names : a.names ≡ b.names
+  pub sinks : a.sinks ≡ b.sinks
+
+-- a net of a design is one without its constraints
+abbrev pub OneBareNet : Type 0
+OneBareNet =
+    (d : Design) (name : List ℕ) (a b : BareNet) → IsBareNet d name a → IsBareNet d name b → AreSameBare a b
+
+-- and is not refused then
+abbrev pub BareOrRefused : Type 0
+BareOrRefused = (d : Design) (name : List ℕ) (bare : BareNet) (refusal : Refusal) → IsBareNet d name bare
+    → IsFirstBareRefusal d name refusal → ⊥

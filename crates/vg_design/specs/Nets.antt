@@ -10,13 +10,14 @@ use Rattle.spef_wire.specs.Refusals.{IsNetTree}
 use Rattle.spef_wire.specs.Wires.{is_sink_node}
 use Rattle.spef_wire.specs.declared.refusal.Refused.{Refused}
 use Rattle.spef_wire.specs.declared.refusal.Refused.TheVariants.{Net, Memory}
-use Rattle.vg_design.specs.Designs.{Design, Joined, NO_NODE, name_of}
+use Rattle.vg_cons.specs.Rows.{required_of}
+use Rattle.vg_design.specs.Designs.{Design, Joined, NO_NODE, name_of, pin_on}
 use Rattle.vg_design.specs.Parts.{loaded_tree, driver_of, IsProblemOf}
 use Rattle.vg_design.specs.Refusals.{IsJoined, PassesUpTo, PassesBareUpTo, IsFirstRefusal, IsFirstBareRefusal}
 use Rattle.vg_design.specs.Steps.{IsReady}
 use Rattle.vg_design.specs.declared.net_problem.NetProblem.{NetProblem}
 use Rattle.vg_design.specs.declared.net_problem.PosedNet.{PosedNet}
-use Rattle.vg_design.specs.declared.bare.BareNet.{BareNet}
+use Rattle.vg_design.specs.declared.bare_parts.BareNet.{BareNet}
 use Rattle.vg_design.specs.declared.time.Timed.{Timed}
 
 -- the names of the nodes of a tree
@@ -50,8 +51,9 @@ pub record IsPosedNet (d : Design) (name : List ℕ) (posed : PosedNet) : Type 0
 abbrev pub sink_nodes : ParNet → List ℕ → List ℕ
 sink_nodes net order = filter (λ i. is_sink_node net (slice_index order i)) (range_with_len 0 (length order))
 
--- the net of this name, which nothing refuses but the constraints, has this tree and driver, whose nodes have these
--- names, and these sinks
+-- The net of this name, which nothing refuses but the constraints, has this tree and driver, whose nodes have these
+-- names, and these sinks. Each sink is a pin of the netlist, or a port, and has a required time where the constraints
+-- give one.
 pub record IsBareNet (d : Design) (name : List ℕ) (bare : BareNet) : Type 0 where
   pub accepted : PassesBareUpTo 17 d name
   pub net : Joined
@@ -63,6 +65,8 @@ pub record IsBareNet (d : Design) (name : List ℕ) (bare : BareNet) : Type 0 wh
   pub driver : bare.driver ≡ driver_of d net order
   pub names : bare.names ≡ names_of net.par order
   pub sinks : bare.sinks ≡ sink_nodes net.par order
+  pub pins : bare.pins ≡ map (λ u. pin_on d.netlist net.id (name_at bare.names u)) bare.sinks
+  pub required : bare.required ≡ map (λ u. required_of d.rows (name_at bare.names u)) bare.sinks
 
 -- ---- without cells
 

@@ -1,14 +1,16 @@
 //! The files of a design, read.
 
-ghost use Rattle.std.specs.Prelude.{◌≡◌, ◌<◌, ◌≤◌, Some, length, slice_get, IfOk};
+ghost use Rattle.std.specs.Prelude.{◌≡◌, ◌<◌, ◌≤◌, Some, length, slice_get, IfOk, IfSome};
+ghost use Rattle.name_tables.specs.Distinct.{number_of};
 ghost use Rattle.elmore.specs.Problems.{AreRising};
+ghost use Rattle.lib_linear.specs.Libraries.{related_to};
 ghost use Rattle.spef_file.specs.Indexes.{IsIndexOf};
 ghost use Rattle.ver_net.specs.Connections.{is_tied, pins_on};
 ghost use Rattle.vg_design.specs.Parts.{reps_of};
 ghost use Rattle.vg_design.specs.Designs.{net_names};
 ghost use Rattle.vg_design.specs.Steps.{IsPin};
 
-use lib_linear::{Library, Repeater, repeaters};
+use lib_linear::{Library, Repeater, related, repeaters};
 use spef_file::{SpefIndex, SpefText};
 use std::alloc::Global;
 use std::marker::Model;
@@ -16,6 +18,7 @@ use ver_module::{Instance, Module, Net};
 use ver_net::{Connections, PinRef, connect};
 use vg_cons::Constraints;
 use vg_num::Memory;
+use vg_scan::Name;
 
 /// What the four files of a design say together: the parasitics of its nets (SPEF), its cells (Liberty), its netlist
 /// (Verilog) and its constraints. Contracts see the SPEF text and what the other three denote.
@@ -115,6 +118,15 @@ impl Design {
         self.index.sections.name(at)
     }
 
+    /// The place of the first net of this name in the order of the SPEF file, from 0. `None`: the file has no such net.
+    /// It takes no memory.
+    pub fn find_section(&self, name: &[u8]) -> Option<usize>
+        ensures place { result ≡ number_of (net_names self.now.spef) name.now }
+        ensures within { IfSome result (λ at. at < length (net_names self.now.spef)) }
+    {
+        self.index.sections.find(name)
+    }
+
     /// The index of the SPEF file.
     pub fn index(&self) -> &SpefIndex
         ensures { IsIndexOf self.now.spef result.now }
@@ -127,6 +139,13 @@ impl Design {
         ensures { result.now ≡ self.now.library.repeaters }
     {
         repeaters(&self.library)
+    }
+
+    /// The pins that an output of a cell names as related, in the library; none of any other pin. It takes no memory.
+    pub fn related(&self, cell: &[u8], pin: &[u8]) -> &[Name]
+        ensures { result.now ≡ related_to self.now.library cell.now pin.now }
+    {
+        related(&self.library, cell, pin)
     }
 
     /// The constraints.

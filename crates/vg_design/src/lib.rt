@@ -5,6 +5,7 @@
 
 mod allowed;
 mod bare;
+mod bare_parts;
 mod connected;
 mod design;
 mod ends;
@@ -17,13 +18,16 @@ mod parts;
 mod pins;
 mod ready;
 mod time;
+mod total;
 
-pub use bare::{BareNet, bare_net};
+pub use bare::bare_net;
+pub use bare_parts::BareNet;
 pub use design::Design;
 pub use joined::JoinedNet;
-pub use laws::one_problem;
+pub use laws::{one_bare_net, one_problem};
 pub use names::TreeNames;
 pub use net_problem::{NetProblem, PosedNet, is_unconstrained, posed_net, problem, problem_of};
 pub use pins::PinnedNet;
 pub use ready::{ReadyNet, ready_net};
 pub use time::{Timed, time_net};
+pub use total::total_capacitance;

@@ -3,7 +3,6 @@
 ghost use Rattle.std.specs.Prelude.{◌≡◌, ◌<◌, ◌≤◌, ◌^◌, ◌++◌, ◌*◌, ◌∷◌, [], ℕ, ℤ, ◌-ℤ◌, List, map, slice_index, slice_index_or, pos, length, option_map, IfOk, IfSome, OnOk};
 ghost use Rattle.elmore.specs.Problems.{IsSmall};
 ghost use Rattle.elmore.specs.Steps.{IsSum};
-ghost use Rattle.elmore.specs.Trees.{total_capacitance};
 ghost use Rattle.cut_laws.specs.Walks.{Signal as SignalSpec, passed_on};
 ghost use Rattle.vg_retime.specs.Times.{lates_in, lefts_in, IsLeastWith, IsTime};
 ghost use Rattle.vg_retime.specs.WalkNets.{timed, walk_end};
@@ -11,8 +10,9 @@ ghost use Rattle.vg_retime.specs.Ways.{is_wrong, wrong_in};
 ghost use Rattle.vg_retime.specs.Steps.{IsPassedAt, IsSizedEnd, IsSizedNet, IsSizedSignal, signal_of};
 
 use crate::walk_net::{End, WalkNet};
-use elmore::{Node, Scratch, Sink, wire_delays};
+use elmore::{Scratch, Sink, wire_delays};
 use std::alloc::Global;
+use vg_design::total_capacitance;
 use vg_num::Memory;
 use vg_scan::NodeName;
 
@@ -27,18 +27,6 @@ pub(crate) struct Signal {
     pub late: u128,
     /// How many inverters it has passed.
     pub inverters: u64,
-}
-
-/// All capacitances together (aF).
-fn total_capacitance(nodes: &[Node]) -> u128
-    requires { total_capacitance nodes.now ≤ 10 ^ 11 }
-    ensures { result ≡ total_capacitance nodes.now }
-{
-    let mut total = 0;
-    'node: for node in nodes {
-        total += node.c;
-    }
-    total
 }
 
 /// The delay at a node (zs).

@@ -4,7 +4,7 @@ use Rattle.std.specs.Prelude.{is_some}
 use Rattle.vg_words.specs.Request.{cap_of, prefix_of, size_of}
 use Rattle.vg_words.specs.declared.ask.Ask.{Ask}
 use Rattle.vg_words.specs.declared.ask.Mode.{Mode}
-use Rattle.vg_words.specs.declared.ask.Mode.TheVariants.{Wire, Time, Best, Frontier, Check, Gen}
+use Rattle.vg_words.specs.declared.ask.Mode.TheVariants.{Wire, Time, Best, Frontier, Check, Gen, Sta}
 use Rattle.vg_answer.specs.Answers.{AnswersBy, NoneTaken}
 use Rattle.vg_answer.specs.Faults.{IsDesignFault}
 use Rattle.vg_answer.specs.declared.answer.Answer.{Answer}
@@ -17,6 +17,7 @@ use Rattle.mode_best.specs.Answers.{Asked, IsBestAnswer, IsTaken}
 use Rattle.mode_frontier.specs.Answers.{IsFrontAnswer}
 use Rattle.mode_check.specs.Answers.{IsCheckAnswer}
 use Rattle.mode_gen.specs.Answers.{IsGenAnswer, made_up}
+use Rattle.mode_sta.specs.Answers.{IsStaAnswer}
 use Rattle.vg_run.specs.Inputs.{written_cert}
 use Rattle.vg_run.specs.Modes.{AnswersFor, IsAnswerIn, IsFaultIn, IsTakenIn, best_asked, design_texts, one_net}
 
@@ -66,3 +67,6 @@ module _ (ask : Ask) (texts : Input → Bytes) (result : Result Answer NoAnswer)
       → AnswersFor ask texts result
   gen_says is size same says =
       in_mode Gen is (subst (λ (n : ℕ). AnswersBy (IsGenAnswer n) (IsDesignFault (made_up n)) NoneTaken result) same says)
+
+  pub sta_says : ask.mode ≡ Sta → AnswersBy (IsStaAnswer (design_texts texts)) (IsDesignFault (design_texts texts)) NoneTaken result → AnswersFor ask texts result
+  sta_says is says = in_mode Sta is says

@@ -9,7 +9,7 @@ use Rattle.vg_store.specs.Writing.{OutState, Gains}
 use Rattle.vg_words.specs.Request.{IsRequest, IsRefused, ReadsWords, prefix_of, cap_of}
 use Rattle.vg_words.specs.declared.ask.Ask.{Ask}
 use Rattle.vg_words.specs.declared.ask.Mode.{Mode}
-use Rattle.vg_words.specs.declared.ask.Mode.TheVariants.{Wire, Time, Best, Frontier, Check, Gen}
+use Rattle.vg_words.specs.declared.ask.Mode.TheVariants.{Wire, Time, Best, Frontier, Check, Gen, Sta}
 use Rattle.vg_words.specs.declared.ask.WordFault.{WordFault}
 use Rattle.vg_words.specs.declared.ask.WordFault.TheVariants.{Unread, Missing, Excluded, BadValue, Equal, Memory as NoRoom}
 use Rattle.vg_words.proofs.JudgeLemmas.{refused_none, one}
@@ -35,6 +35,7 @@ use Rattle.mode_time.specs.Answers.{IsTimeAnswer}
 use Rattle.mode_best.specs.Answers.{IsBestAnswer, IsTaken}
 use Rattle.mode_frontier.specs.Answers.{IsFrontAnswer}
 use Rattle.mode_check.specs.Answers.{IsCheckAnswer}
+use Rattle.mode_sta.specs.Answers.{IsStaAnswer}
 use Rattle.design_read.specs.Designs.{Texts}
 
 abbrev Bytes : Type 0
@@ -98,6 +99,7 @@ Agree Best a b = design_texts a ≡ design_texts b
 Agree Frontier a b = design_texts a ≡ design_texts b
 Agree Check a b = (design_texts a ≡ design_texts b) × (a Cert ≡ b Cert)
 Agree Gen a b = Unit {0}
+Agree Sta a b = design_texts a ≡ design_texts b
 
 told_is : (file : Option Bytes) (a b : Bytes) → IsRead file a → file ≡ Some b → a ≡ b
 told_is file a b read is = subst (λ (o : Option Bytes). IfSome o (λ bytes. a ≡ bytes)) is read.is_file
@@ -128,6 +130,7 @@ agree Frontier tell a b read told = agree_on_all tell a b read told
 agree Check tell a b read told =
     (agree_to_check tell a b read told, told_is (tell Cert) (a Cert) (b Cert) (read 4 Spef (omega arith)) (told 4 Spef (omega arith)))
 agree Gen tell a b read told = tt
+agree Sta tell a b read told = agree_on_all tell a b read told
 
 -- what is said of the ones is said of the others
 pub answer_as : (mode : Mode) (ask : Ask) (a b : Input → Bytes) (kind : AnswerKind) (t : Said) → Agree mode a b → IsAnswerIn mode ask a kind t → IsAnswerIn mode ask b kind t
@@ -138,6 +141,7 @@ answer_as Frontier ask a b kind t e is = subst (λ (texts : Texts). IsFrontAnswe
 answer_as Check ask a b kind t (e, same) is =
     subst (λ (texts : Texts). IsCheckAnswer texts (b Cert) (one_net ask) kind t) e (subst (λ (cert : Bytes). IsCheckAnswer (design_texts a) cert (one_net ask) kind t) same is)
 answer_as Gen ask a b kind t e is = is
+answer_as Sta ask a b kind t e is = subst (λ (texts : Texts). IsStaAnswer texts kind t) e is
 
 pub taken_as : (mode : Mode) (ask : Ask) (a b : Input → Bytes) (name : Bytes) → Agree mode a b → IsTakenIn mode ask a name → IsTakenIn mode ask b name
 taken_as Wire ask a b name e is = is
@@ -146,6 +150,7 @@ taken_as Best ask a b name e is = subst (λ (texts : Texts). IsTaken texts (pref
 taken_as Frontier ask a b name e is = is
 taken_as Check ask a b name e is = is
 taken_as Gen ask a b name e is = is
+taken_as Sta ask a b name e is = is
 
 pub faulty_as : (mode : Mode) (ask : Ask) (a b : Input → Bytes) (line : Bytes) (input : Input) → Agree mode a b → IsFaultIn mode ask a line input → IsFaultIn mode ask b line input
 faulty_as Wire ask a b line input e is = subst (λ (text : Bytes). IsWireFault text line input) e is
@@ -154,6 +159,7 @@ faulty_as Best ask a b line input e is = subst (λ (texts : Texts). IsDesignFaul
 faulty_as Frontier ask a b line input e is = subst (λ (texts : Texts). IsDesignFault texts line input) e is
 faulty_as Check ask a b line input e is = subst (λ (texts : Texts). IsDesignFault texts line input) e.0 is
 faulty_as Gen ask a b line input e is = is
+faulty_as Sta ask a b line input e is = subst (λ (texts : Texts). IsDesignFault texts line input) e is
 
 -- texts that were read are short
 module _ (tell : Input → Option Bytes) (a b : Input → Bytes) (list : List Input) (read : All (λ i. IsRead (tell i) (a i)) list) where
@@ -185,6 +191,7 @@ shorts Check tell a b read e =
     let (s, l, v, c) = short_texts tell a b (inputs Check) read (omega arith) refl refl refl refl e.0 in
     all_five (λ i. IsShort (b i)) Spef Lib Verilog Cons Cert s l v c (subst (λ (text : Bytes). IsShort text) e.1 (read 4 Spef (omega arith)).short)
 shorts Gen tell a b read e = λ i d low. absurd (omega (arith, low))
+shorts Sta tell a b read e = all_short tell a b read e
 
 -- what is told and short is not too long
 pub not_long : (file : Option Bytes) (text : Bytes) → (file ≡ Some text) → IsShort text → IsLong file → ⊥

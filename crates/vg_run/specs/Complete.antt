@@ -19,8 +19,8 @@ use Rattle.vg_run.specs.Inputs.{Change}
 use Rattle.vg_run.specs.Modes.{IsTakenFor, design_texts}
 use Rattle.vg_run.specs.Run.{AreShort, AreTold}
 
--- the statuses with which a mode answers: 1 that no placement is good, 2 that a net is refused, 8 that a certificate is
--- not valid
+-- the statuses with which a mode answers: 1 that no placement is good, 2 that a net or the whole design is refused, 8
+-- that a certificate is not valid
 abbrev pub answers_of : Mode → List ℕ
 answers_of Best = 0 ∷ 1 ∷ 2 ∷ []
 answers_of Frontier = 0 ∷ 1 ∷ 2 ∷ []

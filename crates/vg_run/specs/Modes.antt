@@ -2,12 +2,13 @@
 use Rattle.std.specs.Prelude.{ℕ, List, [], Result, unwrap_or, is_some}
 use Rattle.design_read.specs.Designs.{Texts}
 use Rattle.vg_words.specs.declared.ask.Mode.{Mode}
-use Rattle.vg_words.specs.declared.ask.Mode.TheVariants.{Wire, Time, Best, Frontier, Check, Gen}
+use Rattle.vg_words.specs.declared.ask.Mode.TheVariants.{Wire, Time, Best, Frontier, Check, Gen, Sta}
 use Rattle.mode_gen.specs.Answers.{made_up, IsGenAnswer}
 use Rattle.mode_best.specs.Answers.{Asked, IsBestAnswer, IsTaken}
 use Rattle.vg_answer.specs.Answers.{Said, AnswersBy}
 use Rattle.mode_check.specs.Answers.{IsCheckAnswer}
 use Rattle.mode_frontier.specs.Answers.{IsFrontAnswer}
+use Rattle.mode_sta.specs.Answers.{IsStaAnswer}
 use Rattle.mode_time.specs.Answers.{IsTimeAnswer}
 use Rattle.vg_answer.specs.declared.input.Input.{Input}
 use Rattle.vg_answer.specs.declared.input.Input.TheVariants.{Spef, Lib, Verilog, Cons, Cert}
@@ -40,6 +41,7 @@ IsAnswerIn Best ask texts kind said = IsBestAnswer (design_texts texts) (best_as
 IsAnswerIn Frontier ask texts kind said = IsFrontAnswer (design_texts texts) ask.net (cap_of ask) kind said
 IsAnswerIn Check ask texts kind said = IsCheckAnswer (design_texts texts) (texts Cert) (one_net ask) kind said
 IsAnswerIn Gen ask texts kind said = IsGenAnswer (size_of ask) kind said
+IsAnswerIn Sta ask texts kind said = IsStaAnswer (design_texts texts) kind said
 
 -- the first fault of the texts that it judges: mode `gen` judges those of the design that it makes up, and mode `check`
 -- judges the certificate when all others are in their form

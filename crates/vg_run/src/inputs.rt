@@ -71,7 +71,7 @@ fn inputs(mode: Mode) -> &'static [Input]
 {
     match mode {
         Mode::Wire => &WIRE_INPUTS,
-        Mode::Time | Mode::Best | Mode::Frontier => &DESIGN_INPUTS,
+        Mode::Time | Mode::Best | Mode::Frontier | Mode::Sta => &DESIGN_INPUTS,
         Mode::Check => &CHECK_INPUTS,
         Mode::Gen => &[],
     }

@@ -18,7 +18,7 @@ use Rattle.vg_words.specs.Request.{Setting, Sets, Values, values_in, value_of, I
 use Rattle.vg_words.specs.declared.option.Opt.{Opt}
 use Rattle.vg_words.specs.declared.option.Opt.TheVariants.{Mode, Spef, Lib, Verilog, Cons, Net, All, OutSpef, OutVerilog, Cert, Cap, Prefix, Size}
 use Rattle.vg_words.specs.declared.ask.Mode.{Mode as ModeSpec}
-use Rattle.vg_words.specs.declared.ask.Mode.TheVariants.{Wire, Time, Best, Frontier, Check, Gen}
+use Rattle.vg_words.specs.declared.ask.Mode.TheVariants.{Wire, Time, Best, Frontier, Check, Gen, Sta}
 use Rattle.vg_words.specs.declared.ask.WordFault.{WordFault}
 use Rattle.vg_words.specs.declared.ask.WordFault.TheVariants.{Unread, Missing, Excluded, BadValue, Equal, Memory}
 
@@ -127,7 +127,8 @@ named_or text own mode rest e later =
 -- a text that names a mode is its name
 mode_named : (text : List ℕ) (mode : ModeSpec) → mode_of text ≡ Some mode → text ≡ mode_name mode
 mode_named text mode e =
-    let after_check : Option ModeSpec = if bytes_eq text (codes "gen") then Some Gen else None in
+    let after_gen : Option ModeSpec = if bytes_eq text (codes "sta") then Some Sta else None in
+    let after_check : Option ModeSpec = if bytes_eq text (codes "gen") then Some Gen else after_gen in
     let after_frontier : Option ModeSpec = if bytes_eq text (codes "check") then Some Check else after_check in
     let after_best : Option ModeSpec = if bytes_eq text (codes "frontier") then Some Frontier else after_frontier in
     let after_time : Option ModeSpec = if bytes_eq text (codes "best") then Some Best else after_best in
@@ -137,7 +138,8 @@ mode_named text mode e =
     (λ e. named_or text Best mode after_best e
     (λ e. named_or text Frontier mode after_frontier e
     (λ e. named_or text Check mode after_check e
-    (λ e. named_or text Gen mode None e (λ none. absurd (cc)))))))
+    (λ e. named_or text Gen mode after_gen e
+    (λ e. named_or text Sta mode None e (λ none. absurd (cc))))))))
 
 mode_given : (name : Option (List ℕ)) (mode : ModeSpec) → HasMode name mode → name ≡ Some (mode_name mode)
 mode_given None mode h = absurd h
@@ -167,6 +169,7 @@ named_mode Best = refl
 named_mode Frontier = refl
 named_mode Check = refl
 named_mode Gen = refl
+named_mode Sta = refl
 
 one_mode : (a b : ModeSpec) → mode_name a ≡ mode_name b → a ≡ b
 one_mode a b e = some_mode a b (sym (named_mode a) ∙ ap mode_of e ∙ named_mode b)
@@ -302,6 +305,7 @@ asks_as_in Best ask w = net_or_all ask.net ask.all (w.found Net refl) (w.allowed
 asks_as_in Frontier ask w = net_or_all ask.net ask.all (w.found Net refl) (w.allowed All)
 asks_as_in Check ask w = one_net ask.net ask.all (w.found Net refl) (w.allowed All)
 asks_as_in Gen ask w = no_net ask.net ask.all (w.allowed Net) (w.allowed All)
+asks_as_in Sta ask w = no_net ask.net ask.all (w.allowed Net) (w.allowed All)
 
 pub one_or_all : (words : List (List ℕ)) (ask : Ask) → IsRequest words ask → AsksAsIn ask.mode ask
 one_or_all words ask is = asks_as_in ask.mode ask (whole_request words ask is)
@@ -322,6 +326,7 @@ cert_of_net Best ask w named =
 cert_of_net Frontier ask w named = absurd (named (no_cert ask.cert (w.allowed Cert)))
 cert_of_net Check ask w named = asks_as_in Check ask w
 cert_of_net Gen ask w named = absurd (named (no_cert ask.cert (w.allowed Cert)))
+cert_of_net Sta ask w named = absurd (named (no_cert ask.cert (w.allowed Cert)))
 
 pub certs : (words : List (List ℕ)) (ask : Ask) → IsRequest words ask → ask.cert ≢ None → AsksForNet ask
 certs words ask is = cert_of_net ask.mode ask (whole_request words ask is)

@@ -5,7 +5,7 @@ use Rattle.vg_words.specs.Options.{names_file}
 use Rattle.vg_words.specs.Request.{IsRequest, cap_of, size_of, value}
 use Rattle.vg_words.specs.declared.ask.Ask.{Ask}
 use Rattle.vg_words.specs.declared.ask.Mode.{Mode}
-use Rattle.vg_words.specs.declared.ask.Mode.TheVariants.{Wire, Time, Best, Frontier, Check, Gen}
+use Rattle.vg_words.specs.declared.ask.Mode.TheVariants.{Wire, Time, Best, Frontier, Check, Gen, Sta}
 use Rattle.vg_words.specs.declared.option.Opt.{Opt}
 
 abbrev pub OneRequest : Type 0
@@ -31,9 +31,10 @@ AsksAsIn Best ask = AsksForNet ask ⊎ AsksForAll ask
 AsksAsIn Frontier ask = AsksForNet ask ⊎ AsksForAll ask
 AsksAsIn Check ask = AsksForNet ask
 AsksAsIn Gen ask = AsksForNone ask
+AsksAsIn Sta ask = AsksForNone ask
 
 -- in modes `wire` and `check` a request asks for one net, in modes `time`, `best` and `frontier` for one or for all,
--- and in mode `gen` for none
+-- and in modes `gen` and `sta` it names none
 abbrev pub OneOrAll : Type 0
 OneOrAll = (words : List (List ℕ)) (ask : Ask) → IsRequest words ask → AsksAsIn ask.mode ask
 

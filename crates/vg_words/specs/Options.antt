@@ -5,7 +5,7 @@ use Rattle.std.specs.Str.{bytes_eq}
 use Rattle.vg_words.specs.declared.option.Opt.{Opt}
 use Rattle.vg_words.specs.declared.option.Opt.TheVariants.{Mode, Spef, Lib, Verilog, Cons, Net, All, OutSpef, OutVerilog, Cert, Cap, Prefix, Size}
 use Rattle.vg_words.specs.declared.ask.Mode.{Mode as ModeSpec}
-use Rattle.vg_words.specs.declared.ask.Mode.TheVariants.{Wire, Time, Best, Frontier, Check, Gen}
+use Rattle.vg_words.specs.declared.ask.Mode.TheVariants.{Wire, Time, Best, Frontier, Check, Gen, Sta}
 
 abbrev pub name_of : Opt → List ℕ
 name_of Mode = codes "--mode"
@@ -64,7 +64,8 @@ mode_of text =
     else (if bytes_eq text (codes "best") then Some Best
     else (if bytes_eq text (codes "frontier") then Some Frontier
     else (if bytes_eq text (codes "check") then Some Check
-    else (if bytes_eq text (codes "gen") then Some Gen else None)))))
+    else (if bytes_eq text (codes "gen") then Some Gen
+    else (if bytes_eq text (codes "sta") then Some Sta else None))))))
 
 abbrev pub mode_name : ModeSpec → List ℕ
 mode_name Wire = codes "wire"
@@ -73,6 +74,7 @@ mode_name Best = codes "best"
 mode_name Frontier = codes "frontier"
 mode_name Check = codes "check"
 mode_name Gen = codes "gen"
+mode_name Sta = codes "sta"
 
 -- the options that a mode asks for; `--all` may stand for `--net` where the mode may be given it
 abbrev pub required : ModeSpec → List Opt
@@ -82,6 +84,7 @@ required Best = Spef ∷ Lib ∷ Verilog ∷ Cons ∷ Net ∷ OutSpef ∷ OutVer
 required Frontier = Spef ∷ Lib ∷ Verilog ∷ Cons ∷ Net ∷ []
 required Check = Spef ∷ Lib ∷ Verilog ∷ Cons ∷ Net ∷ Cert ∷ []
 required Gen = Size ∷ []
+required Sta = Spef ∷ Lib ∷ Verilog ∷ Cons ∷ []
 
 -- those that it may be given besides
 abbrev pub optional : ModeSpec → List Opt
@@ -91,6 +94,7 @@ optional Best = All ∷ Cert ∷ Prefix ∷ []
 optional Frontier = All ∷ Cap ∷ []
 optional Check = []
 optional Gen = []
+optional Sta = []
 
 -- those that it may be given; it has no use for others
 abbrev pub allowed : ModeSpec → List Opt

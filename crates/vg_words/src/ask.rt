@@ -29,6 +29,9 @@ pub enum Mode {
     Check,
     /// Makes up a design of a given size.
     Gen,
+    /// Prints the least slack of all paths through the nets and cells of a design, the first pin at which a path with
+    /// it ends, and the least slack of the paths through each net.
+    Sta,
 }
 
 const WIRE_OPTIONS: [Opt; 2] = [Opt::Spef, Opt::Net];
@@ -56,6 +59,8 @@ const CHECK_OPTIONS: [Opt; 6] = [
 
 const SIZE_OPTIONS: [Opt; 1] = [Opt::Size];
 
+const STA_OPTIONS: [Opt; 4] = [Opt::Spef, Opt::Lib, Opt::Verilog, Opt::Cons];
+
 /// What mode `time` may be given besides.
 const TIME_EXTRAS: [Opt; 2] = [Opt::All, Opt::Prefix];
 
@@ -76,6 +81,7 @@ impl Mode {
             Mode::Best => &CHANGE_OPTIONS,
             Mode::Check => &CHECK_OPTIONS,
             Mode::Gen => &SIZE_OPTIONS,
+            Mode::Sta => &STA_OPTIONS,
         }
     }
 
@@ -84,7 +90,7 @@ impl Mode {
         ensures { result.now ≡ optional self }
     {
         match self {
-            Mode::Wire | Mode::Check | Mode::Gen => &[],
+            Mode::Wire | Mode::Check | Mode::Gen | Mode::Sta => &[],
             Mode::Time => &TIME_EXTRAS,
             Mode::Best => &CHANGE_EXTRAS,
             Mode::Frontier => &FRONTIER_EXTRAS,
@@ -111,6 +117,7 @@ impl Mode {
             Mode::Frontier => "frontier",
             Mode::Check => "check",
             Mode::Gen => "gen",
+            Mode::Sta => "sta",
         }
     }
 }

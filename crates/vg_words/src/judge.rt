@@ -31,6 +31,8 @@ fn mode_of(name: &str) -> Option<Mode>
         Some(Mode::Check)
     } else if name == "gen" {
         Some(Mode::Gen)
+    } else if name == "sta" {
+        Some(Mode::Sta)
     } else {
         None
     }
@@ -288,8 +290,9 @@ fn ask_of(alloc: Global, mode: Mode, given: &Given<'_>) -> Result<Ask, Memory>
 /// `time` and `frontier` for `--lib`, `--verilog` and `--cons` too, mode `best` besides for `--out-spef` and
 /// `--out-verilog`, and mode `check` in place of these two for `--cert`. Modes `time` and `best` may be given
 /// `--prefix`, mode `frontier` may be given `--cap`, and all three `--all` in the place of `--net`; mode `best` may be
-/// given `--cert` too, but not beside `--all`. Mode `gen` asks for `--size` alone. The faults come in the order of
-/// `WordFault`, and of one kind the first option in the order of `Opt`. Answers `Memory` where there is no room.
+/// given `--cert` too, but not beside `--all`. Mode `gen` asks for `--size` alone, and mode `sta` for `--spef`, `--lib`,
+/// `--verilog` and `--cons` alone. The faults come in the order of `WordFault`, and of one kind the first option in the
+/// order of `Opt`. Answers `Memory` where there is no room.
 pub fn read_words(alloc: Global, words: &[String]) -> Result<Ask, WordFault>
     ensures { ReadsWords result (texts words.now) }
 {

@@ -6,7 +6,8 @@ pub fn one_request()
 {}
 
 /// A request asks for one net in modes `wire` and `check`, for one net or for all nets in modes `time`, `best` and
-/// `frontier`, and for none in mode `gen`. The function does nothing: its contract is the law, which a proof may cite.
+/// `frontier`, and names none in modes `gen` and `sta`. The function does nothing: its contract is the law, which a
+/// proof may cite.
 pub fn one_or_all()
     ensures { OneOrAll }
 {}

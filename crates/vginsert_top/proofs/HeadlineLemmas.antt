@@ -6,7 +6,7 @@ use Rattle.vg_store.specs.Writing.{OutState, Gains}
 use Rattle.vg_words.specs.Request.{cap_of, prefix_of, IsRequest}
 use Rattle.vg_words.specs.declared.ask.Ask.{Ask}
 use Rattle.vg_words.specs.declared.ask.Mode.{Mode}
-use Rattle.vg_words.specs.declared.ask.Mode.TheVariants.{Wire, Time, Best as BestMode, Frontier, Check, Gen}
+use Rattle.vg_words.specs.declared.ask.Mode.TheVariants.{Wire, Time, Best as BestMode, Frontier, Check, Gen, Sta as StaMode}
 use Rattle.vg_design.specs.Designs.{Design}
 use Rattle.vg_design.proofs.AcceptLemmas.{problem_is}
 use Rattle.design_read.specs.Designs.{Texts}
@@ -18,6 +18,7 @@ use Rattle.vg_answer.specs.declared.kind.AnswerKind.TheVariants.{Report, NoneGoo
 use Rattle.vg_answer.specs.declared.output.Output.TheVariants.{Netlist}
 use Rattle.mode_best.specs.Answers.{IsBestAnswer, IsBestSaid, written_files}
 use Rattle.mode_frontier.specs.Answers.{IsFrontAnswer, IsFrontSaid}
+use Rattle.mode_sta.specs.Answers.{IsStaAnswer, IsStaSaid}
 use Rattle.vg_run.specs.Inputs.{Change, cert_in, written_cert}
 use Rattle.vg_run.specs.Modes.{IsAnswerIn, best_asked, design_texts}
 use Rattle.vg_run.specs.Outcomes.{IsStatusOf}
@@ -26,7 +27,7 @@ use Rattle.vg_run.proofs.RunLemmas.{run_printed}
 use Rattle.run_laws.specs.Laws.{TellsBest, WritesCertificate, with_files}
 use Rattle.run_laws.proofs.RetimeLemmas.{written_files_retime}
 use Rattle.run_laws.proofs.CertLemmas.{certificates_are_written, valid_certificates_are_best, written_certificates_check}
-use Rattle.vginsert_top.specs.Headline.{BestHeadline, BestOf, Certified, FrontOf, Headline, HeadlineIn, Shown}
+use Rattle.vginsert_top.specs.Headline.{BestHeadline, BestOf, Certified, FrontOf, Headline, HeadlineIn, Shown, StaHeadline, StaOf}
 
 abbrev Bytes : Type 0
 Bytes = List ℕ
@@ -169,6 +170,28 @@ front_headline ask files out kind mode (texts, read, (said, says, gained, writte
       printed = subst (λ (text : Bytes). Gains out.0 out.1 text) (answer.nets.text_is ∙ flat_lines answer.nets.verdicts) gained;
     }
 
+-- ---- mode `sta`
+
+sta_lines : (d : Design) (kind : AnswerKind) (text : Bytes) → IsStaSaid d kind text → StaOf d text
+sta_lines d kind text (IsStaSaid.told_slacks found of is text_is) = StaOf.timed found of text_is
+sta_lines d kind text (IsStaSaid.told_refusal name refusal first is text_is) = StaOf.refused name refusal first text_is
+sta_lines d kind text (IsStaSaid.told_cycle name behind is text_is) = StaOf.cycle name behind text_is
+sta_lines d kind text (IsStaSaid.told_no_path none is text_is) = StaOf.no_path none text_is
+
+sta_headline : (ask : Ask) (files : Change FilesState) (out : Change OutState) (kind : AnswerKind) → ask.mode ≡ StaMode
+    → Prints kind files (Gains out.0 out.1) ask → StaHeadline files.0 out ask
+sta_headline ask files out kind mode (texts, read, (said, says, gained, written)) =
+    let answer : IsStaAnswer (design_texts texts) kind said = subst (λ (m : Mode). IsAnswerIn m ask texts kind said) mode says in
+    record {
+      texts = texts;
+      read = read;
+      design = answer.design;
+      design_of = answer.design_of;
+      lines = said.text;
+      lines_of = sta_lines answer.design kind said.text answer.is_said;
+      printed = gained;
+    }
+
 -- ---- a run
 
 headline_in : (mode : Mode) (words : List Bytes) (ask : Ask) (files : Change FilesState) (out : Change OutState) (kind : AnswerKind) → ask.mode ≡ mode
@@ -179,6 +202,7 @@ headline_in BestMode words ask files out kind mode is prints = best_headline wor
 headline_in Frontier words ask files out kind mode is prints = front_headline ask files out kind mode prints
 headline_in Check words ask files out kind mode is prints = tt
 headline_in Gen words ask files out kind mode is prints = tt
+headline_in StaMode words ask files out kind mode is prints = sta_headline ask files out kind mode prints
 
 module _ (words : List Bytes) {ask : Ask} {files : Change FilesState} {out err : Change OutState} {status : ℕ} (is : IsRequest words ask)
     (run : IsStatusOf ask files out err status) where

@@ -1,4 +1,5 @@
--- What a run promises of each net that is asked for in modes `best` and `frontier`, and of certificates.
+-- What a run promises of each net that is asked for in modes `best` and `frontier`, of a design in mode `sta`, and of
+-- certificates.
 use Rattle.std.specs.Prelude.{◌≡◌, ◌≢◌, ℕ, List, [], Option, Some}
 use Rattle.std.specs.List.{AllZip, flat_map}
 use Rattle.vg_store.specs.Reading.{FilesState}
@@ -6,13 +7,15 @@ use Rattle.vg_store.specs.Writing.{OutState, Gains}
 use Rattle.vg_words.specs.Request.{cap_of, prefix_of}
 use Rattle.vg_words.specs.declared.ask.Ask.{Ask}
 use Rattle.vg_words.specs.declared.ask.Mode.{Mode}
-use Rattle.vg_words.specs.declared.ask.Mode.TheVariants.{Best as BestMode, Frontier, Check}
+use Rattle.vg_words.specs.declared.ask.Mode.TheVariants.{Best as BestMode, Frontier, Check, Sta as StaMode}
 use Rattle.spef_wire.specs.declared.refusal.Refusal.{Refusal}
-use Rattle.vg_design.specs.Designs.{Design}
+use Rattle.vg_design.specs.Designs.{Design, net_names}
 use Rattle.vg_design.specs.Nets.{IsNetProblem}
 use Rattle.vg_design.specs.Parts.{cells_of}
 use Rattle.vg_design.specs.Refusals.{IsFirstRefusal}
 use Rattle.vg_design.specs.declared.net_problem.NetProblem.{NetProblem}
+use Rattle.vg_sta.specs.Timings.{IsFirstBehindCycle, IsFirstRefused, IsTimed}
+use Rattle.vg_sta.specs.declared.answer.Sta.{Sta}
 use Rattle.vg_slack.specs.Bests.{HasNoGood, IsFound}
 use Rattle.vg_slack.specs.declared.answer.Best.{Best}
 use Rattle.vg_front.specs.Points.{IsFrontierOf}
@@ -28,6 +31,7 @@ use Rattle.vg_answer.specs.declared.kind.AnswerKind.TheVariants.{Report}
 use Rattle.mode_best.specs.Answers.{Certifies, Files}
 use Rattle.mode_frontier.specs.Answers.{HasNoneWithin}
 use Rattle.mode_check.specs.Answers.{IsCheckAnswer}
+use Rattle.mode_sta.specs.Lines.{cycle_line, no_path_line, sta_report}
 use Rattle.vg_run.specs.Inputs.{AreRead, Change}
 use Rattle.vg_run.specs.Modes.{design_texts}
 use Rattle.vg_run.specs.Run.{HoldsAt}
@@ -57,6 +61,16 @@ pub data FrontOf (d : Design) (cap : Option ℕ) (name lines : List ℕ) : Type 
   refused : (refusal : Refusal) → IsFirstRefusal d name refusal → lines ≡ refusal_line name refusal
       → FrontOf d cap name lines
 
+-- The lines of a design in mode `sta`. Either they report the least slack of all paths through its nets and cells, the
+-- first endpoint of a path with it, and the least slack of the paths through each net; or they name the first net that
+-- is refused, or else the first net on a cycle of nets or behind one, or say that there is no net.
+pub data StaOf (d : Design) (lines : List ℕ) : Type 0 where
+  timed : (found : Sta) → IsTimed d found → lines ≡ sta_report found → StaOf d lines
+  refused : (name : List ℕ) (refusal : Refusal) → IsFirstRefused d name refusal → lines ≡ refusal_line name refusal
+      → StaOf d lines
+  cycle : (name : List ℕ) → IsFirstBehindCycle d name → lines ≡ cycle_line name → StaOf d lines
+  no_path : net_names d.spef ≡ [] → lines ≡ no_path_line → StaOf d lines
+
 -- The four files that were read denote a design, and an output gained the lines of the nets that are asked for, one net
 -- after another, each as `Tells` has it.
 pub record Reports (files : FilesState) (out : Change OutState) (ask : Ask)
@@ -78,10 +92,21 @@ pub record BestHeadline (files : Change FilesState) (out : Change OutState) (ask
   pub reports : Reports files.0 out ask (λ texts d name lines.
       BestOf d (with_files texts written) (prefix_of ask) name lines)
 
--- what the reports of modes `best` and `frontier` say
+-- The four files that were read denote a design, and an output gained its lines in mode `sta`.
+pub record StaHeadline (files : FilesState) (out : Change OutState) (ask : Ask) : Type 0 where
+  pub texts : Input → List ℕ
+  pub read : AreRead files ask texts
+  pub design : Design
+  pub design_of : IsDesign (design_texts texts) design
+  pub lines : List ℕ
+  pub lines_of : StaOf design lines
+  pub printed : Gains out.0 out.1 lines
+
+-- what the reports of modes `best`, `frontier` and `sta` say
 abbrev pub HeadlineIn : Mode → Change FilesState → Change OutState → Ask → Type 0
 HeadlineIn BestMode files out ask = BestHeadline files out ask
 HeadlineIn Frontier files out ask = Reports files.0 out ask (λ texts d name lines. FrontOf d (cap_of ask) name lines)
+HeadlineIn StaMode files out ask = StaHeadline files.0 out ask
 HeadlineIn mode files out ask = Unit {0}
 
 abbrev pub Headline : Change FilesState → Change OutState → Ask → Type 0

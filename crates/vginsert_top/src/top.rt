@@ -24,7 +24,7 @@ use vg_words::read_words;
 /// |---|---|
 /// | 0 | the report was printed, of all nets that are asked for |
 /// | 1 | modes `best` and `frontier`: it was printed, and tells of some net that no placement on it is good, or none within the cap; no net is refused |
-/// | 2 | it was printed, and some net is refused |
+/// | 2 | it was printed, and some net is refused; or, in mode `sta`, nets form a cycle, or there is none |
 /// | 3 | the words are no request |
 /// | 4 | an input is not in its form, or has more than 2^28 bytes; or, in mode `best`, a name of the design begins with the prefix |
 /// | 5 | reading an input failed |

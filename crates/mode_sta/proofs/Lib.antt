@@ -1,0 +1,2 @@
+pub mod StaLemmas
+pub mod ApartLemmas
