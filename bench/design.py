@@ -1,12 +1,16 @@
 #!/usr/bin/env python3
-"""Writes a design of four files: `design.py MB PATH` writes PATH.spef, of nearly so many MB (2^20 bytes) and never more, as
-extractors write it, PATH.v, a flat netlist with each net that the SPEF file has, PATH.lib and PATH.cons.
+"""Writes a design of four files: `design.py MB PATH [KIND]` writes PATH.spef, of nearly so many MB (2^20 bytes) and never
+more, as extractors write it, PATH.v, a flat netlist with each net that the SPEF file has, PATH.lib and PATH.cons.
 
 Prints the names of a small net and of the large one. Most nets have 2 to 12 nodes, one in 512 has some hundreds, and
 one in the middle has about a tenth of the file, at most 60,000 nodes. Each net is a tree below the pin that drives it,
 with its resistors in no order of the tree. A coupling capacitor stands in both of its nets. The library has the cells of
 the netlist and, as repeaters, 8 buffers and 8 inverters. The constraints give a required time to all sinks, and to some
 their own, and they block a part of the chip and some nodes. The same words write the same files.
+
+Without a KIND the nets lead in circles, from the last to the first. With `clocked` one cell in five is a flip-flop, at which
+a path ends, and no path has more than some hundred nets; with `chained` only the first cells are, and paths go on from net
+to net up to the last one. No nets form a cycle then, and the files are as `opensta.tcl` reads them, too.
 """
 import itertools
 import sys
@@ -32,6 +36,8 @@ HEADER = """*SPEF "IEEE 1481-1998"
 *NAME_MAP
 
 """
+FLOP = "DFFX2"
+FIRST = 256  # the first instances are flip-flops where there are any: more than nets at the end have sinks among
 CELLS = ["AOI22X1", "AOI22X2", "NAND4X1", "NAND4X2", "NOR4X1", "OAI22X1", "OAI22X4", "AND4X2"]
 LAYERS = ["M1", "M2", "M2", "M3", "M3", "M4", "M5"]
 STEPS = [1, 1, 1, 1, 1, 2, 2, 3, 5]
@@ -40,13 +46,25 @@ MOST = 60000  # nodes of the large net
 TABLE = 1 << 16
 GROUP = 4  # nets that are written together
 KEPT = 1024  # groups of small nets that are written again and again, with other numbers
-APART = 37  # instances between two sinks of a small net
+APART, NEAR = 37, 4  # instances between two sinks of a small net; in clocked designs
 BLOCK = 1 << 22
 LIBRARY = """/* the cells of a design that is made for measurements */
 library (bench) {
   delay_model : generic_cmos;
   time_unit : "1ps";
   capacitive_load_unit (1, ff);
+"""
+UNITS = """  voltage_unit : "1V";
+  current_unit : "1mA";
+  pulling_resistance_unit : "1kohm";
+  input_threshold_pct_rise : 50;
+  input_threshold_pct_fall : 50;
+  output_threshold_pct_rise : 50;
+  output_threshold_pct_fall : 50;
+  slew_lower_threshold_pct_rise : 20;
+  slew_lower_threshold_pct_fall : 20;
+  slew_upper_threshold_pct_rise : 80;
+  slew_upper_threshold_pct_fall : 80;
 """
 
 
@@ -147,8 +165,9 @@ class Net:
 class Design:
     """A design of so many nets. Instance k drives net k; a net's index is its number, and the instances' come after."""
 
-    def __init__(self, tables, count, large_nodes):
-        self.tables, self.count, self.large_nodes = tables, count, large_nodes
+    def __init__(self, tables, count, large_nodes, kind):
+        self.tables, self.count, self.large_nodes, self.kind = tables, count, large_nodes, kind
+        self.apart = NEAR if kind == "clocked" else APART
         self.small, self.large = count // 4 // 16 * 16 + 1, count // 2 // 16 * 16 + 1
         self.draw = draws()
         self.kept = {}
@@ -159,11 +178,19 @@ class Design:
 
     def map_rows(self, k):
         """The rows of a net and its instance."""
-        return f"*{k} {self.net_name(k)}\n", f"*{self.count + k} {instance_name(k)}\n"
+        names = self.net_name(k), instance_name(k)
+        net, instance = (name.replace("/", "\\/") for name in names) if self.kind else names
+        return f"*{k} {net}\n", f"*{self.count + k} {instance}\n"
 
     def is_port(self, k):
         """Whether a net has an output port, of the same name."""
         return k % 97 == 0
+
+    def cell(self, k):
+        """The cell of instance k. A small net of a clocked design ends at most 13 instances behind its own, and a medium one
+        begins at a flip-flop: so 14 flip-flops in a row end all paths."""
+        clocked = self.kind == "clocked" and k % 64 < 14
+        return FLOP if clocked or self.kind and k < FIRST else CELLS[k % 8]
 
     def head(self):
         """The text before the nets, in pieces."""
@@ -210,11 +237,11 @@ class Design:
         count, values = self.count, {}
         for i, net in enumerate(nets):
             k = start + i
-            values[f"n{i}"], values[f"z{i}"], values[f"y{i}"] = k, count + k, CELLS[k % 8]
-            apart = APART if net.size == SMALL else 1
+            values[f"n{i}"], values[f"z{i}"], values[f"y{i}"] = k, count + k, self.cell(k)
+            apart = self.apart if net.size == SMALL else 1
             for s in range(net.sinks):
                 to = 1 + (k + apart * s) % count
-                values[f"i{i}_{s}"], values[f"c{i}_{s}"] = count + to, CELLS[to % 8]
+                values[f"i{i}_{s}"], values[f"c{i}_{s}"] = count + to, self.cell(to)
         return values
 
     def size(self, k):
@@ -223,7 +250,7 @@ class Design:
     def inputs(self, k):
         """The input pins of instance k that are on nets, each with the number of its net."""
         for s, name in enumerate("ABCD"):
-            net = (k - 2 - APART * s) % self.count + 1
+            net = (k - 2 - self.apart * s) % self.count + 1
             if self.size(net) == SMALL and s < self.sinks.get(net, 0):
                 yield name, net
         medium = (k - 1) // 512 * 512
@@ -249,29 +276,33 @@ def netlist(design):
     for k in numbers:
         links = [f".{name}({nets[net]})" for name, net in design.inputs(k)]
         links.append(f".Z({nets[k]})")
-        yield f" {CELLS[k % 8]} {escaped(instance_name(k))} (" + ",\n    ".join(links) + ");\n"
+        yield f" {design.cell(k)} {escaped(instance_name(k))} (" + ",\n    ".join(links) + ");\n"
     yield "endmodule\n"
 
 
-def library():
+def library(kind):
     """The text of the library: the cells of the netlist, with any pin that a net may end at, and the repeaters."""
-    yield LIBRARY
+    yield LIBRARY + (UNITS if kind else "")
+    pins = ["A", "B", "C", "D", "S", "CK"]
     for at, name in enumerate(CELLS):
-        pins = ["A", "B", "C", "D", "S", "CK"]
-        yield cell(name, pins, "Z", "(A & B) | (C & D)", at, "")
+        yield cell(name, pins, "Z", "(A & B) | (C & D)", at, "", pins)
+    if kind:
+        text = cell(FLOP, pins, "Z", "IQ", 1, "", ["CK"])
+        text = text.replace("{\n", "{\n    ff (IQ, IQN) {\n      clocked_on : \"CK\";\n      next_state : \"A\";\n    }\n", 1)
+        yield text.replace("timing () {\n", "timing () {\n        timing_type : rising_edge;\n")
     for at in range(8):
-        yield cell(f"BUFX{at + 1}", ["A"], "Z", "A", at, f"      max_capacitance : {40 * (at + 1)};\n")
-        yield cell(f"INVX{at + 1}", ["A"], "ZN", "!A", at, f"      max_capacitance : {50 * (at + 1)};\n")
+        yield cell(f"BUFX{at + 1}", ["A"], "Z", "A", at, f"      max_capacitance : {40 * (at + 1)};\n", ["A"])
+        yield cell(f"INVX{at + 1}", ["A"], "ZN", "!A", at, f"      max_capacitance : {50 * (at + 1)};\n", ["A"])
     yield "}\n"
 
 
-def cell(name, inputs, output, function, strength, limit):
-    """The text of a cell of one output."""
+def cell(name, inputs, output, function, strength, limit, related):
+    """The text of a cell of one output, which depends on some of the inputs."""
     text = f"  cell ({name}) {{\n    area : {strength + 1}.2;\n"
     for pin in inputs:
         text += f"    pin ({pin}) {{\n      direction : input;\n      capacitance : {1 + strength * 0.4:.1f};\n    }}\n"
     text += f"    pin ({output}) {{\n      direction : output;\n      function : \"{function}\";\n{limit}"
-    for pin in inputs:
+    for pin in related:
         text += (
             f"      timing () {{\n        related_pin : \"{pin}\";\n"
             f"        intrinsic_rise : {18 + strength};\n        intrinsic_fall : {17 + strength};\n"
@@ -304,9 +335,9 @@ def instance_name(k):
     return f"blk{k % 61}/sub{k % 7}/u{k}"
 
 
-def nets_in(size, tables, large_nodes):
+def nets_in(size, tables, large_nodes, kind):
     """Some more nets than a design of so many bytes has, judged by a part of it."""
-    design = Design(tables, size // 700, large_nodes)
+    design = Design(tables, size // 700, large_nodes, kind)
     large = sum(map(len, design.groups(design.large, design.large + 1)))
     first, sample = design.count * 3 // 4 // GROUP * GROUP + 1, 4096
     mean = sum(map(len, design.groups(first, first + sample))) / sample + len("".join(design.map_rows(first)))
@@ -336,13 +367,13 @@ def write(pieces, path):
 
 
 def main():
-    size, path = int(sys.argv[1]) * 2**20, sys.argv[2]
+    size, path, kind = int(sys.argv[1]) * 2**20, sys.argv[2], "".join(sys.argv[3:])
     tables = Tables(draws())
     large_nodes = min(MOST, size // 750)
-    design = Design(tables, nets_in(size, tables, large_nodes), large_nodes)
+    design = Design(tables, nets_in(size, tables, large_nodes, kind), large_nodes, kind)
     write(pieces(design, size), path + ".spef")
     write(netlist(design), path + ".v")
-    write(library(), path + ".lib")
+    write(library(kind), path + ".lib")
     write(constraints(design), path + ".cons")
     print("small", canonical(design.net_name(design.small)))
     print("large", canonical(design.net_name(design.large)))

@@ -13,9 +13,10 @@
 | `cert` | `--mode best --cert` and `--mode check` | chains of 1,024 to 65,536 nodes, with 2 and 16 repeaters |
 | `frontier` | `--mode frontier` | chains and random trees with 60 to 480 nodes between driver and sinks, with 2, 8 and 32 repeaters, with a cap and without one |
 | `all` | `--mode time --all` and `--mode best --all` | all nets of designs of four files |
+| `sta` | `--mode time --all` and `--mode sta` | designs of four files with short paths and with long ones, and one path through 2^20 nets |
 
-The sizes are the nodes in modes `best` and `cert`, the nodes but two in mode `frontier`, and those of the SPEF files in modes `design` and `time` (1, 16, 64 and 256 MB if none is given) and `all` (1, 16, 64 and 192 MB),
-of the netlists (256 MB) and of the libraries (64 MB). With `--beside OTHER` each row but those of `rows` and `library` also tells the seconds
+The sizes are the nodes in modes `best` and `cert`, the nodes but two in mode `frontier`, and those of the SPEF files in modes `design` and `time` (1, 16, 64 and 256 MB if none is given), `all` (1, 16, 64 and 192 MB) and `sta`
+(16, 64 and 192 MB; where some are given, the one path goes through 8,192 nets for each MB of the last one), of the netlists (256 MB) and of the libraries (64 MB). With `--beside OTHER` each row but those of `rows` and `library` also tells the seconds
 and the memory of another program with the same arguments, run right after. In modes `best` and `cert` the changed files are written, too;
 in mode `cert` each program checks its own certificate, unless this has more than 2^28 bytes.
 Seconds are the least of five runs of the whole process, peak memory is what GNU time tells, 1 MB is 2^20 bytes.
@@ -31,6 +32,7 @@ HERE = os.path.dirname(os.path.abspath(__file__))
 LIBRARY = os.path.join(HERE, "..", "examples", "cells.lib")
 BEST_FILES = ["--spef", "net.spef", "--lib", "made.lib", "--verilog", "net.v", "--cons", "net.cons"]
 MOST_BYTES = 2**28
+STACK = ["prlimit", f"--stack={2**23}"]  # of mode `sta`, whatever the system gives: 8 bytes for each net of the one path
 SHAPES = {"chain": "a chain", "star": "a star", "tree": "a binary tree"}
 
 
@@ -259,6 +261,31 @@ def run_all(programs, *sizes):
             row(*sizes_of, f"{nets:,}", mode, f"{put:,}", *cells)
 
 
+def sta_designs(sizes):
+    """Writes designs, one after the other, and tells of what kind each is."""
+    for kind in ["clocked", "chained"]:
+        for size in sizes or ["16", "64", "192"]:
+            run_script("design.py", [size, "net", kind], subprocess.PIPE)
+            yield kind
+    make_chain = [str(int(sizes[-1]) * 2**13 if sizes else 2**20), "net"]
+    run_script("net_chain.py", make_chain, subprocess.PIPE)
+    yield "one path"
+
+
+def run_sta(programs, *sizes):
+    head("design", "SPEF file", "netlist", "nets", "mode", *titles(programs))
+    files = ["--spef", "net.spef", "--lib", "net.lib", "--verilog", "net.v", "--cons", "net.cons"]
+    for kind in sta_designs(sizes):
+        with open("net.spef", "rb") as design:
+            nets = sum(line.startswith(b"*D_NET") for line in design)
+        sizes_of = [mb(os.path.getsize(path)) for path in ["net.spef", "net.v"]]
+        for words in [["time", "--all"], ["sta"]]:
+            runs = [measure_good([*STACK, program, "--mode", *words, *files]) for program in programs]
+            if any(run[0] != runs[0][0] for run in runs):
+                print("run.py: the programs print different reports", file=sys.stderr)
+            row(kind, *sizes_of, f"{nets:,}", words[0], *[cell for _, seconds, peak in runs for cell in (f"{seconds:.2f}", mb(peak))])
+
+
 MODES = {
     "wire": run_wire,
     "design": run_design,
@@ -270,6 +297,7 @@ MODES = {
     "cert": run_cert,
     "frontier": run_frontier,
     "all": run_all,
+    "sta": run_sta,
 }
 
 
