@@ -1,10 +1,11 @@
 # `make` proves and builds the program, once. `make demo` places repeaters on all nets of the design in examples/, writes the files to
-# out/demo/, and times all nets before and after; `make wire` prints the wire delays of a net, and `make check` checks a certificate of
-# the design's worst net. Where the program is not built yet, they compile it and run it without a proof. `make test` is the merge gate.
+# out/demo/, and times the whole design and its nets before and after; `make wire` prints the wire delays of a net, `make sta` the slacks
+# of the whole design as it is, and `make check` checks a certificate of the design's worst net. Where the program is not built yet,
+# they compile it and run it without a proof. `make test` is the merge gate.
 # `make cases` runs the case files of crates/tests_runs/data without a proof, `make cases WORDS=best/refused.case` one of them, and
 # `make cases WORDS='--print cases/best/refused.case'` prints it with what was found (see crates/tests_runs/data/FORMAT.md).
 # `make pages` copies what the program of crates/tests_pages reads of the pages and examples into its data; the gate compares the copies.
-.PHONY: build demo wire check cases pages test
+.PHONY: build demo wire sta check cases pages test
 
 DESIGN = --spef examples/soc.spef --verilog examples/soc.v --lib examples/soc.lib --cons examples/soc.cons
 PAGES = README.md docs/TUTORIAL.md docs/CERTIFICATES.md docs/vginsert.1 $(filter-out %.sh, $(wildcard examples/*))
@@ -18,6 +19,9 @@ demo:
 
 wire:
 	@./vginsert --mode wire --spef examples/fork.spef --net n1
+
+sta:
+	@./vginsert --mode sta $(DESIGN)
 
 check:
 	@./vginsert --mode check $(DESIGN) --net 'acc[3]' --cert examples/acc3.cert
