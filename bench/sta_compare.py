@@ -4,10 +4,9 @@
     sta_compare.py PROGRAM [COUNT] [--seed SEED] [--keep FOLDER]
 
 PROGRAM is the program, as crates/vginsert/out/vginsert, which `make` builds, or the word `unproved`: then `rt try` compiles
-it without a proof, as a part of `tests_runs`, and runs it some six times a second. COUNT designs are made, 2,000 if it is
-not given, from SEED, 1 if it is not given: the same words make the same designs. Of each the whole report, the status and
-standard error are compared. The first five that differ are shown, those that differ are copied to FOLDER, and the status of
-this script is then 1.
+it without a proof, as a part of `tests_runs`, and runs it. COUNT designs are made, 2,000 if it is not given, from SEED, 1 if
+it is not given: the same words make the same designs. Of each the whole report, the status and standard error are compared.
+The first five that differ are shown, those that differ are copied to FOLDER, and the status of this script is then 1.
 
 A design has up to ten nets with parasitics, some without, and up to a dozen instances of cells with one to three inputs
 and one or two outputs, whose timing groups name some of the inputs, once or twice, or pins that are not there. Outputs are
@@ -202,7 +201,8 @@ class Maker:
                 nets = [net for net in range(count) if self.wild or drivers.get(net, (-1,))[0] < k]
                 instance.links[pin] = self.pick(nets) if nets and self.chance(0.93) else self.pick([None, "y", [], ["x1", "x2"]])
         ports = {net: "input" for net in undriven if not self.chance(self.spoilt / 2)}
-        taken = {link for i in d.instances for pin, link in i.links.items() if isinstance(link, int) and pin not in self.pins_of(i.cell, True)}
+        inputs = [i.links[pin] for i in d.instances for pin in self.pins_of(i.cell, False)]
+        taken = {link for link in inputs if isinstance(link, int)}
         for net in range(count):
             if net in drivers and self.chance(0.1 if net in taken else 0.7):
                 ports[net] = "inout" if self.chance(self.spoilt / 2) else "output"
