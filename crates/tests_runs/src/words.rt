@@ -33,7 +33,7 @@ static CHECK: [Given; 5] = [SPEF, LIB, VERILOG, CONS, CERT];
 fn files_of(mode: &str) -> &'static [Given] {
     match mode {
         "wire" => &WIRE,
-        "time" | "sta" | "frontier" => &DESIGN,
+        "time" | "frontier" => &DESIGN,
         "best" => &BEST,
         "check" => &CHECK,
         _ => &[],
