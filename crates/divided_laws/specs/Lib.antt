@@ -1,0 +1,2 @@
+pub mod DividedTrees
+pub mod DividedProblems

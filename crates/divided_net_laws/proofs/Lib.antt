@@ -1,0 +1,8 @@
+pub mod RenumberedNetLemmas
+pub mod ChoiceLemmas
+pub mod PartLemmas
+pub mod LinkLemmas
+pub mod ChainLemmas
+pub mod DownLemmas
+pub mod DividedTreeLemmas
+pub mod JoinedLemmas
