@@ -1,0 +1,12 @@
+pub mod SegmentedNetLemmas
+pub mod AcceptedNetLemmas
+pub mod CapLemmas
+pub mod CutNetLemmas
+pub mod ReplacedLemmas
+pub mod ReadCutLemmas
+pub mod SinkRowLemmas
+pub mod CutWireLemmas
+pub mod SegmentedTextLemmas
+pub mod CutProblemLemmas
+pub mod NoWorseLemmas
+pub mod SegmentedDesignLemmas

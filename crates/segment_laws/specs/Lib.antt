@@ -1,0 +1,2 @@
+pub mod SegmentedTexts
+pub mod SegmentedDesigns

@@ -1,0 +1,11 @@
+pub mod OrderLemmas
+pub mod MarkLemmas
+pub mod LeafLemmas
+pub mod ChainLemmas
+pub mod NodeLemmas
+pub mod SoundLemmas
+pub mod OneLemmas
+pub mod ChargeLemmas
+pub mod FitLemmas
+pub mod SectionLemmas
+pub mod TotalLemmas

@@ -1,0 +1,5 @@
+pub mod Segments
+pub mod Texts
+pub mod Leaves
+pub mod NodeLists
+pub mod Fits
