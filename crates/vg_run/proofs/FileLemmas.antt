@@ -7,7 +7,7 @@ use Rattle.std.proofs.lemmas.List.Kept.{AllPairs-cons}
 use Rattle.vg_words.specs.Request.{size_of}
 use Rattle.vg_words.specs.declared.ask.Ask.{Ask}
 use Rattle.vg_words.specs.declared.ask.Mode.{Mode}
-use Rattle.vg_words.specs.declared.ask.Mode.TheVariants.{Wire, Time, Best, Frontier, Check, Gen, Sta}
+use Rattle.vg_words.specs.declared.ask.Mode.TheVariants.{Wire, Time, Best, Frontier, Check, Gen, Sta, Segment}
 use Rattle.vg_answer.specs.Answers.{Said, Written}
 use Rattle.vg_answer.specs.declared.input.Input.{Input}
 use Rattle.vg_answer.specs.declared.input.Input.TheVariants.{Spef}
@@ -54,6 +54,11 @@ module _ (ask : Ask) (apart : AreApart ask) where
       (All-cons (Differ ask (parasitics files)) (certificate text) [] apart.parasitics (All-nil (Differ ask (parasitics files))))
       (AllPairs-cons (Differ ask) (certificate text) [] (All-nil (Differ ask (certificate text))) (no_pairs (Differ ask))))
 
+  -- one file alone
+  one_apart : (said : List Written) (w : Written) → said ≡ w ∷ [] → AreApartIn ask said
+  one_apart said w is =
+      subst (λ (list : List Written). AreApartIn ask list) (sym is) (AllPairs-cons (Differ ask) w [] (All-nil (Differ ask w)) (no_pairs (Differ ask)))
+
   no_wire_files : (file name : List ℕ) (kind : AnswerKind) (said : Said) → IsWireAnswer file name kind said → said.files ≡ []
   no_wire_files file name Report said is = is.1
   no_wire_files file name NoneGood said is = absurd is
@@ -75,6 +80,7 @@ module _ (ask : Ask) (apart : AreApart ask) where
   files_apart Check texts kind said is = none_apart ask said.files is.no_files
   files_apart Gen texts kind said is = none_apart ask said.files (no_gen_files (size_of ask) kind said is)
   files_apart Sta texts kind said is = none_apart ask said.files is.no_files
+  files_apart Segment texts kind said is = one_apart said.files _ is.files
 
 not_named : (ask : Ask) (file : List ℕ) → (IsOutput ask file → ⊥) → (output : Output) → output_name ask output ≢ Some file
 not_named ask file none Netlist is = none (inr (inl is))

@@ -2,10 +2,10 @@
 use Rattle.std.proofs.Common.{◌≡◌, ◌⊎◌, inl, inr, ℕ, ◌||◌, Bool, true, false, List, [], ◌∷◌, refl, sym, ap, ◌∙◌, subst, map, Option}
 use Rattle.std.specs.List.{AllZip, list_any}
 use Rattle.std.specs.Prelude.{if◌then◌else◌}
-use Rattle.vg_words.specs.Request.{cap_of, prefix_of, size_of}
+use Rattle.vg_words.specs.Request.{cap_of, parts_of, prefix_of, size_of}
 use Rattle.vg_words.specs.declared.ask.Ask.{Ask}
 use Rattle.vg_words.specs.declared.ask.Mode.{Mode}
-use Rattle.vg_words.specs.declared.ask.Mode.TheVariants.{Wire, Time, Best, Frontier, Check, Gen, Sta}
+use Rattle.vg_words.specs.declared.ask.Mode.TheVariants.{Wire, Time, Best, Frontier, Check, Gen, Sta, Segment}
 use Rattle.vg_design.specs.Designs.{Design}
 use Rattle.mode_wire.specs.Answers.{IsWireAnswer}
 use Rattle.mode_time.specs.Answers.{IsTimeSaid, nets_to_time}
@@ -13,6 +13,7 @@ use Rattle.mode_best.specs.Answers.{IsBestSaid}
 use Rattle.mode_frontier.specs.Answers.{IsFrontSaid}
 use Rattle.mode_check.specs.Answers.{IsCheckSaid, kind_judged}
 use Rattle.mode_gen.specs.Answers.{IsGenAnswer}
+use Rattle.mode_segment.specs.Answers.{IsSegmentSaid, nets_in}
 use Rattle.mode_sta.specs.Answers.{IsStaSaid}
 use Rattle.vg_answer.specs.Answers.{Said}
 use Rattle.vg_answer.specs.Nets.{nets_for}
@@ -134,6 +135,10 @@ sta_gives d kind text (IsStaSaid.told_refusal name refusal refused is said) = ap
 sta_gives d kind text (IsStaSaid.told_cycle name behind is said) = ap (gives Sta) is
 sta_gives d kind text (IsStaSaid.told_no_path none is said) = ap (gives Sta) is
 
+segment_gives : (text : Bytes) (parts : ℕ) (name : Bytes) (v : Verdict) → IsSegmentSaid text parts name v → gives Segment v.kind ≡ true
+segment_gives text parts name v (IsSegmentSaid.told_cut net fit is) = ap (λ (u : Verdict). gives Segment u.kind) is
+segment_gives text parts name v (IsSegmentSaid.told_refusal refusal refused is) = ap (λ (u : Verdict). gives Segment u.kind) is
+
 pub mode_gives : (mode : Mode) (ask : Ask) (texts : Input → Bytes) (kind : AnswerKind) (said : Said) → IsAnswerIn mode ask texts kind said
     → gives mode kind ≡ true
 mode_gives Wire ask texts kind said is = wire_gives (texts Spef) (one_net ask) kind said is
@@ -149,6 +154,9 @@ mode_gives Frontier ask texts kind said is =
 mode_gives Check ask texts kind said is = check_gives is.design (one_net ask) (texts Cert) (bare_verdict kind said.text) is.says
 mode_gives Gen ask texts kind said is = gen_gives (size_of ask) kind said is
 mode_gives Sta ask texts kind said is = sta_gives is.design kind said.text is.is_said
+mode_gives Segment ask texts kind said is =
+    kind_among (gives Segment) (IsSegmentSaid (texts Spef) (parts_of ask)) (segment_gives (texts Spef) (parts_of ask))
+    (nets_in (texts Spef) ask.net) is.nets.verdicts kind refl is.nets.each is.nets.kind_is
 
 -- an answer that a certificate is not valid writes no file
 pub no_files_invalid : (mode : Mode) (ask : Ask) (texts : Input → Bytes) (said : Said) → IsAnswerIn mode ask texts Invalid said → said.files ≡ []
@@ -159,3 +167,4 @@ no_files_invalid Frontier ask texts said is = is.no_files
 no_files_invalid Check ask texts said is = is.no_files
 no_files_invalid Gen ask texts said is = absurd is
 no_files_invalid Sta ask texts said is = is.no_files
+no_files_invalid Segment ask texts said is = absurd (let e : false ≡ true = mode_gives Segment ask texts Invalid said is in cc)

@@ -1,10 +1,10 @@
 -- What a mode says, as the answer of a request.
 use Rattle.std.proofs.Common.{◌≡◌, ℕ, Bool, List, sym, subst, Option, Result}
 use Rattle.std.specs.Prelude.{is_some}
-use Rattle.vg_words.specs.Request.{cap_of, prefix_of, size_of}
+use Rattle.vg_words.specs.Request.{cap_of, parts_of, prefix_of, size_of}
 use Rattle.vg_words.specs.declared.ask.Ask.{Ask}
 use Rattle.vg_words.specs.declared.ask.Mode.{Mode}
-use Rattle.vg_words.specs.declared.ask.Mode.TheVariants.{Wire, Time, Best, Frontier, Check, Gen, Sta}
+use Rattle.vg_words.specs.declared.ask.Mode.TheVariants.{Wire, Time, Best, Frontier, Check, Gen, Segment}
 use Rattle.vg_answer.specs.Answers.{AnswersBy, NoneTaken}
 use Rattle.vg_answer.specs.Faults.{IsDesignFault}
 use Rattle.vg_answer.specs.declared.answer.Answer.{Answer}
@@ -17,7 +17,7 @@ use Rattle.mode_best.specs.Answers.{Asked, IsBestAnswer, IsTaken}
 use Rattle.mode_frontier.specs.Answers.{IsFrontAnswer}
 use Rattle.mode_check.specs.Answers.{IsCheckAnswer}
 use Rattle.mode_gen.specs.Answers.{IsGenAnswer, made_up}
-use Rattle.mode_sta.specs.Answers.{IsStaAnswer}
+use Rattle.mode_segment.specs.Answers.{IsSegmentAnswer, IsSegmentFault}
 use Rattle.vg_run.specs.Inputs.{written_cert}
 use Rattle.vg_run.specs.Modes.{AnswersFor, IsAnswerIn, IsFaultIn, IsTakenIn, best_asked, design_texts, one_net}
 
@@ -68,5 +68,8 @@ module _ (ask : Ask) (texts : Input → Bytes) (result : Result Answer NoAnswer)
   gen_says is size same says =
       in_mode Gen is (subst (λ (n : ℕ). AnswersBy (IsGenAnswer n) (IsDesignFault (made_up n)) NoneTaken result) same says)
 
-  pub sta_says : ask.mode ≡ Sta → AnswersBy (IsStaAnswer (design_texts texts)) (IsDesignFault (design_texts texts)) NoneTaken result → AnswersFor ask texts result
-  sta_says is says = in_mode Sta is says
+  pub segment_says : ask.mode ≡ Segment → (net : Option Bytes) (parts : ℕ) → net ≡ ask.net → parts ≡ parts_of ask
+      → AnswersBy (IsSegmentAnswer (texts Spef) net parts) (IsSegmentFault (texts Spef)) NoneTaken result → AnswersFor ask texts result
+  segment_says is net parts same few says =
+      in_mode Segment is (subst (λ (n : Option Bytes). AnswersBy (IsSegmentAnswer (texts Spef) n (parts_of ask)) (IsSegmentFault (texts Spef)) NoneTaken result) same
+      (subst (λ (m : ℕ). AnswersBy (IsSegmentAnswer (texts Spef) net m) (IsSegmentFault (texts Spef)) NoneTaken result) few says))

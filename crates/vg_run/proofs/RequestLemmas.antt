@@ -12,11 +12,11 @@ use Rattle.vg_scan.specs.Prefixes.{is_letter, is_name_byte, is_prefix}
 use Rattle.vg_words.specs.Request.{IsRequest, has_bad_value, prefix_of, value}
 use Rattle.vg_words.specs.declared.ask.Ask.{Ask}
 use Rattle.vg_words.specs.declared.ask.Mode.{Mode as ModeSpec}
-use Rattle.vg_words.specs.declared.ask.Mode.TheVariants.{Wire, Time, Best, Frontier, Check, Gen, Sta}
+use Rattle.vg_words.specs.declared.ask.Mode.TheVariants.{Wire, Time, Best, Frontier, Check, Gen, Sta, Segment}
 use Rattle.vg_words.specs.declared.option.Opt.{Opt}
 use Rattle.vg_words.specs.declared.option.Opt.TheVariants.{OutSpef, OutVerilog, Cert, Prefix}
 use Rattle.vg_words.proofs.FileLemmas.{files_differ}
-use Rattle.vg_words.proofs.JudgeLemmas.{small, whole_request}
+use Rattle.vg_words.proofs.JudgeLemmas.{few, small, whole_request}
 use Rattle.vg_run.specs.Inputs.{cert_in}
 use Rattle.vg_run.specs.Run.{AreApart, IsSized}
 
@@ -34,6 +34,7 @@ cert_named Frontier ask file e = absurd cc
 cert_named Check ask file e = absurd cc
 cert_named Gen ask file e = absurd cc
 cert_named Sta ask file e = absurd cc
+cert_named Segment ask file e = absurd cc
 
 netlist_first : OutVerilog ≢ OutSpef
 netlist_first e = cc
@@ -86,6 +87,7 @@ prefix_is words ask is = good_prefix ask.prefix ((whole_request words ask is).go
 pub prefix_is_solid : (words : List (List ℕ)) (ask : Ask) → IsRequest words ask → AllPass is_solid (prefix_of ask)
 prefix_is_solid words ask is = solid_bytes (prefix_of ask) (prefix_bytes (prefix_of ask) (prefix_is words ask is))
 
--- a design that is to be made up has a size that it can have
+-- a design that is to be made up has a size that it can have, and resistors are cut into a number of parts that they can
+-- have
 pub size_is : (words : List (List ℕ)) (ask : Ask) → IsRequest words ask → IsSized ask
-size_is words ask is made = small words ask is made
+size_is words ask is = (small words ask is, few words ask is)

@@ -7,7 +7,7 @@ use Rattle.vg_store.specs.Writing.{OutState}
 use Rattle.vg_words.specs.Request.{size_of, IsRequest}
 use Rattle.vg_words.specs.declared.ask.Ask.{Ask}
 use Rattle.vg_words.specs.declared.ask.Mode.{Mode}
-use Rattle.vg_words.specs.declared.ask.Mode.TheVariants.{Wire, Best, Frontier, Check, Gen}
+use Rattle.vg_words.specs.declared.ask.Mode.TheVariants.{Wire, Best, Frontier, Check, Gen, Segment}
 use Rattle.vg_design.specs.Designs.{Design}
 use Rattle.vg_design.specs.Nets.{IsPosedNet}
 use Rattle.vg_design.specs.declared.net_problem.PosedNet.{PosedNet}
@@ -42,10 +42,11 @@ pub record IsAccepted (size : ℕ) : Type 0 where
   pub net : PosedNet
   pub net_of : IsPosedNet design made_net net
 
--- The texts that a mode judges are in their form: the parasitics alone in mode `wire`, those that are made up in mode
--- `gen`, and else the four of a design. A certificate need not be.
+-- The texts that a mode judges are in their form: the parasitics alone in modes `wire` and `segment`, those that are
+-- made up in mode `gen`, and else the four of a design. A certificate need not be.
 abbrev pub AreInForm : Mode → Ask → (Input → List ℕ) → Type 0
 AreInForm Wire ask texts = IsSpef (texts Spef)
+AreInForm Segment ask texts = IsSpef (texts Spef)
 AreInForm Gen ask texts = IsAccepted (size_of ask)
 AreInForm mode ask texts = AreADesign (design_texts texts)
 

@@ -5,7 +5,7 @@ use Rattle.vg_store.specs.Reading.{FilesState}
 use Rattle.vg_words.specs.Request.{text_for}
 use Rattle.vg_words.specs.declared.ask.Ask.{Ask}
 use Rattle.vg_words.specs.declared.ask.Mode.{Mode}
-use Rattle.vg_words.specs.declared.ask.Mode.TheVariants.{Wire, Best, Check, Gen}
+use Rattle.vg_words.specs.declared.ask.Mode.TheVariants.{Wire, Best, Check, Gen, Segment}
 use Rattle.vg_words.specs.declared.option.Opt.{Opt}
 use Rattle.vg_words.specs.declared.option.Opt.TheVariants.{Spef as SpefOption, Lib as LibOption, Verilog as VerilogOption, Cons as ConsOption, Cert as CertOption}
 use Rattle.vg_answer.specs.declared.input.Input.{Input}
@@ -16,6 +16,7 @@ use Rattle.vg_answer.specs.Faults.{design_inputs, IsShort}
 -- the inputs of a mode, in the order in which they are read
 abbrev pub inputs : Mode → List Input
 inputs Wire = Spef ∷ []
+inputs Segment = Spef ∷ []
 inputs Check = Spef ∷ Lib ∷ Verilog ∷ Cons ∷ Cert ∷ []
 inputs Gen = []
 inputs mode = design_inputs

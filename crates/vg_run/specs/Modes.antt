@@ -2,12 +2,13 @@
 use Rattle.std.specs.Prelude.{ℕ, List, [], Result, unwrap_or, is_some}
 use Rattle.design_read.specs.Designs.{Texts}
 use Rattle.vg_words.specs.declared.ask.Mode.{Mode}
-use Rattle.vg_words.specs.declared.ask.Mode.TheVariants.{Wire, Time, Best, Frontier, Check, Gen, Sta}
+use Rattle.vg_words.specs.declared.ask.Mode.TheVariants.{Wire, Time, Best, Frontier, Check, Gen, Sta, Segment}
 use Rattle.mode_gen.specs.Answers.{made_up, IsGenAnswer}
 use Rattle.mode_best.specs.Answers.{Asked, IsBestAnswer, IsTaken}
 use Rattle.vg_answer.specs.Answers.{Said, AnswersBy}
 use Rattle.mode_check.specs.Answers.{IsCheckAnswer}
 use Rattle.mode_frontier.specs.Answers.{IsFrontAnswer}
+use Rattle.mode_segment.specs.Answers.{IsSegmentAnswer, IsSegmentFault}
 use Rattle.mode_sta.specs.Answers.{IsStaAnswer}
 use Rattle.mode_time.specs.Answers.{IsTimeAnswer}
 use Rattle.vg_answer.specs.declared.input.Input.{Input}
@@ -15,7 +16,7 @@ use Rattle.vg_answer.specs.declared.input.Input.TheVariants.{Spef, Lib, Verilog,
 use Rattle.vg_answer.specs.declared.answer.Answer.{Answer}
 use Rattle.vg_answer.specs.declared.kind.AnswerKind.{AnswerKind}
 use Rattle.vg_answer.specs.declared.answer.NoAnswer.{NoAnswer}
-use Rattle.vg_words.specs.Request.{cap_of, prefix_of, size_of}
+use Rattle.vg_words.specs.Request.{cap_of, parts_of, prefix_of, size_of}
 use Rattle.vg_words.specs.declared.ask.Ask.{Ask}
 use Rattle.vg_answer.specs.Faults.{IsDesignFault}
 use Rattle.mode_wire.specs.Answers.{IsWireAnswer, IsWireFault}
@@ -42,11 +43,13 @@ IsAnswerIn Frontier ask texts kind said = IsFrontAnswer (design_texts texts) ask
 IsAnswerIn Check ask texts kind said = IsCheckAnswer (design_texts texts) (texts Cert) (one_net ask) kind said
 IsAnswerIn Gen ask texts kind said = IsGenAnswer (size_of ask) kind said
 IsAnswerIn Sta ask texts kind said = IsStaAnswer (design_texts texts) kind said
+IsAnswerIn Segment ask texts kind said = IsSegmentAnswer (texts Spef) ask.net (parts_of ask) kind said
 
 -- the first fault of the texts that it judges: mode `gen` judges those of the design that it makes up, and mode `check`
 -- judges the certificate when all others are in their form
 abbrev pub IsFaultIn : Mode → Ask → (Input → List ℕ) → List ℕ → Input → Type 0
 IsFaultIn Wire ask texts line input = IsWireFault (texts Spef) line input
+IsFaultIn Segment ask texts line input = IsSegmentFault (texts Spef) line input
 IsFaultIn Gen ask texts line input = IsDesignFault (made_up (size_of ask)) line input
 IsFaultIn mode ask texts line input = IsDesignFault (design_texts texts) line input
 

@@ -6,8 +6,8 @@ use Rattle.vg_store.specs.Reading.{FilesState}
 use Rattle.vg_store.specs.States.{KeepsWriting}
 use Rattle.vg_store.specs.Writing.{OutState, Gains, GainsPrefix, StaysOrPrefix, WriteFaultAt}
 use Rattle.vg_words.specs.Options.{name_of as option_name}
-use Rattle.vg_words.specs.Request.{size_of, IsRequest, IsRefused}
-use Rattle.vg_words.specs.declared.ask.Mode.TheVariants.{Gen}
+use Rattle.vg_words.specs.Request.{parts_of, size_of, IsRequest, IsRefused}
+use Rattle.vg_words.specs.declared.ask.Mode.TheVariants.{Gen, Segment}
 use Rattle.vg_words.specs.declared.ask.Ask.{Ask}
 use Rattle.vg_words.specs.declared.ask.WordFault.{WordFault}
 use Rattle.vg_words.specs.declared.ask.WordFault.TheVariants.{Unread, Missing, Excluded, BadValue, Equal, Memory as NoRoom}
@@ -73,9 +73,12 @@ pub record AreApart (ask : Ask) : Type 0 where
   pub netlist : (file : List ℕ) → ask.out_verilog ≡ Some file → written_cert ask ≡ Some file → ⊥
   pub parasitics : (file : List ℕ) → ask.out_spef ≡ Some file → written_cert ask ≡ Some file → ⊥
 
--- a design that is to be made up has a size that it can have
+-- a design that is to be made up has a size that it can have, and resistors are cut into a number of parts that they can
+-- have
 abbrev pub IsSized : Ask → Type 0
-IsSized ask = ask.mode ≡ Gen → (1 ≤ size_of ask) × (size_of ask ≤ 4000)
+IsSized ask =
+    (ask.mode ≡ Gen → (1 ≤ size_of ask) × (size_of ask ≤ 4000))
+    × (ask.mode ≡ Segment → (1 ≤ parts_of ask) × (parts_of ask ≤ 64))
 
 -- where the words name a file, and files tell what it holds, it holds this text
 abbrev pub HoldsAt : FilesState → Option (List ℕ) → List ℕ → Type 0

@@ -30,7 +30,7 @@ pub struct Texts {
     pub cert: InputText,
 }
 
-const WIRE_INPUTS: [Input; 1] = [Input::Spef];
+const SPEF_INPUTS: [Input; 1] = [Input::Spef];
 
 const DESIGN_INPUTS: [Input; 4] = [Input::Spef, Input::Lib, Input::Verilog, Input::Cons];
 
@@ -70,7 +70,7 @@ fn inputs(mode: Mode) -> &'static [Input]
     ensures { result.now ≡ inputs_in mode }
 {
     match mode {
-        Mode::Wire => &WIRE_INPUTS,
+        Mode::Wire | Mode::Segment => &SPEF_INPUTS,
         Mode::Time | Mode::Best | Mode::Frontier | Mode::Sta => &DESIGN_INPUTS,
         Mode::Check => &CHECK_INPUTS,
         Mode::Gen => &[],

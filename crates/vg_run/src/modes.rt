@@ -14,6 +14,7 @@ use mode_best::best_for;
 use mode_check::check_for;
 use mode_frontier::front_for;
 use mode_gen::gen_for;
+use mode_segment::segment_for;
 use mode_sta::sta_for;
 use mode_time::time_for;
 use mode_wire::wire_for;
@@ -50,5 +51,6 @@ pub(crate) fn answer(alloc: Global, texts: Texts, ask: &Ask) -> Result<Answer, N
         Mode::Check => check_for(alloc, design, cert, ask.text(Opt::Net).as_bytes()),
         Mode::Gen => gen_for(alloc, ask.size()),
         Mode::Sta => sta_for(alloc, design),
+        Mode::Segment => segment_for(alloc, design.spef, asked_net(ask), ask.parts()),
     }
 }

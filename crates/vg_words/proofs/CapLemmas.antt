@@ -8,7 +8,7 @@ use Rattle.vg_num.specs.declared.fault.NumFault.{NumFault}
 use Rattle.vg_num.specs.declared.fault.NumFault.TheVariants.{Form, TooLarge}
 use Rattle.vg_num.proofs.CapLemmas.{value_of-lt}
 use Rattle.vg_words.specs.Request.{cap_in, is_cap}
-use Rattle.vg_words.proofs.SizeLemmas.{digits_read, no_digits, number_read}
+use Rattle.vg_words.proofs.CountLemmas.{digits_read, no_digits, number_read}
 
 -- a text that is no cap has none
 no_cap : (text : List ℕ) → (is_cap text ≡ true → ⊥) → None ≡ cap_in text

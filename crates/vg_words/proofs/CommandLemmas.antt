@@ -18,7 +18,7 @@ use Rattle.clap.proofs.WalkLemmas.{both}
 use Rattle.vg_words.specs.Command.{action_for, app, bare, long_name}
 use Rattle.vg_words.specs.Options.{is_flag, options}
 use Rattle.vg_words.specs.declared.option.Opt.{Opt}
-use Rattle.vg_words.specs.declared.option.Opt.TheVariants.{Mode, Spef, Lib, Verilog, Cons, Net, All, OutSpef, OutVerilog, Cert, Cap, Prefix, Size}
+use Rattle.vg_words.specs.declared.option.Opt.TheVariants.{Mode, Spef, Lib, Verilog, Cons, Net, All, OutSpef, OutVerilog, Cert, Cap, Prefix, Size, Parts}
 use Rattle.vg_words.proofs.OptionLemmas.{each_valued, one_flag}
 
 -- the matches of a simple command, by another name
@@ -61,10 +61,10 @@ shape = record bare.top { rules = rules; disable_help_subcommand = true; is_buil
 
 -- the argument of a name
 pub by_id : (o : Opt) → is_flag o ≡ false → arg_by_id rules (long_name o) ≡ Some (rule o)
-by_id = each_valued (λ o. arg_by_id rules (long_name o) ≡ Some (rule o)) refl refl refl refl refl refl refl refl refl refl refl refl
+by_id = each_valued (λ o. arg_by_id rules (long_name o) ≡ Some (rule o)) refl refl refl refl refl refl refl refl refl refl refl refl refl
 
 pub by_long : (o : Opt) → is_flag o ≡ false → arg_by_long rules (long_name o) ≡ Some (rule o)
-by_long = each_valued (λ o. arg_by_long rules (long_name o) ≡ Some (rule o)) refl refl refl refl refl refl refl refl refl refl refl refl
+by_long = each_valued (λ o. arg_by_long rules (long_name o) ≡ Some (rule o)) refl refl refl refl refl refl refl refl refl refl refl refl refl
 
 pub flag_by_long : (o : Opt) → is_flag o ≡ true → arg_by_long rules (long_name o) ≡ Some (flag_rule o)
 flag_by_long o e = subst (λ o. arg_by_long rules (long_name o) ≡ Some (flag_rule o)) (sym (one_flag o e)) refl
@@ -118,7 +118,7 @@ abbrev before_flag : List Opt
 before_flag = Mode ∷ Spef ∷ Lib ∷ Verilog ∷ Cons ∷ Net ∷ []
 
 abbrev after_flag : List Opt
-after_flag = OutSpef ∷ OutVerilog ∷ Cert ∷ Cap ∷ Prefix ∷ Size ∷ []
+after_flag = OutSpef ∷ OutVerilog ∷ Cert ∷ Cap ∷ Prefix ∷ Size ∷ Parts ∷ []
 
 with_defaults : (rows : List Row) → fold with_default rows rules ≡ with_flag rows
 with_defaults rows =

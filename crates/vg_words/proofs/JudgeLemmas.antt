@@ -7,18 +7,18 @@ use Rattle.std.specs.Str.{bytes_eq}
 use Rattle.std.proofs.lemmas.Slice.Eq.{bytes_eq-Decides}
 use Rattle.vg_num.specs.Number.{value_of as number_of}
 use Rattle.vg_words.proofs.OptionLemmas.{each, same_option}
-use Rattle.vg_words.proofs.SizeLemmas.{size_small}
+use Rattle.vg_words.proofs.CountLemmas.{count_small}
 use Rattle.vg_words.proofs.SpellingLemmas.{one_setting}
 use Rattle.vg_words.specs.Laws.{AsksAsIn, AsksForNet}
 use Rattle.vg_words.specs.Views.{AreValues}
 use Rattle.vg_words.specs.declared.ask.Ask.{Ask}
 use mathlib.Core.Path.{fun_ext}
 use Rattle.vg_words.specs.Options.{options, file_options, is_same, required, mode_of, mode_name}
-use Rattle.vg_words.specs.Request.{Setting, Sets, Values, values_in, value_of, IsRequest, is_missing, is_excluded, flag_value, has_bad_value, is_bad, is_cap, is_size, or_else, of_first, of_pair, first_equal, fault_in, fault_of_mode, fault_of_name, fault_of, HasMode, IsRefused, ReadsWords, value, cap_in, cap_of, size_in, size_of}
+use Rattle.vg_words.specs.Request.{Setting, Sets, Values, values_in, value_of, IsRequest, is_missing, is_excluded, flag_value, has_bad_value, is_bad, is_cap, is_parts, is_size, or_else, of_first, of_pair, first_equal, fault_in, fault_of_mode, fault_of_name, fault_of, HasMode, IsRefused, ReadsWords, value, cap_in, cap_of, parts_in, parts_of, size_in, size_of}
 use Rattle.vg_words.specs.declared.option.Opt.{Opt}
-use Rattle.vg_words.specs.declared.option.Opt.TheVariants.{Mode, Spef, Lib, Verilog, Cons, Net, All, OutSpef, OutVerilog, Cert, Cap, Prefix, Size}
+use Rattle.vg_words.specs.declared.option.Opt.TheVariants.{Mode, Spef, Lib, Verilog, Cons, Net, All, OutSpef, OutVerilog, Cert, Cap, Prefix, Size, Parts}
 use Rattle.vg_words.specs.declared.ask.Mode.{Mode as ModeSpec}
-use Rattle.vg_words.specs.declared.ask.Mode.TheVariants.{Wire, Time, Best, Frontier, Check, Gen, Sta}
+use Rattle.vg_words.specs.declared.ask.Mode.TheVariants.{Wire, Time, Best, Frontier, Check, Gen, Sta, Segment}
 use Rattle.vg_words.specs.declared.ask.WordFault.{WordFault}
 use Rattle.vg_words.specs.declared.ask.WordFault.TheVariants.{Unread, Missing, Excluded, BadValue, Equal, Memory}
 
@@ -100,20 +100,21 @@ some_mode a b e = cc
 requested_values : (values : Values) (ask : Ask) → values Mode ≡ Some (mode_name ask.mode) → values Spef ≡ ask.spef → values Lib ≡ ask.lib
     → values Verilog ≡ ask.verilog → values Cons ≡ ask.cons → values Net ≡ ask.net → values All ≡ flag_value ask.all
     → values OutSpef ≡ ask.out_spef → values OutVerilog ≡ ask.out_verilog → values Cert ≡ ask.cert → values Cap ≡ ask.cap
-    → values Prefix ≡ ask.prefix → values Size ≡ ask.size → (option : Opt) → values option ≡ value ask option
-requested_values values ask m s l v c n a os ov r k p z Mode = m
-requested_values values ask m s l v c n a os ov r k p z Spef = s
-requested_values values ask m s l v c n a os ov r k p z Lib = l
-requested_values values ask m s l v c n a os ov r k p z Verilog = v
-requested_values values ask m s l v c n a os ov r k p z Cons = c
-requested_values values ask m s l v c n a os ov r k p z Net = n
-requested_values values ask m s l v c n a os ov r k p z All = a
-requested_values values ask m s l v c n a os ov r k p z OutSpef = os
-requested_values values ask m s l v c n a os ov r k p z OutVerilog = ov
-requested_values values ask m s l v c n a os ov r k p z Cert = r
-requested_values values ask m s l v c n a os ov r k p z Cap = k
-requested_values values ask m s l v c n a os ov r k p z Prefix = p
-requested_values values ask m s l v c n a os ov r k p z Size = z
+    → values Prefix ≡ ask.prefix → values Size ≡ ask.size → values Parts ≡ ask.parts → (option : Opt) → values option ≡ value ask option
+requested_values values ask m s l v c n a os ov r k p z q Mode = m
+requested_values values ask m s l v c n a os ov r k p z q Spef = s
+requested_values values ask m s l v c n a os ov r k p z q Lib = l
+requested_values values ask m s l v c n a os ov r k p z q Verilog = v
+requested_values values ask m s l v c n a os ov r k p z q Cons = c
+requested_values values ask m s l v c n a os ov r k p z q Net = n
+requested_values values ask m s l v c n a os ov r k p z q All = a
+requested_values values ask m s l v c n a os ov r k p z q OutSpef = os
+requested_values values ask m s l v c n a os ov r k p z q OutVerilog = ov
+requested_values values ask m s l v c n a os ov r k p z q Cert = r
+requested_values values ask m s l v c n a os ov r k p z q Cap = k
+requested_values values ask m s l v c n a os ov r k p z q Prefix = p
+requested_values values ask m s l v c n a os ov r k p z q Size = z
+requested_values values ask m s l v c n a os ov r k p z q Parts = q
 
 -- a text that is the name of one mode, or else names another
 named_or : (text : List ℕ) (own mode : ModeSpec) (rest : Option ModeSpec) → (if bytes_eq text (mode_name own) then Some own else rest) ≡ Some mode
@@ -127,7 +128,8 @@ named_or text own mode rest e later =
 -- a text that names a mode is its name
 mode_named : (text : List ℕ) (mode : ModeSpec) → mode_of text ≡ Some mode → text ≡ mode_name mode
 mode_named text mode e =
-    let after_gen : Option ModeSpec = if bytes_eq text (codes "sta") then Some Sta else None in
+    let after_sta : Option ModeSpec = if bytes_eq text (codes "segment") then Some Segment else None in
+    let after_gen : Option ModeSpec = if bytes_eq text (codes "sta") then Some Sta else after_sta in
     let after_check : Option ModeSpec = if bytes_eq text (codes "gen") then Some Gen else after_gen in
     let after_frontier : Option ModeSpec = if bytes_eq text (codes "check") then Some Check else after_check in
     let after_best : Option ModeSpec = if bytes_eq text (codes "frontier") then Some Frontier else after_frontier in
@@ -139,7 +141,8 @@ mode_named text mode e =
     (λ e. named_or text Frontier mode after_frontier e
     (λ e. named_or text Check mode after_check e
     (λ e. named_or text Gen mode after_gen e
-    (λ e. named_or text Sta mode None e (λ none. absurd (cc))))))))
+    (λ e. named_or text Sta mode after_sta e
+    (λ e. named_or text Segment mode None e (λ none. absurd (cc)))))))))
 
 mode_given : (name : Option (List ℕ)) (mode : ModeSpec) → HasMode name mode → name ≡ Some (mode_name mode)
 mode_given None mode h = absurd h
@@ -150,10 +153,10 @@ pub requested : (words : List (List ℕ)) (values : Values) (mode : ModeSpec) (a
     → (fault_of values ≡ None) × HasMode (values Mode) mode
     → ask.mode ≡ mode → ask.spef ≡ values Spef → ask.lib ≡ values Lib → ask.verilog ≡ values Verilog → ask.cons ≡ values Cons → ask.net ≡ values Net
     → flag_value ask.all ≡ values All → ask.out_spef ≡ values OutSpef → ask.out_verilog ≡ values OutVerilog → ask.cert ≡ values Cert → ask.cap ≡ values Cap
-    → ask.prefix ≡ values Prefix → ask.size ≡ values Size → IsRequest words ask
-requested words values mode ask given (e, h) m s l v c n a os ov r k p z =
+    → ask.prefix ≡ values Prefix → ask.size ≡ values Size → ask.parts ≡ values Parts → IsRequest words ask
+requested words values mode ask given (e, h) m s l v c n a os ov r k p z q =
     let named = mode_given (values Mode) mode h ∙ ap (λ x. Some (mode_name x)) (sym m) in
-    let kept = requested_values values ask named (sym s) (sym l) (sym v) (sym c) (sym n) (sym a) (sym os) (sym ov) (sym r) (sym k) (sym p) (sym z) in
+    let kept = requested_values values ask named (sym s) (sym l) (sym v) (sym c) (sym n) (sym a) (sym os) (sym ov) (sym r) (sym k) (sym p) (sym z) (sym q) in
     record {
       settings = given.settings;
       set = given.set;
@@ -170,6 +173,7 @@ named_mode Frontier = refl
 named_mode Check = refl
 named_mode Gen = refl
 named_mode Sta = refl
+named_mode Segment = refl
 
 one_mode : (a b : ModeSpec) → mode_name a ≡ mode_name b → a ≡ b
 one_mode a b e = some_mode a b (sym (named_mode a) ∙ ap mode_of e ∙ named_mode b)
@@ -204,6 +208,7 @@ one words a b x y =
       cap = values Cap i;
       prefix = values Prefix i;
       size = values Size i;
+      parts = values Parts i;
     }
 
 -- words that are refused are no request
@@ -249,7 +254,7 @@ no_faults None b e = (refl, e)
 no_faults (Some fault) b e = absurd (cc)
 
 all_options : (o : Opt) → list_any (is_same o) options ≡ true
-all_options = each (λ o. list_any (is_same o) options ≡ true) refl refl refl refl refl refl refl refl refl refl refl refl refl
+all_options = each (λ o. list_any (is_same o) options ≡ true) refl refl refl refl refl refl refl refl refl refl refl refl refl refl
 
 -- what a judgment without a fault says of each option, and of those that name files
 pub record IsWhole (mode : ModeSpec) (values : Values) : Type 0 where
@@ -306,6 +311,7 @@ asks_as_in Frontier ask w = net_or_all ask.net ask.all (w.found Net refl) (w.all
 asks_as_in Check ask w = one_net ask.net ask.all (w.found Net refl) (w.allowed All)
 asks_as_in Gen ask w = no_net ask.net ask.all (w.allowed Net) (w.allowed All)
 asks_as_in Sta ask w = no_net ask.net ask.all (w.allowed Net) (w.allowed All)
+asks_as_in Segment ask w = net_or_all ask.net ask.all (w.found Net refl) (w.allowed All)
 
 pub one_or_all : (words : List (List ℕ)) (ask : Ask) → IsRequest words ask → AsksAsIn ask.mode ask
 one_or_all words ask is = asks_as_in ask.mode ask (whole_request words ask is)
@@ -327,6 +333,7 @@ cert_of_net Frontier ask w named = absurd (named (no_cert ask.cert (w.allowed Ce
 cert_of_net Check ask w named = asks_as_in Check ask w
 cert_of_net Gen ask w named = absurd (named (no_cert ask.cert (w.allowed Cert)))
 cert_of_net Sta ask w named = absurd (named (no_cert ask.cert (w.allowed Cert)))
+cert_of_net Segment ask w named = absurd (named (no_cert ask.cert (w.allowed Cert)))
 
 pub certs : (words : List (List ℕ)) (ask : Ask) → IsRequest words ask → ask.cert ≢ None → AsksForNet ask
 certs words ask is = cert_of_net ask.mode ask (whole_request words ask is)
@@ -335,16 +342,26 @@ not_not : (b : Bool) → not b ≡ false → b ≡ true
 not_not true e = refl
 not_not false e = absurd (true≢false e)
 
--- a size, from the same
+-- a size, and a number of parts, from the same
 small_size : (size : Option (List ℕ)) → not (is_some size || false) ≡ false → has_bad_value Size size ≡ false
     → let n = unwrap_or (size_in (unwrap_or size [])) 0 in (1 ≤ n) × (n ≤ 4000)
 small_size None found good = absurd (true≢false found)
-small_size (Some text) found good = size_small text (not_not (is_size text) good)
+small_size (Some text) found good = count_small 4 4000 text (not_not (is_size text) good)
+
+few_parts : (parts : Option (List ℕ)) → not (is_some parts || false) ≡ false → has_bad_value Parts parts ≡ false
+    → let n = unwrap_or (parts_in (unwrap_or parts [])) 0 in (1 ≤ n) × (n ≤ 64)
+few_parts None found good = absurd (true≢false found)
+few_parts (Some text) found good = count_small 2 64 text (not_not (is_parts text) good)
 
 pub small : (words : List (List ℕ)) (ask : Ask) → IsRequest words ask → ask.mode ≡ Gen → (1 ≤ size_of ask) × (size_of ask ≤ 4000)
 small words ask is e =
     let w : IsWhole Gen (value ask) = subst (λ mode. IsWhole mode (value ask)) e (whole_request words ask is) in
     small_size ask.size (w.found Size refl) (w.good Size)
+
+pub few : (words : List (List ℕ)) (ask : Ask) → IsRequest words ask → ask.mode ≡ Segment → (1 ≤ parts_of ask) × (parts_of ask ≤ 64)
+few words ask is e =
+    let w : IsWhole Segment (value ask) = subst (λ mode. IsWhole mode (value ask)) e (whole_request words ask is) in
+    few_parts ask.parts (w.found Parts refl) (w.good Parts)
 
 -- the cap that is given is the number that its text writes
 one_cap : (cap : Option (List ℕ)) (text : List ℕ) → has_bad_value Cap cap ≡ false → cap ≡ Some text

@@ -1,6 +1,6 @@
 pub mod OptionLemmas
 pub mod SpellingLemmas
-pub mod SizeLemmas
+pub mod CountLemmas
 pub mod CapLemmas
 pub mod JudgeLemmas
 pub mod EqualLemmas

@@ -9,65 +9,66 @@ use Rattle.clap.specs.Lexer.{long_of}
 use Rattle.vg_words.specs.Command.{long_name}
 use Rattle.vg_words.specs.Options.{name_of, options, place_of, is_flag, is_same}
 use Rattle.vg_words.specs.declared.option.Opt.{Opt}
-use Rattle.vg_words.specs.declared.option.Opt.TheVariants.{Mode, Spef, Lib, Verilog, Cons, Net, All, OutSpef, OutVerilog, Cert, Cap, Prefix, Size}
+use Rattle.vg_words.specs.declared.option.Opt.TheVariants.{Mode, Spef, Lib, Verilog, Cons, Net, All, OutSpef, OutVerilog, Cert, Cap, Prefix, Size, Parts}
 
 -- what holds of each option holds of all
 pub each : (P : Opt → Type 0) → P Mode → P Spef → P Lib → P Verilog → P Cons → P Net → P All → P OutSpef → P OutVerilog
-    → P Cert → P Cap → P Prefix → P Size → (option : Opt) → P option
-each P mode spef lib verilog cons net all out_spef out_verilog cert cap prefix size Mode = mode
-each P mode spef lib verilog cons net all out_spef out_verilog cert cap prefix size Spef = spef
-each P mode spef lib verilog cons net all out_spef out_verilog cert cap prefix size Lib = lib
-each P mode spef lib verilog cons net all out_spef out_verilog cert cap prefix size Verilog = verilog
-each P mode spef lib verilog cons net all out_spef out_verilog cert cap prefix size Cons = cons
-each P mode spef lib verilog cons net all out_spef out_verilog cert cap prefix size Net = net
-each P mode spef lib verilog cons net all out_spef out_verilog cert cap prefix size All = all
-each P mode spef lib verilog cons net all out_spef out_verilog cert cap prefix size OutSpef = out_spef
-each P mode spef lib verilog cons net all out_spef out_verilog cert cap prefix size OutVerilog = out_verilog
-each P mode spef lib verilog cons net all out_spef out_verilog cert cap prefix size Cert = cert
-each P mode spef lib verilog cons net all out_spef out_verilog cert cap prefix size Cap = cap
-each P mode spef lib verilog cons net all out_spef out_verilog cert cap prefix size Prefix = prefix
-each P mode spef lib verilog cons net all out_spef out_verilog cert cap prefix size Size = size
+    → P Cert → P Cap → P Prefix → P Size → P Parts → (option : Opt) → P option
+each P mode spef lib verilog cons net all out_spef out_verilog cert cap prefix size parts Mode = mode
+each P mode spef lib verilog cons net all out_spef out_verilog cert cap prefix size parts Spef = spef
+each P mode spef lib verilog cons net all out_spef out_verilog cert cap prefix size parts Lib = lib
+each P mode spef lib verilog cons net all out_spef out_verilog cert cap prefix size parts Verilog = verilog
+each P mode spef lib verilog cons net all out_spef out_verilog cert cap prefix size parts Cons = cons
+each P mode spef lib verilog cons net all out_spef out_verilog cert cap prefix size parts Net = net
+each P mode spef lib verilog cons net all out_spef out_verilog cert cap prefix size parts All = all
+each P mode spef lib verilog cons net all out_spef out_verilog cert cap prefix size parts OutSpef = out_spef
+each P mode spef lib verilog cons net all out_spef out_verilog cert cap prefix size parts OutVerilog = out_verilog
+each P mode spef lib verilog cons net all out_spef out_verilog cert cap prefix size parts Cert = cert
+each P mode spef lib verilog cons net all out_spef out_verilog cert cap prefix size parts Cap = cap
+each P mode spef lib verilog cons net all out_spef out_verilog cert cap prefix size parts Prefix = prefix
+each P mode spef lib verilog cons net all out_spef out_verilog cert cap prefix size parts Size = size
+each P mode spef lib verilog cons net all out_spef out_verilog cert cap prefix size parts Parts = parts
 
 -- what holds of each option with a value holds of all of these
 pub each_valued : (P : Opt → Type 0) → P Mode → P Spef → P Lib → P Verilog → P Cons → P Net → P OutSpef → P OutVerilog → P Cert
-    → P Cap → P Prefix → P Size → (option : Opt) → is_flag option ≡ false → P option
-each_valued P mode spef lib verilog cons net out_spef out_verilog cert cap prefix size =
+    → P Cap → P Prefix → P Size → P Parts → (option : Opt) → is_flag option ≡ false → P option
+each_valued P mode spef lib verilog cons net out_spef out_verilog cert cap prefix size parts =
     each (λ option. is_flag option ≡ false → P option)
     (λ _. mode) (λ _. spef) (λ _. lib) (λ _. verilog) (λ _. cons) (λ _. net) (λ e. absurd (true≢false e)) (λ _. out_spef) (λ _. out_verilog)
-    (λ _. cert) (λ _. cap) (λ _. prefix) (λ _. size)
+    (λ _. cert) (λ _. cap) (λ _. prefix) (λ _. size) (λ _. parts)
 
 -- there is one flag
 pub one_flag : (o : Opt) → is_flag o ≡ true → o ≡ All
-one_flag = each (λ o. is_flag o ≡ true → o ≡ All) none none none none none none (λ _. refl) none none none none none none
+one_flag = each (λ o. is_flag o ≡ true → o ≡ All) none none none none none none (λ _. refl) none none none none none none none
   where
     none : {o : Opt} → false ≡ true → o ≡ All
     none e = absurd (false≢true e)
 
 -- the words of an option
 pub name-long : (o : Opt) → name_of o ≡ codes "--" ++ long_name o
-name-long = each (λ o. name_of o ≡ codes "--" ++ long_name o) refl refl refl refl refl refl refl refl refl refl refl refl refl
+name-long = each (λ o. name_of o ≡ codes "--" ++ long_name o) refl refl refl refl refl refl refl refl refl refl refl refl refl refl
 
 pub named : (o : Opt) → long_of (name_of o) ≡ Some (long_name o, None)
-named = each (λ o. long_of (name_of o) ≡ Some (long_name o, None)) refl refl refl refl refl refl refl refl refl refl refl refl refl
+named = each (λ o. long_of (name_of o) ≡ Some (long_name o, None)) refl refl refl refl refl refl refl refl refl refl refl refl refl refl
 
 pub joined : (v : List ℕ) (o : Opt) → long_of (name_of o ++ (codes "=" ++ v)) ≡ Some (long_name o, Some v)
-joined v = each (λ o. long_of (name_of o ++ (codes "=" ++ v)) ≡ Some (long_name o, Some v)) refl refl refl refl refl refl refl refl refl refl refl refl refl
+joined v = each (λ o. long_of (name_of o ++ (codes "=" ++ v)) ≡ Some (long_name o, Some v)) refl refl refl refl refl refl refl refl refl refl refl refl refl refl
 
 -- an option is known by its name, and by its place
 abbrev first_named : List ℕ → Option Opt
 first_named name = find (λ o. bytes_eq (long_name o) name) options
 
 found : (o : Opt) → first_named (long_name o) ≡ Some o
-found = each (λ o. first_named (long_name o) ≡ Some o) refl refl refl refl refl refl refl refl refl refl refl refl refl
+found = each (λ o. first_named (long_name o) ≡ Some o) refl refl refl refl refl refl refl refl refl refl refl refl refl refl
 
 placed : (o : Opt) → get_or options (place_of o) Mode ≡ o
-placed = each (λ o. get_or options (place_of o) Mode ≡ o) refl refl refl refl refl refl refl refl refl refl refl refl refl
+placed = each (λ o. get_or options (place_of o) Mode ≡ o) refl refl refl refl refl refl refl refl refl refl refl refl refl refl
 
 within : (o : Opt) → place_of o < length options
 within =
     each (λ o. place_of o < length options)
     (omega arith) (omega arith) (omega arith) (omega arith) (omega arith) (omega arith)
-    (omega arith) (omega arith) (omega arith) (omega arith) (omega arith) (omega arith) (omega arith)
+    (omega arith) (omega arith) (omega arith) (omega arith) (omega arith) (omega arith) (omega arith) (omega arith)
 
 some_option : (a b : Opt) → Some a ≡ Some b → a ≡ b
 some_option a b e = cc
@@ -77,7 +78,7 @@ one_option a b e = some_option a b (sym (found a) ∙ ap first_named e ∙ found
 
 -- options are the same as their names are
 pub same_self : (o : Opt) → is_same o o ≡ true
-same_self = each (λ o. is_same o o ≡ true) refl refl refl refl refl refl refl refl refl refl refl refl refl
+same_self = each (λ o. is_same o o ≡ true) refl refl refl refl refl refl refl refl refl refl refl refl refl refl
 
 pub same_option : (a b : Opt) → is_same a b ≡ true → a ≡ b
 same_option a b e = sym (placed a) ∙ ap (λ i. get_or options i Mode) (eqb-true (place_of a) (place_of b) e) ∙ placed b
@@ -99,7 +100,7 @@ same-long a b = go (bytes_eq (long_name a) (long_name b)) (is_same a b) refl ref
 
 -- an option with a value has another name than the flag
 pub other_name : (o : Opt) → is_flag o ≡ false → bytes_eq (long_name All) (long_name o) ≡ false
-other_name = each_valued (λ o. bytes_eq (long_name All) (long_name o) ≡ false) refl refl refl refl refl refl refl refl refl refl refl refl
+other_name = each_valued (λ o. bytes_eq (long_name All) (long_name o) ≡ false) refl refl refl refl refl refl refl refl refl refl refl refl refl
 
 -- a test of all options is one of each
 pub all-each : (p : Opt → Bool) → list_all p options ≡ true → (o : Opt) → p o ≡ true

@@ -1,11 +1,12 @@
--- Words ask for one thing at most, for as many nets as their mode has a use for, or for a size, and name no file twice.
+-- Words ask for one thing at most, for as many nets as their mode has a use for, for a size or for parts, and name no
+-- file twice.
 use Rattle.std.specs.Prelude.{◌≡◌, ◌≢◌, ◌≤◌, ◌⊎◌, ℕ, true, false, List, Some, None, is_some}
 use Rattle.vg_num.specs.Number.{value_of as number_of}
 use Rattle.vg_words.specs.Options.{names_file}
-use Rattle.vg_words.specs.Request.{IsRequest, cap_of, size_of, value}
+use Rattle.vg_words.specs.Request.{IsRequest, cap_of, parts_of, size_of, value}
 use Rattle.vg_words.specs.declared.ask.Ask.{Ask}
 use Rattle.vg_words.specs.declared.ask.Mode.{Mode}
-use Rattle.vg_words.specs.declared.ask.Mode.TheVariants.{Wire, Time, Best, Frontier, Check, Gen, Sta}
+use Rattle.vg_words.specs.declared.ask.Mode.TheVariants.{Wire, Time, Best, Frontier, Check, Gen, Sta, Segment}
 use Rattle.vg_words.specs.declared.option.Opt.{Opt}
 
 abbrev pub OneRequest : Type 0
@@ -32,9 +33,10 @@ AsksAsIn Frontier ask = AsksForNet ask ⊎ AsksForAll ask
 AsksAsIn Check ask = AsksForNet ask
 AsksAsIn Gen ask = AsksForNone ask
 AsksAsIn Sta ask = AsksForNone ask
+AsksAsIn Segment ask = AsksForNet ask ⊎ AsksForAll ask
 
--- in modes `wire` and `check` a request asks for one net, in modes `time`, `best` and `frontier` for one or for all,
--- and in modes `gen` and `sta` it names none
+-- in modes `wire` and `check` a request asks for one net, in modes `time`, `best`, `frontier` and `segment` for one or
+-- for all, and in modes `gen` and `sta` it names none
 abbrev pub OneOrAll : Type 0
 OneOrAll = (words : List (List ℕ)) (ask : Ask) → IsRequest words ask → AsksAsIn ask.mode ask
 
@@ -57,3 +59,8 @@ CapsAreRead = (words : List (List ℕ)) (ask : Ask) → IsRequest words ask → 
 abbrev pub SizesAreSmall : Type 0
 SizesAreSmall = (words : List (List ℕ)) (ask : Ask) → IsRequest words ask → ask.mode ≡ Gen
     → (1 ≤ size_of ask) × (size_of ask ≤ 4000)
+
+-- in mode `segment` a request asks for 1 to 64 parts
+abbrev pub PartsAreFew : Type 0
+PartsAreFew = (words : List (List ℕ)) (ask : Ask) → IsRequest words ask → ask.mode ≡ Segment
+    → (1 ≤ parts_of ask) × (parts_of ask ≤ 64)

@@ -3,9 +3,9 @@ use Rattle.std.specs.Prelude.{ℕ, ◌==◌, Bool, true, false, List, [], ◌∷
 use Rattle.std.specs.List.{list_any}
 use Rattle.std.specs.Str.{bytes_eq}
 use Rattle.vg_words.specs.declared.option.Opt.{Opt}
-use Rattle.vg_words.specs.declared.option.Opt.TheVariants.{Mode, Spef, Lib, Verilog, Cons, Net, All, OutSpef, OutVerilog, Cert, Cap, Prefix, Size}
+use Rattle.vg_words.specs.declared.option.Opt.TheVariants.{Mode, Spef, Lib, Verilog, Cons, Net, All, OutSpef, OutVerilog, Cert, Cap, Prefix, Size, Parts}
 use Rattle.vg_words.specs.declared.ask.Mode.{Mode as ModeSpec}
-use Rattle.vg_words.specs.declared.ask.Mode.TheVariants.{Wire, Time, Best, Frontier, Check, Gen, Sta}
+use Rattle.vg_words.specs.declared.ask.Mode.TheVariants.{Wire, Time, Best, Frontier, Check, Gen, Sta, Segment}
 
 abbrev pub name_of : Opt → List ℕ
 name_of Mode = codes "--mode"
@@ -21,6 +21,7 @@ name_of Cert = codes "--cert"
 name_of Cap = codes "--cap"
 name_of Prefix = codes "--prefix"
 name_of Size = codes "--size"
+name_of Parts = codes "--parts"
 
 -- the place of an option in the order of options
 abbrev pub place_of : Opt → ℕ
@@ -37,12 +38,14 @@ place_of Cert = 9
 place_of Cap = 10
 place_of Prefix = 11
 place_of Size = 12
+place_of Parts = 13
 
 abbrev pub is_same : Opt → Opt → Bool
 is_same a b = place_of a == place_of b
 
 abbrev pub options : List Opt
-options = Mode ∷ Spef ∷ Lib ∷ Verilog ∷ Cons ∷ Net ∷ All ∷ OutSpef ∷ OutVerilog ∷ Cert ∷ Cap ∷ Prefix ∷ Size ∷ []
+options =
+    Mode ∷ Spef ∷ Lib ∷ Verilog ∷ Cons ∷ Net ∷ All ∷ OutSpef ∷ OutVerilog ∷ Cert ∷ Cap ∷ Prefix ∷ Size ∷ Parts ∷ []
 
 -- the option has no value: it is given, or it is not
 abbrev pub is_flag : Opt → Bool
@@ -65,7 +68,8 @@ mode_of text =
     else (if bytes_eq text (codes "frontier") then Some Frontier
     else (if bytes_eq text (codes "check") then Some Check
     else (if bytes_eq text (codes "gen") then Some Gen
-    else (if bytes_eq text (codes "sta") then Some Sta else None))))))
+    else (if bytes_eq text (codes "sta") then Some Sta
+    else (if bytes_eq text (codes "segment") then Some Segment else None)))))))
 
 abbrev pub mode_name : ModeSpec → List ℕ
 mode_name Wire = codes "wire"
@@ -75,6 +79,7 @@ mode_name Frontier = codes "frontier"
 mode_name Check = codes "check"
 mode_name Gen = codes "gen"
 mode_name Sta = codes "sta"
+mode_name Segment = codes "segment"
 
 -- the options that a mode asks for; `--all` may stand for `--net` where the mode may be given it
 abbrev pub required : ModeSpec → List Opt
@@ -85,6 +90,7 @@ required Frontier = Spef ∷ Lib ∷ Verilog ∷ Cons ∷ Net ∷ []
 required Check = Spef ∷ Lib ∷ Verilog ∷ Cons ∷ Net ∷ Cert ∷ []
 required Gen = Size ∷ []
 required Sta = Spef ∷ Lib ∷ Verilog ∷ Cons ∷ []
+required Segment = Spef ∷ Net ∷ OutSpef ∷ Parts ∷ []
 
 -- those that it may be given besides
 abbrev pub optional : ModeSpec → List Opt
@@ -95,6 +101,7 @@ optional Frontier = All ∷ Cap ∷ []
 optional Check = []
 optional Gen = []
 optional Sta = []
+optional Segment = All ∷ []
 
 -- those that it may be given; it has no use for others
 abbrev pub allowed : ModeSpec → List Opt

@@ -1,5 +1,5 @@
 -- What words ask for, or the first reason why they ask for nothing.
-use Rattle.std.specs.Prelude.{◌≡◌, ◌⊎◌, ℕ, nat_lt, nat_le, ◌==◌, ◌&&◌, ◌||◌, Bool, true, false, not, List, [], ◌∷◌, ◌++◌, length, codes, Option, Some, None, is_some, unwrap_or, Result, Ok, Err, map, string_bytes, String, if◌then◌else◌}
+use Rattle.std.specs.Prelude.{◌≡◌, ◌⊎◌, ℕ, nat_lt, nat_le, ◌&&◌, ◌||◌, Bool, true, false, not, List, [], ◌∷◌, ◌++◌, length, codes, Option, Some, None, is_some, unwrap_or, Result, Ok, Err, map, string_bytes, String, if◌then◌else◌}
 use Rattle.std.specs.List.{count_by, list_all, list_any, find}
 use Rattle.std.specs.Str.{bytes_eq}
 use Rattle.std.specs.Str.Parse.{starts_with_minus}
@@ -8,7 +8,7 @@ use Rattle.vg_num.specs.Number.{are_digits, value_of as number_of}
 use Rattle.vg_scan.specs.Prefixes.{is_prefix}
 use Rattle.vg_words.specs.Options.{name_of, mode_of, mode_name, is_flag, is_same, options, file_options, required, allowed}
 use Rattle.vg_words.specs.declared.option.Opt.{Opt}
-use Rattle.vg_words.specs.declared.option.Opt.TheVariants.{Mode, Spef, Lib, Verilog, Cons, Net, All, OutSpef, OutVerilog, Cert, Cap, Prefix, Size}
+use Rattle.vg_words.specs.declared.option.Opt.TheVariants.{Mode, Spef, Lib, Verilog, Cons, Net, All, OutSpef, OutVerilog, Cert, Cap, Prefix, Size, Parts}
 use Rattle.vg_words.specs.declared.ask.Mode.{Mode as ModeSpec}
 use Rattle.vg_words.specs.declared.ask.Ask.{Ask}
 use Rattle.vg_words.specs.declared.ask.WordFault.{WordFault}
@@ -92,21 +92,30 @@ abbrev pub is_excluded : ModeSpec → Values → Opt → Bool
 is_excluded mode values option =
     is_given values option && (not (may_be_given mode option) || has_no_use_beside values option)
 
+-- so many digits at most, which write 1 to `most`
+abbrev pub is_count : ℕ → ℕ → List ℕ → Bool
+is_count digits most text =
+    are_digits text && (nat_le (length text) digits && (nat_le 1 (number_of text) && nat_le (number_of text) most))
+
 -- one to four digits, which write 1 to 4000
 abbrev pub is_size : List ℕ → Bool
-is_size text =
-    are_digits text && (nat_le (length text) 4 && (nat_le 1 (number_of text) && nat_le (number_of text) 4000))
+is_size text = is_count 4 4000 text
+
+-- one or two digits, which write 1 to 64
+abbrev pub is_parts : List ℕ → Bool
+is_parts text = is_count 2 64 text
 
 -- one to 18 digits
 abbrev pub is_cap : List ℕ → Bool
 is_cap text = are_digits text && nat_le (length text) 18
 
--- an empty value, or a cap, a prefix or a size of another form; a flag has no bad value
+-- an empty value, or a cap, a prefix, a size or a number of parts of another form; a flag has no bad value
 abbrev pub is_bad_value : Opt → List ℕ → Bool
 is_bad_value All value = false
 is_bad_value Cap value = not (is_cap value)
 is_bad_value Prefix value = not (is_prefix value)
 is_bad_value Size value = not (is_size value)
+is_bad_value Parts value = not (is_parts value)
 is_bad_value option value = not (nat_lt 0 (length value))
 
 abbrev pub has_bad_value : Opt → Option (List ℕ) → Bool
@@ -189,6 +198,7 @@ value ask Cert = ask.cert
 value ask Cap = ask.cap
 value ask Prefix = ask.prefix
 value ask Size = ask.size
+value ask Parts = ask.parts
 
 -- that value as a text, empty where there is none
 abbrev pub text_for : Ask → Opt → List ℕ
@@ -206,13 +216,24 @@ cap_in text = if is_cap text then Some (number_of text) else None
 abbrev pub cap_of : Ask → Option ℕ
 cap_of ask = cap_in (text_for ask Cap)
 
--- the number that a text writes, if it is a size
+-- the number that a text writes, if it is such a number
+abbrev pub count_in : ℕ → ℕ → List ℕ → Option ℕ
+count_in digits most text = if is_count digits most text then Some (number_of text) else None
+
+-- if it is a size, and if it is a number of parts
 abbrev pub size_in : List ℕ → Option ℕ
-size_in text = if is_size text then Some (number_of text) else None
+size_in text = count_in 4 4000 text
+
+abbrev pub parts_in : List ℕ → Option ℕ
+parts_in text = count_in 2 64 text
 
 -- the size of the design that is to be made up; 0 where there is none
 abbrev pub size_of : Ask → ℕ
 size_of ask = unwrap_or (size_in (text_for ask Size)) 0
+
+-- the number of parts into which resistors are to be cut; 0 where there is none
+abbrev pub parts_of : Ask → ℕ
+parts_of ask = unwrap_or (parts_in (text_for ask Parts)) 0
 
 -- the words denote the request: they give each option its value, and no reason is against them
 pub record IsRequest (words : List (List ℕ)) (ask : Ask) : Type 0 where

@@ -2,12 +2,12 @@ ghost use Rattle.std.specs.Prelude.{◌≡◌};
 ghost use Rattle.clap.specs.Words.{kind_of};
 ghost use Rattle.vg_words.specs.Command.{fault_for};
 ghost use Rattle.vg_words.specs.Options.{mode_name, optional, required};
-ghost use Rattle.vg_words.specs.Request.{cap_of, may_be_given, prefix_of, size_of, text_for};
+ghost use Rattle.vg_words.specs.Request.{cap_of, may_be_given, parts_of, prefix_of, size_of, text_for};
 ghost use Rattle.vg_words.specs.declared.ask.WordFault.TheVariants.{Memory as out_of_memory};
 
 use crate::cap::cap_in;
+use crate::count::{parts_in, size_in};
 use crate::option::Opt;
-use crate::size::size_in;
 use clap::error::ErrorKind;
 use vg_num::{Memory, Text};
 
@@ -32,6 +32,9 @@ pub enum Mode {
     /// Prints the least slack of all paths through the nets and cells of a design, the first pin at which a path with
     /// it ends, and the least slack of the paths through each net.
     Sta,
+    /// Cuts the resistors of one net or of all into parts, so that repeaters can stand along a wire: prints how many
+    /// nodes each net has then, and writes the parasitics.
+    Segment,
 }
 
 const WIRE_OPTIONS: [Opt; 2] = [Opt::Spef, Opt::Net];
@@ -61,6 +64,8 @@ const SIZE_OPTIONS: [Opt; 1] = [Opt::Size];
 
 const STA_OPTIONS: [Opt; 4] = [Opt::Spef, Opt::Lib, Opt::Verilog, Opt::Cons];
 
+const SEGMENT_OPTIONS: [Opt; 4] = [Opt::Spef, Opt::Net, Opt::OutSpef, Opt::Parts];
+
 /// What mode `time` may be given besides.
 const TIME_EXTRAS: [Opt; 2] = [Opt::All, Opt::Prefix];
 
@@ -69,6 +74,9 @@ const CHANGE_EXTRAS: [Opt; 3] = [Opt::All, Opt::Cert, Opt::Prefix];
 
 /// What mode `frontier` may be given besides.
 const FRONTIER_EXTRAS: [Opt; 2] = [Opt::All, Opt::Cap];
+
+/// What mode `segment` may be given besides.
+const SEGMENT_EXTRAS: [Opt; 1] = [Opt::All];
 
 impl Mode {
     /// The options that the mode asks for, where `--all` may stand for `--net`.
@@ -82,6 +90,7 @@ impl Mode {
             Mode::Check => &CHECK_OPTIONS,
             Mode::Gen => &SIZE_OPTIONS,
             Mode::Sta => &STA_OPTIONS,
+            Mode::Segment => &SEGMENT_OPTIONS,
         }
     }
 
@@ -94,6 +103,7 @@ impl Mode {
             Mode::Time => &TIME_EXTRAS,
             Mode::Best => &CHANGE_EXTRAS,
             Mode::Frontier => &FRONTIER_EXTRAS,
+            Mode::Segment => &SEGMENT_EXTRAS,
         }
     }
 
@@ -118,6 +128,7 @@ impl Mode {
             Mode::Check => "check",
             Mode::Gen => "gen",
             Mode::Sta => "sta",
+            Mode::Segment => "segment",
         }
     }
 }
@@ -150,6 +161,8 @@ pub struct Ask {
     pub prefix: Option<Text>,
     /// The size of the design that is made up, as it is written.
     pub size: Option<Text>,
+    /// Into how many parts resistors are cut, as it is written.
+    pub parts: Option<Text>,
 }
 
 /// What the names of cells that are put in begin with, where the words do not say.
@@ -174,6 +187,7 @@ impl Ask {
             Opt::Cap => &self.cap,
             Opt::Prefix => &self.prefix,
             Opt::Size => &self.size,
+            Opt::Parts => &self.parts,
         };
         match value {
             Some(text) => text.as_str(),
@@ -206,6 +220,13 @@ impl Ask {
     {
         size_in(self.text(Opt::Size).as_bytes()).unwrap_or(0)
     }
+
+    /// Into how many parts resistors are to be cut, which is 1 to 64 in mode `segment`. It is 0 where there is none.
+    pub fn parts(&self) -> u32
+        ensures { result ≡ parts_of self.now }
+    {
+        parts_in(self.text(Opt::Parts).as_bytes()).unwrap_or(0)
+    }
 }
 
 /// Why the words ask for nothing: the first of these, in this order.
@@ -220,7 +241,8 @@ pub enum WordFault {
     /// `--cert` and `--all` is.
     Excluded(Opt),
     /// The option's value is empty, or is no mode; or a cap is not 1 to 18 digits; or a prefix is not a letter or `_`,
-    /// followed by at most 31 letters, digits or `_`; or a size is not one to four digits, which write 1 to 4000.
+    /// followed by at most 31 letters, digits or `_`; or a size is not one to four digits, which write 1 to 4000; or
+    /// parts are not one or two digits, which write 1 to 64.
     BadValue(Opt),
     /// Both options name one file.
     Equal(Opt, Opt),

@@ -9,9 +9,9 @@ ghost use Rattle.vg_words.specs.Views.{given_by};
 
 use crate::ask::{Ask, Mode, WordFault};
 use crate::cap::cap_in;
+use crate::count::{parts_in, size_in};
 use crate::given::Given;
 use crate::option::{FILE_OPTIONS, OPTIONS, Opt};
-use crate::size::size_in;
 use std::alloc::Global;
 use vg_num::{Memory, Text};
 
@@ -33,6 +33,8 @@ fn mode_of(name: &str) -> Option<Mode>
         Some(Mode::Gen)
     } else if name == "sta" {
         Some(Mode::Sta)
+    } else if name == "segment" {
+        Some(Mode::Segment)
     } else {
         None
     }
@@ -116,6 +118,7 @@ fn is_bad_value(option: Opt, value: &str) -> bool
         Opt::Cap => cap_in(value.as_bytes()).is_none(),
         Opt::Prefix => !is_prefix(value.as_bytes()),
         Opt::Size => size_in(value.as_bytes()).is_none(),
+        Opt::Parts => parts_in(value.as_bytes()).is_none(),
         _ => value.is_empty(),
     }
 }
@@ -254,6 +257,7 @@ fn ask_of(alloc: Global, mode: Mode, given: &Given<'_>) -> Result<Ask, Memory>
     ensures cap { IfOk result (λ ask. ask.cap ≡ given_by given.now Opt.Cap) }
     ensures prefix { IfOk result (λ ask. ask.prefix ≡ given_by given.now Opt.Prefix) }
     ensures size { IfOk result (λ ask. ask.size ≡ given_by given.now Opt.Size) }
+    ensures parts { IfOk result (λ ask. ask.parts ≡ given_by given.now Opt.Parts) }
 {
     let spef = text_of(alloc, given.get(Opt::Spef))?;
     let lib = text_of(alloc, given.get(Opt::Lib))?;
@@ -266,6 +270,7 @@ fn ask_of(alloc: Global, mode: Mode, given: &Given<'_>) -> Result<Ask, Memory>
     let cap = text_of(alloc, given.get(Opt::Cap))?;
     let prefix = text_of(alloc, given.get(Opt::Prefix))?;
     let size = text_of(alloc, given.get(Opt::Size))?;
+    let parts = text_of(alloc, given.get(Opt::Parts))?;
     Ok(Ask {
         mode,
         spef,
@@ -280,6 +285,7 @@ fn ask_of(alloc: Global, mode: Mode, given: &Given<'_>) -> Result<Ask, Memory>
         cap,
         prefix,
         size,
+        parts,
     })
 }
 
@@ -291,7 +297,8 @@ fn ask_of(alloc: Global, mode: Mode, given: &Given<'_>) -> Result<Ask, Memory>
 /// `--out-verilog`, and mode `check` in place of these two for `--cert`. Modes `time` and `best` may be given
 /// `--prefix`, mode `frontier` may be given `--cap`, and all three `--all` in the place of `--net`; mode `best` may be
 /// given `--cert` too, but not beside `--all`. Mode `gen` asks for `--size` alone, and mode `sta` for `--spef`, `--lib`,
-/// `--verilog` and `--cons` alone. The faults come in the order of `WordFault`, and of one kind the first option in the
+/// `--verilog` and `--cons` alone. Mode `segment` asks for `--spef`, `--net`, `--out-spef` and `--parts`, and may be given
+/// `--all` in the place of `--net`. The faults come in the order of `WordFault`, and of one kind the first option in the
 /// order of `Opt`. Answers `Memory` where there is no room.
 pub fn read_words(alloc: Global, words: &[String]) -> Result<Ask, WordFault>
     ensures { ReadsWords result (texts words.now) }

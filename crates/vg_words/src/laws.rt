@@ -1,13 +1,13 @@
-ghost use Rattle.vg_words.specs.Laws.{CapsAreRead, CertsAreOfOneNet, FilesDiffer, OneOrAll, OneRequest, SizesAreSmall};
+ghost use Rattle.vg_words.specs.Laws.{CapsAreRead, CertsAreOfOneNet, FilesDiffer, OneOrAll, OneRequest, PartsAreFew, SizesAreSmall};
 
 /// Words are one request at most. The function does nothing: its contract is the law, which a proof may cite.
 pub fn one_request()
     ensures { OneRequest }
 {}
 
-/// A request asks for one net in modes `wire` and `check`, for one net or for all nets in modes `time`, `best` and
-/// `frontier`, and names none in modes `gen` and `sta`. The function does nothing: its contract is the law, which a
-/// proof may cite.
+/// A request asks for one net in modes `wire` and `check`, for one net or for all nets in modes `time`, `best`,
+/// `frontier` and `segment`, and names none in modes `gen` and `sta`. The function does nothing: its contract is the
+/// law, which a proof may cite.
 pub fn one_or_all()
     ensures { OneOrAll }
 {}
@@ -34,4 +34,10 @@ pub fn caps_are_read()
 /// proof may cite.
 pub fn sizes_are_small()
     ensures { SizesAreSmall }
+{}
+
+/// In mode `segment` a request asks for 1 to 64 parts. The function does nothing: its contract is the law, which a proof
+/// may cite.
+pub fn parts_are_few()
+    ensures { PartsAreFew }
 {}

@@ -4,15 +4,16 @@
 mod ask;
 mod cap;
 mod command;
+mod count;
 mod given;
 mod judge;
 mod laws;
 mod option;
-mod size;
 
 pub use ask::{Ask, Mode, WordFault};
 pub use judge::read_words;
 pub use laws::{
-    caps_are_read, certs_are_of_one_net, files_differ, one_or_all, one_request, sizes_are_small,
+    caps_are_read, certs_are_of_one_net, files_differ, one_or_all, one_request, parts_are_few,
+    sizes_are_small,
 };
 pub use option::{Opt, options};

@@ -34,10 +34,12 @@ pub enum Opt {
     Prefix,
     /// The size of the design that is made up.
     Size,
+    /// Into how many parts resistors are cut.
+    Parts,
 }
 
 /// All options, in order.
-pub const OPTIONS: [Opt; 13] = [
+pub const OPTIONS: [Opt; 14] = [
     Opt::Mode,
     Opt::Spef,
     Opt::Lib,
@@ -51,6 +53,7 @@ pub const OPTIONS: [Opt; 13] = [
     Opt::Cap,
     Opt::Prefix,
     Opt::Size,
+    Opt::Parts,
 ];
 
 /// Those that name files.
@@ -90,6 +93,7 @@ impl Opt {
             Opt::Cap => "--cap",
             Opt::Prefix => "--prefix",
             Opt::Size => "--size",
+            Opt::Parts => "--parts",
         }
     }
 

@@ -1,23 +1,36 @@
 -- What a run promises of nets and certificates, from what it prints.
-use Rattle.std.proofs.Common.{◌≡◌, ◌≢◌, ◌⊎◌, inl, inr, ℕ, suc, ◌+◌, List, [], ◌∷◌, ◌++◌, refl, ap, ◌∙◌, subst, arith, map, Option, Some}
-use Rattle.std.specs.List.{AllZip, flat_map, slice_get}
+use Rattle.std.proofs.Common.{◌≡◌, ◌≢◌, ◌⊎◌, inl, inr, ℕ, suc, ◌+◌, ◌<◌, ◌≤◌, List, [], ◌∷◌, ◌++◌, refl, ap, ◌∙◌, subst, arith, map, Option, Some}
+use Rattle.std.specs.List.{AllZip, Contains, flat_map, slice_get}
+use Rattle.std.proofs.lemmas.List.Elements.{All-contains}
 use Rattle.vg_store.specs.Reading.{FilesState}
 use Rattle.vg_store.specs.Writing.{OutState, Gains}
-use Rattle.vg_words.specs.Request.{cap_of, prefix_of, IsRequest}
+use Rattle.vg_words.specs.Request.{cap_of, parts_of, prefix_of, IsRequest}
+use Rattle.vg_words.proofs.JudgeLemmas.{few}
 use Rattle.vg_words.specs.declared.ask.Ask.{Ask}
 use Rattle.vg_words.specs.declared.ask.Mode.{Mode}
-use Rattle.vg_words.specs.declared.ask.Mode.TheVariants.{Wire, Time, Best as BestMode, Frontier, Check, Gen, Sta as StaMode}
+use Rattle.vg_words.specs.declared.ask.Mode.TheVariants.{Wire, Time, Best as BestMode, Frontier, Check, Gen, Sta as StaMode, Segment as SegmentMode}
+use Rattle.spef_net.specs.declared.net.ParNet.{ParNet}
+use Rattle.spef_patch_laws.specs.ReplacementLaws.{HasSameNet, replaced_names}
+use Rattle.spef_patch_laws.specs.Replacements.{replaced}
+use Rattle.vg_segment.specs.Texts.{IsFit}
+use Rattle.vg_segment.proofs.FitLemmas.{fit_not_refused, replaced_is_fit}
+use Rattle.segment_laws.specs.SegmentedTexts.{IsCutIn, IsSegmentedText}
+use Rattle.segment_laws.proofs.SegmentedTextLemmas.{cut_sections_are_read}
+use Rattle.segment_laws.proofs.SegmentedDesignLemmas.{cut_nets_are_no_worse}
 use Rattle.vg_design.specs.Designs.{Design}
 use Rattle.vg_design.proofs.AcceptLemmas.{problem_is}
 use Rattle.design_read.specs.Designs.{Texts}
 use Rattle.vg_answer.specs.Answers.{Said, Written}
 use Rattle.vg_answer.specs.Nets.{nets_for, problem_in}
 use Rattle.vg_answer.specs.Verdicts.{Verdict, text_in}
+use Rattle.vg_answer.specs.declared.input.Input.TheVariants.{Spef}
+use Rattle.vg_answer.proofs.ApartLemmas.{few_refusals}
 use Rattle.vg_answer.specs.declared.kind.AnswerKind.{AnswerKind}
 use Rattle.vg_answer.specs.declared.kind.AnswerKind.TheVariants.{Report, NoneGood, Refusal}
-use Rattle.vg_answer.specs.declared.output.Output.TheVariants.{Netlist}
+use Rattle.vg_answer.specs.declared.output.Output.TheVariants.{Netlist, Parasitics}
 use Rattle.mode_best.specs.Answers.{IsBestAnswer, IsBestSaid, written_files}
 use Rattle.mode_frontier.specs.Answers.{IsFrontAnswer, IsFrontSaid}
+use Rattle.mode_segment.specs.Answers.{IsSegmentAnswer, IsSegmentSaid, nets_in}
 use Rattle.mode_sta.specs.Answers.{IsStaAnswer, IsStaSaid}
 use Rattle.vg_run.specs.Inputs.{Change, cert_in, written_cert}
 use Rattle.vg_run.specs.Modes.{IsAnswerIn, best_asked, design_texts}
@@ -27,7 +40,7 @@ use Rattle.vg_run.proofs.RunLemmas.{run_printed}
 use Rattle.run_laws.specs.Laws.{TellsBest, WritesCertificate, with_files}
 use Rattle.run_laws.proofs.RetimeLemmas.{written_files_retime}
 use Rattle.run_laws.proofs.CertLemmas.{certificates_are_written, valid_certificates_are_best, written_certificates_check}
-use Rattle.vginsert_top.specs.Headline.{BestHeadline, BestOf, Certified, FrontOf, Headline, HeadlineIn, Shown, StaHeadline, StaOf}
+use Rattle.vginsert_top.specs.Headline.{BestHeadline, BestOf, Certified, FrontOf, Headline, HeadlineIn, SegmentHeadline, SegmentOf, Shown, StaHeadline, StaOf}
 
 abbrev Bytes : Type 0
 Bytes = List ℕ
@@ -192,6 +205,68 @@ sta_headline ask files out kind mode (texts, read, (said, says, gained, written)
       printed = gained;
     }
 
+-- ---- mode `segment`
+
+module _ (text : Bytes) (net : Option Bytes) (parts : ℕ) (kind : AnswerKind) (said : Said) (some : 0 < parts) (few : parts ≤ 64)
+    (answer : IsSegmentAnswer text net parts kind said) where
+  abbrev new : Bytes
+  new = replaced text answer.index answer.rs
+
+  abbrev cut_names : List Bytes
+  cut_names = replaced_names answer.rs
+
+  segmented : IsSegmentedText text new parts cut_names
+  segmented = cut_sections_are_read text answer.index parts (nets_in text net) answer.rs answer.index_of some few answer.cut
+
+  -- a net whose section is replaced is fit
+  fit_of : (name : Bytes) → Contains cut_names name → (n : ParNet) × IsFit text parts name n
+  fit_of name there = replaced_is_fit text answer.index parts answer.rs answer.cut.each name there
+
+  one_segment : (name : Bytes) (v : Verdict) → Contains (nets_in text net) name → IsSegmentSaid text parts name v → SegmentOf text new parts name v.text
+  one_segment name v asked (IsSegmentSaid.told_cut n fit is) =
+      let cut : IsCutIn text new parts name = segmented.cut name (answer.cut.all name asked n fit) in
+      SegmentOf.cut n fit cut (cut_nets_are_no_worse text new parts name some cut) (ap text_in is)
+  one_segment name v asked (IsSegmentSaid.told_refusal refusal refused is) =
+      SegmentOf.refused refusal refused
+      (segmented.kept name (λ there. let (n, fit) = fit_of name there in fit_not_refused text parts name n refusal (few_refusals refusal) fit refused)) (ap text_in is)
+
+  all_segment : (names : List Bytes) (vs : List Verdict) → ((name : Bytes) → Contains names name → Contains (nets_in text net) name)
+      → AllZip (IsSegmentSaid text parts) names vs → AllZip (SegmentOf text new parts) names (map text_in vs)
+  all_segment [] [] among each = tt
+  all_segment [] (v ∷ vs) among each = absurd each
+  all_segment (n ∷ names) [] among each = absurd each
+  all_segment (n ∷ names) (v ∷ vs) among each = (
+    one_segment n v (among n (0, omega arith, refl)) each.0,
+    all_segment names vs (λ name (k, low, at). among name (suc k, omega (arith, low), at)) each.1,
+  )
+
+  -- a net that is not asked for keeps its section
+  not_asked : (name : Bytes) → (Contains (nets_in text net) name → ⊥) → HasSameNet text new name
+  not_asked name other = segmented.kept name (λ there. other (All-contains (Contains (nets_in text net)) cut_names name answer.cut.asked there))
+
+segment_headline : (words : List Bytes) (ask : Ask) (files : Change FilesState) (out : Change OutState) (kind : AnswerKind) → ask.mode ≡ SegmentMode
+    → IsRequest words ask → Prints kind files (Gains out.0 out.1) ask → SegmentHeadline files out ask
+segment_headline words ask files out kind mode is (texts, read, (said, says, gained, written)) =
+    let answer : IsSegmentAnswer (texts Spef) ask.net (parts_of ask) kind said = subst (λ (m : Mode). IsAnswerIn m ask texts kind said) mode says in
+    let (some, most) = few words ask is mode in
+    let new : Bytes = replaced (texts Spef) answer.index answer.rs in
+    let held : AreHeld files ask (record { output = Parasitics; text = new } ∷ []) = subst (λ (list : List Written). AreHeld files ask list) answer.files written.whole in
+    let whole : IsSegmentedText (texts Spef) new (parts_of ask) (replaced_names answer.rs)
+    = segmented (texts Spef) ask.net (parts_of ask) kind said some most answer in
+    record {
+      texts = texts;
+      read = read;
+      written = new;
+      parasitics = held 0 NO_FILE (omega arith);
+      is_spef = (whole.said, whole.file);
+      lines = map text_in answer.nets.verdicts;
+      each =
+          all_segment (texts Spef) ask.net (parts_of ask) kind said some most answer (nets_in (texts Spef) ask.net) answer.nets.verdicts (λ name there. there)
+          answer.nets.each;
+      others = not_asked (texts Spef) ask.net (parts_of ask) kind said some most answer;
+      printed = subst (λ (text : Bytes). Gains out.0 out.1 text) (answer.nets.text_is ∙ flat_lines answer.nets.verdicts) gained;
+    }
+
 -- ---- a run
 
 headline_in : (mode : Mode) (words : List Bytes) (ask : Ask) (files : Change FilesState) (out : Change OutState) (kind : AnswerKind) → ask.mode ≡ mode
@@ -203,6 +278,7 @@ headline_in Frontier words ask files out kind mode is prints = front_headline as
 headline_in Check words ask files out kind mode is prints = tt
 headline_in Gen words ask files out kind mode is prints = tt
 headline_in StaMode words ask files out kind mode is prints = sta_headline ask files out kind mode prints
+headline_in SegmentMode words ask files out kind mode is prints = segment_headline words ask files out kind mode is prints
 
 module _ (words : List Bytes) {ask : Ask} {files : Change FilesState} {out err : Change OutState} {status : ℕ} (is : IsRequest words ask)
     (run : IsStatusOf ask files out err status) where

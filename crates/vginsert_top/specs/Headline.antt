@@ -1,13 +1,15 @@
--- What a run promises of each net that is asked for in modes `best` and `frontier`, of a design in mode `sta`, and of
--- certificates.
+-- What a run promises of each net that is asked for in modes `best`, `frontier` and `segment`, of a design in mode
+-- `sta`, and of certificates.
 use Rattle.std.specs.Prelude.{◌≡◌, ◌≢◌, ℕ, List, [], Option, Some}
-use Rattle.std.specs.List.{AllZip, flat_map}
+use Rattle.std.specs.List.{AllZip, Contains, flat_map}
 use Rattle.vg_store.specs.Reading.{FilesState}
 use Rattle.vg_store.specs.Writing.{OutState, Gains}
-use Rattle.vg_words.specs.Request.{cap_of, prefix_of}
+use Rattle.vg_words.specs.Request.{cap_of, parts_of, prefix_of}
 use Rattle.vg_words.specs.declared.ask.Ask.{Ask}
 use Rattle.vg_words.specs.declared.ask.Mode.{Mode}
-use Rattle.vg_words.specs.declared.ask.Mode.TheVariants.{Best as BestMode, Frontier, Check, Sta as StaMode}
+use Rattle.vg_words.specs.declared.ask.Mode.TheVariants.{Best as BestMode, Frontier, Check, Sta as StaMode, Segment as SegmentMode}
+use Rattle.spef_net.specs.declared.net.ParNet.{ParNet}
+use Rattle.spef_patch_laws.specs.ReplacementLaws.{HasSameNet}
 use Rattle.spef_wire.specs.declared.refusal.Refusal.{Refusal}
 use Rattle.vg_design.specs.Designs.{Design, net_names}
 use Rattle.vg_design.specs.Nets.{IsNetProblem}
@@ -21,20 +23,26 @@ use Rattle.vg_slack.specs.declared.answer.Best.{Best}
 use Rattle.vg_front.specs.Points.{IsFrontierOf}
 use Rattle.vg_front.specs.declared.root.Point.{Point}
 use Rattle.vg_report.specs.Reports.{best_report, front_report, none_line, refusal_line}
-use Rattle.design_read.specs.Designs.{Texts, IsDesign}
+use Rattle.design_read.specs.Designs.{Texts, IsDesign, IsSpef}
 use Rattle.change_laws.specs.Laws.{RetimesInTexts}
 use Rattle.vg_answer.specs.Answers.{Said}
 use Rattle.vg_answer.specs.Nets.{nets_for}
 use Rattle.vg_answer.specs.declared.input.Input.{Input}
+use Rattle.vg_answer.specs.declared.input.Input.TheVariants.{Spef}
 use Rattle.vg_answer.specs.declared.kind.AnswerKind.{AnswerKind}
 use Rattle.vg_answer.specs.declared.kind.AnswerKind.TheVariants.{Report}
 use Rattle.mode_best.specs.Answers.{Certifies, Files}
 use Rattle.mode_frontier.specs.Answers.{HasNoneWithin}
 use Rattle.mode_check.specs.Answers.{IsCheckAnswer}
+use Rattle.mode_segment.specs.Answers.{nets_in}
+use Rattle.mode_segment.specs.Lines.{segment_line}
 use Rattle.mode_sta.specs.Lines.{cycle_line, no_path_line, sta_report}
 use Rattle.vg_run.specs.Inputs.{AreRead, Change}
 use Rattle.vg_run.specs.Modes.{design_texts}
 use Rattle.vg_run.specs.Run.{HoldsAt}
+use Rattle.segment_laws.specs.SegmentedDesigns.{IsNoWorseIn}
+use Rattle.segment_laws.specs.SegmentedTexts.{IsCutIn}
+use Rattle.vg_segment.specs.Texts.{IsFit, IsSegmentRefusal, cut_count}
 use Rattle.run_laws.specs.Laws.{IsFoundAndValid, ShowsInFiles, with_files}
 
 -- The lines of a net in mode `best`. Either they report a placement of its problem that is legal, gives each sink the
@@ -71,6 +79,15 @@ pub data StaOf (d : Design) (lines : List ℕ) : Type 0 where
   cycle : (name : List ℕ) → IsFirstBehindCycle d name → lines ≡ cycle_line name → StaOf d lines
   no_path : net_names d.spef ≡ [] → lines ≡ no_path_line → StaOf d lines
 
+-- The line of a net in mode `segment`. Either it tells how many nodes the net has with each resistor cut into parts; in
+-- the written text it is read as this net, its wire delays are as they were, and with every library, netlist and
+-- constraints no placement is worse there; or it names the first reason against the net, which is as it was.
+pub data SegmentOf (old new : List ℕ) (parts : ℕ) (name line : List ℕ) : Type 0 where
+  cut : (net : ParNet) → IsFit old parts name net → IsCutIn old new parts name → IsNoWorseIn old new name
+      → line ≡ segment_line name parts (cut_count parts net) → SegmentOf old new parts name line
+  refused : (refusal : Refusal) → IsSegmentRefusal old parts name refusal → HasSameNet old new name
+      → line ≡ refusal_line name refusal → SegmentOf old new parts name line
+
 -- The four files that were read denote a design, and an output gained the lines of the nets that are asked for, one net
 -- after another, each as `Tells` has it.
 pub record Reports (files : FilesState) (out : Change OutState) (ask : Ask)
@@ -102,11 +119,26 @@ pub record StaHeadline (files : FilesState) (out : Change OutState) (ask : Ask) 
   pub lines_of : StaOf design lines
   pub printed : Gains out.0 out.1 lines
 
--- what the reports of modes `best`, `frontier` and `sta` say
+-- Mode `segment` has written parasitics, and reports each net as `SegmentOf` has it. Nets that are not asked for are as
+-- they were.
+pub record SegmentHeadline (files : Change FilesState) (out : Change OutState) (ask : Ask) : Type 0 where
+  pub texts : Input → List ℕ
+  pub read : AreRead files.0 ask texts
+  pub written : List ℕ
+  pub parasitics : HoldsAt files.1 ask.out_spef written
+  pub is_spef : IsSpef written
+  pub lines : List (List ℕ)
+  pub each : AllZip (SegmentOf (texts Spef) written (parts_of ask)) (nets_in (texts Spef) ask.net) lines
+  pub others : (name : List ℕ) → (Contains (nets_in (texts Spef) ask.net) name → ⊥)
+      → HasSameNet (texts Spef) written name
+  pub printed : Gains out.0 out.1 (flat_map (λ line. line) lines)
+
+-- what the reports of modes `best`, `frontier`, `sta` and `segment` say
 abbrev pub HeadlineIn : Mode → Change FilesState → Change OutState → Ask → Type 0
 HeadlineIn BestMode files out ask = BestHeadline files out ask
 HeadlineIn Frontier files out ask = Reports files.0 out ask (λ texts d name lines. FrontOf d (cap_of ask) name lines)
 HeadlineIn StaMode files out ask = StaHeadline files.0 out ask
+HeadlineIn SegmentMode files out ask = SegmentHeadline files out ask
 HeadlineIn mode files out ask = Unit {0}
 
 abbrev pub Headline : Change FilesState → Change OutState → Ask → Type 0

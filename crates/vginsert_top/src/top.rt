@@ -17,8 +17,8 @@ use vg_words::read_words;
 /// Does all that the program does, and answers its status.
 ///
 /// The words are those of the command line without the program's own name. What is asked for is read from `files`,
-/// written to `files` where mode `best` names outputs, and printed to `out`; a line on `err` tells of everything but a
-/// printed answer.
+/// written to `files` where modes `best` and `segment` name outputs, and printed to `out`; a line on `err` tells of
+/// everything but a printed answer.
 ///
 /// | status | when |
 /// |---|---|
@@ -33,10 +33,12 @@ use vg_words::read_words;
 /// | 8 | mode `check`: it was printed, and tells that the certificate is not in its form or not valid |
 ///
 /// In mode `best` the netlist is written first, then the parasitics, then the certificate, where it is asked for and
-/// the net is not refused, and then the report is printed. A net without a cell keeps its part of both texts. After 3,
-/// 4, 5, 7 and 8 no file was created or changed, and after the first four nothing was printed. After 6 the files that
-/// were finished before are whole, the one whose writing failed is as it was or holds a prefix of its text, and later
-/// ones are as they were. A fault of `err` never changes the status. Files that the words do not name as outputs stay.
+/// the net is not refused, and then the report is printed. A net without a cell keeps its part of both texts. In mode
+/// `segment` the parasitics are written, in which a refused net keeps its part, and then the report is printed. After
+/// 3, 4, 5, 7 and 8 no file was created or changed, and after the first four nothing was printed. After 6 the files
+/// that were finished before are whole, the one whose writing failed is as it was or holds a prefix of its text, and
+/// later ones are as they were. A fault of `err` never changes the status. Files that the words do not name as outputs
+/// stay.
 pub fn run<F: Files, O: Out, E: Out>(
     alloc: Global,
     words: &[String],
@@ -79,7 +81,9 @@ pub fn run<F: Files, O: Out, E: Out>(
     // Where the inputs are in their form and nothing fails, the run answers, or is out of memory.
     ensures complete { IsComplete (texts words.now) (F.state files.old, F.state files.new)
         (O.state out.old, O.state out.new) result }
-    // Each reported placement is best, and the written files re-time to its slack; each printed frontier is exact.
+    // Each reported placement is best, and the written files re-time to its slack; each printed frontier is exact; the
+    // slacks of a whole design are those of its paths; a net whose resistors are cut is read as the cut net, and is no
+    // worse.
     ensures headline { (result ≡ 0) ⊎ ((result ≡ 1) ⊎ (result ≡ 2)) → ForRequest (texts words.now)
         (Headline (F.state files.old, F.state files.new) (O.state out.old, O.state out.new)) }
     // A certificate that was asked for is there, and mode `check` finds it valid.

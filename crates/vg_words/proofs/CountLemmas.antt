@@ -1,4 +1,4 @@
--- The size of a design, as it is written.
+-- A number of at most so many digits, which write 1 to some greatest number, as it is written.
 use Rattle.std.proofs.Common.{◌≡◌, ◌≤◌, ◌<◌, ◌^◌, ℕ, Bool, true, false, List, [], ◌∷◌, ap, sym, refl, ◌∙◌, Some, None, Ok, Err, unwrap_or, nat_le, nat_lt, length, leb-true, ℤ, pos, if◌then◌else◌, arith, not, ◌<ℤ◌, ◌≤ℤ◌, drop, le-leb, ltb-true, nat_abs}
 use Rattle.std.proofs.lemmas.Int.{ints}
 use Rattle.std.proofs.lemmas.Bool.{eqb-true, false≢true}
@@ -7,36 +7,37 @@ use Rattle.clap.proofs.WalkLemmas.{both}
 use Rattle.vg_num.specs.Number.{are_digits, is_digit, value_of as number_of, whole_of, with_sign}
 use Rattle.vg_num.specs.declared.fault.NumFault.{NumFault}
 use Rattle.vg_num.specs.declared.fault.NumFault.TheVariants.{Form, TooLarge}
-use Rattle.vg_words.specs.Request.{is_size, size_in}
+use Rattle.vg_words.specs.Request.{is_count, count_in}
 
--- what a size is
-record AreFacts (text : List ℕ) : Type 0 where
+-- what such a text is
+record AreFacts (count most : ℕ) (text : List ℕ) : Type 0 where
   digits : are_digits text ≡ true
-  short : length text ≤ 4
+  short : length text ≤ count
   least : 1 ≤ number_of text
-  most : number_of text ≤ 4000
+  small : number_of text ≤ most
 
-facts : (text : List ℕ) → is_size text ≡ true → AreFacts text
-facts text e =
+facts : (count most : ℕ) (text : List ℕ) → is_count count most text ≡ true → AreFacts count most text
+facts count most text e =
     let (digits, rest) = both (are_digits text) _ e in
-    let (short, within) = both (nat_le (length text) 4) _ rest in
-    let (least, most) = both (nat_le 1 (number_of text)) _ within in
+    let (short, within) = both (nat_le (length text) count) _ rest in
+    let (least, small) = both (nat_le 1 (number_of text)) _ within in
     record {
       digits = digits;
-      short = leb-true (length text) 4 short;
+      short = leb-true (length text) count short;
       least = leb-true 1 (number_of text) least;
-      most = leb-true (number_of text) 4000 most;
+      small = leb-true (number_of text) most small;
     }
 
--- its number is 1 to 4000
-pub size_small : (text : List ℕ) → is_size text ≡ true → let n = unwrap_or (size_in text) 0 in (1 ≤ n) × (n ≤ 4000)
-size_small text e = let f = facts text e in rw e (f.least, f.most)
+-- its number is 1 to the greatest
+pub count_small : (count most : ℕ) (text : List ℕ) → is_count count most text ≡ true
+    → let n = unwrap_or (count_in count most text) 0 in (1 ≤ n) × (n ≤ most)
+count_small count most text e = let f = facts count most text e in rw e (f.least, f.small)
 
--- a text that is no size has none
-no_size : (text : List ℕ) → (is_size text ≡ true → ⊥) → None ≡ size_in text
-no_size text other = go (is_size text) refl
+-- another text has none
+no_count : (count most : ℕ) (text : List ℕ) → (is_count count most text ≡ true → ⊥) → None ≡ count_in count most text
+no_count count most text other = go (is_count count most text) refl
   where
-    go : (b : Bool) → is_size text ≡ b → None ≡ size_in text
+    go : (b : Bool) → is_count count most text ≡ b → None ≡ count_in count most text
     go true is = absurd (other is)
     go false is = rw is refl
 
@@ -86,34 +87,39 @@ number_read text z digits e = go (nat_lt (10 ^ 26) (number_of text)) refl
     go true is = let fault : Ok z ≡ Err TooLarge = e ∙ digits_read text digits ∙ rw is refl in absurd (cc)
     go false is = let read : Ok z ≡ Ok (pos (number_of text)) = e ∙ digits_read text digits ∙ rw is refl in cc
 
--- reading refuses a text, or its number is too small or too large: it is no size
-pub fault_none : (text : List ℕ) (fault : NumFault) → Err fault ≡ whole_of text → None ≡ size_in text
-fault_none text fault e = no_size text (λ is. go (facts text is) (nat_lt (10 ^ 26) (number_of text)) refl)
+-- reading refuses a text, or its number is too small or too large: it is no such number
+pub fault_none : (count most : ℕ) (text : List ℕ) (fault : NumFault) → most < 2 ^ 32 → Err fault ≡ whole_of text → None ≡ count_in count most text
+fault_none count most text fault few e =
+    no_count count most text (λ is. go (facts count most text is) (nat_lt (10 ^ 26) (number_of text)) refl)
   where
-    go : AreFacts text → (b : Bool) → nat_lt (10 ^ 26) (number_of text) ≡ b → ⊥
-    go f true large = let l = ltb-true (10 ^ 26) (number_of text) large in absurd (omega (arith, l, f.most))
+    go : AreFacts count most text → (b : Bool) → nat_lt (10 ^ 26) (number_of text) ≡ b → ⊥
+    go f true large = let l = ltb-true (10 ^ 26) (number_of text) large in absurd (omega (arith, l, f.small, few))
     go f false small = let read : Err fault ≡ Ok (pos (number_of text)) = e ∙ digits_read text f.digits ∙ rw small refl in absurd (cc)
 
-pub long_none : (text : List ℕ) → 4 < length text → None ≡ size_in text
-long_none text long = no_size text (λ is. let short = (facts text is).short in absurd (omega (arith, short)))
+pub long_none : (count most : ℕ) (text : List ℕ) → count < length text → None ≡ count_in count most text
+long_none count most text long =
+    no_count count most text (λ is. let short = (facts count most text is).short in absurd (omega (arith, short)))
 
-pub small_none : (text : List ℕ) (z : ℤ) → Ok z ≡ whole_of text → z <ℤ pos 1 → None ≡ size_in text
-small_none text z e small =
-    no_size text (λ is. let f = facts text is in let read = number_read text z f.digits e in absurd (omega (arith, ints, read, f.least)))
+pub small_none : (count most : ℕ) (text : List ℕ) (z : ℤ) → Ok z ≡ whole_of text → z <ℤ pos 1 → None ≡ count_in count most text
+small_none count most text z e small =
+    no_count count most text
+    (λ is. let f = facts count most text is in let read = number_read text z f.digits e in absurd (omega (arith, ints, read, f.least)))
 
-pub large_none : (text : List ℕ) (z : ℤ) → Ok z ≡ whole_of text → pos 4000 <ℤ z → None ≡ size_in text
-large_none text z e large =
-    no_size text (λ is. let f = facts text is in let read = number_read text z f.digits e in absurd (omega (arith, ints, read, f.most)))
+pub large_none : (count most : ℕ) (text : List ℕ) (z : ℤ) → Ok z ≡ whole_of text → pos most <ℤ z → None ≡ count_in count most text
+large_none count most text z e large =
+    no_count count most text
+    (λ is. let f = facts count most text is in let read = number_read text z f.digits e in absurd (omega (arith, ints, read, f.small)))
 
 -- else it is one
-pub size_read : (text : List ℕ) (z : ℤ) → Ok z ≡ whole_of text → length text ≤ 4 → pos 1 ≤ℤ z → z ≤ℤ pos 4000 → Some (nat_abs z) ≡ size_in text
-size_read text z e short least most = go (are_digits text) refl
+pub count_read : (count most : ℕ) (text : List ℕ) (z : ℤ) → Ok z ≡ whole_of text → length text ≤ count → pos 1 ≤ℤ z → z ≤ℤ pos most
+    → Some (nat_abs z) ≡ count_in count most text
+count_read count most text z e short least small = go (are_digits text) refl
   where
-    go : (b : Bool) → are_digits text ≡ b → Some (nat_abs z) ≡ size_in text
+    go : (b : Bool) → are_digits text ≡ b → Some (nat_abs z) ≡ count_in count most text
     go false other = let negative = minus_read text z other e in absurd (omega (arith, ints, negative))
     go true digits =
         let read = number_read text z digits e in
         let l : 1 ≤ number_of text = omega (arith, ints, read) in
-        let m : number_of text ≤ 4000 = omega (arith, ints, read) in
-        rw (digits, le-leb (length text) 4 short, le-leb 1 (number_of text) l, le-leb (number_of text) 4000 m)
+        let m : number_of text ≤ most = omega (arith, ints, read) in
+        rw (digits, le-leb (length text) count short, le-leb 1 (number_of text) l, le-leb (number_of text) most m)
         (ap (λ x. Some (nat_abs x)) read)
