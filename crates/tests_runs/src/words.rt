@@ -29,13 +29,16 @@ static BEST: [Given; 6] = [SPEF, LIB, VERILOG, CONS, OUT_SPEF, OUT_VERILOG];
 
 static CHECK: [Given; 5] = [SPEF, LIB, VERILOG, CONS, CERT];
 
+static SEGMENT: [Given; 2] = [SPEF, OUT_SPEF];
+
 /// The files that a mode asks for.
 fn files_of(mode: &str) -> &'static [Given] {
     match mode {
         "wire" => &WIRE,
-        "time" | "frontier" => &DESIGN,
+        "time" | "sta" | "frontier" => &DESIGN,
         "best" => &BEST,
         "check" => &CHECK,
+        "segment" => &SEGMENT,
         _ => &[],
     }
 }

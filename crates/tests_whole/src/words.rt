@@ -21,6 +21,7 @@ fn lists_options_in_order(rt: HostRuntime) -> Result<(), Fail> {
         "--cap",
         "--prefix",
         "--size",
+        "--parts",
     ];
     let found = options().iter().map(|option| option.name());
     assert!(rt; found.eq(names.iter().copied()));
@@ -80,6 +81,15 @@ fn asks_size(alloc: Global) -> Result<bool, Fail> {
     Ok(ask.size() == 120 && ask.mode == Mode::Gen && ask.cap().is_none())
 }
 
+/// Whether words of mode `segment` ask for their parts.
+fn asks_parts(alloc: Global) -> Result<bool, Fail> {
+    let ask = asked(
+        alloc,
+        "--mode segment --spef s --all --out-spef=o --parts 08",
+    )?;
+    Ok(ask.parts() == 8 && ask.mode == Mode::Segment && ask.all && ask.size() == 0)
+}
+
 #[test]
 fn reads_each_option(rt: HostRuntime) -> Result<(), Fail> {
     for (option, value) in &VALUES {
@@ -87,5 +97,6 @@ fn reads_each_option(rt: HostRuntime) -> Result<(), Fail> {
     }
     assert!(rt; asks_frontier(rt.alloc())?);
     assert!(rt; asks_size(rt.alloc())?);
+    assert!(rt; asks_parts(rt.alloc())?);
     Ok(())
 }
