@@ -49,6 +49,7 @@ RUNS = {
     "`wire`": ["wire", "--spef", os.path.join(EXAMPLES, "fork.spef"), "--net", "n1"],
     "`gen`": ["gen", "--size", "16"],
     "`sta`": ["sta", *SOC],
+    "`segment --all`": ["segment", *SOC[:2], "--all", "--parts", "4", "--out-spef", "out.spef"],
 }
 
 

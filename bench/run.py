@@ -14,11 +14,12 @@
 | `frontier` | `--mode frontier` | chains and random trees with 60 to 480 nodes between driver and sinks, with 2, 8 and 32 repeaters, with a cap and without one |
 | `all` | `--mode time --all` and `--mode best --all` | all nets of designs of four files |
 | `sta` | `--mode time --all` and `--mode sta` | designs of four files with short paths and with long ones, and one path through 2^20 nets |
+| `segment` | `--mode segment --all` with 4 parts, and up to 16 MB also with 16; besides `--mode wire` for a small net, and `cp` of both files | extracted designs |
 
-The sizes are the nodes in modes `best` and `cert`, the nodes but two in mode `frontier`, and those of the SPEF files in modes `design` and `time` (1, 16, 64 and 256 MB if none is given), `all` (1, 16, 64 and 192 MB) and `sta`
+The sizes are the nodes in modes `best` and `cert`, the nodes but two in mode `frontier`, and those of the SPEF files in modes `design`, `time` and `segment` (1, 16, 64 and 256 MB if none is given), `all` (1, 16, 64 and 192 MB) and `sta`
 (16, 64 and 192 MB; where some are given, the one path goes through 8,192 nets for each MB of the last one), of the netlists (256 MB) and of the libraries (64 MB). With `--beside OTHER` each row but those of `rows` and `library` also tells the seconds
 and the memory of another program with the same arguments, run right after. In modes `best` and `cert` the changed files are written, too;
-in mode `cert` each program checks its own certificate, unless this has more than 2^28 bytes.
+in mode `cert` each program checks its own certificate, unless this has more than 2^28 bytes. In mode `segment` the nets that are too large when they are cut stay.
 Seconds are the least of five runs of the whole process, peak memory is what GNU time tells, 1 MB is 2^20 bytes.
 """
 import argparse
@@ -286,6 +287,23 @@ def run_sta(programs, *sizes):
             row(kind, *sizes_of, f"{nets:,}", words[0], *[cell for _, seconds, peak in runs for cell in (f"{seconds:.2f}", mb(peak))])
 
 
+def run_segment(programs, *sizes):
+    head("SPEF file", "nets", "parts", "written file", *titles(programs), "seconds of `wire`", "seconds of `cp`", "seconds of `cp` of the written file")
+    for nets in designs(sizes):
+        size, small = os.path.getsize("net.spef"), nets[0][1]
+        _, wire, _ = measure_good([programs[0], "--mode", "wire", "--spef", "net.spef", "--net", small])
+        _, copy, _ = measure_good(["cp", "net.spef", "copy.spef"])
+        for parts in ["4", "16"] if size <= 2**24 else ["4"]:
+            words = ["--mode", "segment", "--spef", "net.spef", "--all", "--parts", parts, "--out-spef"]
+            # A net of the design may be refused: status 2.
+            runs = [measure_good([program, *words, f"{at}.spef"], 2) for at, program in enumerate(programs)]
+            if any(run[0] != runs[0][0] for run in runs):
+                print("run.py: the programs print different reports", file=sys.stderr)
+            _, copy_of_written, _ = measure_good(["cp", "0.spef", "copy.spef"])
+            written, cells = os.path.getsize("0.spef"), [cell for _, seconds, peak in runs for cell in (f"{seconds:.2f}", mb(peak))]
+            row(mb(size), f"{runs[0][0].count(b'net '):,}", parts, mb(written), *cells, *[f"{seconds:.2f}" for seconds in [wire, copy, copy_of_written]])
+
+
 MODES = {
     "wire": run_wire,
     "design": run_design,
@@ -298,6 +316,7 @@ MODES = {
     "frontier": run_frontier,
     "all": run_all,
     "sta": run_sta,
+    "segment": run_segment,
 }
 
 
