@@ -1,0 +1,3 @@
+pub mod Repairs
+pub mod RepairLaws
+pub mod Picks
