@@ -1,2 +1,4 @@
 pub mod RepairLemmas
 pub mod PickLemmas
+pub mod RestoredLemmas
+pub mod SearchLemmas

@@ -4,16 +4,16 @@ ghost use Rattle.std.specs.Prelude.{◌≡◌, ℕ, Option, IfOk, IsSomeAnd, IfS
 ghost use Rattle.elmore.specs.declared.problem.Problem.{Problem as ProblemSpec};
 ghost use Rattle.sol_arena.specs.Arenas.{slots_of};
 ghost use Rattle.sol_arena.specs.Reach.{IsRestored};
-ghost use Rattle.vg_front.specs.Points.{IsFrontierOf};
-ghost use Rattle.vg_repair.specs.Picks.{IsBareOf};
+ghost use Rattle.vg_repair.specs.Picks.{IsBareOf, IsSearched};
 ghost use Rattle.vg_repair.specs.Repairs.{IsEnough, NeedsCells, IsRepairAnswer};
 
 use crate::bare::bare_placement;
 use crate::pick::pick;
+use crate::search::{best_of, search};
 use elmore::Problem;
 use sol_arena::Arena;
 use std::alloc::Global;
-use vg_front::{Point, frontier_in};
+use vg_front::Point;
 use vg_num::Memory;
 use vg_slack::Best;
 
@@ -25,10 +25,10 @@ fn is_enough(bare: &Option<Best>, target: i128) -> bool
     bare.as_ref().is_some_and(|best| best.slack >= target)
 }
 
-/// The repair by the points of a frontier, where the placement without a cell has not slack (zs) enough. It is still
-/// that one where it has as much as the point to take.
+/// The repair by the points that a search found, where the placement without a cell has not slack (zs) enough. It is
+/// still that one where it has as much as the point to take.
 fn repair_by(points: Vec<Point>, bare: Option<Best>, target: i128) -> Option<Best>
-    ensures { (p : ProblemSpec) (cap : Option ℕ) → IsFrontierOf p cap points.items → IsBareOf p bare
+    ensures { (p : ProblemSpec) (cap : Option ℕ) → IsSearched p cap target points.items → IsBareOf p bare
         → NeedsCells p target → IsRepairAnswer p cap target result }
 {
     let point = pick(points, target)?;
@@ -47,7 +47,9 @@ fn repair_by(points: Vec<Point>, bare: Option<Best>, target: i128) -> Option<Bes
 /// least cost that has it, and without a cell where that is as good. `None`: no good placement is within the cap.
 ///
 /// Where the placement without a cell has not slack enough, the answer has the cost and the slack of a point of the
-/// frontier of cost and slack (Lillis, Cheng and Lin 1996): of the first one with slack enough, or of the last one.
+/// frontier of cost and slack (Lillis, Cheng and Lin 1996): of the first one with slack enough, or of the last one. A
+/// best placement is searched first (van Ginneken 1990), which is quicker: no repair has to cost more than it does, and
+/// where it has slack enough, as much of the frontier is made as has a point with slack enough, within caps that double.
 /// Elsewhere nothing is searched. The solutions of a search stand in the lent arena, which afterwards is as before.
 /// Answers `Memory` when out of memory.
 pub fn repaired(
@@ -64,6 +66,9 @@ pub fn repaired(
     if is_enough(&bare, target) {
         return Ok(bare);
     }
-    let points = frontier_in(alloc, p, cap, arena)?;
+    let Some(best) = best_of(alloc, p, arena)? else {
+        return Ok(None);
+    };
+    let points = search(alloc, p, cap, target, &best, arena)?;
     Ok(repair_by(points, bare, target))
 }

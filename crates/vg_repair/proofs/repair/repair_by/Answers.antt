@@ -6,24 +6,24 @@ use Rattle.vg_slack.specs.Bests.{NoneIsBare}
 use Rattle.vg_repair.specs.Picks.{IsBareOf, IsPick}
 use Rattle.vg_repair.specs.Repairs.{IsRepair, IsRepairAnswer}
 use Rattle.vg_repair.proofs.RepairLemmas.{bare_slack}
-use Rattle.vg_repair.proofs.PickLemmas.{none_within, point_repairs, bare_repairs}
+use Rattle.vg_repair.proofs.SearchLemmas.{searched_none, searched_point, searched_bare}
 use Rattle.vg_repair.proofs.repair.repair_by.Goals as goal
 use Rattle.vg_repair.proofs.repair.repair_by.Goals.{in_default-via-in-Some+else-bare-point, in_default-via-in_default}
 
 pub returns-in_err-point : goal.returns-in_err-point
-returns-in_err-point c = λ p cap front bare needs.
-    subst (IsRepairAnswer p cap c.args.target) (sym c.from_residual.ensures) (none_within p cap c.args.points.items front c.in_err-point.ensures)
+returns-in_err-point c = λ p cap searched bare needs.
+    subst (IsRepairAnswer p cap c.args.target) (sym c.from_residual.ensures) (searched_none p cap c.args.target c.args.points.items searched c.in_err-point.ensures)
 
 pub returns-in-Some : goal.returns-in-Some
-returns-in-Some c = λ p cap front bare needs.
+returns-in-Some c = λ p cap searched bare needs.
     let point = c.in_ok-point.point in
     let fits : SFits w128 c.args.target = search rules in
     let pick = subst (λ (target : ℤ). IsPick target c.args.points.items point) (to_z-of_z w128 c.args.target fits) c.in_ok-point.ensures in
-    bare_repairs p cap c.args.target c.args.points.items front point pick c.in-Some.best.placement.cells c.in-Some.best.slack needs
+    searched_bare p cap c.args.target c.args.points.items point pick needs searched c.in-Some.best.placement.cells c.in-Some.best.slack
     (subst (IsBareOf p) c.in-Some.is bare) (search rules)
 
 pub returns-in_default : goal.returns-in_default
-returns-in_default c = λ p cap front bare needs.
+returns-in_default c = λ p cap searched bare needs.
     let point = c.in_ok-point.point in
     let fits : SFits w128 c.args.target = search rules in
     let slack_fits : SFits w128 point.slack = search rules in
@@ -36,4 +36,4 @@ returns-in_default c = λ p cap front bare needs.
       | in_default-via-in_default w ↦ subst (IsBareOf p) w.in_default.is bare point.slack
     ] in
     subst (IsRepair p cap c.args.target point.placement.cells) (sym (to_z-of_z w128 point.slack slack_fits))
-    (point_repairs p cap c.args.target c.args.points.items front point pick needs never)
+    (searched_point p cap c.args.target c.args.points.items point pick needs searched never)
