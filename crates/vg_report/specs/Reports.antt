@@ -83,16 +83,30 @@ best_report name cells net best =
 abbrev pub points_line : List ℕ → ℕ → List ℕ
 points_line name count = codes "net " ++ (name ++ (codes " points " ++ (decimal count ++ codes "\n")))
 
--- `point K S cells M`, with K in thousandths and S in zs
-abbrev pub point_line : ℕ → ℤ → ℕ → List ℕ
-point_line cost slack count =
-    codes "point " ++ (decimal cost
+-- ` K S cells M` and the line's end, with K in thousandths and S in zs
+abbrev pub point_values : ℕ → ℤ → ℕ → List ℕ
+point_values cost slack count =
+    codes " " ++ (decimal cost
     ++ (codes " " ++ (signed_decimal slack ++ (codes " cells " ++ (decimal count ++ codes "\n")))))
+
+-- `point K S cells M`
+abbrev pub point_line : ℕ → ℤ → ℕ → List ℕ
+point_line cost slack count = codes "point" ++ point_values cost slack count
 
 -- the cost (thousandths), the slack (zs) and the cells of a point of a frontier
 abbrev pub point_report : List (List ℕ) → List NodeName → Point → List ℕ
 point_report cells names point =
     point_line point.cost point.slack (cell_count point.placement.cells) ++ cell_lines cells names point.placement.cells
+
+-- `pick NAME K S cells M`
+abbrev pub pick_line : List ℕ → ℕ → ℤ → ℕ → List ℕ
+pick_line name cost slack count = codes "pick " ++ (name ++ point_values cost slack count)
+
+-- the same of a point of a net's frontier that is picked
+abbrev pub pick_report : List ℕ → List (List ℕ) → List NodeName → Point → List ℕ
+pick_report name cells names point =
+    pick_line name point.cost point.slack (cell_count point.placement.cells)
+    ++ cell_lines cells names point.placement.cells
 
 -- how many points a frontier has, and then each
 abbrev pub front_report : List ℕ → List (List ℕ) → NetProblem → List Point → List ℕ

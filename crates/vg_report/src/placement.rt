@@ -5,9 +5,9 @@ ghost use Rattle.std.specs.List.{All, flat_map};
 ghost use Rattle.elmore.specs.Placed.{IsPlacementOf};
 ghost use Rattle.elmore.specs.Placements.{IsPlacement};
 ghost use Rattle.vg_design.specs.Parts.{cells_of};
-ghost use Rattle.vg_report.specs.Reports.{best_report, cell_count, cell_lines, front_report, point_report};
+ghost use Rattle.vg_report.specs.Reports.{best_report, cell_count, cell_lines, front_report, pick_report, point_report};
 
-use crate::report::{print_at, print_best, print_count, print_point};
+use crate::report::{print_at, print_best, print_count, print_pick, print_point};
 use elmore::{Placement, cost};
 use lib_linear::Repeater;
 use vg_design::{NetProblem, TreeNames};
@@ -164,6 +164,48 @@ pub fn report_front(
 {
     let before = to.len();
     let done = print_front(name, repeaters, net, points, to);
+    if done.is_err() {
+        to.truncate(before);
+    }
+    done
+}
+
+/// Appends the report of a point that is picked of the frontier of a net. Where there is no room, a part of it may stand
+/// there.
+fn print_picked(
+    name: &[u8],
+    repeaters: &[Repeater],
+    names: &TreeNames,
+    point: &Point,
+    to: &mut Vec<u8>,
+) -> Result<(), Memory>
+    requires { IsPlacementOf (length names.now) (length repeaters.now) point.now.placement.cells }
+    ensures printed { OnOk result (to.new.items
+        ≡ to.old.items ++ pick_report name.now (cells_of repeaters.now) names.now point.now) }
+    ensures begun { OnErr result (take (length to.old.items) to.new.items ≡ to.old.items) }
+{
+    let count = count_cells(&point.placement);
+    print_pick(name, point.cost, point.slack, count, to)?;
+    print_cells(repeaters, names, &point.placement, to)?;
+    Ok(())
+}
+
+/// Appends the report of a point that is picked of the frontier of a net. Answers `Memory` where there is no room, and
+/// then `to` is as before.
+pub fn report_pick(
+    name: &[u8],
+    repeaters: &[Repeater],
+    names: &TreeNames,
+    point: &Point,
+    to: &mut Vec<u8>,
+) -> Result<(), Memory>
+    requires { IsPlacementOf (length names.now) (length repeaters.now) point.now.placement.cells }
+    ensures printed { OnOk result (to.new.items
+        ≡ to.old.items ++ pick_report name.now (cells_of repeaters.now) names.now point.now) }
+    ensures unchanged { OnErr result (to.new.items ≡ to.old.items) }
+{
+    let before = to.len();
+    let done = print_picked(name, repeaters, names, point, to);
     if done.is_err() {
         to.truncate(before);
     }

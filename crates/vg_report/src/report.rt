@@ -1,7 +1,7 @@
 //! The lines of reports.
 ghost use Rattle.std.specs.Prelude.{◌≡◌, ◌++◌, OnOk, OnErr, codes, decimal, length, take};
 ghost use Rattle.std.specs.Fmt.{signed_decimal};
-ghost use Rattle.vg_report.specs.Reports.{at_line, best_line, none_line, point_line, points_line, printed_node, refused_line, sink_line, slack_before};
+ghost use Rattle.vg_report.specs.Reports.{at_line, best_line, none_line, pick_line, point_line, point_values, points_line, printed_node, refused_line, sink_line, slack_before};
 
 use vg_num::{Memory, print_signed};
 use vg_scan::NodeName;
@@ -140,18 +140,45 @@ pub fn print_count(name: &[u8], count: usize, to: &mut Vec<u8>) -> Result<(), Me
     Ok(())
 }
 
-/// Appends `point K S cells M`, with K in thousandths and S in zeptoseconds.
-pub fn print_point(cost: u64, slack: i128, count: usize, to: &mut Vec<u8>) -> Result<(), Memory>
-    ensures printed { OnOk result (to.new.items ≡ to.old.items ++ point_line cost slack count) }
+/// Appends ` K S cells M` and the line's end, with K in thousandths and S in zeptoseconds.
+fn print_values(cost: u64, slack: i128, count: usize, to: &mut Vec<u8>) -> Result<(), Memory>
+    ensures printed { OnOk result (to.new.items ≡ to.old.items ++ point_values cost slack count) }
     ensures begun { OnErr result (take (length to.old.items) to.new.items ≡ to.old.items) }
 {
-    push(b"point ", to)?;
+    push(b" ", to)?;
     print_signed(i128::from(cost), to)?;
     push(b" ", to)?;
     print_signed(slack, to)?;
     push(b" cells ", to)?;
     print_signed(count as i128, to)?;
     push(b"\n", to)?;
+    Ok(())
+}
+
+/// Appends `point K S cells M`, with K in thousandths and S in zeptoseconds.
+pub fn print_point(cost: u64, slack: i128, count: usize, to: &mut Vec<u8>) -> Result<(), Memory>
+    ensures printed { OnOk result (to.new.items ≡ to.old.items ++ point_line cost slack count) }
+    ensures begun { OnErr result (take (length to.old.items) to.new.items ≡ to.old.items) }
+{
+    push(b"point", to)?;
+    print_values(cost, slack, count, to)?;
+    Ok(())
+}
+
+/// Appends `pick NAME K S cells M`, with K in thousandths and S in zeptoseconds.
+pub fn print_pick(
+    name: &[u8],
+    cost: u64,
+    slack: i128,
+    count: usize,
+    to: &mut Vec<u8>,
+) -> Result<(), Memory>
+    ensures printed { OnOk result (to.new.items ≡ to.old.items ++ pick_line name.now cost slack count) }
+    ensures begun { OnErr result (take (length to.old.items) to.new.items ≡ to.old.items) }
+{
+    push(b"pick ", to)?;
+    push(name, to)?;
+    print_values(cost, slack, count, to)?;
     Ok(())
 }
 
