@@ -1,13 +1,12 @@
 #!/usr/bin/env python3
-"""Compares the definitions that docs/THEOREM.md, docs/THEOREM_STA.md and docs/THEOREM_SEGMENT.md show with the files that they
-name: each part of a block, between empty lines, has to stand in its file as it is. Ends with status 1, and names the part, where
-one does not."""
+"""Compares the definitions that docs/THEOREM.md and docs/THEOREM_*.md show with the files that they name: each part of a block,
+between empty lines, has to stand in its file as it is. Ends with status 1, and names the part, where one does not."""
 import os
 import re
 import sys
 
 TOP = os.path.dirname(os.path.dirname(os.path.realpath(__file__)))
-PAGES = ("docs/THEOREM.md", "docs/THEOREM_STA.md", "docs/THEOREM_SEGMENT.md")
+PAGES = ("docs/THEOREM.md", "docs/THEOREM_STA.md", "docs/THEOREM_SEGMENT.md", "docs/THEOREM_REPAIR.md")
 
 
 def blocks(page):

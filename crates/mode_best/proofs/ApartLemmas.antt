@@ -1,16 +1,15 @@
 -- Of the same texts mode `best` says one kind.
-use Rattle.std.proofs.Common.{◌≡◌, ℕ, List, sym, ◌∙◌, subst, Some, None}
+use Rattle.std.proofs.Common.{◌≡◌, ℕ, List, sym, ◌∙◌, subst}
 use Rattle.elmore.specs.Best.{IsGood}
 use Rattle.elmore.specs.declared.problem.Problem.{Problem}
 use Rattle.vg_design.specs.Designs.{Design}
 use Rattle.vg_design.specs.Nets.{IsPosedNet}
 use Rattle.vg_design.specs.declared.net_problem.PosedNet.{PosedNet}
-use Rattle.vg_change.specs.Taken.{taken}
 use Rattle.vg_slack.specs.Bests.{HasNoGood, IsFound}
 use Rattle.vg_slack.specs.declared.answer.Best.{Best as BestFound}
 use Rattle.design_read.specs.Designs.{Texts}
 use Rattle.design_read.proofs.LawLemmas.{one_is}
-use Rattle.mode_best.specs.Answers.{Asked, IsBestSaid, IsFreeDesign, IsTaken, IsBestAnswer}
+use Rattle.mode_best.specs.Answers.{Asked, IsBestSaid, IsBestAnswer}
 use Rattle.vg_answer.specs.Answers.{Said}
 use Rattle.vg_answer.specs.Nets.{nets_for}
 use Rattle.vg_answer.specs.Verdicts.{Verdict, AreSaid}
@@ -47,11 +46,3 @@ one_kind texts asked a b t u p q =
     let same : q.design ≡ p.design = one_is texts q.design p.design q.design_of.design_of p.design_of.design_of in
     let other = subst (λ (d : Design). AreSaid (IsBestSaid d) (nets_for d asked.net) b u.text) same q.best_of.nets in
     one_kind_of_all (IsBestSaid p.design) (one_best_kind p.design) (nets_for p.design asked.net) a b t.text u.text p.best_of.nets other
-
--- no name of a design of which something is said begins with the prefix
-pub free_not_taken : (texts : Texts) (prefix : Bytes) (d : Design) (name : Bytes) → IsFreeDesign texts prefix d → IsTaken texts prefix name → ⊥
-free_not_taken texts prefix d name free taken_by =
-    let same : d ≡ taken_by.design = one_is texts d taken_by.design free.design_of taken_by.design_of in
-    let first : taken d prefix ≡ Some name = subst (λ (design : Design). taken design prefix ≡ Some name) (sym same) taken_by.first in
-    let e : None ≡ Some name = sym free.free ∙ first in
-    cc

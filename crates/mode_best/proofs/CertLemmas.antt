@@ -15,15 +15,16 @@ use Rattle.vg_slack.specs.declared.answer.Best.{Best}
 use Rattle.vg_verdict.specs.Judged.{IsCertificateOf}
 use Rattle.vg_verdict.specs.Laws.{names_in}
 use Rattle.spef_wire.specs.declared.refusal.Refusal.{Refusal}
-use Rattle.mode_best.proofs.BestLemmas.{judged_more}
-use Rattle.mode_best.specs.Steps.{AreCertified, AreJudged, IsOneMore, JudgesOne, cert_in, IsCertOf}
+use Rattle.vg_place.proofs.JudgedLemmas.{judged_more}
+use Rattle.vg_place.specs.Steps.{IsOneMore}
+use Rattle.mode_best.specs.Steps.{AreBestJudged, AreCertified, JudgesOne, cert_in, IsCertOf}
 use Rattle.mode_best.specs.Answers.{Asked, IsBestSaid, IsCertFor, found_verdict, Certifies}
 use Rattle.vg_answer.specs.Nets.{nets_for}
 use Rattle.vg_answer.specs.Verdicts.{Verdict, AreSaid, bare_verdict, kind_in, kind_of, text_in, worse}
 use Rattle.vg_answer.specs.declared.kind.AnswerKind.{AnswerKind}
 use Rattle.vg_answer.specs.declared.kind.AnswerKind.TheVariants.{Report, NoneGood, Refusal as Refused, Invalid}
-use Rattle.mode_best.specs.declared.judging.Certified.{Certified}
-use Rattle.mode_best.specs.declared.judging.Judging.{Judging}
+use Rattle.mode_best.specs.declared.nets.Certified.{Certified}
+use Rattle.vg_place.specs.declared.judging.Judging.{Judging}
 
 nothing_said : (Says : List ℕ → Verdict → Type 0) (kind : AnswerKind) (text : List ℕ) → AreSaid Says [] kind text → (kind ≡ Report) × (text ≡ [])
 nothing_said Says kind text said = by_none said.verdicts said.each said.kind_is said.text_is
@@ -38,7 +39,7 @@ worse_report NoneGood = refl
 worse_report Refused = refl
 worse_report Invalid = refl
 
-module _ (d : Design) (prefix : List ℕ) (old new : Judging) (v : Verdict) (are : AreJudged d prefix [] old) (more : IsOneMore old v new) where
+module _ (d : Design) (prefix : List ℕ) (old new : Judging) (v : Verdict) (are : AreBestJudged d prefix [] old) (more : IsOneMore old v new) where
   first_kind : new.kind ≡ v.kind
   first_kind = more.kind ∙ ap (λ (k : AnswerKind). worse k v.kind) (nothing_said (IsBestSaid d) old.kind old.text.items are.nets).0 ∙ worse_report v.kind
 
@@ -100,10 +101,10 @@ refused_one d name certified refusal old new first more = record {
 -- ---- the nets that are asked for
 
 -- one net, with nothing before
-pub one_certified : (d : Design) (prefix name : List ℕ) (old : Judging) (made : Certified) (asked : Asked) → AreJudged d prefix [] old
+pub one_certified : (d : Design) (prefix name : List ℕ) (old : Judging) (made : Certified) (asked : Asked) → AreBestJudged d prefix [] old
     → JudgesOne d name asked.certified old made → asked.net ≡ Some name → AreCertified d prefix asked made
 one_certified d prefix name old made asked are one named = record {
-  nets = subst (λ (names : List (List ℕ)). AreJudged d prefix names made.judging) (sym (ap (nets_for d) named)) (judged_more d prefix [] old made asked.certified name are one);
+  nets = subst (λ (names : List (List ℕ)). AreBestJudged d prefix names made.judging) (sym (ap (nets_for d) named)) (judged_more (IsBestSaid d) d prefix [] old made.judging name one.verdict are one.says one.more);
   cert = by_cert one.cert;
 }
   where
@@ -124,14 +125,14 @@ one_certified d prefix name old made asked are one named = record {
 
 -- all nets are asked for
 pub all_certified : (d : Design) (prefix : List ℕ) (asked : Asked) (names : List (List ℕ)) (all : Judging) → asked.net ≡ None → names ≡ nets_for d None
-    → AreJudged d prefix names all → AreCertified d prefix asked (record { judging = all; cert = None })
+    → AreBestJudged d prefix names all → AreCertified d prefix asked (record { judging = all; cert = None })
 all_certified d prefix asked names all none same are = record {
-  nets = subst (λ (some : List (List ℕ)). AreJudged d prefix some all) (same ∙ sym (ap (nets_for d) none)) are;
+  nets = subst (λ (some : List (List ℕ)). AreBestJudged d prefix some all) (same ∙ sym (ap (nets_for d) none)) are;
   cert = IsCertFor.of_all none refl;
 }
 
 -- out of memory or not
-pub asked_certified : (d : Design) (prefix name : List ℕ) (certified : Bool) (old : Judging) (asked : Asked) (result : Result Certified Memory) → AreJudged d prefix [] old
+pub asked_certified : (d : Design) (prefix name : List ℕ) (certified : Bool) (old : Judging) (asked : Asked) (result : Result Certified Memory) → AreBestJudged d prefix [] old
     → asked.net ≡ Some name → asked.certified ≡ certified → IfOk result (JudgesOne d name certified old) → IfOk result (AreCertified d prefix asked)
 asked_certified d prefix name certified old asked (Ok made) are named wanted one =
     one_certified d prefix name old made asked are (subst (λ (b : Bool). JudgesOne d name b old made) (sym wanted) one) named

@@ -1,28 +1,24 @@
 -- What mode `best` answers: best placements, the files in which their cells are put, and the certificate.
-use Rattle.std.specs.Prelude.{◌≡◌, ℕ, ◌==◌, Bool, true, false, List, [], ◌∷◌, Option, Some, None, if◌then◌else◌}
+use Rattle.std.specs.Prelude.{◌≡◌, ℕ, Bool, true, false, List, [], ◌∷◌, ◌++◌, Option, Some, None}
 use Rattle.std.specs.List.{flat_map}
 use Rattle.vg_design.specs.Designs.{Design}
-use Rattle.vg_change.specs.Changes.{Changes, nothing, HavePut, AreTexts}
-use Rattle.vg_change.specs.Placed.{PlacedNet}
-use Rattle.vg_change.specs.Steps.{placed_net}
-use Rattle.vg_change.specs.Taken.{taken}
 use Rattle.vg_design.specs.Nets.{IsPosedNet}
 use Rattle.vg_design.specs.Refusals.{IsFirstRefusal}
-use Rattle.design_read.specs.Designs.{Texts, IsDesign}
+use Rattle.design_read.specs.Designs.{Texts}
 use Rattle.vg_verdict.specs.Laws.{names_in}
 use Rattle.vg_verdict.specs.Judged.{IsCertificateOf}
 use Rattle.spef_wire.specs.declared.refusal.Refusal.{Refusal}
-use Rattle.vg_design.specs.Parts.{cells_of}
 use Rattle.vg_design.specs.declared.net_problem.PosedNet.{PosedNet}
 use Rattle.vg_slack.specs.Bests.{HasNoGood, IsAnswer, IsFound}
 use Rattle.vg_slack.specs.declared.answer.Best.{Best}
-use Rattle.vg_report.specs.Reports.{best_report, cell_count, none_line, refusal_line}
+use Rattle.vg_report.specs.Reports.{none_line, refusal_line}
 use Rattle.vg_answer.specs.Verdicts.{Verdict, AreSaid, bare_verdict, put_in}
 use Rattle.vg_answer.specs.declared.kind.AnswerKind.{AnswerKind}
 use Rattle.vg_answer.specs.declared.kind.AnswerKind.TheVariants.{Report, NoneGood, Refusal as Refused}
 use Rattle.vg_answer.specs.Answers.{Written, Said}
-use Rattle.vg_answer.specs.Nets.{nets_for, problem_in}
-use Rattle.vg_answer.specs.declared.output.Output.TheVariants.{Netlist, Parasitics, Certificate}
+use Rattle.vg_answer.specs.Nets.{nets_for}
+use Rattle.vg_answer.specs.declared.output.Output.TheVariants.{Certificate}
+use Rattle.vg_place.specs.Placings.{AreFilesOf, Files, IsFreeDesign, changed_files, kept, placed_verdict}
 
 -- What is asked: one net by its name, or all nets of the parasitics; what the names of new cells and nets begin with;
 -- and whether a certificate is to be written.
@@ -31,59 +27,20 @@ pub record Asked : Type 0 where
   pub prefix : List ℕ
   pub certified : Bool
 
--- A netlist and parasitics.
-pub record Files : Type 0 where
-  pub verilog : List ℕ
-  pub spef : List ℕ
-
--- the files as they were read
-abbrev pub kept : Texts → Files
-kept texts = record { verilog = texts.verilog; spef = texts.spef }
-
--- the four texts are a design, none of whose names begins with the prefix
-pub record IsFreeDesign (texts : Texts) (prefix : List ℕ) (design : Design) : Type 0 where
-  pub design_of : IsDesign texts design
-  pub free : taken design prefix ≡ None
-
--- the net with the cells of a placement, where it has any
-abbrev pub put_of : PosedNet → List (Option ℕ) → List PlacedNet
-put_of net cells = if cell_count cells == 0 then [] else placed_net net cells ∷ []
-
--- what is said of a net where this placement of it is best
-abbrev pub best_verdict : Design → List ℕ → PosedNet → Best → Verdict
-best_verdict d name net best = record {
-  kind = Report;
-  text = best_report name (cells_of d.library.repeaters) (problem_in net) best;
-  put = put_of net best.placement.cells;
-}
-
 -- a best placement of the net is reported, without a cell where one without a cell is best; or no placement is good; or
 -- the net is refused
 pub data IsBestSaid (d : Design) (name : List ℕ) (said : Verdict) : Type 0 where
   told_best : (net : PosedNet) → IsPosedNet d name net → (best : Best) → IsFound net.problem best
-      → said ≡ best_verdict d name net best → IsBestSaid d name said
+      → said ≡ placed_verdict Report d name net best → IsBestSaid d name said
   told_none : (net : PosedNet) → IsPosedNet d name net → HasNoGood net.problem
       → said ≡ bare_verdict NoneGood (none_line name) → IsBestSaid d name said
   told_refusal : (refusal : Refusal) → IsFirstRefusal d name refusal
       → said ≡ bare_verdict Refused (refusal_line name refusal) → IsBestSaid d name said
 
--- these are the files in which the cells of placements are put into nets, one after another
-pub record AreChanged (read : Files) (design : Design) (prefix : List ℕ) (nets : List PlacedNet)
-    (files : Files) : Type 0 where
-  pub changes : Changes
-  pub put : HavePut (nothing design prefix) nets changes
-  pub made : AreTexts changes read.spef read.verilog files.spef files.verilog
-
--- where no net gets a cell, the files are as they were read
-pub record AreFilesOf (read : Files) (design : Design) (prefix : List ℕ) (nets : List PlacedNet)
-    (files : Files) : Type 0 where
-  pub bare : nets ≡ [] → files ≡ read
-  pub changed : (nets ≡ [] → ⊥) → AreChanged read design prefix nets files
-
 -- what is said of a posed net of which this was found
 abbrev pub found_verdict : Design → List ℕ → PosedNet → Option Best → Verdict
 found_verdict d name net None = bare_verdict NoneGood (none_line name)
-found_verdict d name net (Some best) = best_verdict d name net best
+found_verdict d name net (Some best) = placed_verdict Report d name net best
 
 -- a text is a certificate of what was found for the net of this name, of which this is said
 pub record Certifies (d : Design) (name : List ℕ) (kind : AnswerKind) (said text : List ℕ) : Type 0 where
@@ -110,10 +67,9 @@ abbrev pub cert_files : Option (List ℕ) → List Written
 cert_files None = []
 cert_files (Some text) = record { output = Certificate; text = text } ∷ []
 
--- the netlist is written first, then the parasitics
+-- the netlist and the parasitics are written before it
 abbrev pub written_files : Files → Option (List ℕ) → List Written
-written_files files cert =
-    record { output = Netlist; text = files.verilog } ∷ record { output = Parasitics; text = files.spef } ∷ cert_files cert
+written_files files cert = changed_files files ++ cert_files cert
 
 -- this is said of the nets that are asked for, the files have the new cells of all of them, and a certificate is
 -- written where one is asked for
@@ -130,9 +86,3 @@ pub record IsBestAnswer (texts : Texts) (asked : Asked) (kind : AnswerKind) (sai
   pub design : Design
   pub design_of : IsFreeDesign texts asked.prefix design
   pub best_of : IsBestOf (kept texts) design asked kind said
-
--- a name of the design begins with the prefix, and this is the first
-pub record IsTaken (texts : Texts) (prefix name : List ℕ) : Type 0 where
-  pub design : Design
-  pub design_of : IsDesign texts design
-  pub first : taken design prefix ≡ Some name

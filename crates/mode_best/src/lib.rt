@@ -2,6 +2,6 @@
 #![tactic(auto)]
 
 mod best;
-mod judging;
+mod nets;
 
 pub use best::best_for;

@@ -15,7 +15,9 @@ use Rattle.vg_verdict.specs.Lines.{verdict_line}
 use Rattle.vg_words.specs.Request.{IsRequest, prefix_of}
 use Rattle.vg_words.specs.declared.ask.Mode.TheVariants.{Best as BestMode, Check}
 use Rattle.vg_words.specs.declared.ask.Ask.{Ask}
-use Rattle.mode_best.specs.Answers.{Asked, Certifies, Files, IsBestAnswer, best_verdict, found_verdict}
+use Rattle.vg_place.specs.Placings.{placed_verdict}
+use Rattle.place_laws.specs.Laws.{with_files}
+use Rattle.mode_best.specs.Answers.{Asked, Certifies, IsBestAnswer, found_verdict}
 use Rattle.mode_check.specs.Answers.{IsCheckAnswer}
 use Rattle.vg_answer.specs.Answers.{Said}
 use Rattle.vg_answer.specs.Nets.{nets_for}
@@ -28,10 +30,6 @@ use Rattle.vg_answer.specs.declared.input.Input.TheVariants.{Cert}
 use Rattle.vg_answer.specs.declared.kind.AnswerKind.{AnswerKind}
 use Rattle.vg_answer.specs.declared.kind.AnswerKind.TheVariants.{Report, Refusal}
 
--- the texts with the netlist and the parasitics that were written
-abbrev pub with_files : Texts → Files → Texts
-with_files texts files = record texts { spef = files.spef; verilog = files.verilog }
-
 -- an answer tells of the net of a name, which it is asked for, that a placement of it is best
 pub record TellsBest {texts : Texts} {asked : Asked} {kind : AnswerKind} {said : Said}
     (answer : IsBestAnswer texts asked kind said)
@@ -41,7 +39,7 @@ pub record TellsBest {texts : Texts} {asked : Asked} {kind : AnswerKind} {said :
   pub net : PosedNet
   pub net_of : IsPosedNet answer.design name net
   pub found : IsFound net.problem best
-  pub told : slice_get answer.best_of.nets.verdicts place ≡ Some (best_verdict answer.design name net best)
+  pub told : slice_get answer.best_of.nets.verdicts place ≡ Some (placed_verdict Report answer.design name net best)
 
 -- Where best placements are reported, of one net or of all, the written files are a design, in which each net of which
 -- one is reported re-times to its reported slack.

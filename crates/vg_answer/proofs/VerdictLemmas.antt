@@ -51,7 +51,7 @@ by_cases false false false NoneGood = refl
 by_cases false false false Refusal = refl
 by_cases false false false Invalid = refl
 
-kind_more : (kinds : List AnswerKind) (k : AnswerKind) → kind_of (kinds ++ k ∷ []) ≡ worse (kind_of kinds) k
+pub kind_more : (kinds : List AnswerKind) (k : AnswerKind) → kind_of (kinds ++ k ∷ []) ≡ worse (kind_of kinds) k
 kind_more kinds k =
     (λ i. kind_by (list_any-append is_refusal kinds (k ∷ []) i) (list_any-append is_invalid kinds (k ∷ []) i) (list_any-append is_none_good kinds (k ∷ []) i))
     ∙ by_cases (list_any is_refusal kinds) (list_any is_invalid kinds) (list_any is_none_good kinds) k
@@ -71,13 +71,13 @@ worse_report Invalid = refl
 
 -- ---- one net more
 
-zip_more : {A B : Type 0} (R : A → B → Type 0) (xs : List A) (ys : List B) (x : A) (y : B) → AllZip R xs ys → R x y → AllZip R (xs ++ x ∷ []) (ys ++ y ∷ [])
+pub zip_more : {A B : Type 0} (R : A → B → Type 0) (xs : List A) (ys : List B) (x : A) (y : B) → AllZip R xs ys → R x y → AllZip R (xs ++ x ∷ []) (ys ++ y ∷ [])
 zip_more R [] [] x y all here = (here, tt)
 zip_more R [] (b ∷ ys) x y all here = absurd all
 zip_more R (a ∷ xs) [] x y all here = absurd all
 zip_more R (a ∷ xs) (b ∷ ys) x y all here = (all.0, zip_more R xs ys x y all.1 here)
 
-flat_more : {A B : Type 0} (f : A → List B) (xs : List A) (x : A) → flat_map f (xs ++ x ∷ []) ≡ flat_map f xs ++ f x
+pub flat_more : {A B : Type 0} (f : A → List B) (xs : List A) (x : A) → flat_map f (xs ++ x ∷ []) ≡ flat_map f xs ++ f x
 flat_more f xs x = flat_map-append f xs (x ∷ []) ∙ ap (λ l. flat_map f xs ++ l) (append-nil (f x))
 
 module _ (Says : List ℕ → Verdict → Type 0) where

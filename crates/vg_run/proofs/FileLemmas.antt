@@ -7,7 +7,7 @@ use Rattle.std.proofs.lemmas.List.Kept.{AllPairs-cons}
 use Rattle.vg_words.specs.Request.{size_of}
 use Rattle.vg_words.specs.declared.ask.Ask.{Ask}
 use Rattle.vg_words.specs.declared.ask.Mode.{Mode}
-use Rattle.vg_words.specs.declared.ask.Mode.TheVariants.{Wire, Time, Best, Frontier, Check, Gen, Sta, Segment}
+use Rattle.vg_words.specs.declared.ask.Mode.TheVariants.{Wire, Time, Best, Frontier, Check, Gen, Sta, Segment, Repair}
 use Rattle.vg_answer.specs.Answers.{Said, Written}
 use Rattle.vg_answer.specs.declared.input.Input.{Input}
 use Rattle.vg_answer.specs.declared.input.Input.TheVariants.{Spef}
@@ -15,7 +15,8 @@ use Rattle.vg_answer.specs.declared.kind.AnswerKind.{AnswerKind}
 use Rattle.vg_answer.specs.declared.kind.AnswerKind.TheVariants.{Report, NoneGood, Refusal, Invalid}
 use Rattle.vg_answer.specs.declared.output.Output.{Output}
 use Rattle.vg_answer.specs.declared.output.Output.TheVariants.{Netlist, Parasitics, Certificate}
-use Rattle.mode_best.specs.Answers.{Files, written_files}
+use Rattle.vg_place.specs.Placings.{Files, changed_files}
+use Rattle.mode_best.specs.Answers.{written_files}
 use Rattle.mode_gen.specs.Answers.{IsGenAnswer}
 use Rattle.mode_wire.specs.Answers.{IsWireAnswer}
 use Rattle.vg_run.specs.Modes.{IsAnswerIn, one_net}
@@ -42,10 +43,13 @@ module _ (ask : Ask) (apart : AreApart ask) where
   abbrev certificate : List ℕ → Written
   certificate text = record { output = Certificate; text = text }
 
-  written_apart : (files : Files) (cert : Option (List ℕ)) → AreApartIn ask (written_files files cert)
-  written_apart files None =
+  changed_apart : (files : Files) → AreApartIn ask (changed_files files)
+  changed_apart files =
       AllPairs-cons (Differ ask) (netlist files) (parasitics files ∷ []) (All-cons (Differ ask (netlist files)) (parasitics files) [] apart.design (All-nil (Differ ask (netlist files))))
       (AllPairs-cons (Differ ask) (parasitics files) [] (All-nil (Differ ask (parasitics files))) (no_pairs (Differ ask)))
+
+  written_apart : (files : Files) (cert : Option (List ℕ)) → AreApartIn ask (written_files files cert)
+  written_apart files None = changed_apart files
   written_apart files (Some text) =
       AllPairs-cons (Differ ask) (netlist files) (parasitics files ∷ certificate text ∷ [])
       (All-cons (Differ ask (netlist files)) (parasitics files) (certificate text ∷ []) apart.design
@@ -81,6 +85,8 @@ module _ (ask : Ask) (apart : AreApart ask) where
   files_apart Gen texts kind said is = none_apart ask said.files (no_gen_files (size_of ask) kind said is)
   files_apart Sta texts kind said is = none_apart ask said.files is.no_files
   files_apart Segment texts kind said is = one_apart said.files _ is.files
+  files_apart Repair texts kind said is =
+      subst (λ (list : List Written). AreApartIn ask list) (sym is.repair_of.files_are) (changed_apart is.repair_of.files)
 
 not_named : (ask : Ask) (file : List ℕ) → (IsOutput ask file → ⊥) → (output : Output) → output_name ask output ≢ Some file
 not_named ask file none Netlist is = none (inr (inl is))

@@ -18,7 +18,6 @@ use Rattle.vg_run.specs.Inputs.{inputs, name_of, told, IsLong, IsRead}
 use Rattle.vg_answer.specs.Faults.{IsFirst, IsShort}
 use Rattle.vg_run.specs.Outcomes.{IsUnread}
 use Rattle.vg_answer.specs.declared.input.Input.{Input}
-use Rattle.mode_best.specs.Answers.{kept}
 
 -- what two calls keep in turn
 pub writing_kept : (old mid new : FilesState) → KeepsWriting old mid → KeepsWriting mid new → KeepsWriting old new

@@ -5,7 +5,7 @@ use Rattle.std.specs.Prelude.{if◌then◌else◌}
 use Rattle.vg_words.specs.Request.{cap_of, parts_of, prefix_of, size_of}
 use Rattle.vg_words.specs.declared.ask.Ask.{Ask}
 use Rattle.vg_words.specs.declared.ask.Mode.{Mode}
-use Rattle.vg_words.specs.declared.ask.Mode.TheVariants.{Wire, Time, Best, Frontier, Check, Gen, Sta, Segment}
+use Rattle.vg_words.specs.declared.ask.Mode.TheVariants.{Wire, Time, Best, Frontier, Check, Gen, Sta, Segment, Repair}
 use Rattle.vg_design.specs.Designs.{Design}
 use Rattle.mode_wire.specs.Answers.{IsWireAnswer}
 use Rattle.mode_time.specs.Answers.{IsTimeSaid, nets_to_time}
@@ -13,6 +13,11 @@ use Rattle.mode_best.specs.Answers.{IsBestSaid}
 use Rattle.mode_frontier.specs.Answers.{IsFrontSaid}
 use Rattle.mode_check.specs.Answers.{IsCheckSaid, kind_judged}
 use Rattle.mode_gen.specs.Answers.{IsGenAnswer}
+use Rattle.mode_repair.specs.Answers.{IsRepairSaid}
+use Rattle.mode_repair.specs.Outcomes.{kind_for, outcome_for}
+use Rattle.mode_repair.specs.declared.outcome.Goal.{Goal}
+use Rattle.mode_repair.specs.declared.outcome.Outcome.{Outcome}
+use Rattle.mode_repair.specs.declared.outcome.Outcome.TheVariants.{Met, Short, NoneGood as NoPlacement, Refused}
 use Rattle.mode_segment.specs.Answers.{IsSegmentSaid, nets_in}
 use Rattle.mode_sta.specs.Answers.{IsStaSaid}
 use Rattle.vg_answer.specs.Answers.{Said}
@@ -22,7 +27,7 @@ use Rattle.vg_answer.specs.declared.input.Input.{Input}
 use Rattle.vg_answer.specs.declared.input.Input.TheVariants.{Spef, Cert}
 use Rattle.vg_answer.specs.declared.kind.AnswerKind.{AnswerKind}
 use Rattle.vg_answer.specs.declared.kind.AnswerKind.TheVariants.{Report, NoneGood, Refusal, Invalid}
-use Rattle.vg_run.specs.Modes.{IsAnswerIn, one_net}
+use Rattle.vg_run.specs.Modes.{IsAnswerIn, goal_of, one_net}
 
 abbrev Bytes : Type 0
 Bytes = List ℕ
@@ -33,6 +38,7 @@ gives mode Report = true
 gives mode Refusal = true
 gives Best NoneGood = true
 gives Frontier NoneGood = true
+gives Repair NoneGood = true
 gives mode NoneGood = false
 gives Check Invalid = true
 gives mode Invalid = false
@@ -139,6 +145,18 @@ segment_gives : (text : Bytes) (parts : ℕ) (name : Bytes) (v : Verdict) → Is
 segment_gives text parts name v (IsSegmentSaid.told_cut net fit is) = ap (λ (u : Verdict). gives Segment u.kind) is
 segment_gives text parts name v (IsSegmentSaid.told_refusal refusal refused is) = ap (λ (u : Verdict). gives Segment u.kind) is
 
+outcome_gives : (outcome : Outcome) → gives Repair (kind_for outcome) ≡ true
+outcome_gives (Met slack) = refl
+outcome_gives (Short slack) = refl
+outcome_gives NoPlacement = refl
+outcome_gives Refused = refl
+
+repair_gives : (d : Design) (goal : Goal) (name : Bytes) (v : Verdict) → IsRepairSaid d goal name v → gives Repair v.kind ≡ true
+repair_gives d goal name v (IsRepairSaid.told_repair net of best repair is) =
+    ap (λ (u : Verdict). gives Repair u.kind) is ∙ outcome_gives (outcome_for goal.target best.slack)
+repair_gives d goal name v (IsRepairSaid.told_none net of none is) = ap (λ (u : Verdict). gives Repair u.kind) is
+repair_gives d goal name v (IsRepairSaid.told_refusal refusal refused is) = ap (λ (u : Verdict). gives Repair u.kind) is
+
 pub mode_gives : (mode : Mode) (ask : Ask) (texts : Input → Bytes) (kind : AnswerKind) (said : Said) → IsAnswerIn mode ask texts kind said
     → gives mode kind ≡ true
 mode_gives Wire ask texts kind said is = wire_gives (texts Spef) (one_net ask) kind said is
@@ -157,6 +175,9 @@ mode_gives Sta ask texts kind said is = sta_gives is.design kind said.text is.is
 mode_gives Segment ask texts kind said is =
     kind_among (gives Segment) (IsSegmentSaid (texts Spef) (parts_of ask)) (segment_gives (texts Spef) (parts_of ask))
     (nets_in (texts Spef) ask.net) is.nets.verdicts kind refl is.nets.each is.nets.kind_is
+mode_gives Repair ask texts kind said is =
+    kind_among (gives Repair) (IsRepairSaid is.design (goal_of ask)) (repair_gives is.design (goal_of ask)) (nets_for is.design ask.net)
+    is.repair_of.nets.verdicts kind refl is.repair_of.nets.each is.repair_of.nets.kind_is
 
 -- an answer that a certificate is not valid writes no file
 pub no_files_invalid : (mode : Mode) (ask : Ask) (texts : Input → Bytes) (said : Said) → IsAnswerIn mode ask texts Invalid said → said.files ≡ []
@@ -168,3 +189,4 @@ no_files_invalid Check ask texts said is = is.no_files
 no_files_invalid Gen ask texts said is = absurd is
 no_files_invalid Sta ask texts said is = is.no_files
 no_files_invalid Segment ask texts said is = absurd (let e : false ≡ true = mode_gives Segment ask texts Invalid said is in cc)
+no_files_invalid Repair ask texts said is = absurd (let e : false ≡ true = mode_gives Repair ask texts Invalid said is in cc)

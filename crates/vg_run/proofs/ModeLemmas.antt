@@ -4,7 +4,7 @@ use Rattle.std.specs.Prelude.{is_some}
 use Rattle.vg_words.specs.Request.{cap_of, parts_of, prefix_of, size_of}
 use Rattle.vg_words.specs.declared.ask.Ask.{Ask}
 use Rattle.vg_words.specs.declared.ask.Mode.{Mode}
-use Rattle.vg_words.specs.declared.ask.Mode.TheVariants.{Wire, Time, Best, Frontier, Check, Gen, Segment}
+use Rattle.vg_words.specs.declared.ask.Mode.TheVariants.{Wire, Time, Best, Frontier, Check, Gen, Segment, Repair}
 use Rattle.vg_answer.specs.Answers.{AnswersBy, NoneTaken}
 use Rattle.vg_answer.specs.Faults.{IsDesignFault}
 use Rattle.vg_answer.specs.declared.answer.Answer.{Answer}
@@ -13,13 +13,16 @@ use Rattle.vg_answer.specs.declared.input.Input.{Input}
 use Rattle.vg_answer.specs.declared.input.Input.TheVariants.{Spef, Cert}
 use Rattle.mode_wire.specs.Answers.{IsWireAnswer, IsWireFault}
 use Rattle.mode_time.specs.Answers.{IsTimeAnswer}
-use Rattle.mode_best.specs.Answers.{Asked, IsBestAnswer, IsTaken}
+use Rattle.vg_place.specs.Placings.{IsTaken}
+use Rattle.mode_best.specs.Answers.{Asked, IsBestAnswer}
 use Rattle.mode_frontier.specs.Answers.{IsFrontAnswer}
 use Rattle.mode_check.specs.Answers.{IsCheckAnswer}
 use Rattle.mode_gen.specs.Answers.{IsGenAnswer, made_up}
+use Rattle.mode_repair.specs.Answers.{IsRepairAnswer, Asked as RepairAsked}
+use Rattle.mode_repair.specs.declared.outcome.Goal.{Goal}
 use Rattle.mode_segment.specs.Answers.{IsSegmentAnswer, IsSegmentFault}
 use Rattle.vg_run.specs.Inputs.{written_cert}
-use Rattle.vg_run.specs.Modes.{AnswersFor, IsAnswerIn, IsFaultIn, IsTakenIn, best_asked, design_texts, one_net}
+use Rattle.vg_run.specs.Modes.{AnswersFor, IsAnswerIn, IsFaultIn, IsTakenIn, best_asked, design_texts, goal_of, one_net, repair_asked}
 
 abbrev Bytes : Type 0
 Bytes = List ℕ
@@ -73,3 +76,12 @@ module _ (ask : Ask) (texts : Input → Bytes) (result : Result Answer NoAnswer)
   segment_says is net parts same few says =
       in_mode Segment is (subst (λ (n : Option Bytes). AnswersBy (IsSegmentAnswer (texts Spef) n (parts_of ask)) (IsSegmentFault (texts Spef)) NoneTaken result) same
       (subst (λ (m : ℕ). AnswersBy (IsSegmentAnswer (texts Spef) net m) (IsSegmentFault (texts Spef)) NoneTaken result) few says))
+
+  pub repair_says : ask.mode ≡ Repair → (net : Option Bytes) (wants : Goal) (prefix : Bytes) → net ≡ ask.net → wants ≡ goal_of ask → prefix ≡ prefix_of ask
+      → AnswersBy (IsRepairAnswer (design_texts texts) (record { net = net; goal = wants; prefix = prefix })) (IsDesignFault (design_texts texts))
+      (IsTaken (design_texts texts) prefix) result → AnswersFor ask texts result
+  repair_says is net wants prefix same enough word says =
+      let asked : record { net = net; goal = wants; prefix = prefix } ≡ repair_asked ask
+      = λ i. record { net = same i; goal = enough i; prefix = word i } in
+      in_mode Repair is
+      (subst (λ (a : RepairAsked). AnswersBy (IsRepairAnswer (design_texts texts) a) (IsDesignFault (design_texts texts)) (IsTaken (design_texts texts) a.prefix) result) asked says)

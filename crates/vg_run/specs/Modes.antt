@@ -2,12 +2,15 @@
 use Rattle.std.specs.Prelude.{ℕ, List, [], Result, unwrap_or, is_some}
 use Rattle.design_read.specs.Designs.{Texts}
 use Rattle.vg_words.specs.declared.ask.Mode.{Mode}
-use Rattle.vg_words.specs.declared.ask.Mode.TheVariants.{Wire, Time, Best, Frontier, Check, Gen, Sta, Segment}
+use Rattle.vg_words.specs.declared.ask.Mode.TheVariants.{Wire, Time, Best, Frontier, Check, Gen, Sta, Segment, Repair}
 use Rattle.mode_gen.specs.Answers.{made_up, IsGenAnswer}
-use Rattle.mode_best.specs.Answers.{Asked, IsBestAnswer, IsTaken}
+use Rattle.vg_place.specs.Placings.{IsTaken}
+use Rattle.mode_best.specs.Answers.{Asked, IsBestAnswer}
 use Rattle.vg_answer.specs.Answers.{Said, AnswersBy}
 use Rattle.mode_check.specs.Answers.{IsCheckAnswer}
 use Rattle.mode_frontier.specs.Answers.{IsFrontAnswer}
+use Rattle.mode_repair.specs.Answers.{IsRepairAnswer, Asked as RepairAsked}
+use Rattle.mode_repair.specs.declared.outcome.Goal.{Goal}
 use Rattle.mode_segment.specs.Answers.{IsSegmentAnswer, IsSegmentFault}
 use Rattle.mode_sta.specs.Answers.{IsStaAnswer}
 use Rattle.mode_time.specs.Answers.{IsTimeAnswer}
@@ -16,7 +19,7 @@ use Rattle.vg_answer.specs.declared.input.Input.TheVariants.{Spef, Lib, Verilog,
 use Rattle.vg_answer.specs.declared.answer.Answer.{Answer}
 use Rattle.vg_answer.specs.declared.kind.AnswerKind.{AnswerKind}
 use Rattle.vg_answer.specs.declared.answer.NoAnswer.{NoAnswer}
-use Rattle.vg_words.specs.Request.{cap_of, parts_of, prefix_of, size_of}
+use Rattle.vg_words.specs.Request.{cap_of, parts_of, prefix_of, size_of, target_of}
 use Rattle.vg_words.specs.declared.ask.Ask.{Ask}
 use Rattle.vg_answer.specs.Faults.{IsDesignFault}
 use Rattle.mode_wire.specs.Answers.{IsWireAnswer, IsWireFault}
@@ -34,6 +37,14 @@ one_net ask = unwrap_or ask.net []
 abbrev pub best_asked : Ask → Asked
 best_asked ask = record { net = ask.net; prefix = prefix_of ask; certified = is_some (written_cert ask) }
 
+-- which slack is enough in mode `repair`, and the cap
+abbrev pub goal_of : Ask → Goal
+goal_of ask = record { target = target_of ask; cap = cap_of ask }
+
+-- what mode `repair` is asked
+abbrev pub repair_asked : Ask → RepairAsked
+repair_asked ask = record { net = ask.net; goal = goal_of ask; prefix = prefix_of ask }
+
 -- what is said of the texts that a mode reads
 abbrev pub IsAnswerIn : Mode → Ask → (Input → List ℕ) → AnswerKind → Said → Type 0
 IsAnswerIn Wire ask texts kind said = IsWireAnswer (texts Spef) (one_net ask) kind said
@@ -44,6 +55,7 @@ IsAnswerIn Check ask texts kind said = IsCheckAnswer (design_texts texts) (texts
 IsAnswerIn Gen ask texts kind said = IsGenAnswer (size_of ask) kind said
 IsAnswerIn Sta ask texts kind said = IsStaAnswer (design_texts texts) kind said
 IsAnswerIn Segment ask texts kind said = IsSegmentAnswer (texts Spef) ask.net (parts_of ask) kind said
+IsAnswerIn Repair ask texts kind said = IsRepairAnswer (design_texts texts) (repair_asked ask) kind said
 
 -- the first fault of the texts that it judges: mode `gen` judges those of the design that it makes up, and mode `check`
 -- judges the certificate when all others are in their form
@@ -53,9 +65,10 @@ IsFaultIn Segment ask texts line input = IsSegmentFault (texts Spef) line input
 IsFaultIn Gen ask texts line input = IsDesignFault (made_up (size_of ask)) line input
 IsFaultIn mode ask texts line input = IsDesignFault (design_texts texts) line input
 
--- a name of the design begins with the prefix, for which mode `best` alone asks
+-- a name of the design begins with the prefix, for which modes `best` and `repair` alone ask
 abbrev pub IsTakenIn : Mode → Ask → (Input → List ℕ) → List ℕ → Type 0
 IsTakenIn Best ask texts name = IsTaken (design_texts texts) (prefix_of ask) name
+IsTakenIn Repair ask texts name = IsTaken (design_texts texts) (prefix_of ask) name
 IsTakenIn mode ask texts name = ⊥
 
 -- this is an answer of this kind to a request

@@ -5,7 +5,7 @@ ghost use Rattle.std.specs.List.{AllPass};
 ghost use Rattle.vg_scan.specs.Printed.{is_solid};
 ghost use Rattle.vg_words.specs.Request.{prefix_of};
 ghost use Rattle.vg_run.specs.Inputs.{texts_read};
-ghost use Rattle.vg_run.specs.Modes.{AnswersFor};
+ghost use Rattle.vg_run.specs.Modes.{AnswersFor, goal_of};
 ghost use Rattle.vg_run.specs.Run.{IsSized};
 
 use crate::inputs::Texts;
@@ -14,6 +14,7 @@ use mode_best::best_for;
 use mode_check::check_for;
 use mode_frontier::front_for;
 use mode_gen::gen_for;
+use mode_repair::{Goal, repair_for};
 use mode_segment::segment_for;
 use mode_sta::sta_for;
 use mode_time::time_for;
@@ -29,6 +30,16 @@ fn asked_net(ask: &Ask) -> Option<&[u8]>
     match &ask.net {
         None => None,
         Some(name) => Some(name.as_str().as_bytes()),
+    }
+}
+
+/// Which slack is enough in mode `repair`, and the cap.
+fn goal(ask: &Ask) -> Goal
+    ensures { result ≡ goal_of ask.now }
+{
+    Goal {
+        target: ask.target(),
+        cap: ask.cap(),
     }
 }
 
@@ -52,5 +63,6 @@ pub(crate) fn answer(alloc: Global, texts: Texts, ask: &Ask) -> Result<Answer, N
         Mode::Gen => gen_for(alloc, ask.size()),
         Mode::Sta => sta_for(alloc, design),
         Mode::Segment => segment_for(alloc, design.spef, asked_net(ask), ask.parts()),
+        Mode::Repair => repair_for(alloc, design, asked_net(ask), goal(ask), prefix),
     }
 }

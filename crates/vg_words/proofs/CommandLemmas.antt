@@ -18,8 +18,8 @@ use Rattle.clap.proofs.WalkLemmas.{both}
 use Rattle.vg_words.specs.Command.{action_for, app, bare, long_name}
 use Rattle.vg_words.specs.Options.{is_flag, options}
 use Rattle.vg_words.specs.declared.option.Opt.{Opt}
-use Rattle.vg_words.specs.declared.option.Opt.TheVariants.{Mode, Spef, Lib, Verilog, Cons, Net, All, OutSpef, OutVerilog, Cert, Cap, Prefix, Size, Parts}
-use Rattle.vg_words.proofs.OptionLemmas.{each_valued, one_flag}
+use Rattle.vg_words.specs.declared.option.Opt.TheVariants.{Mode, Spef, Lib, Verilog, Cons, Net, All, OutSpef, OutVerilog, Cert, Cap, Prefix, Size, Parts, Target}
+use Rattle.vg_words.proofs.OptionLemmas.{one_flag, same_of_valued}
 
 -- the matches of a simple command, by another name
 pub matches_at : (a b : App) (words : List (List ℕ)) (r : Result ArgMatches Error) → a ≡ b → is_simple b ≡ true → IfOk r (HasMatchesOf a words)
@@ -61,10 +61,10 @@ shape = record bare.top { rules = rules; disable_help_subcommand = true; is_buil
 
 -- the argument of a name
 pub by_id : (o : Opt) → is_flag o ≡ false → arg_by_id rules (long_name o) ≡ Some (rule o)
-by_id = each_valued (λ o. arg_by_id rules (long_name o) ≡ Some (rule o)) refl refl refl refl refl refl refl refl refl refl refl refl refl
+by_id = same_of_valued (λ o. arg_by_id rules (long_name o)) (λ o. Some (rule o)) None refl
 
 pub by_long : (o : Opt) → is_flag o ≡ false → arg_by_long rules (long_name o) ≡ Some (rule o)
-by_long = each_valued (λ o. arg_by_long rules (long_name o) ≡ Some (rule o)) refl refl refl refl refl refl refl refl refl refl refl refl refl
+by_long = same_of_valued (λ o. arg_by_long rules (long_name o)) (λ o. Some (rule o)) None refl
 
 pub flag_by_long : (o : Opt) → is_flag o ≡ true → arg_by_long rules (long_name o) ≡ Some (flag_rule o)
 flag_by_long o e = subst (λ o. arg_by_long rules (long_name o) ≡ Some (flag_rule o)) (sym (one_flag o e)) refl
@@ -118,7 +118,7 @@ abbrev before_flag : List Opt
 before_flag = Mode ∷ Spef ∷ Lib ∷ Verilog ∷ Cons ∷ Net ∷ []
 
 abbrev after_flag : List Opt
-after_flag = OutSpef ∷ OutVerilog ∷ Cert ∷ Cap ∷ Prefix ∷ Size ∷ Parts ∷ []
+after_flag = OutSpef ∷ OutVerilog ∷ Cert ∷ Cap ∷ Prefix ∷ Size ∷ Parts ∷ Target ∷ []
 
 with_defaults : (rows : List Row) → fold with_default rows rules ≡ with_flag rows
 with_defaults rows =

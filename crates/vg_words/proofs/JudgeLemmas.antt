@@ -1,24 +1,25 @@
 -- What a judgment of the given values says of the words.
-use Rattle.std.proofs.Common.{◌≡◌, ◌≢◌, ◌≤◌, ℕ, Bool, true, false, not, ◌&&◌, ◌||◌, ◌⊎◌, inl, inr, List, [], ◌∷◌, refl, sym, ap, ◌∙◌, subst, Option, Some, None, is_some, unwrap_or, Result, Ok, Err, codes, if◌then◌else◌}
+use Rattle.std.proofs.Common.{◌≡◌, ◌≢◌, ◌≤◌, ℕ, Bool, true, false, not, ◌&&◌, ◌||◌, ◌⊎◌, inl, inr, List, [], ◌∷◌, refl, sym, ap, ◌∙◌, subst, Option, Some, None, is_some, unwrap_or, pos, Result, Ok, Err, codes, if◌then◌else◌}
 use Rattle.std.proofs.lemmas.Bool.{false≢true, true≢false}
 use Rattle.std.specs.List.{find, list_any}
 use Rattle.std.specs.Result.{IsErrAnd}
 use Rattle.std.specs.Str.{bytes_eq}
 use Rattle.std.proofs.lemmas.Slice.Eq.{bytes_eq-Decides}
 use Rattle.vg_num.specs.Number.{value_of as number_of}
-use Rattle.vg_words.proofs.OptionLemmas.{each, same_option}
+use Rattle.vg_words.proofs.OptionLemmas.{each, same_of_each, same_option}
 use Rattle.vg_words.proofs.CountLemmas.{count_small}
 use Rattle.vg_words.proofs.SpellingLemmas.{one_setting}
+use Rattle.vg_words.proofs.TargetLemmas.{no_target, time_read}
 use Rattle.vg_words.specs.Laws.{AsksAsIn, AsksForNet}
 use Rattle.vg_words.specs.Views.{AreValues}
 use Rattle.vg_words.specs.declared.ask.Ask.{Ask}
 use mathlib.Core.Path.{fun_ext}
 use Rattle.vg_words.specs.Options.{options, file_options, is_same, required, mode_of, mode_name}
-use Rattle.vg_words.specs.Request.{Setting, Sets, Values, values_in, value_of, IsRequest, is_missing, is_excluded, flag_value, has_bad_value, is_bad, is_cap, is_parts, is_size, or_else, of_first, of_pair, first_equal, fault_in, fault_of_mode, fault_of_name, fault_of, HasMode, IsRefused, ReadsWords, value, cap_in, cap_of, parts_in, parts_of, size_in, size_of}
+use Rattle.vg_words.specs.Request.{Setting, Sets, Values, values_in, value_of, IsRequest, is_missing, is_excluded, flag_value, has_bad_value, is_bad, is_cap, is_parts, is_size, is_target, or_else, of_first, of_pair, first_equal, fault_in, fault_of_mode, fault_of_name, fault_of, HasMode, IsRefused, ReadsWords, value, cap_in, cap_of, parts_in, parts_of, size_in, size_of, target_in, target_of}
 use Rattle.vg_words.specs.declared.option.Opt.{Opt}
-use Rattle.vg_words.specs.declared.option.Opt.TheVariants.{Mode, Spef, Lib, Verilog, Cons, Net, All, OutSpef, OutVerilog, Cert, Cap, Prefix, Size, Parts}
+use Rattle.vg_words.specs.declared.option.Opt.TheVariants.{Mode, Spef, Lib, Verilog, Cons, Net, All, OutSpef, OutVerilog, Cert, Cap, Prefix, Size, Parts, Target}
 use Rattle.vg_words.specs.declared.ask.Mode.{Mode as ModeSpec}
-use Rattle.vg_words.specs.declared.ask.Mode.TheVariants.{Wire, Time, Best, Frontier, Check, Gen, Sta, Segment}
+use Rattle.vg_words.specs.declared.ask.Mode.TheVariants.{Wire, Time, Best, Frontier, Check, Gen, Sta, Segment, Repair}
 use Rattle.vg_words.specs.declared.ask.WordFault.{WordFault}
 use Rattle.vg_words.specs.declared.ask.WordFault.TheVariants.{Unread, Missing, Excluded, BadValue, Equal, Memory}
 
@@ -100,21 +101,9 @@ some_mode a b e = cc
 requested_values : (values : Values) (ask : Ask) → values Mode ≡ Some (mode_name ask.mode) → values Spef ≡ ask.spef → values Lib ≡ ask.lib
     → values Verilog ≡ ask.verilog → values Cons ≡ ask.cons → values Net ≡ ask.net → values All ≡ flag_value ask.all
     → values OutSpef ≡ ask.out_spef → values OutVerilog ≡ ask.out_verilog → values Cert ≡ ask.cert → values Cap ≡ ask.cap
-    → values Prefix ≡ ask.prefix → values Size ≡ ask.size → values Parts ≡ ask.parts → (option : Opt) → values option ≡ value ask option
-requested_values values ask m s l v c n a os ov r k p z q Mode = m
-requested_values values ask m s l v c n a os ov r k p z q Spef = s
-requested_values values ask m s l v c n a os ov r k p z q Lib = l
-requested_values values ask m s l v c n a os ov r k p z q Verilog = v
-requested_values values ask m s l v c n a os ov r k p z q Cons = c
-requested_values values ask m s l v c n a os ov r k p z q Net = n
-requested_values values ask m s l v c n a os ov r k p z q All = a
-requested_values values ask m s l v c n a os ov r k p z q OutSpef = os
-requested_values values ask m s l v c n a os ov r k p z q OutVerilog = ov
-requested_values values ask m s l v c n a os ov r k p z q Cert = r
-requested_values values ask m s l v c n a os ov r k p z q Cap = k
-requested_values values ask m s l v c n a os ov r k p z q Prefix = p
-requested_values values ask m s l v c n a os ov r k p z q Size = z
-requested_values values ask m s l v c n a os ov r k p z q Parts = q
+    → values Prefix ≡ ask.prefix → values Size ≡ ask.size → values Parts ≡ ask.parts → values Target ≡ ask.target
+    → (option : Opt) → values option ≡ value ask option
+requested_values values ask = each (λ option. values option ≡ value ask option)
 
 -- a text that is the name of one mode, or else names another
 named_or : (text : List ℕ) (own mode : ModeSpec) (rest : Option ModeSpec) → (if bytes_eq text (mode_name own) then Some own else rest) ≡ Some mode
@@ -128,7 +117,8 @@ named_or text own mode rest e later =
 -- a text that names a mode is its name
 mode_named : (text : List ℕ) (mode : ModeSpec) → mode_of text ≡ Some mode → text ≡ mode_name mode
 mode_named text mode e =
-    let after_sta : Option ModeSpec = if bytes_eq text (codes "segment") then Some Segment else None in
+    let after_segment : Option ModeSpec = if bytes_eq text (codes "repair") then Some Repair else None in
+    let after_sta : Option ModeSpec = if bytes_eq text (codes "segment") then Some Segment else after_segment in
     let after_gen : Option ModeSpec = if bytes_eq text (codes "sta") then Some Sta else after_sta in
     let after_check : Option ModeSpec = if bytes_eq text (codes "gen") then Some Gen else after_gen in
     let after_frontier : Option ModeSpec = if bytes_eq text (codes "check") then Some Check else after_check in
@@ -142,7 +132,8 @@ mode_named text mode e =
     (λ e. named_or text Check mode after_check e
     (λ e. named_or text Gen mode after_gen e
     (λ e. named_or text Sta mode after_sta e
-    (λ e. named_or text Segment mode None e (λ none. absurd (cc)))))))))
+    (λ e. named_or text Segment mode after_segment e
+    (λ e. named_or text Repair mode None e (λ none. absurd (cc))))))))))
 
 mode_given : (name : Option (List ℕ)) (mode : ModeSpec) → HasMode name mode → name ≡ Some (mode_name mode)
 mode_given None mode h = absurd h
@@ -153,10 +144,11 @@ pub requested : (words : List (List ℕ)) (values : Values) (mode : ModeSpec) (a
     → (fault_of values ≡ None) × HasMode (values Mode) mode
     → ask.mode ≡ mode → ask.spef ≡ values Spef → ask.lib ≡ values Lib → ask.verilog ≡ values Verilog → ask.cons ≡ values Cons → ask.net ≡ values Net
     → flag_value ask.all ≡ values All → ask.out_spef ≡ values OutSpef → ask.out_verilog ≡ values OutVerilog → ask.cert ≡ values Cert → ask.cap ≡ values Cap
-    → ask.prefix ≡ values Prefix → ask.size ≡ values Size → ask.parts ≡ values Parts → IsRequest words ask
-requested words values mode ask given (e, h) m s l v c n a os ov r k p z q =
+    → ask.prefix ≡ values Prefix → ask.size ≡ values Size → ask.parts ≡ values Parts → ask.target ≡ values Target → IsRequest words ask
+requested words values mode ask given (e, h) m s l v c n a os ov r k p z q t =
     let named = mode_given (values Mode) mode h ∙ ap (λ x. Some (mode_name x)) (sym m) in
-    let kept = requested_values values ask named (sym s) (sym l) (sym v) (sym c) (sym n) (sym a) (sym os) (sym ov) (sym r) (sym k) (sym p) (sym z) (sym q) in
+    let kept = requested_values values ask named (sym s) (sym l) (sym v) (sym c) (sym n) (sym a) (sym os) (sym ov) (sym r) (sym k) (sym p) (sym z)
+    (sym q) (sym t) in
     record {
       settings = given.settings;
       set = given.set;
@@ -174,6 +166,7 @@ named_mode Check = refl
 named_mode Gen = refl
 named_mode Sta = refl
 named_mode Segment = refl
+named_mode Repair = refl
 
 one_mode : (a b : ModeSpec) → mode_name a ≡ mode_name b → a ≡ b
 one_mode a b e = some_mode a b (sym (named_mode a) ∙ ap mode_of e ∙ named_mode b)
@@ -209,6 +202,7 @@ one words a b x y =
       prefix = values Prefix i;
       size = values Size i;
       parts = values Parts i;
+      target = values Target i;
     }
 
 -- words that are refused are no request
@@ -254,7 +248,7 @@ no_faults None b e = (refl, e)
 no_faults (Some fault) b e = absurd (cc)
 
 all_options : (o : Opt) → list_any (is_same o) options ≡ true
-all_options = each (λ o. list_any (is_same o) options ≡ true) refl refl refl refl refl refl refl refl refl refl refl refl refl refl
+all_options = same_of_each (λ o. list_any (is_same o) options) (λ _. true) refl
 
 -- what a judgment without a fault says of each option, and of those that name files
 pub record IsWhole (mode : ModeSpec) (values : Values) : Type 0 where
@@ -312,6 +306,7 @@ asks_as_in Check ask w = one_net ask.net ask.all (w.found Net refl) (w.allowed A
 asks_as_in Gen ask w = no_net ask.net ask.all (w.allowed Net) (w.allowed All)
 asks_as_in Sta ask w = no_net ask.net ask.all (w.allowed Net) (w.allowed All)
 asks_as_in Segment ask w = net_or_all ask.net ask.all (w.found Net refl) (w.allowed All)
+asks_as_in Repair ask w = net_or_all ask.net ask.all (w.found Net refl) (w.allowed All)
 
 pub one_or_all : (words : List (List ℕ)) (ask : Ask) → IsRequest words ask → AsksAsIn ask.mode ask
 one_or_all words ask is = asks_as_in ask.mode ask (whole_request words ask is)
@@ -334,6 +329,7 @@ cert_of_net Check ask w named = asks_as_in Check ask w
 cert_of_net Gen ask w named = absurd (named (no_cert ask.cert (w.allowed Cert)))
 cert_of_net Sta ask w named = absurd (named (no_cert ask.cert (w.allowed Cert)))
 cert_of_net Segment ask w named = absurd (named (no_cert ask.cert (w.allowed Cert)))
+cert_of_net Repair ask w named = absurd (named (no_cert ask.cert (w.allowed Cert)))
 
 pub certs : (words : List (List ℕ)) (ask : Ask) → IsRequest words ask → ask.cert ≢ None → AsksForNet ask
 certs words ask is = cert_of_net ask.mode ask (whole_request words ask is)
@@ -372,3 +368,10 @@ one_cap cap text good e =
 
 pub caps : (words : List (List ℕ)) (ask : Ask) → IsRequest words ask → (text : List ℕ) → ask.cap ≡ Some text → cap_of ask ≡ Some (number_of text)
 caps words ask is text e = one_cap ask.cap text ((whole_request words ask is).good Cap) e
+
+-- the target is the time that its text writes, or 0
+pub targets : (words : List (List ℕ)) (ask : Ask) → IsRequest words ask
+    → ((text : List ℕ) → ask.target ≡ Some text → target_in text ≡ Some (target_of ask)) × (ask.target ≡ None → target_of ask ≡ pos 0)
+targets words ask is =
+    let good : has_bad_value Target ask.target ≡ false = (whole_request words ask is).good Target in
+    (λ text given. time_read ask.target text (not_not (is_target text) (ap (has_bad_value Target) (sym given) ∙ good)) given, no_target ask.target)

@@ -2,6 +2,7 @@ pub mod OptionLemmas
 pub mod SpellingLemmas
 pub mod CountLemmas
 pub mod CapLemmas
+pub mod TargetLemmas
 pub mod JudgeLemmas
 pub mod EqualLemmas
 pub mod FileLemmas

@@ -1,12 +1,12 @@
--- Words ask for one thing at most, for as many nets as their mode has a use for, for a size or for parts, and name no
--- file twice.
-use Rattle.std.specs.Prelude.{◌≡◌, ◌≢◌, ◌≤◌, ◌⊎◌, ℕ, true, false, List, Some, None, is_some}
+-- Words ask for one thing at most, for as many nets as their mode has a use for, for a size or for parts, for the cap
+-- and the target that they write, and name no file twice.
+use Rattle.std.specs.Prelude.{◌≡◌, ◌≢◌, ◌≤◌, ◌⊎◌, ℕ, pos, true, false, List, Some, None, is_some}
 use Rattle.vg_num.specs.Number.{value_of as number_of}
 use Rattle.vg_words.specs.Options.{names_file}
-use Rattle.vg_words.specs.Request.{IsRequest, cap_of, parts_of, size_of, value}
+use Rattle.vg_words.specs.Request.{IsRequest, cap_of, parts_of, size_of, target_in, target_of, value}
 use Rattle.vg_words.specs.declared.ask.Ask.{Ask}
 use Rattle.vg_words.specs.declared.ask.Mode.{Mode}
-use Rattle.vg_words.specs.declared.ask.Mode.TheVariants.{Wire, Time, Best, Frontier, Check, Gen, Sta, Segment}
+use Rattle.vg_words.specs.declared.ask.Mode.TheVariants.{Wire, Time, Best, Frontier, Check, Gen, Sta, Segment, Repair}
 use Rattle.vg_words.specs.declared.option.Opt.{Opt}
 
 abbrev pub OneRequest : Type 0
@@ -34,9 +34,10 @@ AsksAsIn Check ask = AsksForNet ask
 AsksAsIn Gen ask = AsksForNone ask
 AsksAsIn Sta ask = AsksForNone ask
 AsksAsIn Segment ask = AsksForNet ask ⊎ AsksForAll ask
+AsksAsIn Repair ask = AsksForNet ask ⊎ AsksForAll ask
 
--- in modes `wire` and `check` a request asks for one net, in modes `time`, `best`, `frontier` and `segment` for one or
--- for all, and in modes `gen` and `sta` it names none
+-- in modes `wire` and `check` a request asks for one net, in modes `time`, `best`, `frontier`, `segment` and `repair`
+-- for one or for all, and in modes `gen` and `sta` it names none
 abbrev pub OneOrAll : Type 0
 OneOrAll = (words : List (List ℕ)) (ask : Ask) → IsRequest words ask → AsksAsIn ask.mode ask
 
@@ -64,3 +65,9 @@ SizesAreSmall = (words : List (List ℕ)) (ask : Ask) → IsRequest words ask �
 abbrev pub PartsAreFew : Type 0
 PartsAreFew = (words : List (List ℕ)) (ask : Ask) → IsRequest words ask → ask.mode ≡ Segment
     → (1 ≤ parts_of ask) × (parts_of ask ≤ 64)
+
+-- a request with a target asks for the time that it writes, and one without for 0
+abbrev pub TargetsAreRead : Type 0
+TargetsAreRead = (words : List (List ℕ)) (ask : Ask) → IsRequest words ask
+    → ((text : List ℕ) → ask.target ≡ Some text → target_in text ≡ Some (target_of ask))
+    × (ask.target ≡ None → target_of ask ≡ pos 0)

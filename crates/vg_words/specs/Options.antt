@@ -3,9 +3,9 @@ use Rattle.std.specs.Prelude.{ℕ, ◌==◌, Bool, true, false, List, [], ◌∷
 use Rattle.std.specs.List.{list_any}
 use Rattle.std.specs.Str.{bytes_eq}
 use Rattle.vg_words.specs.declared.option.Opt.{Opt}
-use Rattle.vg_words.specs.declared.option.Opt.TheVariants.{Mode, Spef, Lib, Verilog, Cons, Net, All, OutSpef, OutVerilog, Cert, Cap, Prefix, Size, Parts}
+use Rattle.vg_words.specs.declared.option.Opt.TheVariants.{Mode, Spef, Lib, Verilog, Cons, Net, All, OutSpef, OutVerilog, Cert, Cap, Prefix, Size, Parts, Target}
 use Rattle.vg_words.specs.declared.ask.Mode.{Mode as ModeSpec}
-use Rattle.vg_words.specs.declared.ask.Mode.TheVariants.{Wire, Time, Best, Frontier, Check, Gen, Sta, Segment}
+use Rattle.vg_words.specs.declared.ask.Mode.TheVariants.{Wire, Time, Best, Frontier, Check, Gen, Sta, Segment, Repair}
 
 abbrev pub name_of : Opt → List ℕ
 name_of Mode = codes "--mode"
@@ -22,6 +22,7 @@ name_of Cap = codes "--cap"
 name_of Prefix = codes "--prefix"
 name_of Size = codes "--size"
 name_of Parts = codes "--parts"
+name_of Target = codes "--target"
 
 -- the place of an option in the order of options
 abbrev pub place_of : Opt → ℕ
@@ -39,13 +40,15 @@ place_of Cap = 10
 place_of Prefix = 11
 place_of Size = 12
 place_of Parts = 13
+place_of Target = 14
 
 abbrev pub is_same : Opt → Opt → Bool
 is_same a b = place_of a == place_of b
 
 abbrev pub options : List Opt
 options =
-    Mode ∷ Spef ∷ Lib ∷ Verilog ∷ Cons ∷ Net ∷ All ∷ OutSpef ∷ OutVerilog ∷ Cert ∷ Cap ∷ Prefix ∷ Size ∷ Parts ∷ []
+    Mode ∷ Spef ∷ Lib ∷ Verilog ∷ Cons ∷ Net ∷ All ∷ OutSpef ∷ OutVerilog ∷ Cert ∷ Cap ∷ Prefix ∷ Size ∷ Parts
+    ∷ Target ∷ []
 
 -- the option has no value: it is given, or it is not
 abbrev pub is_flag : Opt → Bool
@@ -69,7 +72,8 @@ mode_of text =
     else (if bytes_eq text (codes "check") then Some Check
     else (if bytes_eq text (codes "gen") then Some Gen
     else (if bytes_eq text (codes "sta") then Some Sta
-    else (if bytes_eq text (codes "segment") then Some Segment else None)))))))
+    else (if bytes_eq text (codes "segment") then Some Segment
+    else (if bytes_eq text (codes "repair") then Some Repair else None))))))))
 
 abbrev pub mode_name : ModeSpec → List ℕ
 mode_name Wire = codes "wire"
@@ -80,6 +84,7 @@ mode_name Check = codes "check"
 mode_name Gen = codes "gen"
 mode_name Sta = codes "sta"
 mode_name Segment = codes "segment"
+mode_name Repair = codes "repair"
 
 -- the options that a mode asks for; `--all` may stand for `--net` where the mode may be given it
 abbrev pub required : ModeSpec → List Opt
@@ -91,6 +96,7 @@ required Check = Spef ∷ Lib ∷ Verilog ∷ Cons ∷ Net ∷ Cert ∷ []
 required Gen = Size ∷ []
 required Sta = Spef ∷ Lib ∷ Verilog ∷ Cons ∷ []
 required Segment = Spef ∷ Net ∷ OutSpef ∷ Parts ∷ []
+required Repair = Spef ∷ Lib ∷ Verilog ∷ Cons ∷ Net ∷ OutSpef ∷ OutVerilog ∷ []
 
 -- those that it may be given besides
 abbrev pub optional : ModeSpec → List Opt
@@ -102,6 +108,7 @@ optional Check = []
 optional Gen = []
 optional Sta = []
 optional Segment = All ∷ []
+optional Repair = All ∷ Cap ∷ Prefix ∷ Target ∷ []
 
 -- those that it may be given; it has no use for others
 abbrev pub allowed : ModeSpec → List Opt

@@ -1,14 +1,15 @@
 -- What words ask for, or the first reason why they ask for nothing.
-use Rattle.std.specs.Prelude.{◌≡◌, ◌⊎◌, ℕ, nat_lt, nat_le, ◌&&◌, ◌||◌, Bool, true, false, not, List, [], ◌∷◌, ◌++◌, length, codes, Option, Some, None, is_some, unwrap_or, Result, Ok, Err, map, string_bytes, String, if◌then◌else◌}
+use Rattle.std.specs.Prelude.{◌≡◌, ◌⊎◌, ◌^◌, ℕ, ℤ, pos, nat_lt, nat_le, ◌&&◌, ◌||◌, Bool, true, false, not, List, [], ◌∷◌, ◌++◌, length, codes, Option, Some, None, is_some, unwrap_or, Result, Ok, Err, map, string_bytes, String, if◌then◌else◌}
 use Rattle.std.specs.List.{count_by, list_all, list_any, find}
+use Rattle.std.specs.Result.{result_ok}
 use Rattle.std.specs.Str.{bytes_eq}
 use Rattle.std.specs.Str.Parse.{starts_with_minus}
 use Rattle.std.specs.declared.alloc.Global.{Global}
-use Rattle.vg_num.specs.Number.{are_digits, value_of as number_of}
+use Rattle.vg_num.specs.Number.{are_digits, signed_scaled, value_of as number_of}
 use Rattle.vg_scan.specs.Prefixes.{is_prefix}
 use Rattle.vg_words.specs.Options.{name_of, mode_of, mode_name, is_flag, is_same, options, file_options, required, allowed}
 use Rattle.vg_words.specs.declared.option.Opt.{Opt}
-use Rattle.vg_words.specs.declared.option.Opt.TheVariants.{Mode, Spef, Lib, Verilog, Cons, Net, All, OutSpef, OutVerilog, Cert, Cap, Prefix, Size, Parts}
+use Rattle.vg_words.specs.declared.option.Opt.TheVariants.{Mode, Spef, Lib, Verilog, Cons, Net, All, OutSpef, OutVerilog, Cert, Cap, Prefix, Size, Parts, Target}
 use Rattle.vg_words.specs.declared.ask.Mode.{Mode as ModeSpec}
 use Rattle.vg_words.specs.declared.ask.Ask.{Ask}
 use Rattle.vg_words.specs.declared.ask.WordFault.{WordFault}
@@ -109,13 +110,22 @@ is_parts text = is_count 2 64 text
 abbrev pub is_cap : List ℕ → Bool
 is_cap text = are_digits text && nat_le (length text) 18
 
--- an empty value, or a cap, a prefix, a size or a number of parts of another form; a flag has no bad value
+-- the time (zs) that a text writes in picoseconds, read as the times of constraints are; none where reading refuses it
+abbrev pub target_in : List ℕ → Option ℤ
+target_in text = result_ok (signed_scaled (pos 9) (10 ^ 23) text)
+
+-- a number of picoseconds, of at most 10^23 zs in size
+abbrev pub is_target : List ℕ → Bool
+is_target text = is_some (target_in text)
+
+-- an empty value, or a cap, a prefix, a size, a number of parts or a target of another form; a flag has no bad value
 abbrev pub is_bad_value : Opt → List ℕ → Bool
 is_bad_value All value = false
 is_bad_value Cap value = not (is_cap value)
 is_bad_value Prefix value = not (is_prefix value)
 is_bad_value Size value = not (is_size value)
 is_bad_value Parts value = not (is_parts value)
+is_bad_value Target value = not (is_target value)
 is_bad_value option value = not (nat_lt 0 (length value))
 
 abbrev pub has_bad_value : Opt → Option (List ℕ) → Bool
@@ -199,6 +209,7 @@ value ask Cap = ask.cap
 value ask Prefix = ask.prefix
 value ask Size = ask.size
 value ask Parts = ask.parts
+value ask Target = ask.target
 
 -- that value as a text, empty where there is none
 abbrev pub text_for : Ask → Opt → List ℕ
@@ -234,6 +245,10 @@ size_of ask = unwrap_or (size_in (text_for ask Size)) 0
 -- the number of parts into which resistors are to be cut; 0 where there is none
 abbrev pub parts_of : Ask → ℕ
 parts_of ask = unwrap_or (parts_in (text_for ask Parts)) 0
+
+-- the slack (zs) that is enough; 0 where there is no target
+abbrev pub target_of : Ask → ℤ
+target_of ask = unwrap_or (target_in (text_for ask Target)) (pos 0)
 
 -- the words denote the request: they give each option its value, and no reason is against them
 pub record IsRequest (words : List (List ℕ)) (ask : Ask) : Type 0 where

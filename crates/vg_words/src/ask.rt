@@ -2,12 +2,13 @@ ghost use Rattle.std.specs.Prelude.{◌≡◌};
 ghost use Rattle.clap.specs.Words.{kind_of};
 ghost use Rattle.vg_words.specs.Command.{fault_for};
 ghost use Rattle.vg_words.specs.Options.{mode_name, optional, required};
-ghost use Rattle.vg_words.specs.Request.{cap_of, may_be_given, parts_of, prefix_of, size_of, text_for};
+ghost use Rattle.vg_words.specs.Request.{cap_of, may_be_given, parts_of, prefix_of, size_of, target_of, text_for};
 ghost use Rattle.vg_words.specs.declared.ask.WordFault.TheVariants.{Memory as out_of_memory};
 
 use crate::cap::cap_in;
 use crate::count::{parts_in, size_in};
 use crate::option::Opt;
+use crate::target::target_in;
 use clap::error::ErrorKind;
 use vg_num::{Memory, Text};
 
@@ -35,6 +36,9 @@ pub enum Mode {
     /// Cuts the resistors of one net or of all into parts, so that repeaters can stand along a wire: prints how many
     /// nodes each net has then, and writes the parasitics.
     Segment,
+    /// Prints, of one net or of each, the cheapest placement of repeaters with slack of at least a target, and writes
+    /// the netlist and the parasitics with the cells.
+    Repair,
 }
 
 const WIRE_OPTIONS: [Opt; 2] = [Opt::Spef, Opt::Net];
@@ -78,6 +82,9 @@ const FRONTIER_EXTRAS: [Opt; 2] = [Opt::All, Opt::Cap];
 /// What mode `segment` may be given besides.
 const SEGMENT_EXTRAS: [Opt; 1] = [Opt::All];
 
+/// What mode `repair` may be given besides.
+const REPAIR_EXTRAS: [Opt; 4] = [Opt::All, Opt::Cap, Opt::Prefix, Opt::Target];
+
 impl Mode {
     /// The options that the mode asks for, where `--all` may stand for `--net`.
     pub(crate) fn required_options(self) -> &'static [Opt]
@@ -86,7 +93,7 @@ impl Mode {
         match self {
             Mode::Wire => &WIRE_OPTIONS,
             Mode::Time | Mode::Frontier => &DESIGN_OPTIONS,
-            Mode::Best => &CHANGE_OPTIONS,
+            Mode::Best | Mode::Repair => &CHANGE_OPTIONS,
             Mode::Check => &CHECK_OPTIONS,
             Mode::Gen => &SIZE_OPTIONS,
             Mode::Sta => &STA_OPTIONS,
@@ -104,6 +111,7 @@ impl Mode {
             Mode::Best => &CHANGE_EXTRAS,
             Mode::Frontier => &FRONTIER_EXTRAS,
             Mode::Segment => &SEGMENT_EXTRAS,
+            Mode::Repair => &REPAIR_EXTRAS,
         }
     }
 
@@ -129,6 +137,7 @@ impl Mode {
             Mode::Gen => "gen",
             Mode::Sta => "sta",
             Mode::Segment => "segment",
+            Mode::Repair => "repair",
         }
     }
 }
@@ -163,6 +172,8 @@ pub struct Ask {
     pub size: Option<Text>,
     /// Into how many parts resistors are cut, as it is written.
     pub parts: Option<Text>,
+    /// The slack (ps) that is enough, as it is written.
+    pub target: Option<Text>,
 }
 
 /// What the names of cells that are put in begin with, where the words do not say.
@@ -188,6 +199,7 @@ impl Ask {
             Opt::Prefix => &self.prefix,
             Opt::Size => &self.size,
             Opt::Parts => &self.parts,
+            Opt::Target => &self.target,
         };
         match value {
             Some(text) => text.as_str(),
@@ -227,6 +239,13 @@ impl Ask {
     {
         parts_in(self.text(Opt::Parts).as_bytes()).unwrap_or(0)
     }
+
+    /// The slack (zs) that is enough; 0 where the words do not say.
+    pub fn target(&self) -> i128
+        ensures { result ≡ target_of self.now }
+    {
+        target_in(self.text(Opt::Target).as_bytes()).unwrap_or(0)
+    }
 }
 
 /// Why the words ask for nothing: the first of these, in this order.
@@ -242,7 +261,8 @@ pub enum WordFault {
     Excluded(Opt),
     /// The option's value is empty, or is no mode; or a cap is not 1 to 18 digits; or a prefix is not a letter or `_`,
     /// followed by at most 31 letters, digits or `_`; or a size is not one to four digits, which write 1 to 4000; or
-    /// parts are not one or two digits, which write 1 to 64.
+    /// parts are not one or two digits, which write 1 to 64; or a target is no number of picoseconds, with a sign or
+    /// without, of at most 10^23 zeptoseconds in size.
     BadValue(Opt),
     /// Both options name one file.
     Equal(Opt, Opt),

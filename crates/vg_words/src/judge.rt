@@ -12,6 +12,7 @@ use crate::cap::cap_in;
 use crate::count::{parts_in, size_in};
 use crate::given::Given;
 use crate::option::{FILE_OPTIONS, OPTIONS, Opt};
+use crate::target::target_in;
 use std::alloc::Global;
 use vg_num::{Memory, Text};
 
@@ -35,6 +36,8 @@ fn mode_of(name: &str) -> Option<Mode>
         Some(Mode::Sta)
     } else if name == "segment" {
         Some(Mode::Segment)
+    } else if name == "repair" {
+        Some(Mode::Repair)
     } else {
         None
     }
@@ -119,6 +122,7 @@ fn is_bad_value(option: Opt, value: &str) -> bool
         Opt::Prefix => !is_prefix(value.as_bytes()),
         Opt::Size => size_in(value.as_bytes()).is_none(),
         Opt::Parts => parts_in(value.as_bytes()).is_none(),
+        Opt::Target => target_in(value.as_bytes()).is_none(),
         _ => value.is_empty(),
     }
 }
@@ -258,6 +262,7 @@ fn ask_of(alloc: Global, mode: Mode, given: &Given<'_>) -> Result<Ask, Memory>
     ensures prefix { IfOk result (λ ask. ask.prefix ≡ given_by given.now Opt.Prefix) }
     ensures size { IfOk result (λ ask. ask.size ≡ given_by given.now Opt.Size) }
     ensures parts { IfOk result (λ ask. ask.parts ≡ given_by given.now Opt.Parts) }
+    ensures target { IfOk result (λ ask. ask.target ≡ given_by given.now Opt.Target) }
 {
     let spef = text_of(alloc, given.get(Opt::Spef))?;
     let lib = text_of(alloc, given.get(Opt::Lib))?;
@@ -271,6 +276,7 @@ fn ask_of(alloc: Global, mode: Mode, given: &Given<'_>) -> Result<Ask, Memory>
     let prefix = text_of(alloc, given.get(Opt::Prefix))?;
     let size = text_of(alloc, given.get(Opt::Size))?;
     let parts = text_of(alloc, given.get(Opt::Parts))?;
+    let target = text_of(alloc, given.get(Opt::Target))?;
     Ok(Ask {
         mode,
         spef,
@@ -286,6 +292,7 @@ fn ask_of(alloc: Global, mode: Mode, given: &Given<'_>) -> Result<Ask, Memory>
         prefix,
         size,
         parts,
+        target,
     })
 }
 
@@ -298,8 +305,9 @@ fn ask_of(alloc: Global, mode: Mode, given: &Given<'_>) -> Result<Ask, Memory>
 /// `--prefix`, mode `frontier` may be given `--cap`, and all three `--all` in the place of `--net`; mode `best` may be
 /// given `--cert` too, but not beside `--all`. Mode `gen` asks for `--size` alone, and mode `sta` for `--spef`, `--lib`,
 /// `--verilog` and `--cons` alone. Mode `segment` asks for `--spef`, `--net`, `--out-spef` and `--parts`, and may be given
-/// `--all` in the place of `--net`. The faults come in the order of `WordFault`, and of one kind the first option in the
-/// order of `Opt`. Answers `Memory` where there is no room.
+/// `--all` in the place of `--net`. Mode `repair` asks for what mode `best` asks for, and may be given `--all` in the
+/// place of `--net`, `--cap`, `--prefix` and `--target`. The faults come in the order of `WordFault`, and of one kind
+/// the first option in the order of `Opt`. Answers `Memory` where there is no room.
 pub fn read_words(alloc: Global, words: &[String]) -> Result<Ask, WordFault>
     ensures { ReadsWords result (texts words.now) }
 {

@@ -1,4 +1,4 @@
-ghost use Rattle.vg_words.specs.Laws.{CapsAreRead, CertsAreOfOneNet, FilesDiffer, OneOrAll, OneRequest, PartsAreFew, SizesAreSmall};
+ghost use Rattle.vg_words.specs.Laws.{CapsAreRead, CertsAreOfOneNet, FilesDiffer, OneOrAll, OneRequest, PartsAreFew, SizesAreSmall, TargetsAreRead};
 
 /// Words are one request at most. The function does nothing: its contract is the law, which a proof may cite.
 pub fn one_request()
@@ -6,8 +6,8 @@ pub fn one_request()
 {}
 
 /// A request asks for one net in modes `wire` and `check`, for one net or for all nets in modes `time`, `best`,
-/// `frontier` and `segment`, and names none in modes `gen` and `sta`. The function does nothing: its contract is the
-/// law, which a proof may cite.
+/// `frontier`, `segment` and `repair`, and names none in modes `gen` and `sta`. The function does nothing: its contract
+/// is the law, which a proof may cite.
 pub fn one_or_all()
     ensures { OneOrAll }
 {}
@@ -40,4 +40,10 @@ pub fn sizes_are_small()
 /// may cite.
 pub fn parts_are_few()
     ensures { PartsAreFew }
+{}
+
+/// A request with a target asks for the time that it writes, and one without for 0. The function does nothing: its
+/// contract is the law, which a proof may cite.
+pub fn targets_are_read()
+    ensures { TargetsAreRead }
 {}

@@ -9,11 +9,12 @@ mod given;
 mod judge;
 mod laws;
 mod option;
+mod target;
 
 pub use ask::{Ask, Mode, WordFault};
 pub use judge::read_words;
 pub use laws::{
     caps_are_read, certs_are_of_one_net, files_differ, one_or_all, one_request, parts_are_few,
-    sizes_are_small,
+    sizes_are_small, targets_are_read,
 };
 pub use option::{Opt, options};

@@ -36,10 +36,13 @@ pub enum Opt {
     Size,
     /// Into how many parts resistors are cut.
     Parts,
+    /// The slack (ps) that is enough. A negative one stands in one word with the option, as in `--target=-100`: a word
+    /// of its own that begins with `-` is no value.
+    Target,
 }
 
 /// All options, in order.
-pub const OPTIONS: [Opt; 14] = [
+pub const OPTIONS: [Opt; 15] = [
     Opt::Mode,
     Opt::Spef,
     Opt::Lib,
@@ -54,6 +57,7 @@ pub const OPTIONS: [Opt; 14] = [
     Opt::Prefix,
     Opt::Size,
     Opt::Parts,
+    Opt::Target,
 ];
 
 /// Those that name files.
@@ -94,6 +98,7 @@ impl Opt {
             Opt::Prefix => "--prefix",
             Opt::Size => "--size",
             Opt::Parts => "--parts",
+            Opt::Target => "--target",
         }
     }
 

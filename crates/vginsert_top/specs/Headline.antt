@@ -1,13 +1,13 @@
--- What a run promises of each net that is asked for in modes `best`, `frontier` and `segment`, of a design in mode
--- `sta`, and of certificates.
-use Rattle.std.specs.Prelude.{◌≡◌, ◌≢◌, ℕ, List, [], Option, Some}
+-- What a run promises of each net that is asked for in modes `best`, `repair`, `frontier` and `segment`, of a design in
+-- mode `sta`, and of certificates.
+use Rattle.std.specs.Prelude.{◌≡◌, ◌≢◌, ℕ, ℤ, List, [], ◌++◌, map, Option, Some}
 use Rattle.std.specs.List.{AllZip, Contains, flat_map}
 use Rattle.vg_store.specs.Reading.{FilesState}
 use Rattle.vg_store.specs.Writing.{OutState, Gains}
 use Rattle.vg_words.specs.Request.{cap_of, parts_of, prefix_of}
 use Rattle.vg_words.specs.declared.ask.Ask.{Ask}
 use Rattle.vg_words.specs.declared.ask.Mode.{Mode}
-use Rattle.vg_words.specs.declared.ask.Mode.TheVariants.{Best as BestMode, Frontier, Check, Sta as StaMode, Segment as SegmentMode}
+use Rattle.vg_words.specs.declared.ask.Mode.TheVariants.{Best as BestMode, Frontier, Check, Sta as StaMode, Segment as SegmentMode, Repair as RepairMode}
 use Rattle.spef_net.specs.declared.net.ParNet.{ParNet}
 use Rattle.spef_patch_laws.specs.ReplacementLaws.{HasSameNet}
 use Rattle.spef_wire.specs.declared.refusal.Refusal.{Refusal}
@@ -20,6 +20,7 @@ use Rattle.vg_sta.specs.Timings.{IsFirstBehindCycle, IsFirstRefused, IsTimed}
 use Rattle.vg_sta.specs.declared.answer.Sta.{Sta}
 use Rattle.vg_slack.specs.Bests.{HasNoGood, IsFound}
 use Rattle.vg_slack.specs.declared.answer.Best.{Best}
+use Rattle.vg_repair.specs.Repairs.{IsEnough, IsRepair}
 use Rattle.vg_front.specs.Points.{IsFrontierOf}
 use Rattle.vg_front.specs.declared.root.Point.{Point}
 use Rattle.vg_report.specs.Reports.{best_report, front_report, none_line, refusal_line}
@@ -31,19 +32,26 @@ use Rattle.vg_answer.specs.declared.input.Input.{Input}
 use Rattle.vg_answer.specs.declared.input.Input.TheVariants.{Spef}
 use Rattle.vg_answer.specs.declared.kind.AnswerKind.{AnswerKind}
 use Rattle.vg_answer.specs.declared.kind.AnswerKind.TheVariants.{Report}
-use Rattle.mode_best.specs.Answers.{Certifies, Files}
+use Rattle.vg_place.specs.Placings.{Files}
+use Rattle.place_laws.specs.Laws.{with_files}
+use Rattle.mode_best.specs.Answers.{Certifies}
 use Rattle.mode_frontier.specs.Answers.{HasNoneWithin}
 use Rattle.mode_check.specs.Answers.{IsCheckAnswer}
+use Rattle.mode_repair.specs.Outcomes.{AreTotals, totals_line}
+use Rattle.mode_repair.specs.declared.outcome.Goal.{Goal}
+use Rattle.mode_repair.specs.declared.outcome.Outcome.{Outcome}
+use Rattle.mode_repair.specs.declared.outcome.Outcome.TheVariants.{Met, Short, NoneGood, Refused}
+use Rattle.mode_repair.specs.declared.totals.Totals.{Totals}
 use Rattle.mode_segment.specs.Answers.{nets_in}
 use Rattle.mode_segment.specs.Lines.{segment_line}
 use Rattle.mode_sta.specs.Lines.{cycle_line, no_path_line, sta_report}
 use Rattle.vg_run.specs.Inputs.{AreRead, Change}
-use Rattle.vg_run.specs.Modes.{design_texts}
+use Rattle.vg_run.specs.Modes.{design_texts, goal_of}
 use Rattle.vg_run.specs.Run.{HoldsAt}
 use Rattle.segment_laws.specs.SegmentedDesigns.{IsNoWorseIn}
 use Rattle.segment_laws.specs.SegmentedTexts.{IsCutIn}
 use Rattle.vg_segment.specs.Texts.{IsFit, IsSegmentRefusal, cut_count}
-use Rattle.run_laws.specs.Laws.{IsFoundAndValid, ShowsInFiles, with_files}
+use Rattle.run_laws.specs.Laws.{IsFoundAndValid, ShowsInFiles}
 
 -- The lines of a net in mode `best`. Either they report a placement of its problem that is legal, gives each sink the
 -- polarity that it wants and has exactly this slack, none of these has more, and in the written texts the net re-times
@@ -87,6 +95,26 @@ pub data SegmentOf (old new : List ℕ) (parts : ℕ) (name line : List ℕ) : T
       → line ≡ segment_line name parts (cut_count parts net) → SegmentOf old new parts name line
   refused : (refusal : Refusal) → IsSegmentRefusal old parts name refusal → HasSameNet old new name
       → line ≡ refusal_line name refusal → SegmentOf old new parts name line
+
+-- What a net comes to in mode `repair`, and its lines. Either they report a placement of its problem that is legal,
+-- gives each sink the polarity that it wants, is within the cap and has exactly this slack: none without a cell where
+-- that is enough, else the cheapest that is enough, and else the greatest slack at the least cost; in the written texts
+-- the net re-times to it. Or they say that no placement is good and within the cap; or they name the first reason
+-- against the net.
+pub data RepairOf (d : Design) (goal : Goal) (Retimes : List ℕ → ℤ → Type 0) (name : List ℕ)
+    (row : Outcome × List ℕ) : Type 0 where
+  met : (net : NetProblem) → IsNetProblem d name net → (best : Best)
+      → IsRepair net.problem goal.cap goal.target best.placement.cells best.slack → IsEnough goal.target best.slack
+      → row ≡ (Met best.slack, best_report name (cells_of d.library.repeaters) net best) → Retimes name best.slack
+      → RepairOf d goal Retimes name row
+  short : (net : NetProblem) → IsNetProblem d name net → (best : Best)
+      → IsRepair net.problem goal.cap goal.target best.placement.cells best.slack → (IsEnough goal.target best.slack → ⊥)
+      → row ≡ (Short best.slack, best_report name (cells_of d.library.repeaters) net best) → Retimes name best.slack
+      → RepairOf d goal Retimes name row
+  none_good : (net : NetProblem) → IsNetProblem d name net → HasNoneWithin net.problem goal.cap
+      → row ≡ (NoneGood, none_line name) → RepairOf d goal Retimes name row
+  refused : (refusal : Refusal) → IsFirstRefusal d name refusal → row ≡ (Refused, refusal_line name refusal)
+      → RepairOf d goal Retimes name row
 
 -- The four files that were read denote a design, and an output gained the lines of the nets that are asked for, one net
 -- after another, each as `Tells` has it.
@@ -133,12 +161,31 @@ pub record SegmentHeadline (files : Change FilesState) (out : Change OutState) (
       → HasSameNet (texts Spef) written name
   pub printed : Gains out.0 out.1 (flat_map (λ line. line) lines)
 
--- what the reports of modes `best`, `frontier`, `sta` and `segment` say
+-- Mode `repair` has written a netlist and parasitics, and reports each net as `RepairOf` has it, for the texts that were
+-- read with these two in their places; the last line counts what the nets came to, and has their least slack.
+pub record RepairHeadline (files : Change FilesState) (out : Change OutState) (ask : Ask) : Type 0 where
+  pub written : Files
+  pub netlist : HoldsAt files.1 ask.out_verilog written.verilog
+  pub parasitics : HoldsAt files.1 ask.out_spef written.spef
+  pub texts : Input → List ℕ
+  pub read : AreRead files.0 ask texts
+  pub design : Design
+  pub design_of : IsDesign (design_texts texts) design
+  pub rows : List (Outcome × List ℕ)
+  pub each : AllZip
+      (RepairOf design (goal_of ask) (RetimesInTexts (with_files (design_texts texts) written) (prefix_of ask)))
+      (nets_for design ask.net) rows
+  pub totals : Totals
+  pub totals_of : AreTotals (map (λ row. row.0) rows) totals
+  pub printed : Gains out.0 out.1 (flat_map (λ row. row.1) rows ++ totals_line totals)
+
+-- what the reports of modes `best`, `repair`, `frontier`, `sta` and `segment` say
 abbrev pub HeadlineIn : Mode → Change FilesState → Change OutState → Ask → Type 0
 HeadlineIn BestMode files out ask = BestHeadline files out ask
 HeadlineIn Frontier files out ask = Reports files.0 out ask (λ texts d name lines. FrontOf d (cap_of ask) name lines)
 HeadlineIn StaMode files out ask = StaHeadline files.0 out ask
 HeadlineIn SegmentMode files out ask = SegmentHeadline files out ask
+HeadlineIn RepairMode files out ask = RepairHeadline files out ask
 HeadlineIn mode files out ask = Unit {0}
 
 abbrev pub Headline : Change FilesState → Change OutState → Ask → Type 0

@@ -10,9 +10,10 @@ use Rattle.vg_answer.specs.Answers.{AnswersBy, texts_in}
 use Rattle.vg_answer.specs.Faults.{IsDesignFault}
 use Rattle.vg_answer.specs.Nets.{named}
 use Rattle.vg_answer.proofs.AnswerLemmas.{design_of_texts, handed}
-use Rattle.mode_best.specs.Answers.{Asked, IsBestAnswer, IsTaken}
+use Rattle.vg_place.specs.Placings.{IsTaken}
+use Rattle.vg_place.proofs.CellLemmas.{repeaters_are_named}
+use Rattle.mode_best.specs.Answers.{Asked, IsBestAnswer}
 use Rattle.mode_best.proofs.AnswerLemmas.{best_answered, not_judged}
-use Rattle.mode_best.proofs.BestLemmas.{repeaters_are_named}
 use Rattle.mode_best.proofs.best.best_for.Goals as goal
 
 pub from_clear-text-requires-clause-short : goal.from_clear-text-requires-clause-short

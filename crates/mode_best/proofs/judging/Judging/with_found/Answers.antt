@@ -1,7 +1,0 @@
-use Rattle.vg_design.proofs.PartLemmas.{order_within}
-use Rattle.mode_best.proofs.judging.Judging.with_found.Goals as goal
-
-pub into_problem-requires : goal.into_problem-requires
-into_problem-requires c =
-    let ready = c.args.net.ready in
-    order_within c.args.design.now ready.pinned.net ready.pinned.pins ready.tree.nodes ready.order c.requires.posed.ready

@@ -1,0 +1,4 @@
+pub mod TotalLemmas
+pub mod RepairLemmas
+pub mod AnswerLemmas
+pub mod ApartLemmas

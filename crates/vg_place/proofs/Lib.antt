@@ -1,0 +1,5 @@
+pub mod CellLemmas
+pub mod PutLemmas
+pub mod JudgedLemmas
+pub mod FileLemmas
+pub mod ApartLemmas
