@@ -36,7 +36,7 @@ fn files_of(mode: &str) -> &'static [Given] {
     match mode {
         "wire" => &WIRE,
         "time" | "sta" | "frontier" => &DESIGN,
-        "best" => &BEST,
+        "best" | "repair" => &BEST,
         "check" => &CHECK,
         "segment" => &SEGMENT,
         _ => &[],

@@ -22,6 +22,7 @@ fn lists_options_in_order(rt: HostRuntime) -> Result<(), Fail> {
         "--prefix",
         "--size",
         "--parts",
+        "--target",
     ];
     let found = options().iter().map(|option| option.name());
     assert!(rt; found.eq(names.iter().copied()));
@@ -90,6 +91,28 @@ fn asks_parts(alloc: Global) -> Result<bool, Fail> {
     Ok(ask.parts() == 8 && ask.mode == Mode::Segment && ask.all && ask.size() == 0)
 }
 
+/// Words of mode `repair` with a target, with a negative one and without one, and the slack (zs) that is enough.
+static TARGETS: [(&str, i128); 3] = [
+    (
+        "--mode repair --spef a --lib l --verilog v --cons c --all --out-spef o --out-verilog w --target 1.5 --cap 9",
+        1_500_000_000,
+    ),
+    (
+        "--target=-100 --cap=9 --mode=repair --spef a --lib l --verilog v --cons c --all --out-spef=o --out-verilog=w",
+        -100_000_000_000,
+    ),
+    (
+        "--mode repair --spef a --lib l --verilog v --cons c --all --out-spef o --out-verilog w --cap 9",
+        0,
+    ),
+];
+
+/// Whether words of mode `repair` ask for this slack (zs).
+fn asks_target(alloc: Global, line: &str, target: i128) -> Result<bool, Fail> {
+    let ask = asked(alloc, line)?;
+    Ok(ask.target() == target && ask.mode == Mode::Repair && ask.all && ask.cap() == Some(9))
+}
+
 #[test]
 fn reads_each_option(rt: HostRuntime) -> Result<(), Fail> {
     for (option, value) in &VALUES {
@@ -98,5 +121,8 @@ fn reads_each_option(rt: HostRuntime) -> Result<(), Fail> {
     assert!(rt; asks_frontier(rt.alloc())?);
     assert!(rt; asks_size(rt.alloc())?);
     assert!(rt; asks_parts(rt.alloc())?);
+    for (line, target) in &TARGETS {
+        assert!(rt; asks_target(rt.alloc(), line, *target)?, "{line}");
+    }
     Ok(())
 }
