@@ -42,6 +42,7 @@ SMALL_CERT = ["--cert", os.path.join(EXAMPLES, "small.cert")]
 RUNS = {
     "`best`, with a certificate": ["best", *SMALL, "--net", "n1", *OUTPUTS, "--cert", "out.cert"],
     "`best --all`": ["best", *SOC, "--all", *OUTPUTS],
+    "`repair --all`": ["repair", *SOC, "--all", *OUTPUTS],
     "`frontier`": ["frontier", *SMALL, "--net", "n1"],
     "`frontier --all`": ["frontier", *SOC, "--all"],
     "`check`": ["check", *SMALL, "--net", "n1", *SMALL_CERT],

@@ -13,11 +13,12 @@
 | `cert` | `--mode best --cert` and `--mode check` | chains of 1,024 to 65,536 nodes, with 2 and 16 repeaters |
 | `frontier` | `--mode frontier` | chains and random trees with 60 to 480 nodes between driver and sinks, with 2, 8 and 32 repeaters, with a cap and without one |
 | `all` | `--mode time --all` and `--mode best --all` | all nets of designs of four files |
+| `repair` | `--mode repair --all` with three targets, beside `best --all` and `frontier --all` of the same program | all nets of designs of four files |
 | `sta` | `--mode time --all` and `--mode sta` | designs of four files with short paths and with long ones, and one path through 2^20 nets |
 | `segment` | `--mode segment --all` with 4 parts, and up to 16 MB also with 16; besides `--mode wire` for a small net, and `cp` of both files | extracted designs |
 
-The sizes are the nodes in modes `best` and `cert`, the nodes but two in mode `frontier`, and those of the SPEF files in modes `design`, `time` and `segment` (1, 16, 64 and 256 MB if none is given), `all` (1, 16, 64 and 192 MB) and `sta`
-(16, 64 and 192 MB; where some are given, the one path goes through 8,192 nets for each MB of the last one), of the netlists (256 MB) and of the libraries (64 MB). With `--beside OTHER` each row but those of `rows` and `library` also tells the seconds
+The sizes are the nodes in modes `best` and `cert`, the nodes but two in mode `frontier`, and those of the SPEF files in modes `design`, `time` and `segment` (1, 16, 64 and 256 MB if none is given), `all` (1, 16, 64 and 192 MB), `repair` (1, 4 and 16 MB) and `sta`
+(16, 64 and 192 MB; where some are given, the one path goes through 8,192 nets for each MB of the last one), of the netlists (256 MB) and of the libraries (64 MB). With `--beside OTHER` each row but those of `rows`, `library` and `repair` also tells the seconds
 and the memory of another program with the same arguments, run right after. In modes `best` and `cert` the changed files are written, too;
 in mode `cert` each program checks its own certificate, unless this has more than 2^28 bytes. In mode `segment` the nets that are too large when they are cut stay.
 Seconds are the least of five runs of the whole process, peak memory is what GNU time tells, 1 MB is 2^20 bytes.
@@ -262,6 +263,30 @@ def run_all(programs, *sizes):
             row(*sizes_of, f"{nets:,}", mode, f"{put:,}", *cells)
 
 
+def slacks_in(report):
+    """The slacks of nets in a report of mode `time`, in ps, from the least on."""
+    words = [line.split(b" ") for line in report.splitlines()]
+    return sorted(int(line[3]) / 10**9 for line in words if line[2] == b"slack")
+
+
+def run_repair(programs, *sizes):
+    head("SPEF file", "nets", "mode", "target", "nets with slack enough", "cells", "seconds", "peak memory")
+    files = ["--spef", "net.spef", "--lib", "net.lib", "--verilog", "net.v", "--cons", "net.cons", "--all"]
+    written = ["--out-spef", "out.spef", "--out-verilog", "out.v"]
+    for size in sizes or ["1", "4", "16"]:
+        next(iter(designs([size])))
+        slacks = slacks_in(measure_good([programs[0], "--mode", "time", *files], 2)[0])
+        # Nineteen of twenty nets have slack enough as they are; half have it; none has it, with any cells.
+        targets = [f"{slacks[len(slacks) // 20]:.9f}", f"{slacks[len(slacks) // 2]:.9f}", "1000000000"]
+        modes = [("best", written, ""), ("frontier", [], "")] + [("repair", [*written, f"--target={target}"], target) for target in targets]
+        for mode, words, target in modes:
+            # Nets of the design may be refused or short of the target: status 2.
+            report, seconds, peak = measure_good([programs[0], "--mode", mode, *files, *words], 2)
+            enough = sum(slack >= float(target) for slack in slacks) if target else ""
+            put = sum(line.startswith(b"at ") for line in report.splitlines())
+            row(mb(os.path.getsize("net.spef")), f"{len(slacks):,}", mode, target, str(enough), f"{put:,}", f"{seconds:.2f}", mb(peak))
+
+
 def sta_designs(sizes):
     """Writes designs, one after the other, and tells of what kind each is."""
     for kind in ["clocked", "chained"]:
@@ -315,6 +340,7 @@ MODES = {
     "cert": run_cert,
     "frontier": run_frontier,
     "all": run_all,
+    "repair": run_repair,
     "sta": run_sta,
     "segment": run_segment,
 }
