@@ -1,5 +1,5 @@
-# `make` proves and builds the program, once. `make demo` places repeaters on all nets of the design in examples/, writes the files to
-# out/demo/, and times the whole design and its nets before and after; `make wire` prints the wire delays of a net, `make sta` the slacks
+# `make` proves and builds the program, once. `make demo` places the cheapest repeaters with which all nets of the design in examples/ are
+# on time, and beside it the best ones, writes the files to out/demo/, and times the whole design and its nets before and after; `make wire` prints the wire delays of a net, `make sta` the slacks
 # of the whole design as it is, and `make check` checks a certificate of the design's worst net. Where the program is not built yet,
 # they compile it and run it without a proof. `make test` is the merge gate.
 # `make cases` runs the case files of crates/tests_runs/data without a proof, `make cases WORDS=best/refused.case` one of them, and
