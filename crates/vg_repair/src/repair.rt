@@ -9,7 +9,7 @@ ghost use Rattle.vg_repair.specs.Repairs.{IsEnough, NeedsCells, IsRepairAnswer};
 
 use crate::bare::bare_placement;
 use crate::pick::pick;
-use crate::search::{best_of, search};
+use crate::search::search;
 use elmore::Problem;
 use sol_arena::Arena;
 use std::alloc::Global;
@@ -47,9 +47,10 @@ fn repair_by(points: Vec<Point>, bare: Option<Best>, target: i128) -> Option<Bes
 /// least cost that has it, and without a cell where that is as good. `None`: no good placement is within the cap.
 ///
 /// Where the placement without a cell has not slack enough, the answer has the cost and the slack of a point of the
-/// frontier of cost and slack (Lillis, Cheng and Lin 1996): of the first one with slack enough, or of the last one. A
-/// best placement is searched first (van Ginneken 1990), which is quicker: no repair has to cost more than it does, and
-/// where it has slack enough, as much of the frontier is made as has a point with slack enough, within caps that double.
+/// frontier of cost and slack (Lillis, Cheng and Lin 1996): of the first one with slack enough, or of the last one. Of a
+/// large net a best placement is searched first (van Ginneken 1990), which is quicker: no repair has to cost more than
+/// it does, and where it has slack enough, as much of the frontier is made as has a point with slack enough, within caps
+/// that double.
 /// Elsewhere nothing is searched. The solutions of a search stand in the lent arena, which afterwards is as before.
 /// Answers `Memory` when out of memory.
 pub fn repaired(
@@ -66,9 +67,6 @@ pub fn repaired(
     if is_enough(&bare, target) {
         return Ok(bare);
     }
-    let Some(best) = best_of(alloc, p, arena)? else {
-        return Ok(None);
-    };
-    let points = search(alloc, p, cap, target, &best, arena)?;
+    let points = search(alloc, p, cap, target, arena)?;
     Ok(repair_by(points, bare, target))
 }

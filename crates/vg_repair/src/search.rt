@@ -19,6 +19,9 @@ use vg_slack::{Best, best_in};
 /// How often the greatest cap is halved for the first search.
 const HALVINGS: u32 = 5;
 
+/// Of how many nodes a net is small: its whole frontier is found as quickly as a best placement and parts of it.
+const SMALL: usize = 16;
+
 /// A best placement of a problem, or none where no placement is good, by a search whose steps are counted in a ledger.
 fn counted_best<L: Ledger>(
     alloc: Global,
@@ -86,7 +89,7 @@ fn near_points(
 
 /// The points of the frontier within a cap (thousandths), where there is a cap, or as many of them as have one with a
 /// slack (zs) of the target or more. A best placement is given: what costs more has no more slack.
-pub(crate) fn search(
+fn search_below(
     alloc: Global,
     p: &Problem,
     cap: Option<u64>,
@@ -103,4 +106,25 @@ pub(crate) fn search(
         return frontier_in(alloc, p, Some(last), arena);
     }
     near_points(alloc, p, last, target, arena)
+}
+
+/// The points of the frontier within a cap (thousandths), where there is a cap, or as many of them as have one with a
+/// slack (zs) of the target or more. Answers `Memory` when out of memory.
+pub(crate) fn search(
+    alloc: Global,
+    p: &Problem,
+    cap: Option<u64>,
+    target: i128,
+    arena: &mut Arena,
+) -> Result<Vec<Point>, Memory>
+    ensures searched { IfOk result (λ points. IsSearched p.now cap target points.items) }
+    ensures restored { IsRestored (slots_of arena.old) (slots_of arena.new) }
+{
+    if p.tree.nodes.len() <= SMALL {
+        return frontier_in(alloc, p, cap, arena);
+    }
+    match best_of(alloc, p, arena)? {
+        Some(best) => search_below(alloc, p, cap, target, &best, arena),
+        None => Ok(Vec::new(alloc)),
+    }
 }
