@@ -1,0 +1,5 @@
+pub mod TotalLemmas
+pub mod SweepLemmas
+pub mod PickLemmas
+pub mod TurnLemmas
+pub mod LawLemmas
