@@ -6,7 +6,7 @@ import re
 import sys
 
 TOP = os.path.dirname(os.path.dirname(os.path.realpath(__file__)))
-PAGES = ("docs/THEOREM.md", "docs/THEOREM_STA.md", "docs/THEOREM_SEGMENT.md", "docs/THEOREM_REPAIR.md")
+PAGES = ("docs/THEOREM.md", "docs/THEOREM_STA.md", "docs/THEOREM_SEGMENT.md", "docs/THEOREM_REPAIR.md", "docs/THEOREM_TOTAL.md")
 
 
 def blocks(page):

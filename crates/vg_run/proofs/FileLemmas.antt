@@ -7,7 +7,7 @@ use Rattle.std.proofs.lemmas.List.Kept.{AllPairs-cons}
 use Rattle.vg_words.specs.Request.{size_of}
 use Rattle.vg_words.specs.declared.ask.Ask.{Ask}
 use Rattle.vg_words.specs.declared.ask.Mode.{Mode}
-use Rattle.vg_words.specs.declared.ask.Mode.TheVariants.{Wire, Time, Best, Frontier, Check, Gen, Sta, Segment, Repair}
+use Rattle.vg_words.specs.declared.ask.Mode.TheVariants.{Wire, Time, Best, Frontier, Check, Gen, Sta, Segment, Repair, Total}
 use Rattle.vg_answer.specs.Answers.{Said, Written}
 use Rattle.vg_answer.specs.declared.input.Input.{Input}
 use Rattle.vg_answer.specs.declared.input.Input.TheVariants.{Spef}
@@ -18,8 +18,9 @@ use Rattle.vg_answer.specs.declared.output.Output.TheVariants.{Netlist, Parasiti
 use Rattle.vg_place.specs.Placings.{Files, changed_files}
 use Rattle.mode_best.specs.Answers.{written_files}
 use Rattle.mode_gen.specs.Answers.{IsGenAnswer}
+use Rattle.mode_total.proofs.ApartLemmas.{files_are}
 use Rattle.mode_wire.specs.Answers.{IsWireAnswer}
-use Rattle.vg_run.specs.Modes.{IsAnswerIn, one_net}
+use Rattle.vg_run.specs.Modes.{IsAnswerIn, design_texts, one_net, total_asked}
 use Rattle.vg_run.specs.Run.{AreApart, AreApartIn, IsOutput, output_name}
 
 no_pairs : (R : Written → Written → Type 0) → AllPairs R []
@@ -87,6 +88,11 @@ module _ (ask : Ask) (apart : AreApart ask) where
   files_apart Segment texts kind said is = one_apart said.files _ is.files
   files_apart Repair texts kind said is =
       subst (λ (list : List Written). AreApartIn ask list) (sym is.repair_of.files_are) (changed_apart is.repair_of.files)
+  files_apart Total texts kind said is =
+      elim (files_are (design_texts texts) (total_asked ask) kind said is) [
+        | inl none ↦ none_apart ask said.files none
+        | inr (files, are) ↦ subst (λ (list : List Written). AreApartIn ask list) (sym are) (changed_apart files)
+      ]
 
 not_named : (ask : Ask) (file : List ℕ) → (IsOutput ask file → ⊥) → (output : Output) → output_name ask output ≢ Some file
 not_named ask file none Netlist is = none (inr (inl is))

@@ -5,7 +5,7 @@ use Rattle.std.specs.Prelude.{if◌then◌else◌}
 use Rattle.vg_words.specs.Request.{cap_of, parts_of, prefix_of, size_of}
 use Rattle.vg_words.specs.declared.ask.Ask.{Ask}
 use Rattle.vg_words.specs.declared.ask.Mode.{Mode}
-use Rattle.vg_words.specs.declared.ask.Mode.TheVariants.{Wire, Time, Best, Frontier, Check, Gen, Sta, Segment, Repair}
+use Rattle.vg_words.specs.declared.ask.Mode.TheVariants.{Wire, Time, Best, Frontier, Check, Gen, Sta, Segment, Repair, Total}
 use Rattle.vg_design.specs.Designs.{Design}
 use Rattle.mode_wire.specs.Answers.{IsWireAnswer}
 use Rattle.mode_time.specs.Answers.{IsTimeSaid, nets_to_time}
@@ -20,6 +20,8 @@ use Rattle.mode_repair.specs.declared.outcome.Outcome.{Outcome}
 use Rattle.mode_repair.specs.declared.outcome.Outcome.TheVariants.{Met, Short, NoneGood as NoPlacement, Refused}
 use Rattle.mode_segment.specs.Answers.{IsSegmentSaid, nets_in}
 use Rattle.mode_sta.specs.Answers.{IsStaSaid}
+use Rattle.mode_total.specs.Choices.{Choice, Standing}
+use Rattle.mode_total.specs.Lines.{kind_for as total_kind_for, kind_in as kind_of_standing, kind_with}
 use Rattle.vg_answer.specs.Answers.{Said}
 use Rattle.vg_answer.specs.Nets.{nets_for}
 use Rattle.vg_answer.specs.Verdicts.{Verdict, bare_verdict, is_invalid, is_none_good, is_refusal, kind_in, kind_of}
@@ -39,6 +41,7 @@ gives mode Refusal = true
 gives Best NoneGood = true
 gives Frontier NoneGood = true
 gives Repair NoneGood = true
+gives Total NoneGood = true
 gives mode NoneGood = false
 gives Check Invalid = true
 gives mode Invalid = false
@@ -157,6 +160,22 @@ repair_gives d goal name v (IsRepairSaid.told_repair net of best repair is) =
 repair_gives d goal name v (IsRepairSaid.told_none net of none is) = ap (λ (u : Verdict). gives Repair u.kind) is
 repair_gives d goal name v (IsRepairSaid.told_refusal refusal refused is) = ap (λ (u : Verdict). gives Repair u.kind) is
 
+-- no net and no choice tells that a certificate is not valid
+valid_standings : (standings : List Standing) → list_any is_invalid (map kind_of_standing standings) ≡ false
+valid_standings [] = refl
+valid_standings (Standing.accepted own ∷ standings) = valid_standings standings
+valid_standings (Standing.refused name refusal ∷ standings) = valid_standings standings
+
+valid_kinds : (standings : List Standing) (choices : List Choice) → list_any is_invalid (kind_with choices ∷ map kind_of_standing standings) ≡ false
+valid_kinds standings [] = valid_standings standings
+valid_kinds standings (choice ∷ choices) = valid_standings standings
+
+total_gives : (standings : List Standing) (choices : List Choice) → gives Total (total_kind_for standings choices) ≡ true
+total_gives standings choices =
+    let kinds = kind_with choices ∷ map kind_of_standing standings in
+    by_tests (gives Total) (list_any is_refusal kinds) (list_any is_invalid kinds) (list_any is_none_good kinds) (λ _. refl)
+    (λ any. absurd (let e : false ≡ true = sym (valid_kinds standings choices) ∙ any in cc)) (λ _. refl) refl
+
 pub mode_gives : (mode : Mode) (ask : Ask) (texts : Input → Bytes) (kind : AnswerKind) (said : Said) → IsAnswerIn mode ask texts kind said
     → gives mode kind ≡ true
 mode_gives Wire ask texts kind said is = wire_gives (texts Spef) (one_net ask) kind said is
@@ -178,6 +197,7 @@ mode_gives Segment ask texts kind said is =
 mode_gives Repair ask texts kind said is =
     kind_among (gives Repair) (IsRepairSaid is.design (goal_of ask)) (repair_gives is.design (goal_of ask)) (nets_for is.design ask.net)
     is.repair_of.nets.verdicts kind refl is.repair_of.nets.each is.repair_of.nets.kind_is
+mode_gives Total ask texts kind said is = ap (gives Total) is.total.kind_is ∙ total_gives is.total.standings is.total.choices
 
 -- an answer that a certificate is not valid writes no file
 pub no_files_invalid : (mode : Mode) (ask : Ask) (texts : Input → Bytes) (said : Said) → IsAnswerIn mode ask texts Invalid said → said.files ≡ []
@@ -190,3 +210,4 @@ no_files_invalid Gen ask texts said is = absurd is
 no_files_invalid Sta ask texts said is = is.no_files
 no_files_invalid Segment ask texts said is = absurd (let e : false ≡ true = mode_gives Segment ask texts Invalid said is in cc)
 no_files_invalid Repair ask texts said is = absurd (let e : false ≡ true = mode_gives Repair ask texts Invalid said is in cc)
+no_files_invalid Total ask texts said is = absurd (let e : false ≡ true = mode_gives Total ask texts Invalid said is in cc)

@@ -4,7 +4,7 @@ use Rattle.std.specs.Prelude.{is_some}
 use Rattle.vg_words.specs.Request.{cap_of, parts_of, prefix_of, size_of}
 use Rattle.vg_words.specs.declared.ask.Ask.{Ask}
 use Rattle.vg_words.specs.declared.ask.Mode.{Mode}
-use Rattle.vg_words.specs.declared.ask.Mode.TheVariants.{Wire, Time, Best, Frontier, Check, Gen, Segment, Repair}
+use Rattle.vg_words.specs.declared.ask.Mode.TheVariants.{Wire, Time, Best, Frontier, Check, Gen, Segment, Repair, Total}
 use Rattle.vg_answer.specs.Answers.{AnswersBy, NoneTaken}
 use Rattle.vg_answer.specs.Faults.{IsDesignFault}
 use Rattle.vg_answer.specs.declared.answer.Answer.{Answer}
@@ -21,8 +21,9 @@ use Rattle.mode_gen.specs.Answers.{IsGenAnswer, made_up}
 use Rattle.mode_repair.specs.Answers.{IsRepairAnswer, Asked as RepairAsked}
 use Rattle.mode_repair.specs.declared.outcome.Goal.{Goal}
 use Rattle.mode_segment.specs.Answers.{IsSegmentAnswer, IsSegmentFault}
+use Rattle.mode_total.specs.Answers.{IsTotalAnswer, IsTotalTaken, Asked as TotalAsked}
 use Rattle.vg_run.specs.Inputs.{written_cert}
-use Rattle.vg_run.specs.Modes.{AnswersFor, IsAnswerIn, IsFaultIn, IsTakenIn, best_asked, design_texts, goal_of, one_net, repair_asked}
+use Rattle.vg_run.specs.Modes.{AnswersFor, IsAnswerIn, IsFaultIn, IsTakenIn, best_asked, design_texts, goal_of, one_net, repair_asked, total_asked, written_prefix}
 
 abbrev Bytes : Type 0
 Bytes = List ℕ
@@ -85,3 +86,11 @@ module _ (ask : Ask) (texts : Input → Bytes) (result : Result Answer NoAnswer)
       = λ i. record { net = same i; goal = enough i; prefix = word i } in
       in_mode Repair is
       (subst (λ (a : RepairAsked). AnswersBy (IsRepairAnswer (design_texts texts) a) (IsDesignFault (design_texts texts)) (IsTaken (design_texts texts) a.prefix) result) asked says)
+
+  pub total_says : ask.mode ≡ Total → (cap : Option ℕ) (prefix : Option Bytes) → cap ≡ cap_of ask → prefix ≡ written_prefix ask
+      → AnswersBy (IsTotalAnswer (design_texts texts) (record { cap = cap; prefix = prefix })) (IsDesignFault (design_texts texts))
+      (IsTotalTaken (design_texts texts) (record { cap = cap; prefix = prefix })) result → AnswersFor ask texts result
+  total_says is cap prefix bound word says =
+      let asked : record { cap = cap; prefix = prefix } ≡ total_asked ask = λ i. record { cap = bound i; prefix = word i } in
+      in_mode Total is
+      (subst (λ (a : TotalAsked). AnswersBy (IsTotalAnswer (design_texts texts) a) (IsDesignFault (design_texts texts)) (IsTotalTaken (design_texts texts) a) result) asked says)

@@ -9,11 +9,11 @@ use Rattle.vg_store.specs.Writing.{OutState, Gains}
 use Rattle.vg_words.specs.Request.{IsRequest, IsRefused, ReadsWords, parts_of, prefix_of, cap_of}
 use Rattle.vg_words.specs.declared.ask.Ask.{Ask}
 use Rattle.vg_words.specs.declared.ask.Mode.{Mode}
-use Rattle.vg_words.specs.declared.ask.Mode.TheVariants.{Wire, Time, Best, Frontier, Check, Gen, Sta, Segment, Repair}
+use Rattle.vg_words.specs.declared.ask.Mode.TheVariants.{Wire, Time, Best, Frontier, Check, Gen, Sta, Segment, Repair, Total}
 use Rattle.vg_words.specs.declared.ask.WordFault.{WordFault}
 use Rattle.vg_words.specs.declared.ask.WordFault.TheVariants.{Unread, Missing, Excluded, BadValue, Equal, Memory as NoRoom}
 use Rattle.vg_words.proofs.JudgeLemmas.{refused_none, one}
-use Rattle.vg_run.specs.Modes.{IsAnswerFor, IsTakenFor, IsFaultFor, design_texts, one_net, best_asked, repair_asked, IsAnswerIn, IsFaultIn, IsTakenIn}
+use Rattle.vg_run.specs.Modes.{IsAnswerFor, IsTakenFor, IsFaultFor, design_texts, one_net, best_asked, repair_asked, total_asked, IsAnswerIn, IsFaultIn, IsTakenIn}
 use Rattle.vg_answer.specs.Faults.{design_inputs, IsShort, IsDesignFault}
 use Rattle.vg_run.specs.Inputs.{inputs, told, Change, IsLong, IsRead}
 use Rattle.vg_answer.specs.Answers.{Said, Written}
@@ -39,6 +39,7 @@ use Rattle.mode_check.specs.Answers.{IsCheckAnswer}
 use Rattle.mode_repair.specs.Answers.{IsRepairAnswer}
 use Rattle.mode_segment.specs.Answers.{IsSegmentAnswer, IsSegmentFault}
 use Rattle.mode_sta.specs.Answers.{IsStaAnswer}
+use Rattle.mode_total.specs.Answers.{IsTotalAnswer, IsTotalTaken}
 use Rattle.design_read.specs.Designs.{Texts}
 
 abbrev Bytes : Type 0
@@ -105,6 +106,7 @@ Agree Gen a b = Unit {0}
 Agree Sta a b = design_texts a ≡ design_texts b
 Agree Segment a b = a Spef ≡ b Spef
 Agree Repair a b = design_texts a ≡ design_texts b
+Agree Total a b = design_texts a ≡ design_texts b
 
 told_is : (file : Option Bytes) (a b : Bytes) → IsRead file a → file ≡ Some b → a ≡ b
 told_is file a b read is = subst (λ (o : Option Bytes). IfSome o (λ bytes. a ≡ bytes)) is read.is_file
@@ -138,6 +140,7 @@ agree Gen tell a b read told = tt
 agree Sta tell a b read told = agree_on_all tell a b read told
 agree Segment tell a b read told = told_is (tell Spef) (a Spef) (b Spef) (read 0 Spef (omega arith)) (told 0 Spef (omega arith))
 agree Repair tell a b read told = agree_on_all tell a b read told
+agree Total tell a b read told = agree_on_all tell a b read told
 
 -- what is said of the ones is said of the others
 pub answer_as : (mode : Mode) (ask : Ask) (a b : Input → Bytes) (kind : AnswerKind) (t : Said) → Agree mode a b → IsAnswerIn mode ask a kind t → IsAnswerIn mode ask b kind t
@@ -151,6 +154,7 @@ answer_as Gen ask a b kind t e is = is
 answer_as Sta ask a b kind t e is = subst (λ (texts : Texts). IsStaAnswer texts kind t) e is
 answer_as Segment ask a b kind t e is = subst (λ (text : Bytes). IsSegmentAnswer text ask.net (parts_of ask) kind t) e is
 answer_as Repair ask a b kind t e is = subst (λ (texts : Texts). IsRepairAnswer texts (repair_asked ask) kind t) e is
+answer_as Total ask a b kind t e is = subst (λ (texts : Texts). IsTotalAnswer texts (total_asked ask) kind t) e is
 
 pub taken_as : (mode : Mode) (ask : Ask) (a b : Input → Bytes) (name : Bytes) → Agree mode a b → IsTakenIn mode ask a name → IsTakenIn mode ask b name
 taken_as Wire ask a b name e is = is
@@ -162,6 +166,7 @@ taken_as Gen ask a b name e is = is
 taken_as Sta ask a b name e is = is
 taken_as Segment ask a b name e is = is
 taken_as Repair ask a b name e is = subst (λ (texts : Texts). IsTaken texts (prefix_of ask) name) e is
+taken_as Total ask a b name e is = subst (λ (texts : Texts). IsTotalTaken texts (total_asked ask) name) e is
 
 pub faulty_as : (mode : Mode) (ask : Ask) (a b : Input → Bytes) (line : Bytes) (input : Input) → Agree mode a b → IsFaultIn mode ask a line input → IsFaultIn mode ask b line input
 faulty_as Wire ask a b line input e is = subst (λ (text : Bytes). IsWireFault text line input) e is
@@ -173,6 +178,7 @@ faulty_as Gen ask a b line input e is = is
 faulty_as Sta ask a b line input e is = subst (λ (texts : Texts). IsDesignFault texts line input) e is
 faulty_as Segment ask a b line input e is = subst (λ (text : Bytes). IsSegmentFault text line input) e is
 faulty_as Repair ask a b line input e is = subst (λ (texts : Texts). IsDesignFault texts line input) e is
+faulty_as Total ask a b line input e is = subst (λ (texts : Texts). IsDesignFault texts line input) e is
 
 -- texts that were read are short
 module _ (tell : Input → Option Bytes) (a b : Input → Bytes) (list : List Input) (read : All (λ i. IsRead (tell i) (a i)) list) where
@@ -207,6 +213,7 @@ shorts Gen tell a b read e = λ i d low. absurd (omega (arith, low))
 shorts Sta tell a b read e = all_short tell a b read e
 shorts Segment tell a b read e = all_one (λ i. IsShort (b i)) Spef (subst (λ (s : Bytes). IsShort s) e (read 0 Spef (omega arith)).short)
 shorts Repair tell a b read e = all_short tell a b read e
+shorts Total tell a b read e = all_short tell a b read e
 
 -- what is told and short is not too long
 pub not_long : (file : Option Bytes) (text : Bytes) → (file ≡ Some text) → IsShort text → IsLong file → ⊥

@@ -7,7 +7,7 @@ use Rattle.vg_store.specs.Writing.{OutState}
 use Rattle.vg_words.specs.Request.{size_of, IsRequest}
 use Rattle.vg_words.specs.declared.ask.Ask.{Ask}
 use Rattle.vg_words.specs.declared.ask.Mode.{Mode}
-use Rattle.vg_words.specs.declared.ask.Mode.TheVariants.{Wire, Best, Frontier, Check, Gen, Segment, Repair}
+use Rattle.vg_words.specs.declared.ask.Mode.TheVariants.{Wire, Best, Frontier, Check, Gen, Segment, Repair, Total}
 use Rattle.vg_design.specs.Designs.{Design}
 use Rattle.vg_design.specs.Nets.{IsPosedNet}
 use Rattle.vg_design.specs.declared.net_problem.PosedNet.{PosedNet}
@@ -19,12 +19,13 @@ use Rattle.vg_run.specs.Inputs.{Change}
 use Rattle.vg_run.specs.Modes.{IsTakenFor, design_texts}
 use Rattle.vg_run.specs.Run.{AreShort, AreTold}
 
--- the statuses with which a mode answers: 1 that no placement is good or that one is short of the target, 2 that a net
--- or the whole design is refused, 8 that a certificate is not valid
+-- the statuses with which a mode answers: 1 that no placement is good, that there is no choice of one for each net, or
+-- that one is short of the target, 2 that a net or the whole design is refused, 8 that a certificate is not valid
 abbrev pub answers_of : Mode → List ℕ
 answers_of Best = 0 ∷ 1 ∷ 2 ∷ []
 answers_of Frontier = 0 ∷ 1 ∷ 2 ∷ []
 answers_of Repair = 0 ∷ 1 ∷ 2 ∷ []
+answers_of Total = 0 ∷ 1 ∷ 2 ∷ []
 answers_of Check = 0 ∷ 2 ∷ 8 ∷ []
 answers_of Gen = 0 ∷ []
 answers_of mode = 0 ∷ 2 ∷ []

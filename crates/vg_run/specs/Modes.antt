@@ -1,8 +1,8 @@
 -- The table of modes: what each answers, which faults it tells, and which names it refuses.
-use Rattle.std.specs.Prelude.{ℕ, List, [], Result, unwrap_or, is_some}
+use Rattle.std.specs.Prelude.{ℕ, List, [], Option, Some, None, Result, unwrap_or, is_some, if◌then◌else◌}
 use Rattle.design_read.specs.Designs.{Texts}
 use Rattle.vg_words.specs.declared.ask.Mode.{Mode}
-use Rattle.vg_words.specs.declared.ask.Mode.TheVariants.{Wire, Time, Best, Frontier, Check, Gen, Sta, Segment, Repair}
+use Rattle.vg_words.specs.declared.ask.Mode.TheVariants.{Wire, Time, Best, Frontier, Check, Gen, Sta, Segment, Repair, Total}
 use Rattle.mode_gen.specs.Answers.{made_up, IsGenAnswer}
 use Rattle.vg_place.specs.Placings.{IsTaken}
 use Rattle.mode_best.specs.Answers.{Asked, IsBestAnswer}
@@ -14,6 +14,7 @@ use Rattle.mode_repair.specs.declared.outcome.Goal.{Goal}
 use Rattle.mode_segment.specs.Answers.{IsSegmentAnswer, IsSegmentFault}
 use Rattle.mode_sta.specs.Answers.{IsStaAnswer}
 use Rattle.mode_time.specs.Answers.{IsTimeAnswer}
+use Rattle.mode_total.specs.Answers.{IsTotalAnswer, IsTotalTaken, Asked as TotalAsked}
 use Rattle.vg_answer.specs.declared.input.Input.{Input}
 use Rattle.vg_answer.specs.declared.input.Input.TheVariants.{Spef, Lib, Verilog, Cons, Cert}
 use Rattle.vg_answer.specs.declared.answer.Answer.{Answer}
@@ -45,6 +46,14 @@ goal_of ask = record { target = target_of ask; cap = cap_of ask }
 abbrev pub repair_asked : Ask → RepairAsked
 repair_asked ask = record { net = ask.net; goal = goal_of ask; prefix = prefix_of ask }
 
+-- what the names of new cells and nets begin with in mode `total`, where it is to write files
+abbrev pub written_prefix : Ask → Option (List ℕ)
+written_prefix ask = if is_some ask.out_spef then Some (prefix_of ask) else None
+
+-- what mode `total` is asked
+abbrev pub total_asked : Ask → TotalAsked
+total_asked ask = record { cap = cap_of ask; prefix = written_prefix ask }
+
 -- what is said of the texts that a mode reads
 abbrev pub IsAnswerIn : Mode → Ask → (Input → List ℕ) → AnswerKind → Said → Type 0
 IsAnswerIn Wire ask texts kind said = IsWireAnswer (texts Spef) (one_net ask) kind said
@@ -56,6 +65,7 @@ IsAnswerIn Gen ask texts kind said = IsGenAnswer (size_of ask) kind said
 IsAnswerIn Sta ask texts kind said = IsStaAnswer (design_texts texts) kind said
 IsAnswerIn Segment ask texts kind said = IsSegmentAnswer (texts Spef) ask.net (parts_of ask) kind said
 IsAnswerIn Repair ask texts kind said = IsRepairAnswer (design_texts texts) (repair_asked ask) kind said
+IsAnswerIn Total ask texts kind said = IsTotalAnswer (design_texts texts) (total_asked ask) kind said
 
 -- the first fault of the texts that it judges: mode `gen` judges those of the design that it makes up, and mode `check`
 -- judges the certificate when all others are in their form
@@ -65,10 +75,12 @@ IsFaultIn Segment ask texts line input = IsSegmentFault (texts Spef) line input
 IsFaultIn Gen ask texts line input = IsDesignFault (made_up (size_of ask)) line input
 IsFaultIn mode ask texts line input = IsDesignFault (design_texts texts) line input
 
--- a name of the design begins with the prefix, for which modes `best` and `repair` alone ask
+-- a name of the design begins with the prefix, for which modes `best` and `repair` ask, and mode `total` where it is to
+-- write files
 abbrev pub IsTakenIn : Mode → Ask → (Input → List ℕ) → List ℕ → Type 0
 IsTakenIn Best ask texts name = IsTaken (design_texts texts) (prefix_of ask) name
 IsTakenIn Repair ask texts name = IsTaken (design_texts texts) (prefix_of ask) name
+IsTakenIn Total ask texts name = IsTotalTaken (design_texts texts) (total_asked ask) name
 IsTakenIn mode ask texts name = ⊥
 
 -- this is an answer of this kind to a request

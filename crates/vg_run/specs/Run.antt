@@ -170,7 +170,8 @@ TellsFlaw status files Said ask =
     (input : Input) × (flaw : Flaw) × (flaw_status flaw ≡ status) × IsFlawed ask files input flaw
     × Said (flaw_line (name_of ask input) flaw)
 
--- of the texts that were read this name begins with the prefix, which modes `best` and `repair` refuse
+-- of the texts that were read this name begins with the prefix, which modes `best` and `repair` refuse, and so does
+-- mode `total` where it is to write files
 abbrev pub TakesName : FilesState → Ask → List ℕ → Type 0
 TakesName files ask name = (texts : Input → List ℕ) × AreRead files ask texts × IsTakenFor ask texts name
 

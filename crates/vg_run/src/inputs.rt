@@ -71,7 +71,8 @@ fn inputs(mode: Mode) -> &'static [Input]
 {
     match mode {
         Mode::Wire | Mode::Segment => &SPEF_INPUTS,
-        Mode::Time | Mode::Best | Mode::Frontier | Mode::Sta | Mode::Repair => &DESIGN_INPUTS,
+        Mode::Time | Mode::Best | Mode::Frontier | Mode::Sta | Mode::Repair | Mode::Total =>
+            &DESIGN_INPUTS,
         Mode::Check => &CHECK_INPUTS,
         Mode::Gen => &[],
     }

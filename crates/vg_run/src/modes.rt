@@ -5,7 +5,7 @@ ghost use Rattle.std.specs.List.{AllPass};
 ghost use Rattle.vg_scan.specs.Printed.{is_solid};
 ghost use Rattle.vg_words.specs.Request.{prefix_of};
 ghost use Rattle.vg_run.specs.Inputs.{texts_read};
-ghost use Rattle.vg_run.specs.Modes.{AnswersFor, goal_of};
+ghost use Rattle.vg_run.specs.Modes.{AnswersFor, goal_of, written_prefix};
 ghost use Rattle.vg_run.specs.Run.{IsSized};
 
 use crate::inputs::Texts;
@@ -18,6 +18,7 @@ use mode_repair::{Goal, repair_for};
 use mode_segment::segment_for;
 use mode_sta::sta_for;
 use mode_time::time_for;
+use mode_total::total_for;
 use mode_wire::wire_for;
 use std::alloc::Global;
 use vg_answer::{Answer, NoAnswer};
@@ -43,6 +44,16 @@ fn goal(ask: &Ask) -> Goal
     }
 }
 
+/// What the names of new cells and nets begin with in mode `total`, where it is to write files.
+fn written_prefix(ask: &Ask) -> Option<&[u8]>
+    ensures { option_map (λ name. name.now) result ≡ written_prefix ask.now }
+{
+    match &ask.out_spef {
+        None => None,
+        Some(_) => Some(ask.prefix().as_bytes()),
+    }
+}
+
 /// What a request's mode says of the texts that it reads.
 pub(crate) fn answer(alloc: Global, texts: Texts, ask: &Ask) -> Result<Answer, NoAnswer>
     requires prefix { AllPass is_solid (prefix_of ask.now) }
@@ -64,5 +75,6 @@ pub(crate) fn answer(alloc: Global, texts: Texts, ask: &Ask) -> Result<Answer, N
         Mode::Sta => sta_for(alloc, design),
         Mode::Segment => segment_for(alloc, design.spef, asked_net(ask), ask.parts()),
         Mode::Repair => repair_for(alloc, design, asked_net(ask), goal(ask), prefix),
+        Mode::Total => total_for(alloc, design, ask.cap(), written_prefix(ask)),
     }
 }

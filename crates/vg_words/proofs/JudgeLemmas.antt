@@ -19,7 +19,7 @@ use Rattle.vg_words.specs.Request.{Setting, Sets, Values, values_in, value_of, I
 use Rattle.vg_words.specs.declared.option.Opt.{Opt}
 use Rattle.vg_words.specs.declared.option.Opt.TheVariants.{Mode, Spef, Lib, Verilog, Cons, Net, All, OutSpef, OutVerilog, Cert, Cap, Prefix, Size, Parts, Target}
 use Rattle.vg_words.specs.declared.ask.Mode.{Mode as ModeSpec}
-use Rattle.vg_words.specs.declared.ask.Mode.TheVariants.{Wire, Time, Best, Frontier, Check, Gen, Sta, Segment, Repair}
+use Rattle.vg_words.specs.declared.ask.Mode.TheVariants.{Wire, Time, Best, Frontier, Check, Gen, Sta, Segment, Repair, Total}
 use Rattle.vg_words.specs.declared.ask.WordFault.{WordFault}
 use Rattle.vg_words.specs.declared.ask.WordFault.TheVariants.{Unread, Missing, Excluded, BadValue, Equal, Memory}
 
@@ -117,7 +117,8 @@ named_or text own mode rest e later =
 -- a text that names a mode is its name
 mode_named : (text : List ℕ) (mode : ModeSpec) → mode_of text ≡ Some mode → text ≡ mode_name mode
 mode_named text mode e =
-    let after_segment : Option ModeSpec = if bytes_eq text (codes "repair") then Some Repair else None in
+    let after_repair : Option ModeSpec = if bytes_eq text (codes "total") then Some Total else None in
+    let after_segment : Option ModeSpec = if bytes_eq text (codes "repair") then Some Repair else after_repair in
     let after_sta : Option ModeSpec = if bytes_eq text (codes "segment") then Some Segment else after_segment in
     let after_gen : Option ModeSpec = if bytes_eq text (codes "sta") then Some Sta else after_sta in
     let after_check : Option ModeSpec = if bytes_eq text (codes "gen") then Some Gen else after_gen in
@@ -133,7 +134,8 @@ mode_named text mode e =
     (λ e. named_or text Gen mode after_gen e
     (λ e. named_or text Sta mode after_sta e
     (λ e. named_or text Segment mode after_segment e
-    (λ e. named_or text Repair mode None e (λ none. absurd (cc))))))))))
+    (λ e. named_or text Repair mode after_repair e
+    (λ e. named_or text Total mode None e (λ none. absurd (cc)))))))))))
 
 mode_given : (name : Option (List ℕ)) (mode : ModeSpec) → HasMode name mode → name ≡ Some (mode_name mode)
 mode_given None mode h = absurd h
@@ -167,6 +169,7 @@ named_mode Gen = refl
 named_mode Sta = refl
 named_mode Segment = refl
 named_mode Repair = refl
+named_mode Total = refl
 
 one_mode : (a b : ModeSpec) → mode_name a ≡ mode_name b → a ≡ b
 one_mode a b e = some_mode a b (sym (named_mode a) ∙ ap mode_of e ∙ named_mode b)
@@ -297,6 +300,12 @@ no_net None false allowed alone = (refl, refl)
 no_net None true allowed alone = absurd (true≢false alone)
 no_net (Some n) all allowed alone = absurd (true≢false allowed)
 
+all_nets : (net : Option (List ℕ)) (all : Bool) → (is_some net && true) ≡ false → not (is_some (flag_value all) || false) ≡ false
+    → (net ≡ None) × (all ≡ true)
+all_nets None true allowed found = (refl, refl)
+all_nets None false allowed found = absurd (true≢false found)
+all_nets (Some n) all allowed found = absurd (true≢false allowed)
+
 asks_as_in : (mode : ModeSpec) (ask : Ask) → IsWhole mode (value ask) → AsksAsIn mode ask
 asks_as_in Wire ask w = one_net ask.net ask.all (w.found Net refl) (w.allowed All)
 asks_as_in Time ask w = net_or_all ask.net ask.all (w.found Net refl) (w.allowed All)
@@ -307,6 +316,7 @@ asks_as_in Gen ask w = no_net ask.net ask.all (w.allowed Net) (w.allowed All)
 asks_as_in Sta ask w = no_net ask.net ask.all (w.allowed Net) (w.allowed All)
 asks_as_in Segment ask w = net_or_all ask.net ask.all (w.found Net refl) (w.allowed All)
 asks_as_in Repair ask w = net_or_all ask.net ask.all (w.found Net refl) (w.allowed All)
+asks_as_in Total ask w = all_nets ask.net ask.all (w.allowed Net) (w.found All refl)
 
 pub one_or_all : (words : List (List ℕ)) (ask : Ask) → IsRequest words ask → AsksAsIn ask.mode ask
 one_or_all words ask is = asks_as_in ask.mode ask (whole_request words ask is)
@@ -330,6 +340,7 @@ cert_of_net Gen ask w named = absurd (named (no_cert ask.cert (w.allowed Cert)))
 cert_of_net Sta ask w named = absurd (named (no_cert ask.cert (w.allowed Cert)))
 cert_of_net Segment ask w named = absurd (named (no_cert ask.cert (w.allowed Cert)))
 cert_of_net Repair ask w named = absurd (named (no_cert ask.cert (w.allowed Cert)))
+cert_of_net Total ask w named = absurd (named (no_cert ask.cert (w.allowed Cert)))
 
 pub certs : (words : List (List ℕ)) (ask : Ask) → IsRequest words ask → ask.cert ≢ None → AsksForNet ask
 certs words ask is = cert_of_net ask.mode ask (whole_request words ask is)
@@ -358,6 +369,19 @@ pub few : (words : List (List ℕ)) (ask : Ask) → IsRequest words ask → ask.
 few words ask is e =
     let w : IsWhole Segment (value ask) = subst (λ mode. IsWhole mode (value ask)) e (whole_request words ask is) in
     few_parts ask.parts (w.found Parts refl) (w.good Parts)
+
+-- both names of files that are written, or neither
+both_or_none : (one other : Option (List ℕ)) → not (is_some one || (true && not (is_some other))) ≡ false
+    → not (is_some other || (true && not (is_some one))) ≡ false → is_some one ≡ is_some other
+both_or_none None None found other_found = refl
+both_or_none (Some a) (Some b) found other_found = refl
+both_or_none None (Some b) found other_found = absurd (true≢false found)
+both_or_none (Some a) None found other_found = absurd (true≢false other_found)
+
+pub paired : (words : List (List ℕ)) (ask : Ask) → IsRequest words ask → ask.mode ≡ Total → is_some ask.out_spef ≡ is_some ask.out_verilog
+paired words ask is e =
+    let w : IsWhole Total (value ask) = subst (λ mode. IsWhole mode (value ask)) e (whole_request words ask is) in
+    both_or_none ask.out_spef ask.out_verilog (w.found OutSpef refl) (w.found OutVerilog refl)
 
 -- the cap that is given is the number that its text writes
 one_cap : (cap : Option (List ℕ)) (text : List ℕ) → has_bad_value Cap cap ≡ false → cap ≡ Some text

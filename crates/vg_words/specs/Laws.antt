@@ -1,12 +1,12 @@
 -- Words ask for one thing at most, for as many nets as their mode has a use for, for a size or for parts, for the cap
--- and the target that they write, and name no file twice.
+-- and the target that they write, and name no file twice; those of mode `total` name both outputs or none.
 use Rattle.std.specs.Prelude.{◌≡◌, ◌≢◌, ◌≤◌, ◌⊎◌, ℕ, pos, true, false, List, Some, None, is_some}
 use Rattle.vg_num.specs.Number.{value_of as number_of}
 use Rattle.vg_words.specs.Options.{names_file}
 use Rattle.vg_words.specs.Request.{IsRequest, cap_of, parts_of, size_of, target_in, target_of, value}
 use Rattle.vg_words.specs.declared.ask.Ask.{Ask}
 use Rattle.vg_words.specs.declared.ask.Mode.{Mode}
-use Rattle.vg_words.specs.declared.ask.Mode.TheVariants.{Wire, Time, Best, Frontier, Check, Gen, Sta, Segment, Repair}
+use Rattle.vg_words.specs.declared.ask.Mode.TheVariants.{Wire, Time, Best, Frontier, Check, Gen, Sta, Segment, Repair, Total}
 use Rattle.vg_words.specs.declared.option.Opt.{Opt}
 
 abbrev pub OneRequest : Type 0
@@ -24,7 +24,7 @@ AsksForAll ask = (ask.net ≡ None) × (ask.all ≡ true)
 abbrev pub AsksForNone : Ask → Type 0
 AsksForNone ask = (ask.net ≡ None) × (ask.all ≡ false)
 
--- as a mode has it: one net, or one or all, or none
+-- as a mode has it: one net, or one or all, or all, or none
 abbrev pub AsksAsIn : Mode → Ask → Type 0
 AsksAsIn Wire ask = AsksForNet ask
 AsksAsIn Time ask = AsksForNet ask ⊎ AsksForAll ask
@@ -35,15 +35,21 @@ AsksAsIn Gen ask = AsksForNone ask
 AsksAsIn Sta ask = AsksForNone ask
 AsksAsIn Segment ask = AsksForNet ask ⊎ AsksForAll ask
 AsksAsIn Repair ask = AsksForNet ask ⊎ AsksForAll ask
+AsksAsIn Total ask = AsksForAll ask
 
 -- in modes `wire` and `check` a request asks for one net, in modes `time`, `best`, `frontier`, `segment` and `repair`
--- for one or for all, and in modes `gen` and `sta` it names none
+-- for one or for all, in mode `total` for all, and in modes `gen` and `sta` it names none
 abbrev pub OneOrAll : Type 0
 OneOrAll = (words : List (List ℕ)) (ask : Ask) → IsRequest words ask → AsksAsIn ask.mode ask
 
 -- a request that names a certificate asks for one net
 abbrev pub CertsAreOfOneNet : Type 0
 CertsAreOfOneNet = (words : List (List ℕ)) (ask : Ask) → IsRequest words ask → ask.cert ≢ None → AsksForNet ask
+
+-- in mode `total` a request names both files that are written, or neither
+abbrev pub OutputsArePaired : Type 0
+OutputsArePaired = (words : List (List ℕ)) (ask : Ask) → IsRequest words ask → ask.mode ≡ Total
+    → is_some ask.out_spef ≡ is_some ask.out_verilog
 
 -- in a request no two options name one file
 abbrev pub FilesDiffer : Type 0

@@ -5,7 +5,7 @@ use Rattle.std.specs.Str.{bytes_eq}
 use Rattle.vg_words.specs.declared.option.Opt.{Opt}
 use Rattle.vg_words.specs.declared.option.Opt.TheVariants.{Mode, Spef, Lib, Verilog, Cons, Net, All, OutSpef, OutVerilog, Cert, Cap, Prefix, Size, Parts, Target}
 use Rattle.vg_words.specs.declared.ask.Mode.{Mode as ModeSpec}
-use Rattle.vg_words.specs.declared.ask.Mode.TheVariants.{Wire, Time, Best, Frontier, Check, Gen, Sta, Segment, Repair}
+use Rattle.vg_words.specs.declared.ask.Mode.TheVariants.{Wire, Time, Best, Frontier, Check, Gen, Sta, Segment, Repair, Total}
 
 abbrev pub name_of : Opt → List ℕ
 name_of Mode = codes "--mode"
@@ -73,7 +73,8 @@ mode_of text =
     else (if bytes_eq text (codes "gen") then Some Gen
     else (if bytes_eq text (codes "sta") then Some Sta
     else (if bytes_eq text (codes "segment") then Some Segment
-    else (if bytes_eq text (codes "repair") then Some Repair else None))))))))
+    else (if bytes_eq text (codes "repair") then Some Repair
+    else (if bytes_eq text (codes "total") then Some Total else None)))))))))
 
 abbrev pub mode_name : ModeSpec → List ℕ
 mode_name Wire = codes "wire"
@@ -85,8 +86,9 @@ mode_name Gen = codes "gen"
 mode_name Sta = codes "sta"
 mode_name Segment = codes "segment"
 mode_name Repair = codes "repair"
+mode_name Total = codes "total"
 
--- the options that a mode asks for; `--all` may stand for `--net` where the mode may be given it
+-- the options that a mode asks for; some of these may be left out (`may_be_left`)
 abbrev pub required : ModeSpec → List Opt
 required Wire = Spef ∷ Net ∷ []
 required Time = Spef ∷ Lib ∷ Verilog ∷ Cons ∷ Net ∷ []
@@ -97,6 +99,7 @@ required Gen = Size ∷ []
 required Sta = Spef ∷ Lib ∷ Verilog ∷ Cons ∷ []
 required Segment = Spef ∷ Net ∷ OutSpef ∷ Parts ∷ []
 required Repair = Spef ∷ Lib ∷ Verilog ∷ Cons ∷ Net ∷ OutSpef ∷ OutVerilog ∷ []
+required Total = Spef ∷ Lib ∷ Verilog ∷ Cons ∷ All ∷ OutSpef ∷ OutVerilog ∷ []
 
 -- those that it may be given besides
 abbrev pub optional : ModeSpec → List Opt
@@ -109,7 +112,13 @@ optional Gen = []
 optional Sta = []
 optional Segment = All ∷ []
 optional Repair = All ∷ Cap ∷ Prefix ∷ Target ∷ []
+optional Total = Cap ∷ Prefix ∷ []
 
 -- those that it may be given; it has no use for others
 abbrev pub allowed : ModeSpec → List Opt
 allowed mode = Mode ∷ (required mode ++ optional mode)
+
+-- the mode prints what it finds also where no file is named that it is to write
+abbrev pub may_write_nothing : ModeSpec → Bool
+may_write_nothing Total = true
+may_write_nothing mode = false

@@ -7,7 +7,7 @@ use Rattle.std.specs.Str.Parse.{starts_with_minus}
 use Rattle.std.specs.declared.alloc.Global.{Global}
 use Rattle.vg_num.specs.Number.{are_digits, signed_scaled, value_of as number_of}
 use Rattle.vg_scan.specs.Prefixes.{is_prefix}
-use Rattle.vg_words.specs.Options.{name_of, mode_of, mode_name, is_flag, is_same, options, file_options, required, allowed}
+use Rattle.vg_words.specs.Options.{name_of, mode_of, mode_name, is_flag, is_same, options, file_options, required, allowed, may_write_nothing}
 use Rattle.vg_words.specs.declared.option.Opt.{Opt}
 use Rattle.vg_words.specs.declared.option.Opt.TheVariants.{Mode, Spef, Lib, Verilog, Cons, Net, All, OutSpef, OutVerilog, Cert, Cap, Prefix, Size, Parts, Target}
 use Rattle.vg_words.specs.declared.ask.Mode.{Mode as ModeSpec}
@@ -74,13 +74,16 @@ is_given values option = is_some (values option)
 abbrev pub may_be_given : ModeSpec → Opt → Bool
 may_be_given mode option = list_any (is_same option) (allowed mode)
 
--- `--all` stands for `--net`, where the mode may be given it
-abbrev pub has_stand_in : ModeSpec → Values → Opt → Bool
-has_stand_in mode values Net = is_given values All && may_be_given mode All
-has_stand_in mode values option = false
+-- an option that is asked for may be left out: `--net` where `--all` is given, in a mode that may be given it, and
+-- `--out-spef` and `--out-verilog` together, in a mode that may write nothing
+abbrev pub may_be_left : ModeSpec → Values → Opt → Bool
+may_be_left mode values Net = is_given values All && may_be_given mode All
+may_be_left mode values OutSpef = may_write_nothing mode && not (is_given values OutVerilog)
+may_be_left mode values OutVerilog = may_write_nothing mode && not (is_given values OutSpef)
+may_be_left mode values option = false
 
 abbrev pub is_missing : ModeSpec → Values → Opt → Bool
-is_missing mode values option = not (is_given values option || has_stand_in mode values option)
+is_missing mode values option = not (is_given values option || may_be_left mode values option)
 
 -- `--all` has no use beside `--net`, and `--cert` none beside `--all`
 abbrev pub has_no_use_beside : Values → Opt → Bool

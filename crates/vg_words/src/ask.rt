@@ -1,7 +1,7 @@
 ghost use Rattle.std.specs.Prelude.{◌≡◌};
 ghost use Rattle.clap.specs.Words.{kind_of};
 ghost use Rattle.vg_words.specs.Command.{fault_for};
-ghost use Rattle.vg_words.specs.Options.{mode_name, optional, required};
+ghost use Rattle.vg_words.specs.Options.{may_write_nothing, mode_name, optional, required};
 ghost use Rattle.vg_words.specs.Request.{cap_of, may_be_given, parts_of, prefix_of, size_of, target_of, text_for};
 ghost use Rattle.vg_words.specs.declared.ask.WordFault.TheVariants.{Memory as out_of_memory};
 
@@ -39,6 +39,10 @@ pub enum Mode {
     /// Prints, of one net or of each, the cheapest placement of repeaters with slack of at least a target, and writes
     /// the netlist and the parasitics with the cells.
     Repair,
+    /// Prints the total costs and worst slacks of which no choice of a placement on each net of a design has both
+    /// better, each with such a choice. Where their names are given, it writes the netlist and the parasitics with the
+    /// cells of the last one.
+    Total,
 }
 
 const WIRE_OPTIONS: [Opt; 2] = [Opt::Spef, Opt::Net];
@@ -70,6 +74,16 @@ const STA_OPTIONS: [Opt; 4] = [Opt::Spef, Opt::Lib, Opt::Verilog, Opt::Cons];
 
 const SEGMENT_OPTIONS: [Opt; 4] = [Opt::Spef, Opt::Net, Opt::OutSpef, Opt::Parts];
 
+const TOTAL_OPTIONS: [Opt; 7] = [
+    Opt::Spef,
+    Opt::Lib,
+    Opt::Verilog,
+    Opt::Cons,
+    Opt::All,
+    Opt::OutSpef,
+    Opt::OutVerilog,
+];
+
 /// What mode `time` may be given besides.
 const TIME_EXTRAS: [Opt; 2] = [Opt::All, Opt::Prefix];
 
@@ -85,8 +99,12 @@ const SEGMENT_EXTRAS: [Opt; 1] = [Opt::All];
 /// What mode `repair` may be given besides.
 const REPAIR_EXTRAS: [Opt; 4] = [Opt::All, Opt::Cap, Opt::Prefix, Opt::Target];
 
+/// What mode `total` may be given besides.
+const TOTAL_EXTRAS: [Opt; 2] = [Opt::Cap, Opt::Prefix];
+
 impl Mode {
-    /// The options that the mode asks for, where `--all` may stand for `--net`.
+    /// The options that the mode asks for. Some of these may be left out: `--net` where `--all` is given in its place,
+    /// and both names of files that are written, where the mode may write nothing.
     pub(crate) fn required_options(self) -> &'static [Opt]
         ensures { result.now ≡ required self }
     {
@@ -98,6 +116,7 @@ impl Mode {
             Mode::Gen => &SIZE_OPTIONS,
             Mode::Sta => &STA_OPTIONS,
             Mode::Segment => &SEGMENT_OPTIONS,
+            Mode::Total => &TOTAL_OPTIONS,
         }
     }
 
@@ -112,6 +131,7 @@ impl Mode {
             Mode::Frontier => &FRONTIER_EXTRAS,
             Mode::Segment => &SEGMENT_EXTRAS,
             Mode::Repair => &REPAIR_EXTRAS,
+            Mode::Total => &TOTAL_EXTRAS,
         }
     }
 
@@ -122,6 +142,16 @@ impl Mode {
         option == Opt::Mode
             || option.is_among(self.required_options())
             || option.is_among(self.optional_options())
+    }
+
+    /// Whether the mode prints what it finds also where no file is named that it is to write.
+    pub(crate) fn may_write_nothing(self) -> bool
+        ensures { result ≡ may_write_nothing self }
+    {
+        match self {
+            Mode::Total => true,
+            _ => false,
+        }
     }
 
     /// The mode's name in the words.
@@ -138,6 +168,7 @@ impl Mode {
             Mode::Sta => "sta",
             Mode::Segment => "segment",
             Mode::Repair => "repair",
+            Mode::Total => "total",
         }
     }
 }
@@ -253,8 +284,8 @@ impl Ask {
 pub enum WordFault {
     /// Some word is neither an option with its value, nor its value, nor a flag alone, or an option is given twice.
     Unread,
-    /// The mode asks for this option, or it is the mode, and neither it is given nor, for `--net`, `--all` in its
-    /// place.
+    /// The mode asks for this option, or it is the mode, and it is not given. Not missing are `--net` where `--all` is
+    /// given in its place, and in mode `total` `--out-spef` and `--out-verilog` where neither is given.
     Missing(Opt),
     /// The option is given, and the mode has no use for it, or it is `--all` and `--net` is given too, or it is
     /// `--cert` and `--all` is.

@@ -3,7 +3,7 @@ ghost use Rattle.std.specs.Prelude.{◌≡◌, Some, None, IfOk, option_map};
 ghost use Rattle.std.specs.List.{find, list_all};
 ghost use Rattle.vg_words.specs.Options.{mode_of, options, file_options, required};
 ghost use Rattle.vg_scan.specs.Prefixes.{is_letter, is_name_byte, is_prefix};
-ghost use Rattle.vg_words.specs.Request.{texts, flag_value, has_stand_in, has_no_use_beside, is_given, is_missing, is_excluded, is_bad_value, is_bad, are_equal, first_equal, fault_in, Judges, ReadsWords};
+ghost use Rattle.vg_words.specs.Request.{texts, flag_value, may_be_left, has_no_use_beside, is_given, is_missing, is_excluded, is_bad_value, is_bad, are_equal, first_equal, fault_in, Judges, ReadsWords};
 ghost use Rattle.vg_words.specs.declared.option.Opt.{Opt};
 ghost use Rattle.vg_words.specs.Views.{given_by};
 
@@ -38,6 +38,8 @@ fn mode_of(name: &str) -> Option<Mode>
         Some(Mode::Segment)
     } else if name == "repair" {
         Some(Mode::Repair)
+    } else if name == "total" {
+        Some(Mode::Total)
     } else {
         None
     }
@@ -49,12 +51,15 @@ fn is_given(given: &Given<'_>, option: Opt) -> bool
     given.get(option).is_some()
 }
 
-/// Whether `--all` stands for an option, which is `--net`.
-fn has_stand_in(mode: Mode, given: &Given<'_>, option: Opt) -> bool
-    ensures { result ≡ has_stand_in mode (given_by given.now) option }
+/// Whether an option that the mode asks for may be left out: `--net` where `--all` is given in its place, and
+/// `--out-spef` and `--out-verilog` together, where the mode may write nothing.
+fn may_be_left(mode: Mode, given: &Given<'_>, option: Opt) -> bool
+    ensures { result ≡ may_be_left mode (given_by given.now) option }
 {
     match option {
         Opt::Net => is_given(given, Opt::All) && mode.allows(Opt::All),
+        Opt::OutSpef => mode.may_write_nothing() && !is_given(given, Opt::OutVerilog),
+        Opt::OutVerilog => mode.may_write_nothing() && !is_given(given, Opt::OutSpef),
         _ => false,
     }
 }
@@ -62,7 +67,7 @@ fn has_stand_in(mode: Mode, given: &Given<'_>, option: Opt) -> bool
 fn is_missing(mode: Mode, given: &Given<'_>, option: Opt) -> bool
     ensures { result ≡ is_missing mode (given_by given.now) option }
 {
-    !(is_given(given, option) || has_stand_in(mode, given, option))
+    !(is_given(given, option) || may_be_left(mode, given, option))
 }
 
 /// Whether an option has no use beside another that is given: `--all` has none beside `--net`, and `--cert` none beside
@@ -303,11 +308,13 @@ fn ask_of(alloc: Global, mode: Mode, given: &Given<'_>) -> Result<Ask, Memory>
 /// `time` and `frontier` for `--lib`, `--verilog` and `--cons` too, mode `best` besides for `--out-spef` and
 /// `--out-verilog`, and mode `check` in place of these two for `--cert`. Modes `time` and `best` may be given
 /// `--prefix`, mode `frontier` may be given `--cap`, and all three `--all` in the place of `--net`; mode `best` may be
-/// given `--cert` too, but not beside `--all`. Mode `gen` asks for `--size` alone, and mode `sta` for `--spef`, `--lib`,
-/// `--verilog` and `--cons` alone. Mode `segment` asks for `--spef`, `--net`, `--out-spef` and `--parts`, and may be given
-/// `--all` in the place of `--net`. Mode `repair` asks for what mode `best` asks for, and may be given `--all` in the
-/// place of `--net`, `--cap`, `--prefix` and `--target`. The faults come in the order of `WordFault`, and of one kind
-/// the first option in the order of `Opt`. Answers `Memory` where there is no room.
+/// given `--cert` too, but not beside `--all`. Mode `gen` asks for `--size` alone, and mode `sta` for `--spef`,
+/// `--lib`, `--verilog` and `--cons` alone. Mode `segment` asks for `--spef`, `--net`, `--out-spef` and `--parts`, and
+/// may be given `--all` in the place of `--net`. Mode `repair` asks for what mode `best` asks for, and may be given
+/// `--all` in the place of `--net`, `--cap`, `--prefix` and `--target`. Mode `total` asks for `--spef`, `--lib`,
+/// `--verilog`, `--cons` and `--all`, and for both of `--out-spef` and `--out-verilog` or neither, and may be given
+/// `--cap` and `--prefix`. The faults come in the order of `WordFault`, and of one kind the first option in the order
+/// of `Opt`. Answers `Memory` where there is no room.
 pub fn read_words(alloc: Global, words: &[String]) -> Result<Ask, WordFault>
     ensures { ReadsWords result (texts words.now) }
 {

@@ -1,4 +1,4 @@
-ghost use Rattle.vg_words.specs.Laws.{CapsAreRead, CertsAreOfOneNet, FilesDiffer, OneOrAll, OneRequest, PartsAreFew, SizesAreSmall, TargetsAreRead};
+ghost use Rattle.vg_words.specs.Laws.{CapsAreRead, CertsAreOfOneNet, FilesDiffer, OneOrAll, OneRequest, OutputsArePaired, PartsAreFew, SizesAreSmall, TargetsAreRead};
 
 /// Words are one request at most. The function does nothing: its contract is the law, which a proof may cite.
 pub fn one_request()
@@ -6,8 +6,8 @@ pub fn one_request()
 {}
 
 /// A request asks for one net in modes `wire` and `check`, for one net or for all nets in modes `time`, `best`,
-/// `frontier`, `segment` and `repair`, and names none in modes `gen` and `sta`. The function does nothing: its contract
-/// is the law, which a proof may cite.
+/// `frontier`, `segment` and `repair`, for all nets in mode `total`, and names none in modes `gen` and `sta`. The
+/// function does nothing: its contract is the law, which a proof may cite.
 pub fn one_or_all()
     ensures { OneOrAll }
 {}
@@ -16,6 +16,12 @@ pub fn one_or_all()
 /// the law, which a proof may cite.
 pub fn certs_are_of_one_net()
     ensures { CertsAreOfOneNet }
+{}
+
+/// In mode `total` a request names both files that are written, or neither. The function does nothing: its contract is
+/// the law, which a proof may cite.
+pub fn outputs_are_paired()
+    ensures { OutputsArePaired }
 {}
 
 /// In a request no two options name one file. The function does nothing: its contract is the law, which a proof may
@@ -36,8 +42,8 @@ pub fn sizes_are_small()
     ensures { SizesAreSmall }
 {}
 
-/// In mode `segment` a request asks for 1 to 64 parts. The function does nothing: its contract is the law, which a proof
-/// may cite.
+/// In mode `segment` a request asks for 1 to 64 parts. The function does nothing: its contract is the law, which a
+/// proof may cite.
 pub fn parts_are_few()
     ensures { PartsAreFew }
 {}

@@ -1,2 +1,3 @@
 pub mod RepairLemmas
+pub mod TotalLemmas
 pub mod HeadlineLemmas

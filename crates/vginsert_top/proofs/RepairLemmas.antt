@@ -1,5 +1,5 @@
 -- What a run promises of nets in mode `repair`, from what it prints.
-use Rattle.std.proofs.Common.{◌≡◌, ℕ, ℤ, suc, ◌+◌, List, [], ◌∷◌, ◌++◌, refl, sym, ap, ◌∙◌, subst, arith, map, Option, Some}
+use Rattle.std.proofs.Common.{◌≡◌, ℕ, ℤ, suc, ◌+◌, List, [], ◌∷◌, ◌++◌, refl, sym, ap, ◌∙◌, subst, arith, map, Some}
 use Rattle.std.specs.List.{AllZip, flat_map, slice_get}
 use Rattle.elmore.specs.declared.problem.Problem.{Problem}
 use Rattle.vg_store.specs.Reading.{FilesState}

@@ -1,13 +1,13 @@
 -- What a run promises of each net that is asked for in modes `best`, `repair`, `frontier` and `segment`, of a design in
--- mode `sta`, and of certificates.
+-- modes `sta` and `total`, and of certificates.
 use Rattle.std.specs.Prelude.{◌≡◌, ◌≢◌, ℕ, ℤ, List, [], ◌++◌, map, Option, Some}
-use Rattle.std.specs.List.{AllZip, Contains, flat_map}
+use Rattle.std.specs.List.{All, AllZip, Contains, flat_map}
 use Rattle.vg_store.specs.Reading.{FilesState}
 use Rattle.vg_store.specs.Writing.{OutState, Gains}
 use Rattle.vg_words.specs.Request.{cap_of, parts_of, prefix_of}
 use Rattle.vg_words.specs.declared.ask.Ask.{Ask}
 use Rattle.vg_words.specs.declared.ask.Mode.{Mode}
-use Rattle.vg_words.specs.declared.ask.Mode.TheVariants.{Best as BestMode, Frontier, Check, Sta as StaMode, Segment as SegmentMode, Repair as RepairMode}
+use Rattle.vg_words.specs.declared.ask.Mode.TheVariants.{Best as BestMode, Frontier, Check, Sta as StaMode, Segment as SegmentMode, Repair as RepairMode, Total as TotalMode}
 use Rattle.spef_net.specs.declared.net.ParNet.{ParNet}
 use Rattle.spef_patch_laws.specs.ReplacementLaws.{HasSameNet}
 use Rattle.spef_wire.specs.declared.refusal.Refusal.{Refusal}
@@ -32,7 +32,7 @@ use Rattle.vg_answer.specs.declared.input.Input.{Input}
 use Rattle.vg_answer.specs.declared.input.Input.TheVariants.{Spef}
 use Rattle.vg_answer.specs.declared.kind.AnswerKind.{AnswerKind}
 use Rattle.vg_answer.specs.declared.kind.AnswerKind.TheVariants.{Report}
-use Rattle.vg_place.specs.Placings.{Files}
+use Rattle.vg_place.specs.Placings.{Files, kept}
 use Rattle.place_laws.specs.Laws.{with_files}
 use Rattle.mode_best.specs.Answers.{Certifies}
 use Rattle.mode_frontier.specs.Answers.{HasNoneWithin}
@@ -45,6 +45,8 @@ use Rattle.mode_repair.specs.declared.totals.Totals.{Totals}
 use Rattle.mode_segment.specs.Answers.{nets_in}
 use Rattle.mode_segment.specs.Lines.{segment_line}
 use Rattle.mode_sta.specs.Lines.{cycle_line, no_path_line, sta_report}
+use Rattle.mode_total.specs.Answers.{IsTotalSaid, last_picked}
+use Rattle.mode_total.specs.Choices.{Choice, Standing}
 use Rattle.vg_run.specs.Inputs.{AreRead, Change}
 use Rattle.vg_run.specs.Modes.{design_texts, goal_of}
 use Rattle.vg_run.specs.Run.{HoldsAt}
@@ -179,13 +181,43 @@ pub record RepairHeadline (files : Change FilesState) (out : Change OutState) (a
   pub totals_of : AreTotals (map (λ row. row.0) rows) totals
   pub printed : Gains out.0 out.1 (flat_map (λ row. row.1) rows ++ totals_line totals)
 
--- what the reports of modes `best`, `repair`, `frontier`, `sta` and `segment` say
+-- The files that the words name hold a netlist and parasitics: those that were read, where there is no choice. In the
+-- texts that were read, with these two in their places, each accepted net re-times to the slack of what the last choice
+-- takes for it.
+pub record HasTotalFiles (files : FilesState) (ask : Ask) (texts : Texts) (standings : List Standing)
+    (choices : List Choice) : Type 0 where
+  pub written : Files
+  pub netlist : HoldsAt files ask.out_verilog written.verilog
+  pub parasitics : HoldsAt files ask.out_spef written.spef
+  pub each : All
+      (λ picked. RetimesInTexts (with_files texts written) (prefix_of ask) picked.0.name picked.1.slack)
+      (last_picked standings choices)
+  pub as_read : choices ≡ [] → written ≡ kept texts
+
+-- The four files that were read denote a design, and an output gained its lines in mode `total`: which of its nets are
+-- refused, and each cost and slack of a choice of a good placement for each other net, within the cap, that no such
+-- choice outdoes, by rising cost, with a choice that comes to it. Where the words name files to write, these hold what
+-- `HasTotalFiles` has of them.
+pub record TotalHeadline (files : Change FilesState) (out : Change OutState) (ask : Ask) : Type 0 where
+  pub texts : Input → List ℕ
+  pub read : AreRead files.0 ask texts
+  pub design : Design
+  pub design_of : IsDesign (design_texts texts) design
+  pub kind : AnswerKind
+  pub lines : List ℕ
+  pub total : IsTotalSaid design (cap_of ask) kind lines
+  pub printed : Gains out.0 out.1 lines
+  pub written : (file : List ℕ) → ask.out_spef ≡ Some file
+      → HasTotalFiles files.1 ask (design_texts texts) total.standings total.choices
+
+-- what the reports of modes `best`, `repair`, `frontier`, `sta`, `segment` and `total` say
 abbrev pub HeadlineIn : Mode → Change FilesState → Change OutState → Ask → Type 0
 HeadlineIn BestMode files out ask = BestHeadline files out ask
 HeadlineIn Frontier files out ask = Reports files.0 out ask (λ texts d name lines. FrontOf d (cap_of ask) name lines)
 HeadlineIn StaMode files out ask = StaHeadline files.0 out ask
 HeadlineIn SegmentMode files out ask = SegmentHeadline files out ask
 HeadlineIn RepairMode files out ask = RepairHeadline files out ask
+HeadlineIn TotalMode files out ask = TotalHeadline files out ask
 HeadlineIn mode files out ask = Unit {0}
 
 abbrev pub Headline : Change FilesState → Change OutState → Ask → Type 0

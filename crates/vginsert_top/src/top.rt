@@ -17,28 +17,28 @@ use vg_words::read_words;
 /// Does all that the program does, and answers its status.
 ///
 /// The words are those of the command line without the program's own name. What is asked for is read from `files`,
-/// written to `files` where modes `best`, `repair` and `segment` name outputs, and printed to `out`; a line on `err` tells of
-/// everything but a printed answer.
+/// written to `files` where modes `best`, `repair`, `segment` and `total` name outputs, and printed to `out`; a line on
+/// `err` tells of everything but a printed answer.
 ///
 /// | status | when |
 /// |---|---|
 /// | 0 | the report was printed, of all nets that are asked for |
-/// | 1 | modes `best`, `repair` and `frontier`: it was printed, and tells of some net that no placement on it is good, or none within the cap, or that its slack is short of the target; no net is refused |
+/// | 1 | modes `best`, `repair` and `frontier`: it was printed, and tells of some net that no placement on it is good, or none within the cap, or that its slack is short of the target; mode `total`: it was printed, and tells that no choice of a good placement for each net is within the cap; no net is refused |
 /// | 2 | it was printed, and some net is refused; or, in mode `sta`, nets form a cycle, or there is none |
 /// | 3 | the words are no request |
-/// | 4 | an input is not in its form, or has more than 2^28 bytes; or, in modes `best` and `repair`, a name of the design begins with the prefix |
+/// | 4 | an input is not in its form, or has more than 2^28 bytes; or, in modes `best` and `repair`, and in mode `total` where it names outputs, a name of the design begins with the prefix |
 /// | 5 | reading an input failed |
 /// | 6 | writing a file or printing failed |
 /// | 7 | out of memory |
 /// | 8 | mode `check`: it was printed, and tells that the certificate is not in its form or not valid |
 ///
-/// In modes `best` and `repair` the netlist is written first, then the parasitics, then, in mode `best`, the
-/// certificate, where it is asked for and the net is not refused, and then the report is printed. A net without a cell
-/// keeps its part of both texts. In mode `segment` the parasitics are written, in which a refused net keeps its part, and then the report is printed. After
-/// 3, 4, 5, 7 and 8 no file was created or changed, and after the first four nothing was printed. After 6 the files
-/// that were finished before are whole, the one whose writing failed is as it was or holds a prefix of its text, and
-/// later ones are as they were. A fault of `err` never changes the status. Files that the words do not name as outputs
-/// stay.
+/// In modes `best` and `repair`, and in mode `total` where it names outputs, the netlist is written first, then the
+/// parasitics, then, in mode `best`, the certificate, where it is asked for and the net is not refused, and then the
+/// report is printed. A net without a cell keeps its part of both texts. In mode `segment` the parasitics are written, in
+/// which a refused net keeps its part, and then the report is printed. After 3, 4, 5, 7 and 8 no file was created or
+/// changed, and after the first four nothing was printed. After 6 the files that were finished before are whole, the one
+/// whose writing failed is as it was or holds a prefix of its text, and later ones are as they were. A fault of `err`
+/// never changes the status. Files that the words do not name as outputs stay.
 pub fn run<F: Files, O: Out, E: Out>(
     alloc: Global,
     words: &[String],
@@ -81,9 +81,9 @@ pub fn run<F: Files, O: Out, E: Out>(
     // Where the inputs are in their form and nothing fails, the run answers, or is out of memory.
     ensures complete { IsComplete (texts words.now) (F.state files.old, F.state files.new)
         (O.state out.old, O.state out.new) result }
-    // Each reported placement is best, and the written files re-time to its slack; each printed frontier is exact; the
-    // slacks of a whole design are those of its paths; a net whose resistors are cut is read as the cut net, and is no
-    // worse.
+    // Each reported placement is best, and the written files re-time to its slack; each printed frontier is exact, also
+    // that of a whole design; the slacks of a whole design are those of its paths; a net whose resistors are cut is read
+    // as the cut net, and is no worse.
     ensures headline { (result ≡ 0) ⊎ ((result ≡ 1) ⊎ (result ≡ 2)) → ForRequest (texts words.now)
         (Headline (F.state files.old, F.state files.new) (O.state out.old, O.state out.new)) }
     // A certificate that was asked for is there, and mode `check` finds it valid.
