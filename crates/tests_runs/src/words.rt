@@ -35,7 +35,7 @@ static SEGMENT: [Given; 2] = [SPEF, OUT_SPEF];
 fn files_of(mode: &str) -> &'static [Given] {
     match mode {
         "wire" => &WIRE,
-        "time" | "sta" | "frontier" => &DESIGN,
+        "time" | "sta" | "frontier" | "total" => &DESIGN,
         "best" | "repair" => &BEST,
         "check" => &CHECK,
         "segment" => &SEGMENT,
