@@ -45,6 +45,7 @@ RUNS = {
     "`repair --all`": ["repair", *SOC, "--all", *OUTPUTS],
     "`frontier`": ["frontier", *SMALL, "--net", "n1"],
     "`frontier --all`": ["frontier", *SOC, "--all"],
+    "`total --all`": ["total", *SOC, "--all", *OUTPUTS],
     "`check`": ["check", *SMALL, "--net", "n1", *SMALL_CERT],
     "`time --all`": ["time", *SOC, "--all"],
     "`wire`": ["wire", "--spef", os.path.join(EXAMPLES, "fork.spef"), "--net", "n1"],

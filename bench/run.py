@@ -14,17 +14,19 @@
 | `frontier` | `--mode frontier` | chains and random trees with 60 to 480 nodes between driver and sinks, with 2, 8 and 32 repeaters, with a cap and without one |
 | `all` | `--mode time --all` and `--mode best --all` | all nets of designs of four files |
 | `repair` | `--mode repair --all` with three targets, beside `best --all` and `frontier --all` of the same program | all nets of designs of four files |
+| `total` | `--mode total --all`, with and without a cap and written files, beside `frontier --all` of the same program | the design of `examples/`, and designs of four files |
 | `sta` | `--mode time --all` and `--mode sta` | designs of four files with short paths and with long ones, and one path through 2^20 nets |
 | `segment` | `--mode segment --all` with 4 parts, and up to 16 MB also with 16; besides `--mode wire` for a small net, and `cp` of both files | extracted designs |
 
-The sizes are the nodes in modes `best` and `cert`, the nodes but two in mode `frontier`, and those of the SPEF files in modes `design`, `time` and `segment` (1, 16, 64 and 256 MB if none is given), `all` (1, 16, 64 and 192 MB), `repair` (1, 4 and 16 MB) and `sta`
-(16, 64 and 192 MB; where some are given, the one path goes through 8,192 nets for each MB of the last one), of the netlists (256 MB) and of the libraries (64 MB). With `--beside OTHER` each row but those of `rows`, `library` and `repair` also tells the seconds
+The sizes are the nodes in modes `best` and `cert`, the nodes but two in mode `frontier`, and those of the SPEF files in modes `design`, `time` and `segment` (1, 16, 64 and 256 MB if none is given), `all` (1, 16, 64 and 192 MB), `repair` and `total` (1, 4 and 16 MB) and `sta`
+(16, 64 and 192 MB; where some are given, the one path goes through 8,192 nets for each MB of the last one), of the netlists (256 MB) and of the libraries (64 MB). With `--beside OTHER` each row but those of `rows`, `library`, `repair` and `total` also tells the seconds
 and the memory of another program with the same arguments, run right after. In modes `best` and `cert` the changed files are written, too;
 in mode `cert` each program checks its own certificate, unless this has more than 2^28 bytes. In mode `segment` the nets that are too large when they are cut stay.
 Seconds are the least of five runs of the whole process, peak memory is what GNU time tells, 1 MB is 2^20 bytes.
 """
 import argparse
 import os
+import shutil
 import subprocess
 import sys
 import tempfile
@@ -287,6 +289,28 @@ def run_repair(programs, *sizes):
             row(mb(os.path.getsize("net.spef")), f"{len(slacks):,}", mode, target, str(enough), f"{put:,}", f"{seconds:.2f}", mb(peak))
 
 
+def run_total(programs, *sizes):
+    head("SPEF file", "nets", "cap", "mode", "points", "report", "seconds", "peak memory", "times the time of `frontier`")
+    files = ["--spef", "net.spef", "--lib", "net.lib", "--verilog", "net.v", "--cons", "net.cons", "--all"]
+    written = ["--out-spef", "out.spef", "--out-verilog", "out.v"]
+    for size in sizes or ["soc", "1", "4", "16"]:
+        if size == "soc":
+            for end in ["spef", "lib", "v", "cons"]:
+                shutil.copy(os.path.join(HERE, "..", "examples", f"soc.{end}"), f"net.{end}")
+        else:
+            next(iter(designs([size])))
+        for cap in ["", "30000"]:
+            words = [*files, *(["--cap", cap] if cap else [])]
+            report, base, peak = measure_good([programs[0], "--mode", "frontier", *words], 2)
+            nets, points = report.count(b"\nnet ") + 1, report.count(b"\npoint ")
+            row(mb(os.path.getsize("net.spef")), f"{nets:,}", cap, "frontier", f"{points:,}", mb(len(report)), f"{base:.2f}", mb(peak), "")
+            for more in [[], written]:
+                report, seconds, peak = measure_good([programs[0], "--mode", "total", *words, *more], 2)
+                points = report.count(b"\npoint ")
+                name = "total, with files" if more else "total"
+                row(mb(os.path.getsize("net.spef")), f"{nets:,}", cap, name, f"{points:,}", mb(len(report)), f"{seconds:.2f}", mb(peak), f"{seconds / base:.2f}")
+
+
 def sta_designs(sizes):
     """Writes designs, one after the other, and tells of what kind each is."""
     for kind in ["clocked", "chained"]:
@@ -341,6 +365,7 @@ MODES = {
     "frontier": run_frontier,
     "all": run_all,
     "repair": run_repair,
+    "total": run_total,
     "sta": run_sta,
     "segment": run_segment,
 }
