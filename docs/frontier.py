@@ -1,7 +1,7 @@
 #!/usr/bin/env python3
-"""Draws the frontiers of a report of mode `frontier` as a picture (SVG) of slack over cost: `frontier.py < REPORT > PICTURE`.
+"""Draws the frontiers of a report of mode `frontier` or `total` as a picture (SVG) of slack over cost: `frontier.py < REPORT > PICTURE`.
 
-Each net has a curve of steps: at a cost, the most slack that cells of at most this cost leave. Costs are in the library's unit of
+Each net, or in mode `total` the whole design, has a curve of steps: at a cost, the most slack that cells of at most this cost leave. Costs are in the library's unit of
 area, slacks in picoseconds. Where some slack is negative and some is not, a line marks 0.
 """
 import html
@@ -12,12 +12,14 @@ COLOURS = ["#1f6fb2", "#b2551f", "#2f8f4e", "#8a3fa0", "#7a6a2a", "#a02f4e"]
 
 
 def read(lines):
-    """For each net of a report that has points its name and its points: cost and slack."""
+    """For each net of a report that has points, or for all of them together, its name and its points: cost and slack."""
     nets = []
     for line in lines:
         words = line.split()
         if words[:1] == ["net"] and words[2:3] == ["points"]:
             nets.append((words[1], []))
+        elif words[:2] == ["total", "points"]:
+            nets.append(("worst of all nets", []))
         elif words[:1] == ["point"]:
             nets[-1][1].append((int(words[1]) / 1e3, int(words[2]) / 1e9))
     return nets
