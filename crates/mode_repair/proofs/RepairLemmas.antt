@@ -24,7 +24,7 @@ use Rattle.vg_place.specs.Steps.{IsBegun, IsOneMore}
 use Rattle.vg_place.specs.declared.judging.Judging.{Judging}
 use Rattle.vg_place.proofs.JudgedLemmas.{judged_more, nothing_judged}
 use Rattle.mode_repair.specs.Answers.{HasRepair, IsOutcome, IsRepairSaid}
-use Rattle.mode_repair.specs.Outcomes.{AreTotals, kind_for, outcome_for}
+use Rattle.mode_repair.specs.Outcomes.{AreTotals, Counts, kind_for, outcome_for}
 use Rattle.mode_repair.specs.Steps.{AreRepaired, HasRoom, RepairsOne}
 use Rattle.mode_repair.specs.declared.nets.Repairing.{Repairing}
 use Rattle.mode_repair.specs.declared.outcome.Goal.{Goal}
@@ -51,9 +51,6 @@ repair_put d goal name v (IsRepairSaid.told_repair net of best is e) =
     IsPutSaid.puts_cells net of best.placement.cells (repair_is_good net.problem goal.cap goal.target best.placement.cells best.slack is) (ap (λ (u : Verdict). u.put) e)
 repair_put d goal name v (IsRepairSaid.told_none net of none e) = IsPutSaid.puts_nothing (ap (λ (u : Verdict). u.put) e)
 repair_put d goal name v (IsRepairSaid.told_refusal refusal first e) = IsPutSaid.puts_nothing (ap (λ (u : Verdict). u.put) e)
-
-abbrev Counts : Totals → Outcome → Totals → Type 0
-Counts old outcome new = (before : List Outcome) → AreTotals before old → AreTotals (before ++ outcome ∷ []) new
 
 module _ (d : Design) (goal : Goal) (name : List ℕ) (old : Repairing) (judging : Judging) (totals : Totals) where
   pub repaired_one : (net : PosedNet) (best : Best) (outcome : Outcome) (kind : AnswerKind) → IsPosedNet d name net

@@ -33,7 +33,8 @@ pub record Asked : Type 0 where
 pub data IsRepairSaid (d : Design) (goal : Goal) (name : List ℕ) (said : Verdict) : Type 0 where
   told_repair : (net : PosedNet) → IsPosedNet d name net
       → (best : Best) → IsRepair net.problem goal.cap goal.target best.placement.cells best.slack
-      → said ≡ placed_verdict (kind_for (outcome_for goal.target best.slack)) d name net best → IsRepairSaid d goal name said
+      → said ≡ placed_verdict (kind_for (outcome_for goal.target best.slack)) d name net best
+      → IsRepairSaid d goal name said
   told_none : (net : PosedNet) → IsPosedNet d name net → HasNoneWithin net.problem goal.cap
       → said ≡ bare_verdict NoGood (none_line name) → IsRepairSaid d goal name said
   told_refusal : (refusal : Refusal) → IsFirstRefusal d name refusal

@@ -65,6 +65,10 @@ pub record AreTotals (outcomes : List Outcome) (totals : Totals) : Type 0 where
   pub refused : totals.refused ≡ count_by is_refused outcomes
   pub worst : IsWorst (flat_map slacks_in outcomes) totals.worst
 
+-- totals count one net more than others, which came to this
+abbrev pub Counts : Totals → Outcome → Totals → Type 0
+Counts old outcome new = (before : List Outcome) → AreTotals before old → AreTotals (before ++ outcome ∷ []) new
+
 abbrev pub worst_text : Option ℤ → List ℕ
 worst_text None = codes "none"
 worst_text (Some slack) = signed_decimal slack

@@ -1,5 +1,5 @@
 -- What is said of repairs of nets, one after another: for the functions between.
-use Rattle.std.specs.Prelude.{◌≡◌, ℕ, ◌+◌, ◌<◌, ◌^◌, ◌++◌, List, [], ◌∷◌, length, Some, None, Result, Ok, Err}
+use Rattle.std.specs.Prelude.{◌≡◌, ℕ, ◌+◌, ◌<◌, ◌^◌, List, length, Some, None, Result, Ok, Err}
 use Rattle.std.specs.List.{AllZip}
 use Rattle.ver_file.specs.Modules.{Denotes}
 use Rattle.vg_change.specs.Taken.{taken}
@@ -11,7 +11,7 @@ use Rattle.vg_place.specs.Placings.{Files}
 use Rattle.vg_place.specs.Steps.{AreJudged, FitIn, IsOneMore, said_with}
 use Rattle.vg_place.specs.declared.judged.Judged.{Judged}
 use Rattle.mode_repair.specs.Answers.{Asked, IsOutcome, IsRepairOf, IsRepairSaid}
-use Rattle.mode_repair.specs.Outcomes.{AreTotals}
+use Rattle.mode_repair.specs.Outcomes.{AreTotals, Counts}
 use Rattle.mode_repair.specs.declared.nets.Repairing.{Repairing}
 use Rattle.mode_repair.specs.declared.outcome.Goal.{Goal}
 use Rattle.mode_repair.specs.declared.outcome.Outcome.{Outcome}
@@ -30,8 +30,7 @@ pub record RepairsOne (d : Design) (goal : Goal) (name : List ℕ) (old new : Re
   pub more : IsOneMore old.judging verdict new.judging
   pub outcome : Outcome
   pub comes : IsOutcome d goal name outcome
-  pub counted : (before : List Outcome) → AreTotals before old.totals
-      → AreTotals (before ++ outcome ∷ []) new.totals
+  pub counted : Counts old.totals outcome new.totals
 
 -- these nets are repaired, with nothing before
 pub record AreRepaired (d : Design) (goal : Goal) (prefix : List ℕ) (names : List (List ℕ))

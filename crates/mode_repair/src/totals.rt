@@ -1,7 +1,7 @@
 //! How many nets came to what.
 
 ghost use Rattle.std.specs.Prelude.{◌≡◌, ◌++◌, ◌+◌, ◌<◌, ◌^◌, ℤ, Some, [], ◌∷◌, List, length, OnOk};
-ghost use Rattle.mode_repair.specs.Outcomes.{AreTotals, IsWorst, count_text, counts_text, totals_line, worst_text};
+ghost use Rattle.mode_repair.specs.Outcomes.{AreTotals, Counts, IsWorst, count_text, counts_text, totals_line, worst_text};
 ghost use Rattle.mode_repair.specs.declared.outcome.Outcome.{Outcome as OutcomeSpec};
 
 use crate::outcome::Outcome;
@@ -65,7 +65,7 @@ impl Totals {
     /// With what one net more came to.
     pub fn with(self, outcome: Outcome) -> Totals
         requires room { (before : List OutcomeSpec) × AreTotals before self × (length before + 1 < 2 ^ 64) }
-        ensures { (before : List OutcomeSpec) → AreTotals before self → AreTotals (before ++ outcome ∷ []) result }
+        ensures { Counts self outcome result }
     {
         let nets = self.nets + 1;
         match outcome {

@@ -15,7 +15,7 @@ use Rattle.vg_total.specs.Picks.{AreTotals, IsPicked, at_of, front_at, picked_by
 use Rattle.vg_total.specs.Totals.{IsTotal, IsListed, IsAttainedAt}
 use Rattle.vg_total.specs.declared.pick.TotalPoint.{TotalPoint}
 use Rattle.vg_total.proofs.TotalLemmas.{total_of_all}
-use Rattle.mode_total.specs.Choices.{Accepted, AreChoices, IsChoice, IsPick, IsTotalFrontier, of_nets, total_of}
+use Rattle.mode_total.specs.Choices.{Accepted, AreChoices, IsChoice, IsPick, IsDesignFrontier, of_nets, total_of}
 use Rattle.mode_total.specs.Picked.{AreFrontsFor, AreInside, IsFrontFor, NO_PICK, choice_in, picks_in}
 
 -- ---- the frontier
@@ -84,7 +84,7 @@ module _ (own : Accepted) (nets : List Accepted) (cap : Option ℕ) where
   )
 
   total_frontier : (fronts : List (Vec Pick Global)) (points : List Point) → AreFrontsFor cap (own ∷ nets) fronts
-      → IsFrontier (IsTotal (length fronts) (IsListed (front_at fronts)) cap) points → IsTotalFrontier (own ∷ nets) cap points
+      → IsFrontier (IsTotal (length fronts) (IsListed (front_at fronts)) cap) points → IsDesignFrontier (own ∷ nets) cap points
   total_frontier fronts points fronts_are f =
       same_frontier (IsTotal (length (own ∷ nets)) (IsAttainedAt problems) cap) (IsTotal (length (own ∷ nets)) (of_nets (own ∷ nets)) cap) points total_there total_back
       (total_of_all (length (own ∷ nets)) problems (front_at fronts) cap points (λ k k_n. front_for cap (own ∷ nets) fronts k own fronts_are k_n)
@@ -186,7 +186,7 @@ choices_are : (cap : Option ℕ) (own : Accepted) (nets : List Accepted) (fronts
     → AreFrontsFor cap (own ∷ nets) fronts → AreTotals fronts cap points → AreChoices (own ∷ nets) cap (map (choice_in fronts) points)
 choices_are cap own nets fronts points are found = record {
   frontier =
-      subst (IsTotalFrontier (own ∷ nets) cap) (sym (totals_of fronts points)) (total_frontier own nets cap fronts (map total_point points) are found.frontier);
+      subst (IsDesignFrontier (own ∷ nets) cap) (sym (totals_of fronts points)) (total_frontier own nets cap fronts (map total_point points) are found.frontier);
   each = each_choice cap (own ∷ nets) fronts are points found.picked;
 }
 

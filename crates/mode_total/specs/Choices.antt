@@ -38,8 +38,8 @@ of_nets nets k point = (own : Accepted) × (slice_get nets k ≡ Some own) × Is
 
 -- The costs and slacks of all choices of a good placement for each net, within the cap, that no other choice outdoes:
 -- the sum of the placements' costs, and the least of their slacks.
-abbrev pub IsTotalFrontier : List Accepted → Option ℕ → List Point → Type 0
-IsTotalFrontier nets cap points = IsFrontier (IsTotal (length nets) (of_nets nets) cap) points
+abbrev pub IsDesignFrontier : List Accepted → Option ℕ → List Point → Type 0
+IsDesignFrontier nets cap points = IsFrontier (IsTotal (length nets) (of_nets nets) cap) points
 
 -- A choice: what it costs, its slack, and for each net the placement that it takes, with its cost and its slack.
 pub record Choice : Type 0 where
@@ -64,7 +64,7 @@ pub record IsChoice (cap : Option ℕ) (nets : List Accepted) (choice : Choice) 
 
 -- each point of the total frontier once, by rising cost, with a choice that comes to it
 pub record AreChoices (nets : List Accepted) (cap : Option ℕ) (choices : List Choice) : Type 0 where
-  pub frontier : IsTotalFrontier nets cap (map total_of choices)
+  pub frontier : IsDesignFrontier nets cap (map total_of choices)
   pub each : All (IsChoice cap nets) choices
 
 -- what the last choice takes, where there is one: the most slack of all, at the least cost that has it

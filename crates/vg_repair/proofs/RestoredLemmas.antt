@@ -1,11 +1,8 @@
 -- An arena that one search after another leaves as it was.
-use Rattle.std.proofs.Common.{ℕ, List, refl, ◌∙◌}
+use Rattle.std.proofs.Common.{ℕ, List, ◌∙◌}
 use Rattle.sol_arena.specs.Slots.{made_in, IsSolution}
 use Rattle.sol_arena.specs.Reach.{IsRestored}
 use Rattle.sol_arena.specs.declared.slot.Slot.{Slot}
-
-pub restored_same : (slots : List Slot) → IsRestored slots slots
-restored_same slots = record { live = λ s. refl; made = λ s is. refl; cells = λ s is. refl; uses = λ s some. refl; count = refl }
 
 pub restored_twice : (old mid new : List Slot) → IsRestored old mid → IsRestored mid new → IsRestored old new
 restored_twice old mid new one other =

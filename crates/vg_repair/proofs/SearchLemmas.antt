@@ -77,7 +77,7 @@ searched_widens p cap target cells x last points best (IsLastCap.own low same) (
     IsSearched.whole (front_widens p cap last (subst (IsWithin cap) (sym same) low) points front cells x best (sym same))
 searched_widens p cap target cells x last points best (IsLastCap.own low same) (IsSearched.first few less front enough) =
     IsSearched.first few (within cap (cost_of p cells) few low (omega (arith, less, same))) front enough
-searched_widens p cap target cells x last points best (IsLastCap.lent same less) searched =
+searched_widens p cap target cells x last points best (IsLastCap.given same less) searched =
     subst (λ (most : Option ℕ). IsSearched p most target points) (sym same) searched
 
 pub if_searched : {A E : Type 0} (P Q : A → Type 0) (result : Result A E) → ((x : A) → P x → Q x) → IfOk result P → IfOk result Q

@@ -46,7 +46,7 @@ pub record HasEnough (target : ℤ) (points : List Point) : Type 0 where
 -- the cap, or what a best placement costs where that is within the cap
 pub data IsLastCap (cap : Option ℕ) (best last : ℕ) : Type 0 where
   own : IsWithin cap best → last ≡ best → IsLastCap cap best last
-  lent : cap ≡ Some last → last ≤ best → IsLastCap cap best last
+  given : cap ≡ Some last → last ≤ best → IsLastCap cap best last
 
 -- the frontier within the cap, or that within a smaller one in which a point has slack enough
 pub data IsSearched (p : Problem) (cap : Option ℕ) (target : ℤ) (points : List Point) : Type 0 where

@@ -110,7 +110,8 @@ pub data RepairOf (d : Design) (goal : Goal) (Retimes : List ℕ → ℤ → Typ
       → row ≡ (Met best.slack, best_report name (cells_of d.library.repeaters) net best) → Retimes name best.slack
       → RepairOf d goal Retimes name row
   short : (net : NetProblem) → IsNetProblem d name net → (best : Best)
-      → IsRepair net.problem goal.cap goal.target best.placement.cells best.slack → (IsEnough goal.target best.slack → ⊥)
+      → IsRepair net.problem goal.cap goal.target best.placement.cells best.slack
+      → (IsEnough goal.target best.slack → ⊥)
       → row ≡ (Short best.slack, best_report name (cells_of d.library.repeaters) net best) → Retimes name best.slack
       → RepairOf d goal Retimes name row
   none_good : (net : NetProblem) → IsNetProblem d name net → HasNoneWithin net.problem goal.cap
