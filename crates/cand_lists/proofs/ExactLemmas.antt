@@ -112,10 +112,6 @@ pub wire_loads : (r c : ℕ) (xs : Candidates) → above_wire r c xs ≡ map (lo
 wire_loads r c xs = loaded_undominated r c xs
 
 -- of two lists
-either_modest : (xs ys : Candidates) (z : Candidate) → AreModest xs → AreModest ys → IsOfEither xs ys z → IsModest z
-either_modest xs ys z one two (inl m) = modest_in xs z one m
-either_modest xs ys z one two (inr m) = modest_in ys z two m
-
 either_pair : (xs ys : Candidates) (z : Candidate) → IsOfEither xs ys z → Either (pairs_of xs) (pairs_of ys) (pair_of z)
 either_pair xs ys z (inl m) = inl (pair_in xs z (at_place xs z m))
 either_pair xs ys z (inr m) = inr (pair_in ys z (at_place ys z m))
@@ -124,14 +120,25 @@ either_from : (xs ys : Candidates) (p : Pair) → Either (pairs_of xs) (pairs_of
 either_from xs ys p (inl p_in) = let (x, x_in, e) = of_pair xs p p_in in (x, inl (in_list xs x x_in), e)
 either_from xs ys p (inr p_in) = let (y, y_in, e) = of_pair ys p p_in in (y, inr (in_list ys y y_in), e)
 
+pub both_over : (xs ys : Candidates) → AreRising xs → AreRising ys → ((x : Candidate) → Contains xs x → lowest <ℤ x.q) → ((y : Candidate) → Contains ys y → lowest <ℤ y.q)
+    → IsUndominated (Either (pairs_of xs) (pairs_of ys)) (pairs_of (both xs ys))
+both_over xs ys rise_x rise_y over_x over_y =
+    kept_exact (Either (pairs_of xs) (pairs_of ys)) (union xs ys) (union_ordered xs ys (rising_order xs rise_x) (rising_order ys rise_y))
+    (union_heavies 0 xs ys (rising_heavies 0 xs (λ x m. omega arith) rise_x) (rising_heavies 0 ys (λ y m. omega arith) rise_y))
+    (λ z m. over z (union_taken xs ys z m))
+    (λ z m. either_pair xs ys z (union_taken xs ys z m))
+    (λ p p_in. let (z, z_in, e) = either_from xs ys p p_in in (z, union_all xs ys z z_in, e))
+  where
+    over : (z : Candidate) → IsOfEither xs ys z → lowest <ℤ z.q
+    over z (inl m) = over_x z (at_place xs z m)
+    over z (inr m) = over_y z (at_place ys z m)
+
 pub both_exact : (xs ys : Candidates) → AreRising xs → AreRising ys → AreModest xs → AreModest ys
     → IsUndominated (Either (pairs_of xs) (pairs_of ys)) (pairs_of (both xs ys))
 both_exact xs ys rise_x rise_y modest_x modest_y =
-    kept_exact (Either (pairs_of xs) (pairs_of ys)) (union xs ys) (union_ordered xs ys (rising_order xs rise_x) (rising_order ys rise_y))
-    (union_heavies 0 xs ys (rising_heavies 0 xs (λ x m. omega arith) rise_x) (rising_heavies 0 ys (λ y m. omega arith) rise_y))
-    (λ z m. let modest : IsModest z = either_modest xs ys z modest_x modest_y (union_taken xs ys z m) in omega (arith, ints, modest.low))
-    (λ z m. either_pair xs ys z (union_taken xs ys z m))
-    (λ p p_in. let (z, z_in, e) = either_from xs ys p p_in in (z, union_all xs ys z z_in, e))
+    both_over xs ys rise_x rise_y
+    (λ x x_in. let modest : IsModest x = modest_in xs x modest_x (in_list xs x x_in) in omega (arith, ints, modest.low))
+    (λ y y_in. let modest : IsModest y = modest_in ys y modest_y (in_list ys y y_in) in omega (arith, ints, modest.low))
 
 pub both_take : (xs ys : Candidates) (z : Candidate) → Contains (both xs ys) z → Contains xs z ⊎ Contains ys z
 both_take xs ys z z_in = elim (union_taken xs ys z (kept_taken lowest (union xs ys) z (in_list (both xs ys) z z_in))) [

@@ -1,11 +1,11 @@
 -- Lists that are made beside others.
-use Rattle.std.proofs.Common.{◌≡◌, ℕ, ◌+◌, ◌≤◌, Bool, true, false, [], ◌∷◌, ◌++◌, length, refl, sym, ap, arith}
+use Rattle.std.proofs.Common.{◌≡◌, ℕ, ◌+◌, ◌≤◌, Bool, true, false, List, [], ◌∷◌, ◌++◌, length, refl, sym, ap, arith}
 use Rattle.std.proofs.lemmas.List.Sorted.{IsPermutation-refl, IsPermutation-append_comm}
 use Rattle.std.proofs.lemmas.List.Elements.{All-nil}
 use Rattle.std.specs.List.{Contains}
 use Rattle.sol_arena.specs.declared.arena.Arena.{Arena}
 use Rattle.sol_arena.specs.Arenas.{made_of}
-use Rattle.cand_pairs.specs.Solutions.{IsSolutionOf}
+use Rattle.wire_widths.specs.WideSolutions.{IsWideSolutionOf}
 use Rattle.cand_pool.specs.Candidates.{Candidates}
 use Rattle.cand_pool.specs.Pools.{Block, IsLive, items_of, spare, name, KeepsOthers}
 use Rattle.cand_pool.specs.declared.ends.List.{List as NamedList}
@@ -13,6 +13,7 @@ use Rattle.cand_uses.specs.Uses.{IsExchange}
 use Rattle.cand_uses.proofs.ExchangeLemmas.{exchange_as, exchanged_held, no_exchange}
 use Rattle.elmore.specs.declared.pair.Pair.{Pair}
 use Rattle.elmore.specs.declared.problem.Problem.{Problem}
+use Rattle.wire_widths.specs.declared.width.Width.{Width}
 use Rattle.cand_turns.specs.Swaps.{Search, search, Slots, at_slots, Lists, AreHeld, IsSwap, IsTurn}
 use Rattle.cand_turns.specs.Branches.{classes_in, lists_of}
 use Rattle.cand_turns.specs.Celled.{AreBest}
@@ -69,12 +70,12 @@ classes_same old new given made branch held turn true = other_items old new give
 classes_same old new given made branch held turn false = other_items old new given made (lists_of branch) held turn branch.even (0, omega arith, refl)
 
 -- and a list as it is
-pub best_beside : (p : Problem) (v : ℕ) (odd : Bool) (In : Pair → Type 0) (old new : Arena) (s t : Block) (given made others : Lists) → AreHeld (search s old) (given ++ others)
-    → IsTurn (search s old) given (search t new) made → (l : NamedList) → Contains others l → AreBest p v odd In (made_of old) (items_of s l)
-    → AreBest p v odd In (made_of new) (items_of t l)
-best_beside p v odd In old new s t given made others held turn l found is = record {
+pub best_beside : (p : Problem) (ws : List Width) (v : ℕ) (odd : Bool) (In : Pair → Type 0) (old new : Arena) (s t : Block) (given made others : Lists) → AreHeld (search s old) (given ++ others)
+    → IsTurn (search s old) given (search t new) made → (l : NamedList) → Contains others l → AreBest p ws v odd In (made_of old) (items_of s l)
+    → AreBest p ws v odd In (made_of new) (items_of t l)
+best_beside p ws v odd In old new s t given made others held turn l found is = record {
   exact = exact_as In _ _ (sym (other_items (search s old) (search t new) given made others held turn l found)) is.exact;
-  solved = solved_beside (IsSolutionOf p v odd) old new s t given made others held turn l found is.solved;
+  solved = solved_beside (IsWideSolutionOf p ws v odd) old new s t given made others held turn l found is.solved;
 }
 
 -- a pool gets more slots

@@ -3,6 +3,7 @@ use Rattle.std.proofs.Common.{◌≡◌, ℕ, ◌+◌, ◌≤◌, Bool, true, fa
 use Rattle.elmore.specs.Cells.{rep_at}
 use Rattle.cand_pairs.specs.Merging.{IsGreatestBy}
 use Rattle.elmore.specs.declared.problem.Problem.{Problem}
+use Rattle.wire_widths.specs.declared.width.Width.{Width}
 use Rattle.sol_arena.specs.declared.arena.Arena.{Arena}
 use Rattle.sol_arena.specs.declared.slot.Made.{Made}
 use Rattle.sol_arena.specs.Arenas.{slots_of, made_of}
@@ -36,40 +37,40 @@ class_uses at branch odd l e held = subst (λ (k : NamedList). HoldsFor at.slots
   uses true = (two_held at branch.even branch.odd held).second
   uses false = (two_held at branch.even branch.odd held).first
 
-pub class_open : (p : Problem) (v : ℕ) (ms : List Made) (s : Block) (branch : Branch) (odd : Bool) (l : NamedList) → l ≡ list_of branch odd
-    → IsOpenAt p (v + 1) v ms (classes_in s branch) → IsOpenList p v odd ms (items_of s l)
-class_open p v ms s branch odd l e at = subst (λ (k : NamedList). IsOpenList p v odd ms (items_of s k)) (sym e) (open_list p v ms (classes_in s branch) odd at)
+pub class_open : (p : Problem) (ws : List Width) (v : ℕ) (ms : List Made) (s : Block) (branch : Branch) (odd : Bool) (l : NamedList) → l ≡ list_of branch odd
+    → IsOpenAt p ws (v + 1) v ms (classes_in s branch) → IsOpenList p ws v odd ms (items_of s l)
+class_open p ws v ms s branch odd l e at = subst (λ (k : NamedList). IsOpenList p ws v odd ms (items_of s k)) (sym e) (open_list p ws v ms (classes_in s branch) odd at)
 
 -- the pool of a branch got more slots
-module _ (p : Problem) (v : ℕ) (branch : Branch) (arena : Arena) (r s : Block) (held : AreHeld (search r arena) (lists_of branch)) (others : KeepsOthers r [] s [])
+module _ (p : Problem) (ws : List Width) (v : ℕ) (branch : Branch) (arena : Arena) (r s : Block) (held : AreHeld (search r arena) (lists_of branch)) (others : KeepsOthers r [] s [])
     (more : spare r ≤ spare s) where
   pub grown_held : AreHeld (search s arena) (lists_of branch)
   grown_held = (grown_turn r s (slots_of arena) (lists_of branch) held others more).held
 
-  pub grown_open : IsOpenAt p (v + 1) v (made_of arena) (classes_in r branch) → IsOpenAt p (v + 1) v (made_of arena) (classes_in s branch)
-  grown_open opens = subst (IsOpenAt p (v + 1) v (made_of arena)) (sym (grown_classes r s (slots_of arena) branch held others more)) opens
+  pub grown_open : IsOpenAt p ws (v + 1) v (made_of arena) (classes_in r branch) → IsOpenAt p ws (v + 1) v (made_of arena) (classes_in s branch)
+  grown_open opens = subst (IsOpenAt p ws (v + 1) v (made_of arena)) (sym (grown_classes r s (slots_of arena) branch held others more)) opens
 
-  pub grown_best : (odd : Bool) (ms : List Made) (xs : Candidates) → AreBest p v odd (IsMadeOfClasses p v odd (classes_in s branch)) ms xs
-      → AreBest p v odd (IsMadeOfClasses p v odd (classes_in r branch)) ms xs
+  pub grown_best : (odd : Bool) (ms : List Made) (xs : Candidates) → AreBest p ws v odd (IsMadeOfClasses p v odd (classes_in s branch)) ms xs
+      → AreBest p ws v odd (IsMadeOfClasses p v odd (classes_in r branch)) ms xs
   grown_best odd ms xs best =
-      subst (λ (classes : Bool → Candidates). AreBest p v odd (IsMadeOfClasses p v odd classes) ms xs) (grown_classes r s (slots_of arena) branch held others more) best
+      subst (λ (classes : Bool → Candidates). AreBest p ws v odd (IsMadeOfClasses p v odd classes) ms xs) (grown_classes r s (slots_of arena) branch held others more) best
 
 -- the same pairs of the same classes
-pub classes_as : (p : Problem) (v : ℕ) (odd : Bool) (classes classes' : Bool → Candidates) (ms : List Made) (xs : Candidates) → ((o : Bool) → classes o ≡ classes' o)
-    → AreBest p v odd (IsMadeOfClasses p v odd classes) ms xs → AreBest p v odd (IsMadeOfClasses p v odd classes') ms xs
-classes_as p v odd classes classes' ms xs same are =
-    best_as p v odd (IsMadeOfClasses p v odd classes) (IsMadeOfClasses p v odd classes') ms xs
+pub classes_as : (p : Problem) (ws : List Width) (v : ℕ) (odd : Bool) (classes classes' : Bool → Candidates) (ms : List Made) (xs : Candidates) → ((o : Bool) → classes o ≡ classes' o)
+    → AreBest p ws v odd (IsMadeOfClasses p v odd classes) ms xs → AreBest p ws v odd (IsMadeOfClasses p v odd classes') ms xs
+classes_as p ws v odd classes classes' ms xs same are =
+    best_as p ws v odd (IsMadeOfClasses p v odd classes) (IsMadeOfClasses p v odd classes') ms xs
     (λ z (b, choice, is). (b, choice, subst (λ (l : Candidates). IsGreatestBy (rep_at p.reps b) (pairs_of l) z) (same (behind (rep_at p.reps b).inverts odd)) is))
     (λ z (b, choice, is). (b, choice, subst (λ (l : Candidates). IsGreatestBy (rep_at p.reps b) (pairs_of l) z) (sym (same (behind (rep_at p.reps b).inverts odd))) is)) are
 
 -- lists are made beside a branch
-module _ (p : Problem) (v : ℕ) (branch : Branch) (before after : Arena) (r s : Block) (made : Lists) (held : AreHeld (search r before) (lists_of branch))
+module _ (p : Problem) (ws : List Width) (v : ℕ) (branch : Branch) (before after : Arena) (r s : Block) (made : Lists) (held : AreHeld (search r before) (lists_of branch))
     (one : IsTurn (search r before) [] (search s after) made) where
   pub branch_held : AreHeld (search s after) (lists_of branch)
   branch_held = rest_held (search s after) made (lists_of branch) (beside (search r before) (search s after) [] made (lists_of branch) held one).held
 
-  pub branch_open : IsOpenAt p (v + 1) v (made_of before) (classes_in r branch) → IsOpenAt p (v + 1) v (made_of after) (classes_in s branch)
-  branch_open opens = open_at_beside p (v + 1) v before after r s [] made branch held one opens
+  pub branch_open : IsOpenAt p ws (v + 1) v (made_of before) (classes_in r branch) → IsOpenAt p ws (v + 1) v (made_of after) (classes_in s branch)
+  branch_open opens = open_at_beside p ws (v + 1) v before after r s [] made branch held one opens
 
   branch_same : (odd : Bool) → classes_in s branch odd ≡ classes_in r branch odd
   branch_same odd = classes_same (search r before) (search s after) [] made branch held one odd
@@ -79,23 +80,23 @@ module _ (p : Problem) (v : ℕ) (branch : Branch) (before after : Arena) (r s :
   uses_after odd =
       subst (λ (l : Candidates). HoldsFor (slots_of after) l) (branch_same odd) (class_uses (search s after) branch odd (list_of branch odd) refl branch_held)
 
-  pub open_after : (odd : Bool) → IsOpenAt p (v + 1) v (made_of before) (classes_in r branch) → IsOpenList p v odd (made_of after) (classes_in r branch odd)
+  pub open_after : (odd : Bool) → IsOpenAt p ws (v + 1) v (made_of before) (classes_in r branch) → IsOpenList p ws v odd (made_of after) (classes_in r branch odd)
   open_after odd opens =
-      subst (λ (l : Candidates). IsOpenList p v odd (made_of after) l) (branch_same odd) (open_list p v (made_of after) (classes_in s branch) odd (branch_open opens))
+      subst (λ (l : Candidates). IsOpenList p ws v odd (made_of after) l) (branch_same odd) (open_list p ws v (made_of after) (classes_in s branch) odd (branch_open opens))
 
 -- the slots that a list took
 pub one_less : (old new : Search) (x : NamedList) → IsTurn old [] new (x ∷ []) → spare old.pool ≤ spare new.pool + length (items_of new.pool x)
 one_less old new x one = omega (arith, one.swap.spare, ap (λ (l : Candidates). length l) (one_all new.pool x))
 
 -- the cells of both classes, of which those of the other class were made last
-module _ (p : Problem) (v : ℕ) (branch : Branch) (r : Block) (middle after : Arena) (s t : Block) (even odd : NamedList) (held : AreHeld (search s middle) (even ∷ []))
+module _ (p : Problem) (ws : List Width) (v : ℕ) (branch : Branch) (r : Block) (middle after : Arena) (s t : Block) (even odd : NamedList) (held : AreHeld (search s middle) (even ∷ []))
     (two : IsTurn (search s middle) [] (search t after) (odd ∷ [])) where
-  pub both_made : AreBest p v false (IsMadeOfClasses p v false (classes_in r branch)) (made_of middle) (items_of s even)
-      → AreBest p v true (IsMadeOfClasses p v true (classes_in r branch)) (made_of after) (items_of t odd)
-      → (o : Bool) → AreBest p v o (IsMadeOfClasses p v o (classes_in r branch)) (made_of after) (classes_in t (record { even = even; odd = odd }) o)
+  pub both_made : AreBest p ws v false (IsMadeOfClasses p v false (classes_in r branch)) (made_of middle) (items_of s even)
+      → AreBest p ws v true (IsMadeOfClasses p v true (classes_in r branch)) (made_of after) (items_of t odd)
+      → (o : Bool) → AreBest p ws v o (IsMadeOfClasses p v o (classes_in r branch)) (made_of after) (classes_in t (record { even = even; odd = odd }) o)
   both_made evens odds true = odds
   both_made evens odds false =
-      best_beside p v false (IsMadeOfClasses p v false (classes_in r branch)) middle after s t [] (odd ∷ []) (even ∷ []) held two even (0, omega arith, refl) evens
+      best_beside p ws v false (IsMadeOfClasses p v false (classes_in r branch)) middle after s t [] (odd ∷ []) (even ∷ []) held two even (0, omega arith, refl) evens
 
   pub both_less : length (items_of s even) ≤ length p.reps → length (items_of t odd) ≤ length p.reps
       → (o : Bool) → length (classes_in t (record { even = even; odd = odd }) o) ≤ length p.reps

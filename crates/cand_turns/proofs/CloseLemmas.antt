@@ -1,7 +1,8 @@
 -- A branch, and what cells make of it.
-use Rattle.std.proofs.Common.{◌≡◌, ℕ, ◌+◌, ◌<◌, ◌≤◌, Bool, true, false, [], ◌++◌, length, slice_index_or, refl, sym, ap, arith}
+use Rattle.std.proofs.Common.{◌≡◌, ℕ, ◌+◌, ◌<◌, ◌≤◌, Bool, true, false, List, [], ◌++◌, length, slice_index_or, refl, sym, ap, arith}
 use Rattle.std.proofs.lemmas.List.Sorted.{IsPermutation-refl, IsPermutation-append_comm}
 use Rattle.elmore.specs.declared.problem.Problem.{Problem}
+use Rattle.wire_widths.specs.declared.width.Width.{Width}
 use Rattle.sol_arena.specs.declared.arena.Arena.{Arena}
 use Rattle.sol_arena.specs.Arenas.{made_of}
 use Rattle.cand_pool.specs.Candidates.{Candidates}
@@ -10,7 +11,7 @@ use Rattle.cand_uses.specs.Uses.{MeanTheSame}
 use Rattle.cand_lists.specs.ListLaws.{both}
 use Rattle.cand_turns.specs.Swaps.{Search, search, AreHeld, IsTurn}
 use Rattle.cand_turns.specs.Branches.{classes_in, lists_of}
-use Rattle.cand_turns.specs.Solved.{IsOpenAt, IsClosedAt}
+use Rattle.cand_turns.specs.Solved.{CanWiden, IsOpenAt, IsClosedAt}
 use Rattle.cand_turns.specs.Tooled.{added_at}
 use Rattle.cand_turns.specs.Celled.{IsMadeOfClasses, AreBest}
 use Rattle.cand_turns.specs.declared.branch.Branch.{Branch}
@@ -26,15 +27,15 @@ beside_cells a b branch cells held turn =
     (IsPermutation-append_comm (lists_of cells) (lists_of branch)) turn
 
 -- both together are closed
-pub cells_closed : (p : Problem) (v : ℕ) (before middle after : Arena) (r s t : Block) (branch cells made : Branch) → v < length p.tree.nodes
-    → AreHeld (search r before) (lists_of branch) → IsTurn (search r before) [] (search s middle) (lists_of cells) → IsOpenAt p (v + 1) v (made_of before) (classes_in r branch)
-    → ((odd : Bool) → AreBest p v odd (IsMadeOfClasses p v odd (classes_in r branch)) (made_of middle) (classes_in s cells odd))
+pub cells_closed : (p : Problem) (ws : List Width) (v : ℕ) (before middle after : Arena) (r s t : Block) (branch cells made : Branch) → CanWiden p ws → v < length p.tree.nodes
+    → AreHeld (search r before) (lists_of branch) → IsTurn (search r before) [] (search s middle) (lists_of cells) → IsOpenAt p ws (v + 1) v (made_of before) (classes_in r branch)
+    → ((odd : Bool) → AreBest p ws v odd (IsMadeOfClasses p v odd (classes_in r branch)) (made_of middle) (classes_in s cells odd))
     → ((odd : Bool) → classes_in t made odd ≡ both (classes_in s branch odd) (classes_in s cells odd))
-    → ((odd : Bool) → MeanTheSame (made_of middle) (made_of after) (classes_in t made odd)) → IsClosedAt p v (made_of after) (classes_in t made)
-cells_closed p v before middle after r s t branch cells made v_n held turn at best made_is same =
-    place_closed p v (made_of middle) (made_of after) (classes_in s branch) (classes_in s cells) (classes_in t made) v_n
-    (open_at_beside p (v + 1) v before middle r s [] (lists_of cells) branch held turn at)
-    (λ odd. classes_as p v odd (classes_in r branch) (classes_in s branch) (made_of middle) (classes_in s cells odd)
+    → ((odd : Bool) → MeanTheSame (made_of middle) (made_of after) (classes_in t made odd)) → IsClosedAt p ws v (made_of after) (classes_in t made)
+cells_closed p ws v before middle after r s t branch cells made can v_n held turn at best made_is same =
+    place_closed p ws v (made_of middle) (made_of after) (classes_in s branch) (classes_in s cells) (classes_in t made) can v_n
+    (open_at_beside p ws (v + 1) v before middle r s [] (lists_of cells) branch held turn at)
+    (λ odd. classes_as p ws v odd (classes_in r branch) (classes_in s branch) (made_of middle) (classes_in s cells odd)
     (λ o. sym (classes_same (search r before) (search s middle) [] (lists_of cells) branch held turn o)) (best odd))
     made_is same
 

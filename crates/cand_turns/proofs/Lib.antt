@@ -11,3 +11,6 @@ pub mod AddLemmas
 pub mod AbsorbLemmas
 pub mod ClassLemmas
 pub mod CloseLemmas
+pub mod RowLemmas
+pub mod ReadLemmas
+pub mod WidenLemmas

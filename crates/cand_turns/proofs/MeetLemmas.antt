@@ -1,12 +1,12 @@
 -- Two branches meet at a node.
-use Rattle.std.proofs.Common.{◌≡◌, ℕ, ◌+◌, ◌*◌, ◌^◌, ◌<◌, ◌≤◌, Bool, true, false, List, [], ◌∷◌, ◌++◌, length, refl, sym, ap, ◌∙◌, subst, arith, pos, Option, suc}
+use Rattle.std.proofs.Common.{◌≡◌, ◌≢◌, ℕ, ◌+◌, ◌*◌, ◌^◌, ◌<◌, ◌≤◌, Bool, true, false, List, [], ◌∷◌, ◌++◌, length, refl, sym, ap, ◌∙◌, subst, arith, pos, Option, suc}
 use Rattle.std.specs.Prelude.{◌-ℤ◌}
 use Rattle.std.proofs.lemmas.Int.{ints}
 use Rattle.std.proofs.lemmas.List.{length-append}
 use Rattle.std.proofs.lemmas.List.Sorted.{IsPermutation-refl, IsPermutation-append_comm, IsPermutation-append_left, IsPermutation-cons, IsPermutation-sym}
 use Rattle.std.proofs.lemmas.List.Elements.{All-nil, All-contains}
 use Rattle.std.specs.List.{All, Contains}
-use Rattle.elmore.specs.Pairs.{IsPairAt, IsUndominated}
+use Rattle.elmore.specs.Pairs.{IsUndominated}
 use Rattle.elmore.specs.Problems.{is_live}
 use Rattle.elmore.specs.Trees.{parent_of, resistance}
 use Rattle.elmore.specs.declared.pair.Pair.{Pair}
@@ -17,16 +17,21 @@ use Rattle.sol_arena.specs.declared.slot.Slot.{Slot}
 use Rattle.sol_arena.specs.Arenas.{made_of}
 use Rattle.sol_arena.specs.Slots.{made_in}
 use Rattle.sol_arena.specs.Meanings.{cells_of, AreApart, joined}
-use Rattle.cand_pairs.specs.Candidates.{IsOpenWith, carried, fork_of}
-use Rattle.cand_pairs.specs.Merging.{Carries, IsSmallPair, live_from, own_from, fork_from, meet, Meets}
-use Rattle.cand_pairs.specs.Solutions.{IsOpenSolutionOf}
-use Rattle.cand_pairs.proofs.ChildLemmas.{one_child}
+use Rattle.cand_pairs.specs.Candidates.{IsLive as IsLiveNode, fork_of}
+use Rattle.cand_pairs.specs.Merging.{IsSmallPair, live_from, own_from, fork_from, meet, raised, Meets}
 use Rattle.cand_pairs.proofs.FromLemmas.{live_here, live_own, not_yet}
 use Rattle.cand_pairs.proofs.JoinLemmas.{is_child_of, parent_within}
 use Rattle.cand_pairs.proofs.PairPartLemmas.{live_child_parts}
-use Rattle.cand_pairs.proofs.SmallPairLemmas.{pair_small, open_small, open_times, live_from_in, charge_small}
-use Rattle.cand_pairs.proofs.SolutionLemmas.{solution_more}
-use Rattle.cand_pairs.proofs.TurnLemmas.{live_on_live}
+use Rattle.cand_pairs.proofs.MergeLemmas.{same_exact}
+use Rattle.cand_pairs.proofs.SmallPairLemmas.{live_from_in}
+use Rattle.wire_widths.specs.Widths.{AreWidths, wire_a}
+use Rattle.wire_widths.specs.WidePairs.{IsWidePairAt, WideWires, carried_by}
+use Rattle.wire_widths.specs.WideParts.{IsWideOpenFrom}
+use Rattle.wire_widths.specs.WideSolutions.{IsWideOpenSolutionOf}
+use Rattle.wire_widths.specs.declared.width.Width.{Width}
+use Rattle.wire_widths.proofs.WideSmallLemmas.{wide_pair_small, wide_carried_small, wide_open_times, wide_open_small}
+use Rattle.wire_widths.proofs.WideSolutionLemmas.{wide_from_apart, wide_from_more}
+use Rattle.wire_widths.proofs.WideWordLemmas.{wide_live_on_live}
 use Rattle.cand_pool.specs.Candidates.{Candidate, Candidates, IsModest, AreModest}
 use Rattle.cand_pool.specs.Pools.{Block, IsLive, items_of, spare, name, KeepsOthers}
 use Rattle.cand_pool.specs.declared.ends.List.{List as NamedList}
@@ -37,8 +42,9 @@ use Rattle.cand_lists.proofs.ExactLemmas.{pair_in}
 use Rattle.vg_merge.specs.Merges.{CanMeet, IsMet}
 use Rattle.cand_turns.specs.Swaps.{Search, search, Lists, all_of, AreHeld, IsTurn, AreOf}
 use Rattle.cand_turns.specs.Branches.{classes_in}
-use Rattle.cand_turns.specs.Solved.{AreSolved, IsOpenAt, IsCarriedAt, IsCarriedSolution}
+use Rattle.cand_turns.specs.Solved.{CanWiden, AreSolved, Beside, IsOpenAt, IsBesideSolution, IsCarriedClass, IsCarriedAt}
 use Rattle.cand_turns.specs.declared.branch.Branch.{Branch}
+use Rattle.cand_turns.proofs.WireLemmas.{taken_of, taken_pair}
 use Rattle.cand_turns.proofs.SwapLemmas.{turn_among, other_items, list_meant, front_held, order_held}
 use Rattle.cand_turns.proofs.BranchLemmas.{one_all, two_all, one_made, AreTwo, two_held}
 
@@ -89,75 +95,67 @@ pub each : (xs : Candidates) → ((x : Candidate) → Contains xs x → IsModest
 each [] is = tt
 each (x ∷ xs) is = (is x (0, omega arith, refl), each xs (λ y (k, k_n, e). is y (suc k, omega arith, e)))
 
-pub open_modest : (p : Problem) (i v : ℕ) (odd : Bool) (xs : Candidates) → v < length p.tree.nodes → IsUndominated (IsOpenWith p (IsPairAt p) odd (fork_from p v i)) (pairs_of xs) → AreModest xs
-open_modest p i v odd xs v_n are = each xs (λ x found.
-    let (k, k_n, e) = pair_in xs x found in
-    let is_open : IsOpenWith p (IsPairAt p) odd (fork_from p v i) (pair_of x) = subst (λ q. IsOpenWith p (IsPairAt p) odd (fork_from p v i) q) e (are.taken k (pair_of x) k_n) in
-    let times = open_times p v odd (own_from p v i) (live_from p v i) (pair_of x) (λ u u_in. (live_child_parts p v u (live_from_in p v i u u_in)).child.node) is_open in
-    let load : x.c ≤ 10 ^ 11 = open_small p v odd i (pair_of x) v_n is_open in
+pub open_modest : (p : Problem) (ws : List Width) (i v : ℕ) (odd : Bool) (xs : Candidates) → CanWiden p ws → v < length p.tree.nodes
+    → IsUndominated (IsWideOpenFrom p ws i v odd) (pairs_of xs) → AreModest xs
+open_modest p ws i v odd xs can v_n are = each xs (λ x found.
+    let is_open : IsWideOpenFrom p ws i v odd (pair_of x) = taken_of (IsWideOpenFrom p ws i v odd) xs are x found in
+    let times = wide_open_times p ws i v odd (pair_of x) can.are can.fits is_open in
+    let load : x.c ≤ 10 ^ 11 = wide_open_small p ws i v odd (pair_of x) can.are can.fits v_n is_open in
     record { low = omega (arith, ints, times.0); high = omega (arith, ints, times.1); load = load })
 
-pub above_modest : (p : Problem) (i : ℕ) (odd : Bool) (kept : List Pair) (xs : Candidates) → i < length p.tree.nodes → IsUndominated (IsPairAt p i odd) kept
-    → IsUndominated (Carries p i kept) (pairs_of xs) → AreModest xs
-above_modest p i odd kept xs i_n below are = each xs (λ x found.
-    let (k, k_n, e) = pair_in xs x found in
-    let (y, (j, j_n, f), x_is) = are.taken k (pair_of x) k_n in
-    let small : IsSmallPair y = pair_small p i odd y (subst (λ q. IsPairAt p i odd q) f (below.taken j y j_n)) in
-    let charge : resistance p.tree.nodes i * y.c ≤ 10 ^ 23 = charge_small p i y.c i_n small.load in
-    let q_is : x.q ≡ y.q -ℤ pos (resistance p.tree.nodes i * y.c) = ap (λ (t : Pair). t.q) (sym e ∙ x_is) in
-    let c_is : x.c ≡ y.c = ap (λ (t : Pair). t.c) (sym e ∙ x_is) in
-    record { low = omega (arith, ints, small.low, charge, q_is); high = omega (arith, ints, small.high, q_is); load = omega (arith, small.load, c_is) })
+pub above_modest : (p : Problem) (ws : List Width) (i : ℕ) (odd : Bool) (kept : List Pair) (ms : List Made) (xs : Candidates) → CanWiden p ws → i < length p.tree.nodes
+    → i ≢ 0 → IsLiveNode p i → IsCarriedClass p ws i 0 odd kept ms xs → AreModest xs
+above_modest p ws i odd kept ms xs can i_n some live is = each xs (λ x found.
+    let (z, (row, y, row_n, y_in, z_is), x_is) = taken_of (Beside 0 (WideWires p ws i kept)) xs is.exact x found in
+    let at = taken_pair (IsWidePairAt p ws i odd) kept is.below y y_in in
+    let small : IsSmallPair y = wide_pair_small p ws i odd y can.are can.fits at in
+    let charge = wide_carried_small p ws row i odd y can.are can.fits at row_n live some in
+    let q_is : x.q ≡ z.q = ap (λ (t : Pair). t.q) x_is in
+    let c_is : x.c ≡ z.c + 0 = ap (λ (t : Pair). t.c) x_is in
+    let zq_is : z.q ≡ (carried_by p ws i row y).q = ap (λ (t : Pair). t.q) z_is in
+    let zc_is : z.c ≡ y.c + wire_a p ws row i = ap (λ (t : Pair). t.c) z_is in
+    record { low = omega (arith, ints, small.low, charge.1, q_is, zq_is); high = omega (arith, ints, small.high, q_is, zq_is); load = omega (arith, charge.0, c_is, zc_is) })
 
--- one class of a branch, with those of its children from number i on that came in
-pub record IsOpenClass (p : Problem) (i v : ℕ) (odd : Bool) (ms : List Made) (xs : Candidates) : Type 0 where
-  pub exact : IsUndominated (IsOpenWith p (IsPairAt p) odd (fork_from p v i)) (pairs_of xs)
-  pub solved : AreSolved (IsOpenSolutionOf p odd (fork_from p v i)) ms xs
+-- one class of a branch, with those of its children from number i on
+pub record IsOpenClass (p : Problem) (ws : List Width) (i v : ℕ) (odd : Bool) (ms : List Made) (xs : Candidates) : Type 0 where
+  pub exact : IsUndominated (IsWideOpenFrom p ws i v odd) (pairs_of xs)
+  pub solved : AreSolved (IsWideOpenSolutionOf p ws odd (fork_from p v i)) ms xs
 
--- one class of a branch above the wire of i
-pub record IsCarriedClass (p : Problem) (i : ℕ) (odd : Bool) (kept : List Pair) (ms : List Made) (ys : Candidates) : Type 0 where
-  pub below : IsUndominated (IsPairAt p i odd) kept
-  pub exact : IsUndominated (Carries p i kept) (pairs_of ys)
-  pub solved : AreSolved (IsCarriedSolution p i odd) ms ys
-
--- solutions of one child and of the others share no node
-pub classes_apart : (p : Problem) (i : ℕ) (odd : Bool) (ms : List Made) (xs ys : Candidates) → 0 < i → i < length p.tree.nodes
-    → AreSolved (IsOpenSolutionOf p odd (fork_from p (parent_of p.tree.nodes i) (i + 1))) ms xs → AreSolved (IsCarriedSolution p i odd) ms ys
+-- solutions of one child and of the others share no site
+pub classes_apart : (p : Problem) (ws : List Width) (i : ℕ) (odd : Bool) (ms : List Made) (xs ys : Candidates) → 0 < i → i < length p.tree.nodes
+    → AreSolved (IsWideOpenSolutionOf p ws odd (fork_from p (parent_of p.tree.nodes i) (i + 1))) ms xs → AreSolved (IsBesideSolution p ws i 0 odd) ms ys
     → (x y : Candidate) → Contains xs x → Contains ys y → AreApart (cells_of ms x.tag) (cells_of ms y.tag)
-classes_apart p i odd ms xs ys some i_n upper lower x y x_in y_in = λ u b b' at_x at_y.
+classes_apart p ws i odd ms xs ys some i_n upper lower x y x_in y_in =
     let (z, z_is, _) = lower y y_in in
-    let (h, h_in, over_h) = (upper x x_in).inside u b at_x in
-    let over_i = z_is.inside u b' at_y in
-    let v = parent_of p.tree.nodes i in
-    let h_child = (live_child_parts p v h (live_from_in p v (i + 1) h h_in)).child in
-    not_yet p v i (subst (λ (k : ℕ). Contains (live_from p v (i + 1)) k) (one_child p.tree.nodes p.tree.a_tree v h i u h_child (is_child_of p i some i_n) over_h over_i) h_in)
+    wide_from_apart p ws (parent_of p.tree.nodes i) i odd odd (cells_of ms x.tag) (cells_of ms y.tag) (pair_of x) z (is_child_of p i some i_n) (upper x x_in) z_is
 
-pub can_meet : (p : Problem) (i : ℕ) (odd : Bool) (kept : List Pair) (slots : List Slot) (xs ys : Candidates) → 0 < i → i < length p.tree.nodes
-    → IsOpenClass p (i + 1) (parent_of p.tree.nodes i) odd (made_in slots) xs → IsCarriedClass p i odd kept (made_in slots) ys → HoldsFor slots (xs ++ ys) → CanMeet slots xs ys
-can_meet p i odd kept slots xs ys some i_n upper lower held = record {
+pub can_meet : (p : Problem) (ws : List Width) (i : ℕ) (odd : Bool) (kept : List Pair) (slots : List Slot) (xs ys : Candidates) → CanWiden p ws → 0 < i → i < length p.tree.nodes
+    → IsLiveNode p i → IsOpenClass p ws (i + 1) (parent_of p.tree.nodes i) odd (made_in slots) xs → IsCarriedClass p ws i 0 odd kept (made_in slots) ys → HoldsFor slots (xs ++ ys)
+    → CanMeet slots xs ys
+can_meet p ws i odd kept slots xs ys can some i_n live upper lower held = record {
   xs_rise = upper.exact.rising;
   ys_rise = lower.exact.rising;
-  xs_modest = open_modest p (i + 1) (parent_of p.tree.nodes i) odd xs (parent_within p i some i_n) upper.exact;
-  ys_modest = above_modest p i odd kept ys i_n lower.below lower.exact;
+  xs_modest = open_modest p ws (i + 1) (parent_of p.tree.nodes i) odd xs can (parent_within p i some i_n) upper.exact;
+  ys_modest = above_modest p ws i odd kept (made_in slots) ys can i_n (λ e. omega (arith, some, e)) live lower;
   held = held;
-  apart = classes_apart p i odd (made_in slots) xs ys some i_n upper.solved lower.solved;
+  apart = classes_apart p ws i odd (made_in slots) xs ys some i_n upper.solved lower.solved;
 }
 
 -- what is made of both has solutions
-pub met_solved : (p : Problem) (i : ℕ) (odd : Bool) (old new : List Made) (xs ys zs : Candidates) → 0 < i → i < length p.tree.nodes → is_live p.tree.nodes p.sinks i ≡ true
-    → AreSolved (IsOpenSolutionOf p odd (fork_from p (parent_of p.tree.nodes i) (i + 1))) old xs → AreSolved (IsCarriedSolution p i odd) old ys
-    → All (IsMet old new xs ys) zs → AreSolved (IsOpenSolutionOf p odd (fork_from p (parent_of p.tree.nodes i) i)) new zs
-met_solved p i odd old new xs ys zs some i_n live upper lower met z z_in =
+pub met_solved : (p : Problem) (ws : List Width) (i : ℕ) (odd : Bool) (old new : List Made) (xs ys zs : Candidates) → AreWidths ws → 0 < i → i < length p.tree.nodes
+    → is_live p.tree.nodes p.sinks i ≡ true
+    → AreSolved (IsWideOpenSolutionOf p ws odd (fork_from p (parent_of p.tree.nodes i) (i + 1))) old xs → AreSolved (IsBesideSolution p ws i 0 odd) old ys
+    → All (IsMet old new xs ys) zs → AreSolved (IsWideOpenSolutionOf p ws odd (fork_from p (parent_of p.tree.nodes i) i)) new zs
+met_solved p ws i odd old new xs ys zs are some i_n live upper lower met z z_in =
     let v = parent_of p.tree.nodes i in
     let child = is_child_of p i some i_n in
     let (x, y, x_in, y_in, is) = All-contains (IsMet old new xs ys) zs z met z_in in
     let (w, w_is, y_is) = lower y y_in in
-    let more = solution_more p v odd (own_from p v (i + 1)) (live_from p v (i + 1)) i (cells_of old x.tag) (cells_of old y.tag) (pair_of x) w
-    (λ u u_in. (live_child_parts p v u (live_from_in p v (i + 1) u u_in)).child) child (not_yet p v i) (upper x x_in) w_is in
-    let z_is : pair_of z ≡ meet (pair_of x) (carried p i w) = is.pair ∙ ap (λ (q : Pair). meet (pair_of x) q) y_is in
-    subst (λ (us : List ℕ). IsOpenSolutionOf p odd (fork_of v (own_from p v i) us) (cells_of new z.tag) (pair_of z)) (sym (live_here p v i child live))
-    (subst (λ (own : ℕ). IsOpenSolutionOf p odd (fork_of v own (i ∷ live_from p v (i + 1))) (cells_of new z.tag) (pair_of z)) (sym (live_own p v i child live))
-    (subst (λ held. IsOpenSolutionOf p odd (fork_of v (own_from p v (i + 1)) (i ∷ live_from p v (i + 1))) held (pair_of z)) (sym is.cells)
-    (subst (λ (q : Pair). IsOpenSolutionOf p odd (fork_of v (own_from p v (i + 1)) (i ∷ live_from p v (i + 1))) (joined (cells_of old x.tag) (cells_of old y.tag)) q) (sym z_is) more)))
+    let same : raised 0 w ≡ w = let e : w.c + 0 ≡ w.c = omega arith in λ j. record { q = w.q; c = e j } in
+    let more = wide_from_more p ws v i odd (cells_of old x.tag) (cells_of old y.tag) (pair_of x) w are child live (upper x x_in) w_is in
+    let z_is : pair_of z ≡ meet (pair_of x) w = is.pair ∙ ap (λ (q : Pair). meet (pair_of x) q) (y_is ∙ same) in
+    subst (λ held. IsWideOpenSolutionOf p ws odd (fork_from p v i) held (pair_of z)) (sym is.cells)
+    (subst (λ (q : Pair). IsWideOpenSolutionOf p ws odd (fork_from p v i) (joined (cells_of old x.tag) (cells_of old y.tag)) q) (sym z_is) more)
 
 -- solutions that mean what they did serve still
 pub solved_still : (Is : (ℕ → Option ℕ) → Pair → Type 0) (old new : List Made) (xs : Candidates) → MeanTheSame old new xs → AreSolved Is old xs → AreSolved Is new xs
@@ -212,24 +210,30 @@ met_then old new e b d made held one = record {
   whole = turn_among old new (b ∷ d ∷ []) made (e ∷ []) (e ∷ b ∷ d ∷ []) (e ∷ made) held (IsPermutation-append_comm (b ∷ d ∷ []) (e ∷ [])) (IsPermutation-append_comm made (e ∷ [])) one;
 }
 
+-- a pair with no load beside it
+beside_none : (In : Pair → Type 0) (xs : List Pair) → IsUndominated (Beside 0 In) xs → IsUndominated In xs
+beside_none In xs are =
+    let same : (y : Pair) → raised 0 y ≡ y = λ y. (let e : y.c + 0 ≡ y.c = omega arith in λ j. record { q = y.q; c = e j }) in
+    same_exact (Beside 0 In) In xs (λ z (y, y_in, z_is). subst In (sym (z_is ∙ same y)) y_in) (λ z z_in. (z, z_in, sym (same z))) are
+
 -- both classes of two branches together
-pub both_met : (p : Problem) (i : ℕ) (before after : Arena) (s t : Block) (upper lower made : Branch) → 0 < i → i < length p.tree.nodes → is_live p.tree.nodes p.sinks i ≡ true
-    → IsOpenAt p (i + 1) (parent_of p.tree.nodes i) (made_of before) (classes_in s upper) → IsCarriedAt p i (made_of before) (classes_in s lower)
+pub both_met : (p : Problem) (ws : List Width) (i : ℕ) (before after : Arena) (s t : Block) (upper lower made : Branch) → 0 < i → i < length p.tree.nodes → is_live p.tree.nodes p.sinks i ≡ true
+    → IsOpenAt p ws (i + 1) (parent_of p.tree.nodes i) (made_of before) (classes_in s upper) → IsCarriedAt p ws i 0 (made_of before) (classes_in s lower)
     → IsUndominated (Meets (pairs_of (items_of s upper.even)) (pairs_of (items_of s lower.even))) (pairs_of (items_of t made.even))
     → IsUndominated (Meets (pairs_of (items_of s upper.odd)) (pairs_of (items_of s lower.odd))) (pairs_of (items_of t made.odd))
-    → AreSolved (IsOpenSolutionOf p false (fork_from p (parent_of p.tree.nodes i) i)) (made_of after) (items_of t made.even)
-    → AreSolved (IsOpenSolutionOf p true (fork_from p (parent_of p.tree.nodes i) i)) (made_of after) (items_of t made.odd)
-    → IsOpenAt p i (parent_of p.tree.nodes i) (made_of after) (classes_in t made)
-both_met p i before after s t upper lower made some i_n live open_at (kept, above) evens odds even_solved odd_solved = record {
-  part = live_on_live p (IsPairAt p) (parent_of p.tree.nodes i) i (λ odd. pairs_of (classes_in s upper odd)) kept (λ odd. pairs_of (classes_in s lower odd)) (λ odd. pairs_of (classes_in t made odd))
-      (is_child_of p i some i_n) live open_at.part (record { at_node = above.below; at_parent = above.exact }) exact;
+    → AreSolved (IsWideOpenSolutionOf p ws false (fork_from p (parent_of p.tree.nodes i) i)) (made_of after) (items_of t made.even)
+    → AreSolved (IsWideOpenSolutionOf p ws true (fork_from p (parent_of p.tree.nodes i) i)) (made_of after) (items_of t made.odd)
+    → IsOpenAt p ws i (parent_of p.tree.nodes i) (made_of after) (classes_in t made)
+both_met p ws i before after s t upper lower made some i_n live open_at (kept, above) evens odds even_solved odd_solved = record {
+  part = wide_live_on_live p ws (parent_of p.tree.nodes i) i (λ odd. pairs_of (classes_in s upper odd)) kept (λ odd. pairs_of (classes_in s lower odd)) (λ odd. pairs_of (classes_in t made odd))
+      (is_child_of p i some i_n) live open_at.part (λ odd. (above odd).below) (λ odd. beside_none (WideWires p ws i (kept odd)) (pairs_of (classes_in s lower odd)) (above odd).exact) exact;
   solved = solved;
 } where
   exact : (odd : Bool) → IsUndominated (Meets (pairs_of (classes_in s upper odd)) (pairs_of (classes_in s lower odd))) (pairs_of (classes_in t made odd))
   exact true = odds
   exact false = evens
 
-  solved : (odd : Bool) → AreSolved (IsOpenSolutionOf p odd (fork_from p (parent_of p.tree.nodes i) i)) (made_of after) (classes_in t made odd)
+  solved : (odd : Bool) → AreSolved (IsWideOpenSolutionOf p ws odd (fork_from p (parent_of p.tree.nodes i) i)) (made_of after) (classes_in t made odd)
   solved true = odd_solved
   solved false = even_solved
 
@@ -237,19 +241,19 @@ both_met p i before after s t upper lower made some i_n live open_at (kept, abov
 pub exact_as : (In : Pair → Type 0) (xs ys : Candidates) → xs ≡ ys → IsUndominated In (pairs_of xs) → IsUndominated In (pairs_of ys)
 exact_as In xs ys e are = subst (λ (l : Candidates). IsUndominated In (pairs_of l)) e are
 
-pub open_beside : (p : Problem) (i v : ℕ) (odd : Bool) (old new : Arena) (s t : Block) (given made others : Lists) → AreHeld (search s old) (given ++ others)
-    → IsTurn (search s old) given (search t new) made → (l : NamedList) → Contains others l → IsOpenClass p i v odd (made_of old) (items_of s l)
-    → IsOpenClass p i v odd (made_of new) (items_of t l)
-open_beside p i v odd old new s t given made others held turn l found is = record {
-  exact = exact_as (IsOpenWith p (IsPairAt p) odd (fork_from p v i)) _ _ (sym (other_items (search s old) (search t new) given made others held turn l found)) is.exact;
-  solved = solved_beside (IsOpenSolutionOf p odd (fork_from p v i)) old new s t given made others held turn l found is.solved;
+pub open_beside : (p : Problem) (ws : List Width) (i v : ℕ) (odd : Bool) (old new : Arena) (s t : Block) (given made others : Lists) → AreHeld (search s old) (given ++ others)
+    → IsTurn (search s old) given (search t new) made → (l : NamedList) → Contains others l → IsOpenClass p ws i v odd (made_of old) (items_of s l)
+    → IsOpenClass p ws i v odd (made_of new) (items_of t l)
+open_beside p ws i v odd old new s t given made others held turn l found is = record {
+  exact = exact_as (IsWideOpenFrom p ws i v odd) _ _ (sym (other_items (search s old) (search t new) given made others held turn l found)) is.exact;
+  solved = solved_beside (IsWideOpenSolutionOf p ws odd (fork_from p v i)) old new s t given made others held turn l found is.solved;
 }
 
-pub carried_beside : (p : Problem) (i : ℕ) (odd : Bool) (kept : List Pair) (old new : Arena) (s t : Block) (given made others : Lists) → AreHeld (search s old) (given ++ others)
-    → IsTurn (search s old) given (search t new) made → (l : NamedList) → Contains others l → IsCarriedClass p i odd kept (made_of old) (items_of s l)
-    → IsCarriedClass p i odd kept (made_of new) (items_of t l)
-carried_beside p i odd kept old new s t given made others held turn l found is = record {
+pub carried_beside : (p : Problem) (ws : List Width) (i c : ℕ) (odd : Bool) (kept : List Pair) (old new : Arena) (s t : Block) (given made others : Lists) → AreHeld (search s old) (given ++ others)
+    → IsTurn (search s old) given (search t new) made → (l : NamedList) → Contains others l → IsCarriedClass p ws i c odd kept (made_of old) (items_of s l)
+    → IsCarriedClass p ws i c odd kept (made_of new) (items_of t l)
+carried_beside p ws i c odd kept old new s t given made others held turn l found is = record {
   below = is.below;
-  exact = exact_as (Carries p i kept) _ _ (sym (other_items (search s old) (search t new) given made others held turn l found)) is.exact;
-  solved = solved_beside (IsCarriedSolution p i odd) old new s t given made others held turn l found is.solved;
+  exact = exact_as (Beside c (WideWires p ws i kept)) _ _ (sym (other_items (search s old) (search t new) given made others held turn l found)) is.exact;
+  solved = solved_beside (IsBesideSolution p ws i c odd) old new s t given made others held turn l found is.solved;
 }

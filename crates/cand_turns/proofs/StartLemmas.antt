@@ -5,17 +5,20 @@ use Rattle.std.proofs.lemmas.List.Elements.{All-cons, All-nil}
 use Rattle.std.specs.List.{Contains}
 use Rattle.std.proofs.lemmas.Bool.{cases_Bool}
 use Rattle.std.specs.Bool.{beq}
-use Rattle.elmore.specs.Pairs.{IsPairAt, IsUndominated}
+use Rattle.elmore.specs.Pairs.{IsUndominated}
 use Rattle.elmore.specs.Placements.{IsSinkAt}
 use Rattle.elmore.specs.Trees.{capacitance}
 use Rattle.elmore.specs.declared.parts.Sink.{Sink}
 use Rattle.elmore.specs.declared.problem.Problem.{Problem}
-use Rattle.cand_pairs.specs.Candidates.{IsOpenWith, fork_of}
+use Rattle.cand_pairs.specs.Candidates.{fork_of}
 use Rattle.cand_pairs.specs.Merging.{fork_from, own_from}
-use Rattle.cand_pairs.specs.Parts.{IsLivePart}
-use Rattle.cand_pairs.specs.Solutions.{IsOpenSolutionOf}
-use Rattle.cand_pairs.proofs.SolutionLemmas.{solution_sink}
-use Rattle.cand_pairs.proofs.TurnLemmas.{start_live_part, sink_lists, start_live, start_own}
+use Rattle.wire_widths.specs.Widths.{AreWidths}
+use Rattle.wire_widths.specs.WideParts.{IsWideOpenFrom, IsWideLivePart}
+use Rattle.wire_widths.specs.WideSolutions.{IsWideOpenSolutionOf}
+use Rattle.wire_widths.specs.declared.width.Width.{Width}
+use Rattle.wire_widths.proofs.WideSolutionLemmas.{wide_sink}
+use Rattle.wire_widths.proofs.WideWordLemmas.{wide_start}
+use Rattle.cand_pairs.proofs.TurnLemmas.{sink_lists, start_live, start_own}
 use Rattle.sol_arena.specs.declared.slot.Made.{Made}
 use Rattle.sol_arena.specs.Meanings.{cells_of, bare}
 use Rattle.sol_arena.specs.Slots.{none}
@@ -89,33 +92,33 @@ one_of x y (zero, k_n, e) = sym e
 one_of x y (suc k, k_n, e) = absurd (omega arith)
 
 -- the part of a sink
-pub sink_part : (p : Problem) (v : ℕ) (sink : Sink) (ms : List Made) (s : Block) (branch : Branch) → IsSinkAt p v sink → cells_of ms none ≡ bare
-    → ((odd : Bool) → classes_in s branch odd ≡ sink_classes sink (capacitance p.tree.nodes v) odd) → IsOpenAt p (length p.tree.nodes) v ms (classes_in s branch)
-sink_part p v sink ms s branch here empty classes =
-    open_at_as p (length p.tree.nodes) v ms s branch (sink_classes sink (capacitance p.tree.nodes v)) classes (record {
-      part = record { end = live.end; exact = λ odd. subst (λ xs. IsUndominated (IsOpenWith p (IsPairAt p) odd (fork_from p v (length p.tree.nodes))) xs) (sym (pairs_are (beq odd sink.inverted))) (live.exact odd) };
+pub sink_part : (p : Problem) (ws : List Width) (v : ℕ) (sink : Sink) (ms : List Made) (s : Block) (branch : Branch) → AreWidths ws → IsSinkAt p v sink → cells_of ms none ≡ bare
+    → ((odd : Bool) → classes_in s branch odd ≡ sink_classes sink (capacitance p.tree.nodes v) odd) → IsOpenAt p ws (length p.tree.nodes) v ms (classes_in s branch)
+sink_part p ws v sink ms s branch are here empty classes =
+    open_at_as p ws (length p.tree.nodes) v ms s branch (sink_classes sink (capacitance p.tree.nodes v)) classes (record {
+      part = record { end = live.end; exact = λ odd. subst (λ xs. IsUndominated (IsWideOpenFrom p ws (length p.tree.nodes) v odd) xs) (sym (pairs_are (beq odd sink.inverted))) (live.exact odd) };
       solved = λ odd x found. only odd (cases_Bool (beq odd sink.inverted)) x found;
     })
   where
-    live : IsLivePart p (IsPairAt p) (length p.tree.nodes) v (sink_lists sink (capacitance p.tree.nodes v))
-    live = start_live_part p (IsPairAt p) v sink here
+    live : IsWideLivePart p ws (length p.tree.nodes) v (sink_lists sink (capacitance p.tree.nodes v))
+    live = wide_start p ws v sink here
 
     pairs_are : (wanted : Bool) → pairs_of (cond wanted (record { q = sink.required; c = capacitance p.tree.nodes v; tag = none } ∷ []) []) ≡ cond wanted (record { q = sink.required; c = capacitance p.tree.nodes v } ∷ []) []
     pairs_are true = refl
     pairs_are false = refl
 
-    only : (odd : Bool) → (beq odd sink.inverted ≡ true) ⊎ (beq odd sink.inverted ≡ false) → AreSolved (IsOpenSolutionOf p odd (fork_from p v (length p.tree.nodes))) ms (sink_classes sink (capacitance p.tree.nodes v) odd)
+    only : (odd : Bool) → (beq odd sink.inverted ≡ true) ⊎ (beq odd sink.inverted ≡ false) → AreSolved (IsWideOpenSolutionOf p ws odd (fork_from p v (length p.tree.nodes))) ms (sink_classes sink (capacitance p.tree.nodes v) odd)
     only odd (inr other) x found =
         let (k, k_n, e) = subst (λ (wanted : Bool). Contains (cond wanted (record { q = sink.required; c = capacitance p.tree.nodes v; tag = none } ∷ []) []) x) other found in absurd (omega arith)
     only odd (inl wanted) x found =
         let class_is : odd ≡ sink.inverted = same_class odd sink.inverted wanted in
         let is : x ≡ record { q = sink.required; c = capacitance p.tree.nodes v; tag = none }
         = one_of x (record { q = sink.required; c = capacitance p.tree.nodes v; tag = none }) (subst (λ (w : Bool). Contains (cond w (record { q = sink.required; c = capacitance p.tree.nodes v; tag = none } ∷ []) []) x) wanted found) in
-        rw is (subst (λ held. IsOpenSolutionOf p odd (fork_from p v (length p.tree.nodes)) held (record { q = sink.required; c = capacitance p.tree.nodes v })) (sym empty)
-        (subst (λ (o : Bool). IsOpenSolutionOf p o (fork_from p v (length p.tree.nodes)) bare (record { q = sink.required; c = capacitance p.tree.nodes v })) (sym class_is)
-        (subst (λ (us : List ℕ). IsOpenSolutionOf p sink.inverted (fork_of v (own_from p v (length p.tree.nodes)) us) bare (record { q = sink.required; c = capacitance p.tree.nodes v })) (sym (start_live p v))
-        (subst (λ (own : ℕ). IsOpenSolutionOf p sink.inverted (fork_of v own []) bare (record { q = sink.required; c = capacitance p.tree.nodes v })) (sym (start_own p v))
-        (solution_sink p v (capacitance p.tree.nodes v) sink here)))))
+        rw is (subst (λ held. IsWideOpenSolutionOf p ws odd (fork_from p v (length p.tree.nodes)) held (record { q = sink.required; c = capacitance p.tree.nodes v })) (sym empty)
+        (subst (λ (o : Bool). IsWideOpenSolutionOf p ws o (fork_from p v (length p.tree.nodes)) bare (record { q = sink.required; c = capacitance p.tree.nodes v })) (sym class_is)
+        (subst (λ (us : List ℕ). IsWideOpenSolutionOf p ws sink.inverted (fork_of v (own_from p v (length p.tree.nodes)) us) bare (record { q = sink.required; c = capacitance p.tree.nodes v })) (sym (start_live p v))
+        (subst (λ (own : ℕ). IsWideOpenSolutionOf p ws sink.inverted (fork_of v own []) bare (record { q = sink.required; c = capacitance p.tree.nodes v })) (sym (start_own p v))
+        (wide_sink p ws v (capacitance p.tree.nodes v) sink are here)))))
 
 pub odd_class : (t : Block) (list other : NamedList) (sink : Sink) (c : ℕ) → sink.inverted ≡ true → Holds t list (record { q = sink.required; c = c; tag = none } ∷ []) → Holds t other []
     → (odd : Bool) → items_of t (cond odd list other) ≡ sink_classes sink c odd

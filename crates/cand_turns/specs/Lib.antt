@@ -4,3 +4,4 @@ pub mod Solved
 pub mod Parts
 pub mod Tooled
 pub mod Celled
+pub mod Widened

@@ -1,32 +1,26 @@
-//! The lists of a branch of a net, and what a wire makes of them.
+//! The lists of a branch of a net.
 
-ghost use Rattle.std.specs.Prelude.{◌≡◌, ◌+◌, ◌^◌, ◌<◌, ◌≤◌, Bool, true, [], map, ◌++◌, length, IfOk, MatchResult};
+ghost use Rattle.std.specs.Prelude.{◌≡◌, ◌+◌, ◌*◌, ◌^◌, ◌<◌, ◌≤◌, Bool, true, [], map, ◌++◌, length, IfOk, MatchResult};
 ghost use Rattle.elmore.specs.Problems.{is_live};
-ghost use Rattle.elmore.specs.Trees.{parent_of, resistance};
+ghost use Rattle.elmore.specs.Trees.{parent_of};
 ghost use Rattle.sol_arena.specs.Arenas.{made_of};
 ghost use Rattle.cand_pool.specs.Candidates.{AreModest, loaded};
 ghost use Rattle.cand_pool.specs.Pools.{spare};
 ghost use Rattle.cand_uses.specs.Pairs.{pairs_of};
 ghost use Rattle.cand_turns.specs.Swaps.{Slots, AreHeld, IsSwap, IsTurn, search, at_slots};
 ghost use Rattle.cand_turns.specs.Branches.{classes_in, lists_of};
-ghost use Rattle.cand_turns.specs.Solved.{sink_classes, IsOpenAt, IsClosedAt, IsAboveWire, IsCarriedAt, carried_classes};
+ghost use Rattle.cand_turns.specs.Solved.{CanWiden, sink_classes, IsOpenAt, IsClosedAt, IsCarriedAt};
 
-use cand_lists::wire;
+use crate::carry::carry;
 use cand_pool::{List, Pool, Steps};
 use cand_uses::end_list;
 use elmore::{Problem, Sink};
 use sol_arena::Arena;
 use std::sync::ledger::Ledger;
+use vg_convex::Made;
 use vg_merge::merge;
 use vg_num::Memory;
-
-/// The resistance (mΩ) of the wire above a node.
-fn resistance_of(p: &Problem, node: usize) -> u64
-    requires { node < length p.now.tree.nodes }
-    ensures { result ≡ resistance p.now.tree.nodes node }
-{
-    p.tree.nodes.as_slice()[node].r
-}
+use wire_widths::Width;
 
 /// The candidates of a branch at its node: a list for a signal that is not inverted there, and one for a signal that is
 /// (Lillis, Cheng and Lin 1996).
@@ -70,34 +64,50 @@ impl Branch {
         end_list(pool, arena, odd);
     }
 
-    /// Charges the wire of the branch's node to both lists, adds a load (aF) beside its upper end, and gives up what is
-    /// then dominated.
+    /// Charges the wire of the branch's node, under each width that it may have, to both lists, adds a load (aF) beside
+    /// its upper end, and gives up what is then dominated. Answers `Memory` where there is no room; the branch is given
+    /// up then.
     pub fn carry<L: Ledger>(
-        &mut self,
+        self,
         pool: &mut Pool,
         arena: &mut Arena,
         p: &Problem,
+        widths: &[Width],
         node: usize,
         c: u64,
+        chosen: &mut Vec<Made>,
         steps: &mut Steps<L>,
-    )
+    ) -> Result<Branch, Memory>
         requires node { node < length p.now.tree.nodes }
+        requires below_root { 0 < node }
+        requires live { is_live p.now.tree.nodes p.now.sinks node ≡ true }
+        requires widths { CanWiden p.now widths.now }
         requires load { c ≤ 10 ^ 11 }
-        requires held { AreHeld (search pool.old arena.old) (lists_of self.old) }
-        requires closed { IsClosedAt p.now node (made_of arena.old) (classes_in pool.old self.old) }
-        ensures above { IsAboveWire p.now node (λ odd. pairs_of (classes_in pool.old self.old odd)) (made_of arena.new)
-            (carried_classes p.now node (classes_in pool.old self.old)) }
-        ensures classes { (odd : Bool)
-            → classes_in pool.new self.new odd
-            ≡ map (loaded c) (carried_classes p.now node (classes_in pool.old self.old) odd) }
-        ensures turn { IsTurn (search pool.old arena.old) (lists_of self.old)
-            (search pool.new arena.new) (lists_of self.new) }
-        ensures few { (odd : Bool)
-            → length (classes_in pool.new self.new odd) ≤ length (classes_in pool.old self.old odd) }
+        requires held { AreHeld (search pool.old arena.old) (lists_of self) }
+        requires closed { IsClosedAt p.now widths.now node (made_of arena.old) (classes_in pool.old self) }
+        ensures turn { MatchResult result
+            (λ branch. IsTurn (search pool.old arena.old) (lists_of self) (search pool.new arena.new) (lists_of branch))
+            (λ _. IsSwap (search pool.old arena.old) (lists_of self) (search pool.new arena.new) []) }
+        ensures carried { IfOk result (λ branch.
+            IsCarriedAt p.now widths.now node c (made_of arena.new) (classes_in pool.new branch)) }
+        ensures few { IfOk result (λ branch. (odd : Bool)
+            → length (classes_in pool.new branch odd) ≤ length widths.now * length (classes_in pool.old self odd)) }
     {
-        let r = resistance_of(p, node);
-        wire(pool, arena, &mut self.even, r, c, steps);
-        wire(pool, arena, &mut self.odd, r, c, steps);
+        let Branch { even, odd } = self;
+        let even = match carry(pool, arena, p, widths, node, c, even, chosen, steps) {
+            Ok(even) => even,
+            Err(memory) => {
+                end_list(pool, arena, odd);
+                return Err(memory);
+            }
+        };
+        match carry(pool, arena, p, widths, node, c, odd, chosen, steps) {
+            Ok(odd) => Ok(Branch { even, odd }),
+            Err(memory) => {
+                end_list(pool, arena, even);
+                Err(memory)
+            }
+        }
     }
 
     /// Adds a load (aF) beside the branch to each candidate of both lists.
@@ -121,6 +131,7 @@ impl Branch {
         pool: &mut Pool,
         arena: &mut Arena,
         p: &Problem,
+        widths: &[Width],
         node: usize,
         lower: Branch,
         steps: &mut Steps<L>,
@@ -129,21 +140,23 @@ impl Branch {
         requires node { node < length p.now.tree.nodes }
         requires live { is_live p.now.tree.nodes p.now.sinks node ≡ true }
         requires held { AreHeld (search pool.old arena.old) (lists_of self ++ lists_of lower) }
-        requires upper { IsOpenAt p.now (node + 1) (parent_of p.now.tree.nodes node) (made_of arena.old)
+        requires widths { CanWiden p.now widths.now }
+        requires upper { IsOpenAt p.now widths.now (node + 1) (parent_of p.now.tree.nodes node) (made_of arena.old)
             (classes_in pool.old self) }
-        requires lower { IsCarriedAt p.now node (made_of arena.old) (classes_in pool.old lower) }
+        requires lower { IsCarriedAt p.now widths.now node 0 (made_of arena.old) (classes_in pool.old lower) }
         ensures turn { MatchResult result
             (λ branch.
             IsTurn (search pool.old arena.old) (lists_of self ++ lists_of lower)
             (search pool.new arena.new) (lists_of branch))
             (λ _. IsSwap (search pool.old arena.old) (lists_of self ++ lists_of lower) (search pool.new arena.new) []) }
         ensures open { IfOk result (λ branch.
-            IsOpenAt p.now node (parent_of p.now.tree.nodes node) (made_of arena.new) (classes_in pool.new branch)) }
+            IsOpenAt p.now widths.now node (parent_of p.now.tree.nodes node) (made_of arena.new) (classes_in pool.new branch)) }
         ensures few { IfOk result (λ branch. (odd : Bool)
             → length (classes_in pool.new branch odd)
             ≤ length (classes_in pool.old self odd) + length (classes_in pool.old lower odd)) }
     {
         let _ = p;
+        let _ = widths;
         let Branch { even, odd } = self;
         let lower_odd = lower.odd;
         let even = match merge(pool, arena, even, lower.even, steps) {

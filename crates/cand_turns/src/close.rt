@@ -10,7 +10,7 @@ ghost use Rattle.cand_uses.specs.Uses.{HoldsFor, MeanTheSame};
 ghost use Rattle.cand_lists.specs.ListLaws.{AreRising, both};
 ghost use Rattle.cand_turns.specs.Swaps.{AreHeld, IsSwap, IsTurn, search};
 ghost use Rattle.cand_turns.specs.Branches.{classes_in, list_of, lists_of};
-ghost use Rattle.cand_turns.specs.Solved.{IsOpenAt, IsClosedAt};
+ghost use Rattle.cand_turns.specs.Solved.{CanWiden, IsOpenAt, IsClosedAt};
 ghost use Rattle.vg_convex.specs.Answers.{HasFound};
 ghost use Rattle.vg_convex.specs.Orders.{IsShelf};
 ghost use Rattle.cand_turns.specs.Parts.{Solutions};
@@ -27,12 +27,14 @@ use sol_arena::Arena;
 use std::sync::ledger::Ledger;
 use vg_convex::{Kept, Shelf, Work, add_cells, find_each};
 use vg_num::Memory;
+use wire_widths::Width;
 
 /// Finds for each repeater that a place allows the greatest time that it makes of a list there, and keeps it in the
 /// work.
 fn find_at<L: Ledger>(
     pool: &Pool,
     p: &Problem,
+    widths: &[Width],
     node: usize,
     from: &List,
     shelf: &Shelf,
@@ -40,12 +42,14 @@ fn find_at<L: Ledger>(
     steps: &mut Steps<L>,
 ) -> Result<(), Memory>
     requires node { node < length p.now.tree.nodes }
+    requires widths { CanWiden p.now widths.now }
     requires shelf { IsShelf p.now.reps shelf.now }
     requires live { IsLive pool.now from.now }
-    requires open { (odd : Bool) × (ms : Solutions) × IsOpenList p.now node odd ms (items_of pool.now from.now) }
+    requires open { (odd : Bool) × (ms : Solutions) × IsOpenList p.now widths.now node odd ms (items_of pool.now from.now) }
     ensures found { OnOk result
         (HasFound (allowed_at p.now.allowed node) p.now.reps (items_of pool.now from.now) work.new) }
 {
+    let _ = widths;
     let allowed = &p.allowed.as_slice()[node];
     find_each(pool, from, p.reps.as_slice(), shelf, allowed, work, steps)?;
     Ok(())
@@ -57,6 +61,7 @@ fn add_at(
     pool: &mut Pool,
     arena: &mut Arena,
     p: &Problem,
+    widths: &[Width],
     node: usize,
     shelf: &Shelf,
     own: &Work,
@@ -64,22 +69,24 @@ fn add_at(
     kept: &mut Kept,
 ) -> Result<List, Memory>
     requires node { node < length p.now.tree.nodes }
+    requires widths { CanWiden p.now widths.now }
     requires place { slice_index_or p.now.places node false ≡ true }
     requires room { length p.now.reps ≤ spare pool.old }
     requires shelf { IsShelf p.now.reps shelf.now }
     requires found { (odd : Bool) × (classes : Bool → Candidates) × HaveFoundAt p.now node odd classes own.now other.now
         × ((o : Bool) → HoldsFor (slots_of arena.old) (classes o)
-        × IsOpenList p.now node o (made_of arena.old) (classes o)) }
+        × IsOpenList p.now widths.now node o (made_of arena.old) (classes o)) }
     ensures turn { MatchResult result
         (λ list. IsTurn (search pool.old arena.old) [] (search pool.new arena.new) (list ∷ []))
         (λ _. IsSwap (search pool.old arena.old) [] (search pool.new arena.new) []) }
     ensures best { IfOk result (λ list. (odd : Bool) (classes : Bool → Candidates)
         → HaveFoundAt p.now node odd classes own.now other.now
-        → ((o : Bool) → IsOpenList p.now node o (made_of arena.old) (classes o))
-        → AreBest p.now node odd (IsMadeOfClasses p.now node odd classes) (made_of arena.new)
+        → ((o : Bool) → IsOpenList p.now widths.now node o (made_of arena.old) (classes o))
+        → AreBest p.now widths.now node odd (IsMadeOfClasses p.now node odd classes) (made_of arena.new)
         (items_of pool.new list)) }
     ensures few { IfOk result (λ list. length (items_of pool.new list) ≤ length p.now.reps) }
 {
+    let _ = widths;
     let list = add_cells(
         pool,
         arena,
@@ -100,14 +107,16 @@ impl Branch {
         &self,
         pool: &Pool,
         p: &Problem,
+        widths: &[Width],
         node: usize,
         tools: &mut Tools,
         steps: &mut Steps<L>,
     ) -> Result<(), Memory>
         requires node { node < length p.now.tree.nodes }
+        requires widths { CanWiden p.now widths.now }
         requires tools { AreToolsOf p.now tools.old }
         requires live { (odd : Bool) → IsLive pool.now (list_of self.now odd) }
-        requires open { (ms : Solutions) × IsOpenAt p.now (node + 1) node ms (classes_in pool.now self.now) }
+        requires open { (ms : Solutions) × IsOpenAt p.now widths.now (node + 1) node ms (classes_in pool.now self.now) }
         ensures tools { AreToolsOf p.now tools.new }
         ensures found { OnOk result (HaveFound p.now node (classes_in pool.now self.now) tools.new) }
     {
@@ -117,8 +126,8 @@ impl Branch {
             odd,
             ..
         } = tools;
-        find_at(pool, p, node, &self.even, shelf, even, steps)?;
-        find_at(pool, p, node, &self.odd, shelf, odd, steps)?;
+        find_at(pool, p, widths, node, &self.even, shelf, even, steps)?;
+        find_at(pool, p, widths, node, &self.odd, shelf, odd, steps)?;
         Ok(())
     }
 
@@ -128,34 +137,37 @@ impl Branch {
         pool: &mut Pool,
         arena: &mut Arena,
         p: &Problem,
+        widths: &[Width],
         node: usize,
         tools: &mut Tools,
         steps: &mut Steps<L>,
     ) -> Result<Branch, Memory>
         requires node { node < length p.now.tree.nodes }
+        requires widths { CanWiden p.now widths.now }
         requires place { slice_index_or p.now.places node false ≡ true }
         requires tools { AreToolsOf p.now tools.old }
         requires held { AreHeld (search pool.old arena.old) (lists_of self.now) }
-        requires open { IsOpenAt p.now (node + 1) node (made_of arena.old) (classes_in pool.old self.now) }
+        requires open { IsOpenAt p.now widths.now (node + 1) node (made_of arena.old) (classes_in pool.old self.now) }
         ensures tools { AreToolsOf p.now tools.new }
         ensures turn { MatchResult result
             (λ cells. IsTurn (search pool.old arena.old) [] (search pool.new arena.new) (lists_of cells))
             (λ _. IsSwap (search pool.old arena.old) [] (search pool.new arena.new) []) }
         ensures best { IfOk result (λ cells. (odd : Bool)
-            → AreBest p.now node odd (IsMadeOfClasses p.now node odd (classes_in pool.old self.now)) (made_of arena.new)
+            → AreBest p.now widths.now node odd (IsMadeOfClasses p.now node odd (classes_in pool.old self.now)) (made_of arena.new)
             (classes_in pool.new cells odd)) }
         ensures few { IfOk result (λ cells. (odd : Bool) → length (classes_in pool.new cells odd) ≤ length p.now.reps) }
     {
         pool.reserve(2 * p.reps.len())?;
-        self.find(pool, p, node, tools, steps)?;
+        self.find(pool, p, widths, node, tools, steps)?;
         let Tools {
             shelf,
             even,
             odd,
             kept,
+            ..
         } = tools;
-        let list = add_at(pool, arena, p, node, shelf, even, odd, kept)?;
-        match add_at(pool, arena, p, node, shelf, odd, even, kept) {
+        let list = add_at(pool, arena, p, widths, node, shelf, even, odd, kept)?;
+        match add_at(pool, arena, p, widths, node, shelf, odd, even, kept) {
             Ok(other) => Ok(Branch {
                 even: list,
                 odd: other,
@@ -198,20 +210,22 @@ impl Branch {
         pool: &mut Pool,
         arena: &mut Arena,
         p: &Problem,
+        widths: &[Width],
         node: usize,
         tools: &mut Tools,
         steps: &mut Steps<L>,
     ) -> Result<Branch, Memory>
         requires node { node < length p.now.tree.nodes }
+        requires widths { CanWiden p.now widths.now }
         requires tools { AreToolsOf p.now tools.old }
         requires held { AreHeld (search pool.old arena.old) (lists_of self) }
-        requires open { IsOpenAt p.now (node + 1) node (made_of arena.old) (classes_in pool.old self) }
+        requires open { IsOpenAt p.now widths.now (node + 1) node (made_of arena.old) (classes_in pool.old self) }
         ensures tools { AreToolsOf p.now tools.new }
         ensures turn { MatchResult result
             (λ branch. IsTurn (search pool.old arena.old) (lists_of self) (search pool.new arena.new) (lists_of branch))
             (λ _. IsSwap (search pool.old arena.old) (lists_of self) (search pool.new arena.new) []) }
         ensures closed { IfOk result (λ branch.
-            IsClosedAt p.now node (made_of arena.new) (classes_in pool.new branch)) }
+            IsClosedAt p.now widths.now node (made_of arena.new) (classes_in pool.new branch)) }
         ensures few { IfOk result (λ branch. (odd : Bool)
             → length (classes_in pool.new branch odd) ≤ length (classes_in pool.old self odd) + added_at p.now node) }
     {
@@ -219,7 +233,7 @@ impl Branch {
             return Ok(self);
         }
         let mut branch = self;
-        match branch.with_cells(pool, arena, p, node, tools, steps) {
+        match branch.with_cells(pool, arena, p, widths, node, tools, steps) {
             Ok(cells) => {
                 branch.absorb(pool, arena, cells, steps);
                 Ok(branch)

@@ -2,6 +2,7 @@
 #![tactic(auto)]
 
 mod branch;
+mod carry;
 mod close;
 mod part;
 mod tools;

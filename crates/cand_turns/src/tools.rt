@@ -5,17 +5,18 @@ ghost use Rattle.cand_turns.specs.Tooled.{AreToolsOf};
 
 use elmore::Problem;
 use std::alloc::Global;
-use vg_convex::{Kept, Shelf, Work};
+use vg_convex::{Kept, Made, Shelf, Work};
 use vg_num::Memory;
 
-/// The repeaters of a problem, and room to find for each the candidate of each class that it drives. One serves all
-/// nodes.
+/// The repeaters of a problem, and room to find for each the candidate of each class that it drives, and to choose the
+/// width of a wire. One serves all nodes.
 #[derive(Drop)]
 pub struct Tools {
     pub(crate) shelf: Shelf,
     pub(crate) even: Work,
     pub(crate) odd: Work,
     pub(crate) kept: Kept,
+    pub(crate) chosen: Vec<Made>,
 }
 
 impl Tools {
@@ -29,6 +30,7 @@ impl Tools {
             even: Work::new(alloc),
             odd: Work::new(alloc),
             kept: Kept::new(alloc),
+            chosen: Vec::new(alloc),
         })
     }
 }

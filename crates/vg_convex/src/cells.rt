@@ -82,9 +82,14 @@ fn put_all(
     Ok(())
 }
 
-/// The list of these results, each with its cell. Answers `Memory` where there is no room; then lists, spare slots and
-/// solutions are as before.
-fn list_of(pool: &mut Pool, arena: &mut Arena, node: u32, results: &[Made]) -> Result<List, Memory>
+/// The list of these results, each with its cell at a node, or what else was chosen at a site that solutions number with
+/// the nodes. Answers `Memory` where there is no room; then lists, spare slots and solutions are as before.
+pub fn list_of(
+    pool: &mut Pool,
+    arena: &mut Arena,
+    node: u32,
+    results: &[Made],
+) -> Result<List, Memory>
     requires room { length results.now ≤ spare pool.old }
     requires live { All (λ result. IsLiveSolution (made_of arena.old) result.tag) results.now }
     requires bare { All (λ result. cells_of (made_of arena.old) result.tag node ≡ None) results.now }

@@ -13,9 +13,9 @@ mod shelf;
 mod sweep;
 mod work;
 
-pub use cells::{add_cells, find_each};
+pub use cells::{add_cells, find_each, list_of};
 pub use laws::{
     greatest_turns, hull_serves, pair_comes_off, pair_goes_on, peak_is_greatest, values_fall,
 };
 pub use shelf::Shelf;
-pub use work::{Kept, Work};
+pub use work::{Kept, Made, Work};

@@ -23,12 +23,13 @@ pub(crate) struct Found {
     pub(crate) tag: u64,
 }
 
-/// A pair that a repeater makes, the repeater's number, and the tag of the candidate that it drives.
+/// A pair that a repeater makes, the repeater's number, and the tag of the candidate that it drives. Where the width of
+/// a wire is chosen, it is that width's number.
 #[derive(Clone, Copy)]
-pub(crate) struct Made {
-    pub(crate) pair: Pair,
-    pub(crate) rep: u32,
-    pub(crate) tag: u64,
+pub struct Made {
+    pub pair: Pair,
+    pub rep: u32,
+    pub tag: u64,
 }
 
 /// A stack of points, and a row of what was found for each repeater. One serves all nodes; what stands in it before a

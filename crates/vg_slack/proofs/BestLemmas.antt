@@ -1,20 +1,16 @@
 -- The placement of the candidate that was chosen is best, and so is the one without a cell where it has the same slack.
-use Rattle.std.proofs.Common.{◌≡◌, ◌≢◌, ℕ, zero, suc, ◌<◌, true, false, List, [], ◌∷◌, length, sym, ap, ◌∙◌, subst, arith}
-use Rattle.std.proofs.Common.{inl, inr, Option, Some, None, ℤ, ◌≤ℤ◌}
+use Rattle.std.proofs.Common.{◌≡◌, ◌≢◌, ℕ, zero, suc, ◌*◌, ◌<◌, true, false, List, [], ◌∷◌, length, take, sym, ap, ◌∙◌, subst, arith}
+use Rattle.std.proofs.Common.{Option, Some, None, ℤ, ◌≤ℤ◌}
 use Rattle.std.specs.Prelude.{slice_index_or, is_some, MatchOption}
 use Rattle.std.specs.List.{Contains}
-use Rattle.std.proofs.lemmas.Bool.{cases_lt}
 use Rattle.std.proofs.lemmas.Int.{ints}
-use Rattle.std.proofs.lemmas.List.{ext_get_or}
+use Rattle.std.proofs.lemmas.List.{ext_get_or, get_or-take, length-take-le}
+use Rattle.std.proofs.lemmas.List.FromFn.{length-map-range_with_len}
 use Rattle.elmore.specs.Best.{IsBest}
 use Rattle.elmore.specs.Legal.{IsPlaced, IsLegal, IsFirstIllegal}
-use Rattle.elmore.specs.Pairs.{IsPairAt, IsUndominated}
-use Rattle.elmore.specs.Path.{is_over}
+use Rattle.elmore.specs.Pairs.{IsUndominated}
 use Rattle.elmore.specs.Placements.{IsPlacement, IsSlack, HasPolarity, IsFirstWrong}
-use Rattle.elmore.specs.Trees.{parent_of}
 use Rattle.elmore.specs.declared.problem.Problem.{Problem}
-use Rattle.elmore.proofs.PathLemmas.{below_other}
-use Rattle.elmore.proofs.TreeLemmas.{parent_past, tree_falls}
 use Rattle.sol_arena.specs.Arenas.{slots_of, made_of}
 use Rattle.sol_arena.specs.Meanings.{cells_of, AreBelow}
 use Rattle.sol_arena.specs.Slots.{none, IsLive}
@@ -23,16 +19,24 @@ use Rattle.sol_arena.specs.declared.arena.Arena.{Arena}
 use Rattle.sol_arena.specs.declared.slot.Slot.{Slot}
 use Rattle.sol_arena.proofs.ReachLemmas.{held_live}
 use Rattle.cand_pairs.specs.Candidates.{IsBoundedBy}
-use Rattle.cand_pairs.specs.Solutions.{cells_by, IsSolutionOf}
-use Rattle.cand_pairs.proofs.CoverLemmas.{root_best}
+use Rattle.cand_pairs.specs.Solutions.{cells_by}
+use Rattle.wire_widths.specs.Widths.{plain, IsWideBest}
+use Rattle.wire_widths.specs.WidePairs.{IsWidePairAt}
+use Rattle.wire_widths.specs.WideSolutions.{IsWideSolutionOf, rows_by}
+use Rattle.wire_widths.specs.declared.width.Width.{Width}
+use Rattle.wire_widths.proofs.PlainLemmas.{first_rows, plain_good, plain_best}
+use Rattle.wire_widths.proofs.WideSolutionLemmas.{wide_below}
+use Rattle.wire_widths.proofs.WideTurnLemmas.{wide_root_exact}
 use Rattle.cand_pairs.proofs.SolutionLemmas.{read_by}
 use Rattle.cand_pool.specs.Candidates.{Candidate, Candidates}
 use Rattle.cand_uses.specs.Pairs.{pair_of, pairs_of}
 use Rattle.cand_uses.specs.Uses.{HoldsFor}
 use Rattle.cand_uses.proofs.ExchangeLemmas.{uses_of_one, first_use}
-use Rattle.cand_turns.specs.Solved.{AreSolved}
+use Rattle.cand_turns.specs.Solved.{CanWiden, AreSolved}
 use Rattle.vg_slack.specs.Roots.{IsChosen}
-use Rattle.vg_slack.specs.Bests.{IsGoodWith, HasNoCell, IsBare, NoneIsBare, IsFound}
+use Rattle.vg_slack.specs.Bests.{IsGoodWith, HasNoCell, HasNoGood, IsBare, NoneIsBare, IsFound}
+use Rattle.vg_slack.specs.Choices.{HasNoWideGood, AreBestChoices, choice_at}
+use Rattle.vg_slack.specs.declared.choices.Choices.{Choices}
 
 -- PLACEMENTS
 one_slack : (p : Problem) (cells : List (Option ℕ)) (x y : ℤ) → IsSlack p cells x → IsSlack p cells y → x ≡ y
@@ -92,61 +96,78 @@ chosen_live p arena xs slack sol held is = λ some.
     (subst (λ (s : ℕ). 0 < held_of (slots_of arena) s) (sym is.solution)
     (tag_held (slots_of arena) xs is.candidate held is.among (λ e. some (is.solution ∙ e))))
 
-over_root : (p : Problem) (w : ℕ) → is_over (parent_of p.tree.nodes) 0 w ≡ true → w < length p.tree.nodes
-over_root p w over = elim (cases_lt w (length p.tree.nodes)) [
-  | inl low ↦ low
-  | inr high ↦
-      absurd (below_other (parent_of p.tree.nodes) (tree_falls p.tree.nodes p.tree.a_tree) 0 w over
-      (λ e. omega (arith, e, high, p.tree.a_tree.some_node)) (parent_past p.tree.nodes w high))
-]
-
-module _ (p : Problem) (arena : Arena) (xs : Candidates) (slack : ℤ) (sol : ℕ) (exact : IsUndominated (IsPairAt p 0 false) (pairs_of xs))
-    (solved : AreSolved (IsSolutionOf p 0 false) (made_of arena) xs) (is : IsChosen p xs slack sol) where
-  held_by : IsSolutionOf p 0 false (cells_of (made_of arena) sol) (pair_of is.candidate)
+-- what its solution chooses
+module _ (p : Problem) (ws : List Width) (can : CanWiden p ws) (arena : Arena) (xs : Candidates) (slack : ℤ) (sol : ℕ)
+    (exact : IsUndominated (IsWidePairAt p ws 0 false) (pairs_of xs)) (solved : AreSolved (IsWideSolutionOf p ws 0 false) (made_of arena) xs) (is : IsChosen p xs slack sol) where
+  held_by : IsWideSolutionOf p ws 0 false (cells_of (made_of arena) sol) (pair_of is.candidate)
   held_by =
-      subst (λ (s : ℕ). IsSolutionOf p 0 false (cells_of (made_of arena) s) (pair_of is.candidate)) (sym is.solution)
+      subst (λ (s : ℕ). IsWideSolutionOf p ws 0 false (cells_of (made_of arena) s) (pair_of is.candidate)) (sym is.solution)
       (solved is.candidate is.among)
 
-  -- its solution has cells at nodes alone
-  pub chosen_inside : AreBelow (length p.tree.nodes) (cells_of (made_of arena) sol)
-  chosen_inside = λ v b e. over_root p v (held_by.inside v b e)
+  -- at the sites of nodes and of wires alone
+  pub chosen_inside : AreBelow (2 * length p.tree.nodes) (cells_of (made_of arena) sol)
+  chosen_inside = λ s b e. wide_below p ws 0 false (cells_of (made_of arena) sol) (pair_of is.candidate) held_by s b e
 
-  chosen_best : IsBest p (cells_by p (cells_of (made_of arena) sol)) slack
+  chosen_best : IsWideBest p ws (cells_by p (cells_of (made_of arena) sol)) (rows_by p (cells_of (made_of arena) sol)) slack
   chosen_best =
-      subst (IsBest p (cells_by p (cells_of (made_of arena) sol))) (sym is.worth)
-      (root_best p (pairs_of xs) (cells_by p (cells_of (made_of arena) sol)) (pair_of is.candidate) exact held_by.pair is.drives
+      subst (IsWideBest p ws (cells_by p (cells_of (made_of arena) sol)) (rows_by p (cells_of (made_of arena) sol))) (sym is.worth)
+      (wide_root_exact p ws (pairs_of xs) (cells_by p (cells_of (made_of arena) sol)) (rows_by p (cells_of (made_of arena) sol)) (pair_of is.candidate) can.are exact held_by.pair is.drives
       (subst (λ (x : ℤ). IsBoundedBy p (Contains (pairs_of xs)) x) is.worth is.most))
 
-  -- a placement of these cells is best
-  pub placed_best : (cells : List (Option ℕ)) → length cells ≡ length p.tree.nodes
-      → ((v : ℕ) → slice_index_or cells v None ≡ cells_of (made_of arena) sol v) → NoneIsBare p slack
-      → IsFound p (record { slack = slack; placement = record { cells = cells } })
-  placed_best cells long are none_bare =
-      let same : cells_by p (cells_of (made_of arena) sol) ≡ cells
-      = ext_get_or None (cells_by p (cells_of (made_of arena) sol)) cells (by_length ∙ sym long)
-      (λ i i_n. read_by p (cells_of (made_of arena) sol) i (omega (arith, i_n, by_length)) ∙ sym (are i)) in
-      let best : IsBest p cells slack = subst (λ (at : List (Option ℕ)). IsBest p at slack) same chosen_best in
-      record {
-        best = best;
-        bare = λ others x others_bare is_best.
-            absurd (none_bare others (
-              others_bare,
-              record {
-                good = is_best.good;
-                slack = subst (IsSlack p others)
-                    (let more : x ≤ℤ slack = best.most others x is_best.good is_best.slack in
-                    let less : slack ≤ℤ x = is_best.most cells slack best.good best.slack in
-                    omega (arith, ints, more, less)) is_best.slack;
-              },
-            ));
-      }
-    where
-      by_length : length (cells_by p (cells_of (made_of arena) sol)) ≡ length p.tree.nodes
-      by_length = held_by.pair.placement.one_each
-
-  -- and so is the one without a cell that is good with the same slack
-  pub bare_best : (cells : List (Option ℕ)) → IsBare p slack cells → IsFound p (record { slack = slack; placement = record { cells = cells } })
-  bare_best cells (bare, good) = record {
-    best = record { good = good.good; slack = good.slack; most = chosen_best.most };
-    bare = λ others x others_bare is_best. bare;
+  -- is best
+  pub best_sites : (sites : List (Option ℕ)) → length sites ≡ 2 * length p.tree.nodes → ((s : ℕ) → slice_index_or sites s None ≡ cells_of (made_of arena) sol s)
+      → AreBestChoices p ws (record { slack = slack; sites = sites })
+  best_sites sites each are = record {
+    each = each;
+    best = subst (λ (f : ℕ → Option ℕ). IsWideBest p ws (cells_by p f) (rows_by p f) slack) (λ i s. sym (are s) i) chosen_best;
   }
+
+-- THE PLACEMENT of what was chosen with one width
+pub first_sites : (p : Problem) (sites : List (Option ℕ)) → length sites ≡ 2 * length p.tree.nodes → cells_by p (choice_at sites) ≡ take (length p.tree.nodes) sites
+first_sites p sites each =
+    ext_get_or None (cells_by p (choice_at sites)) (take (length p.tree.nodes) sites) (by_length ∙ sym took)
+    (λ i i_n. read_by p (choice_at sites) i (omega (arith, i_n, by_length)) ∙ sym (get_or-take (length p.tree.nodes) sites i None (omega (arith, i_n, by_length))))
+  where
+    by_length : length (cells_by p (choice_at sites)) ≡ length p.tree.nodes
+    by_length = length-map-range_with_len (choice_at sites) 0 (length p.tree.nodes)
+
+    took : length (take (length p.tree.nodes) sites) ≡ length p.tree.nodes
+    took = length-take-le (length p.tree.nodes) sites (omega (arith, each))
+
+pub placed_best : (p : Problem) (choices : Choices) (cells : List (Option ℕ)) → AreBestChoices p (plain ∷ []) choices → cells ≡ take (length p.tree.nodes) choices.sites
+    → NoneIsBare p choices.slack → IsFound p (record { slack = choices.slack; placement = record { cells = cells } })
+placed_best p choices cells are cells_are none_bare = record {
+  best = best;
+  bare = λ others x others_bare is_best.
+      absurd (none_bare others (
+        others_bare,
+        record {
+          good = is_best.good;
+          slack = subst (IsSlack p others)
+              (let more : x ≤ℤ choices.slack = best.most others x is_best.good is_best.slack in
+              let less : choices.slack ≤ℤ x = is_best.most cells choices.slack best.good best.slack in
+              omega (arith, ints, more, less)) is_best.slack;
+        },
+      ));
+}
+  where
+    best : IsBest p cells choices.slack
+    best =
+        subst (λ (at : List (Option ℕ)). IsBest p at choices.slack) (first_sites p choices.sites are.each ∙ sym cells_are)
+        (plain_best p (cells_by p (choice_at choices.sites)) (rows_by p (choice_at choices.sites)) choices.slack are.best)
+
+-- and so is the one without a cell that is good with the same slack
+pub bare_best : (p : Problem) (choices : Choices) (cells : List (Option ℕ)) → AreBestChoices p (plain ∷ []) choices → IsBare p choices.slack cells
+    → IsFound p (record { slack = choices.slack; placement = record { cells = cells } })
+bare_best p choices cells are (bare, good) = record {
+  best = record {
+    good = good.good;
+    slack = good.slack;
+    most = (plain_best p (cells_by p (choice_at choices.sites)) (rows_by p (choice_at choices.sites)) choices.slack are.best).most;
+  };
+  bare = λ others x others_bare is_best. bare;
+}
+
+-- where nothing is good with one width, nothing is good
+pub none_plain : (p : Problem) → HasNoWideGood p (plain ∷ []) → HasNoGood p
+none_plain p none cells good = none cells (first_rows p) (plain_good p cells good)

@@ -12,6 +12,7 @@ use Rattle.sol_arena.specs.Uses.{one_if}
 use Rattle.cand_pairs.specs.Merging.{children_from}
 use Rattle.cand_pairs.proofs.ChildLemmas.{IsChild}
 use Rattle.cand_pairs.proofs.FromLemmas.{children_here, children_other, children_none, children_all}
+use Rattle.wire_widths.specs.declared.width.Width.{Width}
 use Rattle.cand_pool.specs.Pools.{Block}
 use Rattle.cand_turns.specs.declared.branch.Branch.{Branch}
 use Rattle.cand_turns.specs.declared.part.Part.{Part}
@@ -51,17 +52,17 @@ most_other p i v i_n no_child = ap (λ (us : List ℕ). one_if (is_sink p.sinks 
 
 -- PARTS
 -- a part to which no child came in
-pub start_few : (p : Problem) (v : ℕ) (s : Block) (part : Part) → ((odd : Bool) → size_in s part odd ≤ one_if (is_sink p.sinks v))
-    → IsFew p (length p.tree.nodes) v s part
-start_few p v s part few odd = omega (arith, few odd, most_none p v)
+pub start_few : (p : Problem) (ws : List Width) (v : ℕ) (s : Block) (part : Part) → ((odd : Bool) → size_in s part odd ≤ one_if (is_sink p.sinks v))
+    → IsFew p ws (length p.tree.nodes) v s part
+start_few p ws v s part few one odd = omega (arith, few odd, most_none p v)
 
 -- a branch with the cells of its node
-pub closed_few : (p : Problem) (i : ℕ) (s t : Block) (branch closed : Branch) → i < length p.tree.nodes → IsFew p (i + 1) i s (Live branch)
+pub closed_few : (p : Problem) (ws : List Width) (i : ℕ) (s t : Block) (branch closed : Branch) → i < length p.tree.nodes → IsFew p ws (i + 1) i s (Live branch)
     → ((odd : Bool) → length (classes_in t closed odd) ≤ length (classes_in s branch odd) + added_at p i)
-    → (odd : Bool) → length (classes_in t closed odd) ≤ most_at p i
-closed_few p i s t branch closed i_n few more odd = omega (arith, few odd, more odd, most_whole p i i_n)
+    → length ws ≡ 1 → (odd : Bool) → length (classes_in t closed odd) ≤ most_at p i
+closed_few p ws i s t branch closed i_n few more one odd = omega (arith, few one odd, more odd, most_whole p i i_n)
 
 -- the part of a node to which a child came in, with as many candidates as the child has or fewer
-pub taken_few : (p : Problem) (i v : ℕ) (s t : Block) (x y : Part) (added : Bool → ℕ) → IsChild p.tree.nodes v i → IsFew p (i + 1) v s x
-    → ((odd : Bool) → added odd ≤ most_at p i) → ((odd : Bool) → size_in t y odd ≤ size_in s x odd + added odd) → IsFew p i v t y
-taken_few p i v s t x y added child few added_few more odd = omega (arith, few odd, added_few odd, more odd, most_child p i v child)
+pub taken_few : (p : Problem) (ws : List Width) (i v : ℕ) (s t : Block) (x y : Part) (added : Bool → ℕ) → IsChild p.tree.nodes v i → IsFew p ws (i + 1) v s x
+    → (length ws ≡ 1 → (odd : Bool) → added odd ≤ most_at p i) → (length ws ≡ 1 → (odd : Bool) → size_in t y odd ≤ size_in s x odd + added odd) → IsFew p ws i v t y
+taken_few p ws i v s t x y added child few added_few more one odd = omega (arith, few one odd, added_few one odd, more one odd, most_child p i v child)

@@ -1,5 +1,5 @@
 -- A node comes in to its parent.
-use Rattle.std.proofs.Common.{◌≡◌, ◌≢◌, ℕ, zero, suc, ◌+◌, ◌-◌, ◌<◌, ◌≤◌, Bool, true, false, List, [], ◌∷◌, ◌++◌, length, set}
+use Rattle.std.proofs.Common.{◌≡◌, ◌≢◌, ℕ, zero, suc, ◌+◌, ◌*◌, ◌-◌, ◌<◌, ◌≤◌, Bool, true, false, List, [], ◌∷◌, ◌++◌, length, set}
 use Rattle.std.proofs.Common.{refl, sym, ap, ◌∙◌, subst, arith, inl, inr}
 use Rattle.std.proofs.lemmas.Bool.{cases_eq, cases_lt}
 use Rattle.std.proofs.Math.ListN.{get_or-append}
@@ -7,7 +7,6 @@ use Rattle.std.proofs.Math.Seq.{get_or-append_seam}
 use Rattle.std.proofs.lemmas.List.{append-nil, length-append, length-set, set-set, get_or-set_same, get_or-set_other}
 use Rattle.std.proofs.lemmas.List.Sorted.{IsPermutation-refl, IsPermutation-sym, IsPermutation-append_comm}
 use Rattle.std.specs.List.{Contains}
-use Rattle.elmore.specs.Pairs.{IsPairAt}
 use Rattle.elmore.specs.Problems.{is_live}
 use Rattle.elmore.specs.Trees.{parent_of}
 use Rattle.elmore.specs.Wire.{downstream_in}
@@ -16,7 +15,9 @@ use Rattle.sol_arena.specs.declared.arena.Arena.{Arena}
 use Rattle.sol_arena.specs.declared.slot.Made.{Made}
 use Rattle.sol_arena.specs.Arenas.{made_of}
 use Rattle.cand_pairs.proofs.ChildLemmas.{IsChild, child_above}
-use Rattle.cand_pairs.proofs.TurnLemmas.{part_is_live, part_is_dead, part_load}
+use Rattle.cand_pairs.proofs.TurnLemmas.{part_is_dead, part_load}
+use Rattle.wire_widths.specs.declared.width.Width.{Width}
+use Rattle.wire_widths.proofs.WideWordLemmas.{wide_part_is_live}
 use Rattle.cand_pool.specs.Pools.{Block, IsLive}
 use Rattle.cand_pool.specs.declared.ends.List.{List as NamedList}
 use Rattle.cand_uses.specs.Pairs.{pairs_of}
@@ -38,84 +39,84 @@ use Rattle.vg_slack.proofs.WaitLemmas.{less, is_last, all_there}
 
 -- FROM ONE NUMBER TO ANOTHER
 -- between them no child of the node
-moves : (p : Problem) (j d v : ℕ) (ms : List Made) (s : Block) (part : Part) → j + d ≤ length p.tree.nodes
-    → ((u : ℕ) → IsChild p.tree.nodes v u → u < j + d → u < j) → IsSoFar p (j + d) v ms s part → IsSoFar p j v ms s part
-moves p j zero v ms s part within none is = let e : j + 0 ≡ j = omega arith in subst (λ (k : ℕ). IsSoFar p k v ms s part) e is
-moves p j (suc d) v ms s part within none is =
+moves : (p : Problem) (ws : List Width) (j d v : ℕ) (ms : List Made) (s : Block) (part : Part) → j + d ≤ length p.tree.nodes
+    → ((u : ℕ) → IsChild p.tree.nodes v u → u < j + d → u < j) → IsSoFar p ws (j + d) v ms s part → IsSoFar p ws j v ms s part
+moves p ws j zero v ms s part within none is = let e : j + 0 ≡ j = omega arith in subst (λ (k : ℕ). IsSoFar p ws k v ms s part) e is
+moves p ws j (suc d) v ms s part within none is =
     let e : j + suc d ≡ (j + d) + 1 = omega arith in
     let here : j + d < length p.tree.nodes = omega (arith, within) in
     let no_child : IsChild p.tree.nodes v (j + d) → ⊥ = λ child. omega (arith, none (j + d) child (omega arith)) in
-    let last = subst (λ (k : ℕ). IsSoFar p k v ms s part) e is in
-    moves p j d v ms s part (omega (arith, within)) (λ u child low. none u child (omega (arith, low))) (record {
-      part = part_stays p (j + d) v ms s part here no_child last.part;
-      few = λ odd. omega (arith, last.few odd, most_other p (j + d) v here no_child);
+    let last = subst (λ (k : ℕ). IsSoFar p ws k v ms s part) e is in
+    moves p ws j d v ms s part (omega (arith, within)) (λ u child low. none u child (omega (arith, low))) (record {
+      part = part_stays p ws (j + d) v ms s part here no_child last.part;
+      few = λ one odd. omega (arith, last.few one odd, most_other p (j + d) v here no_child);
     })
 
 -- the next child that comes in is the last one below
-to_next : (p : Problem) (i v last : ℕ) (ms : List Made) (s : Block) (part : Part) → v < i → i ≤ length p.tree.nodes → IsLastBelow p i v last
-    → IsSoFar p i v ms s part → IsSoFar p (last + 1) v ms s part
-to_next p i v last ms s part v_i i_n is so_far =
+to_next : (p : Problem) (ws : List Width) (i v last : ℕ) (ms : List Made) (s : Block) (part : Part) → v < i → i ≤ length p.tree.nodes → IsLastBelow p i v last
+    → IsSoFar p ws i v ms s part → IsSoFar p ws (last + 1) v ms s part
+to_next p ws i v last ms s part v_i i_n is so_far =
     let low : last < i = less p i v last v_i is in
     let e : i ≡ (last + 1) + (i - (last + 1)) = omega (arith, low) in
-    moves p (last + 1) (i - (last + 1)) v ms s part (omega (arith, e, i_n))
+    moves p ws (last + 1) (i - (last + 1)) v ms s part (omega (arith, e, i_n))
     (λ u child u_low.
     omega (arith, e, is.most u (record { parent = child.parent; above = child_above p.tree.nodes p.tree.a_tree v u child; node = child.node }) (omega (arith, e, u_low))))
-    (subst (λ (k : ℕ). IsSoFar p k v ms s part) e so_far)
+    (subst (λ (k : ℕ). IsSoFar p ws k v ms s part) e so_far)
 
 -- PARTS BESIDE A TURN
-so_far_beside : (p : Problem) (i v : ℕ) (old new : Arena) (s t : Block) (given made others : Lists) → AreHeld (search s old) (given ++ others)
+so_far_beside : (p : Problem) (ws : List Width) (i v : ℕ) (old new : Arena) (s t : Block) (given made others : Lists) → AreHeld (search s old) (given ++ others)
     → IsTurn (search s old) given (search t new) made → (x : Part) → ((l : NamedList) → Contains (lists_in x) l → Contains others l)
-    → IsSoFar p i v (made_of old) s x → IsSoFar p i v (made_of new) t x
-so_far_beside p i v old new s t given made others held turn x among is = record {
-  part = part_beside p i v old new s t given made others held turn x among is.part;
-  few = λ odd. omega (arith, is.few odd, size_beside (search s old) (search t new) given made others held turn x among odd);
+    → IsSoFar p ws i v (made_of old) s x → IsSoFar p ws i v (made_of new) t x
+so_far_beside p ws i v old new s t given made others held turn x among is = record {
+  part = part_beside p ws i v old new s t given made others held turn x among is.part;
+  few = λ one odd. omega (arith, is.few one odd, size_beside (search s old) (search t new) given made others held turn x among odd);
 }
 
 -- all parts
-module _ (p : Problem) (old new : Arena) (s t : Block) (given made : Lists) (rest : List Part) (held : AreHeld (search s old) (given ++ all_lists rest))
+module _ (p : Problem) (ws : List Width) (old new : Arena) (s t : Block) (given made : Lists) (rest : List Part) (held : AreHeld (search s old) (given ++ all_lists rest))
     (turn : IsTurn (search s old) given (search t new) made) where
-  stays : (i v w : ℕ) → w < length rest → IsSoFar p i v (made_of old) s (part_at rest w) → IsSoFar p i v (made_of new) t (part_at rest w)
+  stays : (i v w : ℕ) → w < length rest → IsSoFar p ws i v (made_of old) s (part_at rest w) → IsSoFar p ws i v (made_of new) t (part_at rest w)
   stays i v w w_n is =
-      so_far_beside p i v old new s t given made (all_lists rest) held turn (part_at rest w) (λ l found. in_all_parts rest w l w_n found) is
+      so_far_beside p ws i v old new s t given made (all_lists rest) held turn (part_at rest w) (λ l found. in_all_parts rest w l w_n found) is
 
-  pub begun_beside : AreBegun p (made_of old) s rest → AreBegun p (made_of new) t rest
+  pub begun_beside : AreBegun p ws (made_of old) s rest → AreBegun p ws (made_of new) t rest
   begun_beside are v v_n = stays (length p.tree.nodes) v v v_n (are v v_n)
 
 -- THE START
 -- one part more, of the node after them
-pub begun_more : (p : Problem) (ms : List Made) (s : Block) (parts : List Part) (part : Part) → AreBegun p ms s parts
-    → IsSoFar p (length p.tree.nodes) (length parts) ms s part → AreBegun p ms s (parts ++ part ∷ [])
-begun_more p ms s parts part are is w w_n =
+pub begun_more : (p : Problem) (ws : List Width) (ms : List Made) (s : Block) (parts : List Part) (part : Part) → AreBegun p ws ms s parts
+    → IsSoFar p ws (length p.tree.nodes) (length parts) ms s part → AreBegun p ws ms s (parts ++ part ∷ [])
+begun_more p ws ms s parts part are is w w_n =
     elim (cases_lt w (length parts)) [
-      | inl low ↦ subst (λ (x : Part). IsSoFar p (length p.tree.nodes) w ms s x) (sym (get_or-append parts (part ∷ []) (Dead 0) w low)) (are w low)
+      | inl low ↦ subst (λ (x : Part). IsSoFar p ws (length p.tree.nodes) w ms s x) (sym (get_or-append parts (part ∷ []) (Dead 0) w low)) (are w low)
       | inr high ↦
           let last : w ≡ length parts = omega (arith, high, w_n, length-append parts (part ∷ [])) in
-          subst (λ (u : ℕ). IsSoFar p (length p.tree.nodes) u ms s (part_at (parts ++ part ∷ []) u)) (sym last)
-          (subst (λ (x : Part). IsSoFar p (length p.tree.nodes) (length parts) ms s x) (sym (get_or-append_seam parts part [] (Dead 0))) is)
+          subst (λ (u : ℕ). IsSoFar p ws (length p.tree.nodes) u ms s (part_at (parts ++ part ∷ []) u)) (sym last)
+          (subst (λ (x : Part). IsSoFar p ws (length p.tree.nodes) (length parts) ms s x) (sym (get_or-append_seam parts part [] (Dead 0))) is)
     ]
 
-pub all_parts : (p : Problem) (w : Waiting) (ms : List Made) (s : Block) (parts : List Part) → AreAllWaiting p w → length parts ≡ length p.tree.nodes
-    → AreBegun p ms s parts → AreParts p w ms s parts
-all_parts p w ms s parts waiting one_each are = record {
+pub all_parts : (p : Problem) (ws : List Width) (w : Waiting) (ms : List Made) (s : Block) (parts : List Part) → AreAllWaiting p w → length parts ≡ length p.tree.nodes
+    → AreBegun p ws ms s parts → AreParts p ws w ms s parts
+all_parts p ws w ms s parts waiting one_each are = record {
   one_each = one_each;
-  there = λ v v_n _. to_next p (length p.tree.nodes) v (last_at w v) ms s (part_at parts v) v_n (omega arith) (waiting.last v v_n) (are v (omega (arith, v_n, one_each)));
+  there = λ v v_n _. to_next p ws (length p.tree.nodes) v (last_at w v) ms s (part_at parts v) v_n (omega arith) (waiting.last v v_n) (are v (omega (arith, v_n, one_each)));
   came = λ v v_n gone. absurd (gone (all_there waiting v v_n));
 }
 
 -- A PART COMES IN TO ANOTHER: that of node i, to which all its children came in, to the upper one, of its parent
-pub record IsComing (p : Problem) (i : ℕ) (upper part : Part) (old : Arena) (s : Block) : Type 0 where
+pub record IsComing (p : Problem) (ws : List Width) (i : ℕ) (upper part : Part) (old : Arena) (s : Block) : Type 0 where
   pub some : 0 < i
   pub node : i < length p.tree.nodes
   pub held : AreHeld (search s old) (lists_in upper ++ lists_in part)
-  pub above : IsSoFar p (i + 1) (parent_of p.tree.nodes i) (made_of old) s upper
-  pub whole : IsSoFar p (i + 1) i (made_of old) s part
+  pub above : IsSoFar p ws (i + 1) (parent_of p.tree.nodes i) (made_of old) s upper
+  pub whole : IsSoFar p ws (i + 1) i (made_of old) s part
 
-pub coming : {p : Problem} {i : ℕ} {upper part : Part} {s : Block} (old : Arena) → 0 < i → i < length p.tree.nodes
-    → AreHeld (search s old) (lists_in upper ++ lists_in part) → IsSoFar p (i + 1) (parent_of p.tree.nodes i) (made_of old) s upper
-    → IsSoFar p (i + 1) i (made_of old) s part → IsComing p i upper part old s
+pub coming : {p : Problem} {ws : List Width} {i : ℕ} {upper part : Part} {s : Block} (old : Arena) → 0 < i → i < length p.tree.nodes
+    → AreHeld (search s old) (lists_in upper ++ lists_in part) → IsSoFar p ws (i + 1) (parent_of p.tree.nodes i) (made_of old) s upper
+    → IsSoFar p ws (i + 1) i (made_of old) s part → IsComing p ws i upper part old s
 coming old some node held above whole = record { some = some; node = node; held = held; above = above; whole = whole }
 
-module _ {p : Problem} {i : ℕ} {upper part : Part} {old : Arena} {s : Block} (at : IsComing p i upper part old s) where
+module _ {p : Problem} {ws : List Width} {i : ℕ} {upper part : Part} {old : Arena} {s : Block} (at : IsComing p ws i upper part old s) where
   is_child : IsChild p.tree.nodes (parent_of p.tree.nodes i) i
   is_child = record { parent = refl; other = λ e. omega (arith, p.tree.a_tree.smaller i at.some at.node, e); node = at.node }
 
@@ -124,8 +125,8 @@ module _ {p : Problem} {i : ℕ} {upper part : Part} {old : Arena} {s : Block} (
     alone : lists_in upper ++ lists_in part ≡ lists_in upper
     alone = ap (λ (x : Part). lists_in upper ++ lists_in x) part_is ∙ append-nil (lists_in upper)
 
-    dead_part : IsPart p (i + 1) i (made_of old) s (Dead c)
-    dead_part = subst (λ (x : Part). IsPart p (i + 1) i (made_of old) s x) part_is at.whole.part
+    dead_part : IsPart p ws (i + 1) i (made_of old) s (Dead c)
+    dead_part = subst (λ (x : Part). IsPart p ws (i + 1) i (made_of old) s x) part_is at.whole.part
 
     pub is_dead : is_live p.tree.nodes p.sinks i ≡ false
     is_dead = part_is_dead p i c at.node dead_part
@@ -140,19 +141,19 @@ module _ {p : Problem} {i : ℕ} {upper part : Part} {old : Arena} {s : Block} (
         → IsTurn (search s old) (lists_in upper ++ lists_in part) new (lists_in x)
     dead_turn new x turn = subst (λ (ls : Lists). IsTurn (search s old) ls new (lists_in x)) (sym alone) turn
 
-    pub dead_so_far : (t : Block) (x : Part) → IsPart p i (parent_of p.tree.nodes i) (made_of old) t x
-        → ((odd : Bool) → size_in t x odd ≡ size_in s upper odd) → IsSoFar p i (parent_of p.tree.nodes i) (made_of old) t x
+    pub dead_so_far : (t : Block) (x : Part) → IsPart p ws i (parent_of p.tree.nodes i) (made_of old) t x
+        → ((odd : Bool) → size_in t x odd ≡ size_in s upper odd) → IsSoFar p ws i (parent_of p.tree.nodes i) (made_of old) t x
     dead_so_far t x is same = record {
       part = is;
-      few = taken_few p i (parent_of p.tree.nodes i) s t upper x (λ _. 0) is_child at.above.few (λ odd. omega arith) (λ odd. omega (arith, same odd));
+      few = taken_few p ws i (parent_of p.tree.nodes i) s t upper x (λ _. 0) is_child at.above.few (λ one odd. omega arith) (λ one odd. omega (arith, same odd));
     }
 
   module _ (branch : Branch) (part_is : part ≡ Live branch) where
     live_held : AreHeld (search s old) (lists_in upper ++ lists_of branch)
     live_held = subst (λ (x : Part). AreHeld (search s old) (lists_in upper ++ lists_in x)) part_is at.held
 
-    pub live_whole : IsSoFar p (i + 1) i (made_of old) s (Live branch)
-    live_whole = subst (λ (x : Part). IsSoFar p (i + 1) i (made_of old) s x) part_is at.whole
+    pub live_whole : IsSoFar p ws (i + 1) i (made_of old) s (Live branch)
+    live_whole = subst (λ (x : Part). IsSoFar p ws (i + 1) i (made_of old) s x) part_is at.whole
 
     pub branch_held : AreHeld (search s old) (lists_of branch)
     branch_held = back_held (search s old) (lists_in upper) (lists_of branch) live_held
@@ -164,21 +165,21 @@ module _ {p : Problem} {i : ℕ} {upper part : Part} {old : Arena} {s : Block} (
           subst (λ (x : Part). IsTurn (search s old) (lists_in upper ++ lists_in x) (search m mid) (lists_in upper ++ lists_of closed)) (sym part_is)
           (back_turn (search s old) (search m mid) (lists_in upper) (lists_of branch) (lists_of closed) live_held turn)
 
-      pub upper_beside : IsSoFar p (i + 1) (parent_of p.tree.nodes i) (made_of mid) m upper
+      pub upper_beside : IsSoFar p ws (i + 1) (parent_of p.tree.nodes i) (made_of mid) m upper
       upper_beside =
-          so_far_beside p (i + 1) (parent_of p.tree.nodes i) old mid s m (lists_of branch) (lists_of closed) (lists_in upper)
+          so_far_beside p ws (i + 1) (parent_of p.tree.nodes i) old mid s m (lists_of branch) (lists_of closed) (lists_in upper)
           (order_held (search s old) (lists_in upper ++ lists_of branch) (lists_of branch ++ lists_in upper)
           (IsPermutation-append_comm (lists_in upper) (lists_of branch)) live_held)
           turn upper (λ l found. found) at.above
 
       pub live_so_far : (new : Arena) (t : Block) (x : Part)
           → ((odd : Bool) → length (classes_in m closed odd) ≤ length (classes_in s branch odd) + added_at p i)
-          → IsPart p i (parent_of p.tree.nodes i) (made_of new) t x → HasNoMore m upper closed t x
-          → IsSoFar p i (parent_of p.tree.nodes i) (made_of new) t x
+          → IsPart p ws i (parent_of p.tree.nodes i) (made_of new) t x → HasNoMore (length ws) m upper closed t x
+          → IsSoFar p ws i (parent_of p.tree.nodes i) (made_of new) t x
       live_so_far new t x few is no_more = record {
         part = is;
-        few = taken_few p i (parent_of p.tree.nodes i) m t upper x (λ odd. length (classes_in m closed odd)) is_child upper_beside.few
-            (closed_few p i s m branch closed at.node live_whole.few few) no_more;
+        few = taken_few p ws i (parent_of p.tree.nodes i) m t upper x (λ odd. length (classes_in m closed odd)) is_child upper_beside.few
+            (closed_few p ws i s m branch closed at.node live_whole.few few) (λ one odd. omega (arith, no_more odd, ap (λ (n : ℕ). n * length (classes_in m closed odd)) one));
       }
 
     -- or lost
@@ -286,35 +287,35 @@ module _ {p : Problem} {i u : ℕ} {parts one both : List Part} {part upper : Pa
       ∙ get_or-set_other (without parts i) up i (Dead 0) (Dead 0) (λ e. other (sym e))
       ∙ get_or-set_same parts i (Dead 0) (Dead 0) (omega (arith, at.node, at.one_each))
 
-  module _ {w : Waiting} {ms : List Made} {s : Block} (waiting : IsWaiting p w i) (are : AreParts p w ms s parts) where
-    pub part_whole : last_at w i ≡ i → IsSoFar p (i + 1) i ms s part
+  module _ {ws : List Width} {w : Waiting} {ms : List Made} {s : Block} (waiting : IsWaiting p w i) (are : AreParts p ws w ms s parts) where
+    pub part_whole : last_at w i ≡ i → IsSoFar p ws (i + 1) i ms s part
     part_whole whole =
-        subst (λ (x : Part). IsSoFar p (i + 1) i ms s x) (sym at.part_is)
-        (subst (λ (k : ℕ). IsSoFar p (k + 1) i ms s (part_at parts i)) whole (are.there i at.node (omega (arith, is_last p w i at.some waiting))))
+        subst (λ (x : Part). IsSoFar p ws (i + 1) i ms s x) (sym at.part_is)
+        (subst (λ (k : ℕ). IsSoFar p ws (k + 1) i ms s (part_at parts i)) whole (are.there i at.node (omega (arith, is_last p w i at.some waiting))))
 
-    pub upper_so_far : IsSoFar p (i + 1) up ms s upper
+    pub upper_so_far : IsSoFar p ws (i + 1) up ms s upper
     upper_so_far =
-        subst (λ (x : Part). IsSoFar p (i + 1) up ms s x) (sym upper_at)
-        (subst (λ (k : ℕ). IsSoFar p (k + 1) up ms s (part_at parts up)) (is_last p w i at.some waiting)
+        subst (λ (x : Part). IsSoFar p ws (i + 1) up ms s x) (sym upper_at)
+        (subst (λ (k : ℕ). IsSoFar p ws (k + 1) up ms s (part_at parts up)) (is_last p w i at.some waiting)
         (are.there up (omega (arith, up_i, at.node)) (waiting.upper i at.node (omega (arith, is_last p w i at.some waiting)))))
 
   -- node i came in
-  module _ (old new : Arena) (s t : Block) (x : Part) (w w' : Waiting) (held : AreHeld (search s old) (all_lists parts))
+  module _ (ws : List Width) (old new : Arena) (s t : Block) (x : Part) (w w' : Waiting) (held : AreHeld (search s old) (all_lists parts))
       (turn : IsTurn (search s old) (lists_in upper ++ lists_in part) (search t new) (lists_in x)) (waiting : IsWaiting p w i) (crossed : IsCrossedOff p i w w')
-      (are : AreParts p w (made_of old) s parts) (is : IsSoFar p i up (made_of new) t x) where
-    there : (v : ℕ) → v < length p.tree.nodes → IsThere p w' v → IsSoFar p (last_at w' v + 1) v (made_of new) t (part_at (set both up x) v)
+      (are : AreParts p ws w (made_of old) s parts) (is : IsSoFar p ws i up (made_of new) t x) where
+    there : (v : ℕ) → v < length p.tree.nodes → IsThere p w' v → IsSoFar p ws (last_at w' v + 1) v (made_of new) t (part_at (set both up x) v)
     there v v_n v_there = elim (cases_eq v up) [
       | inl e ↦
-          subst (λ (u : ℕ). IsSoFar p (last_at w' u + 1) u (made_of new) t (part_at (set both up x) u)) (sym e)
-          (subst (λ (y : Part). IsSoFar p (last_at w' up + 1) up (made_of new) t y) (sym (get_or-set_same both up x (Dead 0) (omega (arith, length_both, v_n, e))))
-          (to_next p i up (last_at w' up) (made_of new) t x up_i (omega (arith, at.node)) crossed.next is))
+          subst (λ (u : ℕ). IsSoFar p ws (last_at w' u + 1) u (made_of new) t (part_at (set both up x) u)) (sym e)
+          (subst (λ (y : Part). IsSoFar p ws (last_at w' up + 1) up (made_of new) t y) (sym (get_or-set_same both up x (Dead 0) (omega (arith, length_both, v_n, e))))
+          (to_next p ws i up (last_at w' up) (made_of new) t x up_i (omega (arith, at.node)) crossed.next is))
       | inr apart ↦
           let v_i : v ≢ i = λ e. crossed.came (subst (IsThere p w') e v_there) in
-          subst (λ (y : Part). IsSoFar p (last_at w' v + 1) v (made_of new) t y) (sym (get_or-set_other both up v x (Dead 0) apart))
-          (stays p old new s t (lists_in upper ++ lists_in part) (lists_in x) both (held_beside (search s old) held) turn (last_at w' v + 1) v v
+          subst (λ (y : Part). IsSoFar p ws (last_at w' v + 1) v (made_of new) t y) (sym (get_or-set_other both up v x (Dead 0) apart))
+          (stays p ws old new s t (lists_in upper ++ lists_in part) (lists_in x) both (held_beside (search s old) held) turn (last_at w' v + 1) v v
           (omega (arith, v_n, length_both))
-          (subst (λ (y : Part). IsSoFar p (last_at w' v + 1) v (made_of old) s y) (sym (same v v_i apart))
-          (subst (λ (k : ℕ). IsSoFar p (k + 1) v (made_of old) s (part_at parts v)) (sym (crossed.others v apart)) (are.there v v_n (crossed.was v v_there)))))
+          (subst (λ (y : Part). IsSoFar p ws (last_at w' v + 1) v (made_of old) s y) (sym (same v v_i apart))
+          (subst (λ (k : ℕ). IsSoFar p ws (k + 1) v (made_of old) s (part_at parts v)) (sym (crossed.others v apart)) (are.there v v_n (crossed.was v v_there)))))
     ]
 
     came : (v : ℕ) → v < length p.tree.nodes → (IsThere p w' v → ⊥) → lists_in (part_at (set both up x) v) ≡ []
@@ -330,9 +331,9 @@ module _ {p : Problem} {i u : ℕ} {parts one both : List Part} {part upper : Pa
           ]
     ]
 
-    pub parts_after : AreParts p w' (made_of new) t (set both u x)
+    pub parts_after : AreParts p ws w' (made_of new) t (set both u x)
     parts_after =
-        subst (λ (k : ℕ). AreParts p w' (made_of new) t (set both k x)) (sym at.up_is)
+        subst (λ (k : ℕ). AreParts p ws w' (made_of new) t (set both k x)) (sym at.up_is)
         (record { one_each = length-set both up x ∙ length_both; there = there; came = came })
 
 -- THE ROOT
@@ -340,21 +341,21 @@ module _ {p : Problem} {w : Waiting} (root : IsAtRoot p w) where
   root_there : IsThere p w 0
   root_there = omega arith
 
-  pub root_whole : (ms : List Made) (s : Block) (parts : List Part) → AreParts p w ms s parts → IsSoFar p 1 0 ms s (part_at parts 0)
-  root_whole ms s parts are =
+  pub root_whole : (ws : List Width) (ms : List Made) (s : Block) (parts : List Part) → AreParts p ws w ms s parts → IsSoFar p ws 1 0 ms s (part_at parts 0)
+  root_whole ws ms s parts are =
       let one : last_at w 0 + 1 ≡ 1 = omega (arith, root.whole) in
-      subst (λ (k : ℕ). IsSoFar p k 0 ms s (part_at parts 0)) one (are.there 0 p.tree.a_tree.some_node root_there)
+      subst (λ (k : ℕ). IsSoFar p ws k 0 ms s (part_at parts 0)) one (are.there 0 p.tree.a_tree.some_node root_there)
 
-  pub root_lists : (ms : List Made) (s : Block) (parts : List Part) → AreParts p w ms s parts → all_lists parts ≡ lists_in (part_at parts 0)
-  root_lists ms s parts are =
+  pub root_lists : (ws : List Width) (ms : List Made) (s : Block) (parts : List Part) → AreParts p ws w ms s parts → all_lists parts ≡ lists_in (part_at parts 0)
+  root_lists ws ms s parts are =
       one_left parts (omega (arith, are.one_each, p.tree.a_tree.some_node))
       (λ v v_n other. are.came v (omega (arith, v_n, are.one_each)) (λ there. other (root.alone v (omega (arith, v_n, are.one_each)) there)))
 
 -- BRANCHES
 -- a node is live where its part is
-pub node_live : (p : Problem) (i : ℕ) (ms : List Made) (s : Block) (branch : Branch) → i < length p.tree.nodes → IsSoFar p (i + 1) i ms s (Live branch)
+pub node_live : (p : Problem) (ws : List Width) (i : ℕ) (ms : List Made) (s : Block) (branch : Branch) → i < length p.tree.nodes → IsSoFar p ws (i + 1) i ms s (Live branch)
     → is_live p.tree.nodes p.sinks i ≡ true
-node_live p i ms s branch i_n is = part_is_live p (IsPairAt p) i (λ odd. pairs_of (classes_in s branch odd)) i_n is.part.part
+node_live p ws i ms s branch i_n is = wide_part_is_live p ws i (λ odd. pairs_of (classes_in s branch odd)) i_n is.part.part
 
 -- both lists of a branch are live
 pub branch_live : (at : Search) (branch : Branch) → AreHeld at (lists_of branch) → (odd : Bool) → IsLive at.pool (list_of branch odd)

@@ -16,11 +16,12 @@ use Rattle.sol_arena.specs.Uses.{held_of}
 use Rattle.sol_arena.proofs.ReachLemmas.{restored}
 use Rattle.cand_pairs.specs.Candidates.{fork_of}
 use Rattle.cand_pairs.specs.Merging.{live_from, own_from}
-use Rattle.cand_pairs.specs.Solutions.{IsOpenSolutionOf}
+use Rattle.wire_widths.specs.WideSolutions.{IsWideOpenSolutionOf}
+use Rattle.wire_widths.specs.declared.width.Width.{Width}
+use Rattle.wire_widths.proofs.WideWordLemmas.{wide_live_stays}
 use Rattle.cand_pairs.proofs.ChildLemmas.{IsChild}
 use Rattle.cand_pairs.proofs.FromLemmas.{other_live, other_own}
-use Rattle.cand_pairs.proofs.TurnLemmas.{live_stays, dead_stays}
-use Rattle.elmore.specs.Pairs.{IsPairAt}
+use Rattle.cand_pairs.proofs.TurnLemmas.{dead_stays}
 use Rattle.cand_pool.specs.Candidates.{Candidates}
 use Rattle.cand_pool.specs.Pools.{Block, IsLive}
 use Rattle.cand_pool.specs.declared.ends.List.{List as NamedList}
@@ -129,37 +130,37 @@ back_lost old new others given held swap =
     (back_turn old new others given [] held (given_up old new given swap))
 
 -- PARTS THAT STAY
-pub part_stays : (p : Problem) (i w : ℕ) (ms : List Made) (s : Block) (x : Part) → i < length p.tree.nodes → (IsChild p.tree.nodes w i → ⊥)
-    → IsPart p (i + 1) w ms s x → IsPart p i w ms s x
-part_stays p i w ms s (Dead c) i_n no_child part = dead_stays p w i c i_n no_child part
-part_stays p i w ms s (Live branch) i_n no_child part = record {
-  part = live_stays p (IsPairAt p) w i (λ odd. pairs_of (classes_in s branch odd)) i_n no_child part.part;
+pub part_stays : (p : Problem) (ws : List Width) (i w : ℕ) (ms : List Made) (s : Block) (x : Part) → i < length p.tree.nodes → (IsChild p.tree.nodes w i → ⊥)
+    → IsPart p ws (i + 1) w ms s x → IsPart p ws i w ms s x
+part_stays p ws i w ms s (Dead c) i_n no_child part = dead_stays p w i c i_n no_child part
+part_stays p ws i w ms s (Live branch) i_n no_child part = record {
+  part = wide_live_stays p ws w i (λ odd. pairs_of (classes_in s branch odd)) i_n no_child part.part;
   solved = λ odd.
-      subst (λ (us : List ℕ). AreSolved (IsOpenSolutionOf p odd (fork_of w (own_from p w i) us)) ms (classes_in s branch odd))
+      subst (λ (us : List ℕ). AreSolved (IsWideOpenSolutionOf p ws odd (fork_of w (own_from p w i) us)) ms (classes_in s branch odd))
       (sym (other_live p w i i_n no_child))
-      (subst (λ (own : ℕ). AreSolved (IsOpenSolutionOf p odd (fork_of w own (live_from p w (i + 1)))) ms (classes_in s branch odd))
+      (subst (λ (own : ℕ). AreSolved (IsWideOpenSolutionOf p ws odd (fork_of w own (live_from p w (i + 1)))) ms (classes_in s branch odd))
       (sym (other_own p w i i_n no_child)) (part.solved odd));
 }
 
 -- a part that stands beside a swap
-module _ (p : Problem) (i v : ℕ) (old new : Arena) (s t : Block) (given made others : Lists) (held : AreHeld (search s old) (given ++ others))
+module _ (p : Problem) (ws : List Width) (i v : ℕ) (old new : Arena) (s t : Block) (given made others : Lists) (held : AreHeld (search s old) (given ++ others))
     (turn : IsTurn (search s old) given (search t new) made) where
   branch_beside : (branch : Branch) → ((l : NamedList) → Contains (lists_in (Live branch)) l → Contains others l)
-      → IsOpenAt p i v (made_of old) (classes_in s branch) → IsOpenAt p i v (made_of new) (classes_in t branch)
+      → IsOpenAt p ws i v (made_of old) (classes_in s branch) → IsOpenAt p ws i v (made_of new) (classes_in t branch)
   branch_beside branch among at = record {
     part = record { end = at.part.end; exact = λ odd. (both odd).exact };
     solved = λ odd. (both odd).solved;
   } where
-    both : (odd : Bool) → IsOpenClass p i v odd (made_of new) (classes_in t branch odd)
+    both : (odd : Bool) → IsOpenClass p ws i v odd (made_of new) (classes_in t branch odd)
     both true =
-        open_beside p i v true old new s t given made others held turn branch.odd (among branch.odd (1, omega arith, refl))
+        open_beside p ws i v true old new s t given made others held turn branch.odd (among branch.odd (1, omega arith, refl))
         (record { exact = at.part.exact true; solved = at.solved true })
     both false =
-        open_beside p i v false old new s t given made others held turn branch.even (among branch.even (0, omega arith, refl))
+        open_beside p ws i v false old new s t given made others held turn branch.even (among branch.even (0, omega arith, refl))
         (record { exact = at.part.exact false; solved = at.solved false })
 
-  pub part_beside : (x : Part) → ((l : NamedList) → Contains (lists_in x) l → Contains others l) → IsPart p i v (made_of old) s x
-      → IsPart p i v (made_of new) t x
+  pub part_beside : (x : Part) → ((l : NamedList) → Contains (lists_in x) l → Contains others l) → IsPart p ws i v (made_of old) s x
+      → IsPart p ws i v (made_of new) t x
   part_beside (Dead c) among part = part
   part_beside (Live branch) among part = branch_beside branch among part
 

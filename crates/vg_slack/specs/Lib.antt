@@ -4,3 +4,4 @@ pub mod Bounds
 pub mod Roots
 pub mod Bests
 pub mod Kept
+pub mod Choices

@@ -1,12 +1,14 @@
 -- What the driver makes of the candidates of the root.
-use Rattle.std.specs.Prelude.{◌≡◌, ℕ, ℤ, Option, MatchOption, false}
+use Rattle.std.specs.Prelude.{◌≡◌, ℕ, ℤ, List, Option, MatchOption, false}
 use Rattle.std.specs.List.{Contains}
-use Rattle.elmore.specs.Pairs.{IsPairAt, IsUndominated}
+use Rattle.elmore.specs.Pairs.{IsUndominated}
 use Rattle.elmore.specs.declared.problem.Problem.{Problem}
 use Rattle.sol_arena.specs.declared.arena.Arena.{Arena}
 use Rattle.sol_arena.specs.Arenas.{slots_of, made_of}
 use Rattle.cand_pairs.specs.Candidates.{Drives, DrivesNone, IsBoundedBy, root_value}
-use Rattle.cand_pairs.specs.Solutions.{IsSolutionOf}
+use Rattle.wire_widths.specs.WidePairs.{IsWidePairAt}
+use Rattle.wire_widths.specs.WideSolutions.{IsWideSolutionOf}
+use Rattle.wire_widths.specs.declared.width.Width.{Width}
 use Rattle.cand_pool.specs.Candidates.{Candidate, Candidates}
 use Rattle.cand_uses.specs.Pairs.{pair_of, pairs_of}
 use Rattle.cand_uses.specs.Uses.{HoldsFor}
@@ -30,9 +32,9 @@ IsChoice p xs choice =
 
 -- this was chosen of the candidates of the root: all undominated pairs there, each with a solution in use that comes to
 -- it
-pub record IsRootChoice (p : Problem) (arena : Arena) (choice : Option Choice) : Type 0 where
+pub record IsRootChoice (p : Problem) (widths : List Width) (arena : Arena) (choice : Option Choice) : Type 0 where
   pub candidates : Candidates
-  pub exact : IsUndominated (IsPairAt p 0 false) (pairs_of candidates)
-  pub solved : AreSolved (IsSolutionOf p 0 false) (made_of arena) candidates
+  pub exact : IsUndominated (IsWidePairAt p widths 0 false) (pairs_of candidates)
+  pub solved : AreSolved (IsWideSolutionOf p widths 0 false) (made_of arena) candidates
   pub uses : HoldsFor (slots_of arena) candidates
   pub chosen : IsChoice p candidates choice

@@ -1,18 +1,18 @@
 //! The best placement of a net, by the candidate of the root that was chosen.
 
-ghost use Rattle.std.specs.Prelude.{◌≡◌, ◌≤◌, length, IfOk, MatchBool, MatchOption};
+ghost use Rattle.std.specs.Prelude.{◌≡◌, ◌*◌, ◌≤◌, ◌∷◌, [], take, length, IfOk, MatchBool, MatchOption};
 ghost use Rattle.elmore.specs.Legal.{IsPlaced};
 ghost use Rattle.elmore.specs.Placements.{IsPlacement};
 ghost use Rattle.elmore.specs.Room.{room_of};
-ghost use Rattle.vg_slack.specs.Roots.{IsRootChoice};
+ghost use Rattle.wire_widths.specs.Widths.{plain};
+ghost use Rattle.vg_slack.specs.Choices.{AreChoices};
 ghost use Rattle.vg_slack.specs.Bests.{IsGoodWith, IsBare, NoneIsBare, IsAnswer};
 
+use crate::choices::Choices;
 use crate::lists::Lists;
-use crate::root::Choice;
 use elmore::{Placement, Problem, Scratch, first_illegal, first_wrong, slack};
-use sol_arena::Arena;
 use std::alloc::Global;
-use vg_num::Memory;
+use vg_num::{Memory, Row};
 
 /// A best placement of a problem, and its slack (zs).
 #[derive(Drop)]
@@ -58,24 +58,36 @@ fn bare_with(alloc: Global, p: &Problem, most: i128) -> Result<Option<Placement>
     Ok(None)
 }
 
-/// The best placement that the candidates of the root come to, where this one of them was chosen: the one without a
-/// cell where it is best, and else that of the candidate's solution. `None`: no placement is good.
+/// The placement of what a best solution chooses at nodes.
+fn placement_of(p: &Problem, choices: Choices) -> Placement
+    requires sites { length choices.sites ≡ 2 * length p.now.tree.nodes }
+    ensures { result.cells ≡ take (length p.now.tree.nodes) choices.sites }
+{
+    let mut cells = choices.sites.into_vec();
+    cells.truncate(p.tree.nodes.len());
+    Placement {
+        cells: Row::from_vec(cells),
+    }
+}
+
+/// The best placement of a problem, where this is what a best solution chooses whose wires have their only width: the one
+/// without a cell where it is best, and else that of the solution. `None`: no placement is good. Answers `Memory` when
+/// out of memory.
 pub(crate) fn best_placement(
     alloc: Global,
-    arena: &Arena,
     p: &Problem,
-    choice: Option<Choice>,
+    choices: Option<Choices>,
 ) -> Result<Option<Best>, Memory>
-    requires root { IsRootChoice p.now arena.now choice }
+    requires { AreChoices p.now (plain ∷ []) choices }
     ensures { IfOk result (IsAnswer p.now) }
 {
-    let Some(choice) = choice else {
+    let Some(choices) = choices else {
         return Ok(None);
     };
-    let slack = choice.slack;
+    let slack = choices.slack;
     if let Some(placement) = bare_with(alloc, p, slack)? {
         return Ok(Some(Best { slack, placement }));
     }
-    let placement = arena.places(alloc, choice.sol, p.tree.nodes.len())?;
+    let placement = placement_of(p, choices);
     Ok(Some(Best { slack, placement }))
 }

@@ -2,6 +2,7 @@
 #![tactic(auto)]
 
 mod answer;
+mod choices;
 mod climb;
 mod lists;
 mod room;
@@ -10,6 +11,7 @@ mod search;
 mod waiting;
 
 pub use answer::{Answer, Best};
+pub use choices::Choices;
 pub use lists::{Lists, NodeLists};
 pub use room::Room;
-pub use search::{best, best_in};
+pub use search::{best, best_choices, best_in};

@@ -20,7 +20,7 @@ add_cells-requires-clause-found c =
       allowed_at c.args.p.now.allowed c.args.node,
       λ inverts. classes (behind inverts odd),
       subst (λ reps. HaveFound (allowed_at c.args.p.now.allowed c.args.node) reps (λ inverts. classes (behind inverts odd)) c.args.own.now c.args.other.now) (sym c.as_slice.ensures) found,
-      λ inverts. bare_at c.args.p.now c.args.node (behind inverts odd) c.args.arena.now (classes (behind inverts odd)) (are (behind inverts odd)).0 (are (behind inverts odd)).1,
+      λ inverts. bare_at c.args.p.now c.args.widths.now c.args.node (behind inverts odd) c.args.arena.now (classes (behind inverts odd)) (are (behind inverts odd)).0 (are (behind inverts odd)).1,
     )
 
 pub returns-in_err-list-clause-turn : goal.returns-in_err-list-clause-turn
@@ -40,7 +40,7 @@ pub returns-clause-best : goal.returns-clause-best
 returns-clause-best c = λ odd classes found are.
     let allowed = allowed_at c.args.p.now.allowed c.args.node in
     let for_reps = subst (λ reps. HaveFound allowed reps (λ inverts. classes (behind inverts odd)) c.args.own.now c.args.other.now) (sym c.as_slice.ensures) found in
-    made_best c.args.p.now c.args.node odd c.requires.place classes (made_of c.args.arena.now) (made_of c.add_cells.new.arena)
+    made_best c.args.p.now c.args.widths.now c.requires.widths.are c.args.node odd c.requires.place classes (made_of c.args.arena.now) (made_of c.add_cells.new.arena)
     (items_of c.add_cells.new.pool c.in_ok-list.list) c.as_slice.result.now c.requires.node are c.as_slice.ensures
     (c.in_ok-list.ensures.undominated allowed (λ inverts. classes (behind inverts odd)) for_reps) (c.in_ok-list.ensures.attained allowed (λ inverts. classes (behind inverts odd)) for_reps)
 

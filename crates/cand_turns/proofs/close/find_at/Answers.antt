@@ -8,7 +8,7 @@ use Rattle.cand_turns.proofs.close.find_at.Goals as goal
 pub find_each-requires-clause-modest : goal.find_each-requires-clause-modest
 find_each-requires-clause-modest g c =
     let (odd, ms, is) = c.requires.«open» in
-    open_modest c.args.p.now (c.args.node + 1) c.args.node odd (items_of c.args.pool.now c.args.from.now) c.requires.node is.exact
+    open_modest c.args.p.now c.args.widths.now (c.args.node + 1) c.args.node odd (items_of c.args.pool.now c.args.from.now) c.requires.widths c.requires.node is.exact
 
 pub find_each-requires-clause-allowed : goal.find_each-requires-clause-allowed
 find_each-requires-clause-allowed g c =

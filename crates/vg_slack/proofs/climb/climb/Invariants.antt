@@ -13,9 +13,9 @@ invariant-nodes g l = record {
   waiting : IsWaiting l.fn.p l.waiting l.at;
   tools : AreToolsOf l.fn.p l.tools;
   turn : IsTurn (search l.initial.pool l.initial.arena) (all_lists l.initial.parts.items) (search l.pool l.arena) (all_lists l.parts.items);
-  parts : AreParts l.fn.p l.waiting (made_of l.arena) l.pool l.parts.items;
+  parts : AreParts l.fn.p l.fn.widths l.waiting (made_of l.arena) l.pool l.parts.items;
   nodes : length l.lists.nodes.items ≡ length l.initial.lists.nodes.items;
-  kept : AreKept l.fn.p l.waiting l.lists;
+  kept : AreKept l.fn.p l.fn.widths l.waiting l.lists;
 }
 
 abbrev pub decreases-nodes : goal.decreases-nodes

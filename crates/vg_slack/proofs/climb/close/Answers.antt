@@ -18,8 +18,8 @@ returns-in-Err-clause-turn g c =
 
 pub returns-clause-kept : goal.returns-clause-kept
 returns-clause-kept g c = λ low.
-    live_kept c.args.p.now c.args.node c.keep.new.self (made_of c.close.new.arena) (classes_in c.close.new.pool c.in_ok-branch.branch)
+    live_kept c.args.p.now c.args.widths.now c.args.node c.keep.new.self (made_of c.close.new.arena) (classes_in c.close.new.pool c.in_ok-branch.branch)
     c.in_ok-branch.ensures.closed
-    (node_live c.args.p.now c.args.node (made_of c.args.arena.now) c.args.pool.now c.args.branch c.requires.node c.requires.whole)
-    (closed_few c.args.p.now c.args.node c.args.pool.now c.close.new.pool c.args.branch c.in_ok-branch.branch c.requires.node c.requires.whole.few c.in_ok-branch.ensures.few)
+    (node_live c.args.p.now c.args.widths.now c.args.node (made_of c.args.arena.now) c.args.pool.now c.args.branch c.requires.node c.requires.whole)
+    (closed_few c.args.p.now c.args.widths.now c.args.node c.args.pool.now c.close.new.pool c.args.branch c.in_ok-branch.branch c.requires.node c.requires.whole.few c.in_ok-branch.ensures.few)
     (c.in_default.ensures.kept (omega (arith, low, c.in_default.ensures.nodes)))

@@ -26,6 +26,7 @@ start-part-requires-clause-room c = omega (arith, c.in_ok-reserve.ensures.room)
 pub nodes-preserved : goal.nodes-preserved
 nodes-preserved c =
     let p = c.args.p.now in
+    let ws = c.args.widths.now in
     let arena = c.args.arena.now in
     let old = c.nodes.parts.items in
     let part = c.start-part.result in
@@ -35,20 +36,20 @@ nodes-preserved c =
     = λ slots. grown_turn c.nodes.pool pool slots (all_lists old) (c.nodes.invariant.turn slots).held c.in_ok-reserve.ensures.others c.in_ok-reserve.ensures.more in
     let grows : IsTurn (search c.nodes.pool arena) [] (search pool arena) []
     = grown c.nodes.pool pool (slots_of arena) c.in_ok-reserve.ensures.others c.in_ok-reserve.ensures.more in
-    let still : AreBegun p (made_of arena) c.start-part.new.pool old
-    = begun_beside p arena arena pool c.start-part.new.pool [] (lists_in part) old (turn (slots_of arena)).held (c.start-part.ensures.turn (slots_of arena))
-    (begun_beside p arena arena c.nodes.pool pool [] [] old (c.nodes.invariant.turn (slots_of arena)).held grows c.nodes.invariant.begun) in
-    let begun : IsSoFar p (length p.tree.nodes) c.nodes.node (made_of arena) c.start-part.new.pool part
-    = record { part = c.start-part.ensures.part; few = start_few p c.nodes.node c.start-part.new.pool part c.start-part.ensures.few } in
+    let still : AreBegun p ws (made_of arena) c.start-part.new.pool old
+    = begun_beside p ws arena arena pool c.start-part.new.pool [] (lists_in part) old (turn (slots_of arena)).held (c.start-part.ensures.turn (slots_of arena))
+    (begun_beside p ws arena arena c.nodes.pool pool [] [] old (c.nodes.invariant.turn (slots_of arena)).held grows c.nodes.invariant.begun) in
+    let begun : IsSoFar p ws (length p.tree.nodes) c.nodes.node (made_of arena) c.start-part.new.pool part
+    = record { part = c.start-part.ensures.part; few = start_few p ws c.nodes.node c.start-part.new.pool part c.start-part.ensures.few } in
     record {
       count = ap length items ∙ length-append old (part ∷ []) ∙ ap (λ k. k + 1) c.nodes.invariant.count;
       turn = λ slots. subst (λ parts. IsTurn (at_slots c.args.pool.now slots) [] (at_slots c.start-part.new.pool slots) (all_lists parts)) (sym items)
           (turn_then (at_slots c.args.pool.now slots) (at_slots c.nodes.pool slots) (at_slots c.start-part.new.pool slots) _ _ _ (c.nodes.invariant.turn slots)
           (turn_then (at_slots c.nodes.pool slots) (at_slots pool slots) (at_slots c.start-part.new.pool slots) _ _ _ (turn slots)
           (start_more (at_slots pool slots) (at_slots c.start-part.new.pool slots) old part (turn slots).held (c.start-part.ensures.turn slots))));
-      begun = subst (AreBegun p (made_of arena) c.start-part.new.pool) (sym items)
-          (begun_more p (made_of arena) c.start-part.new.pool old part still
-          (subst (λ k. IsSoFar p (length p.tree.nodes) k (made_of arena) c.start-part.new.pool part) (sym c.nodes.invariant.count) begun));
+      begun = subst (AreBegun p ws (made_of arena) c.start-part.new.pool) (sym items)
+          (begun_more p ws (made_of arena) c.start-part.new.pool old part still
+          (subst (λ k. IsSoFar p ws (length p.tree.nodes) k (made_of arena) c.start-part.new.pool part) (sym c.nodes.invariant.count) begun));
     }
 
 pub returns-clause-all : goal.returns-clause-all

@@ -8,5 +8,5 @@ abbrev pub invariant-nodes : goal.invariant-nodes
 invariant-nodes l = record {
   count : length l.parts.items ≡ l.node;
   turn : (slots : Slots) → IsTurn (at_slots l.initial.pool slots) [] (at_slots l.pool slots) (all_lists l.parts.items);
-  begun : AreBegun l.fn.p (made_of l.fn.arena) l.pool l.parts.items;
+  begun : AreBegun l.fn.p l.fn.widths (made_of l.fn.arena) l.pool l.parts.items;
 }

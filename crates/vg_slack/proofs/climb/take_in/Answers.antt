@@ -28,7 +28,7 @@ close-requires-clause-held g c =
 pub take_live-requires-clause-live : goal.take_live-requires-clause-live
 take_live-requires-clause-live g c =
     let at = coming c.args.arena.now c.requires.below_root c.requires.node c.requires.held c.requires.upper c.requires.whole in
-    node_live c.args.p.now c.args.node (made_of c.args.arena.now) c.args.pool.now c.in-Live.branch c.requires.node (live_whole at c.in-Live.branch c.in-Live.is)
+    node_live c.args.p.now c.args.widths.now c.args.node (made_of c.args.arena.now) c.args.pool.now c.in-Live.branch c.requires.node (live_whole at c.in-Live.branch c.in-Live.is)
 
 pub take_live-requires-clause-held : goal.take_live-requires-clause-held
 take_live-requires-clause-held g c =
@@ -74,7 +74,7 @@ returns-in-Dead-clause-part g c =
 pub returns-in-Dead-clause-kept : goal.returns-in-Dead-clause-kept
 returns-in-Dead-clause-kept g c = λ low.
     let at = coming c.args.arena.now c.requires.below_root c.requires.node c.requires.held c.requires.upper c.requires.whole in
-    dead_kept c.args.p.now c.args.node c.args.lists.now c.requires.none (is_dead at c.in-Dead.c c.in-Dead.is)
+    dead_kept c.args.p.now c.args.widths.now c.args.node c.args.lists.now c.requires.none (is_dead at c.in-Dead.c c.in-Dead.is)
 
 pub returns-in_ok-taken-in-Ok-clause-turn : goal.returns-in_ok-taken-in-Ok-clause-turn
 returns-in_ok-taken-in-Ok-clause-turn g c =

@@ -45,10 +45,10 @@ pub returns-clause-parts : goal.returns-clause-parts
 returns-clause-parts g c =
     let at = taken c.args.p.now c.requires.below_root c.requires.waiting.node c.requires.parts.one_each c.parent_of-parent.ensures.parent
     c.take-part.ensures.part c.take-part.ensures.left c.take-upper.ensures.part c.take-upper.ensures.left in
-    parts_after at c.args.arena.now c.take_in.new.arena c.args.pool.now c.take_in.new.pool c.in_ok-parts.field-0 c.args.waiting.now c.cross_off.new.self
+    parts_after at c.args.widths.now c.args.arena.now c.take_in.new.arena c.args.pool.now c.take_in.new.pool c.in_ok-parts.field-0 c.args.waiting.now c.cross_off.new.self
     c.requires.held c.in_ok-parts.ensures.turn c.requires.waiting c.cross_off.ensures.crossed c.requires.parts c.in_ok-parts.ensures.part
 
 pub returns-clause-kept : goal.returns-clause-kept
 returns-clause-kept g c =
-    kept_more c.args.p.now c.args.node c.args.waiting.now c.cross_off.new.self c.args.lists.now c.take_in.new.lists c.cross_off.ensures.crossed
+    kept_more c.args.p.now c.args.widths.now c.args.node c.args.waiting.now c.cross_off.new.self c.args.lists.now c.take_in.new.lists c.cross_off.ensures.crossed
     c.requires.kept c.in_ok-parts.ensures.nodes c.in_ok-parts.ensures.others c.in_ok-parts.ensures.kept

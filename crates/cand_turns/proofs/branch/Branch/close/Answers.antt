@@ -12,7 +12,7 @@ use Rattle.cand_turns.proofs.branch.Branch.close.Goals as goal
 
 pub returns-then-not-as_slice-node-clause-closed : goal.returns-then-not-as_slice-node-clause-closed
 returns-then-not-as_slice-node-clause-closed g c =
-    bare_closed c.args.p.now c.args.node (made_of c.args.arena.now) (classes_in c.args.pool.now c.args.self) c.requires.node
+    bare_closed c.args.p.now c.args.widths.now c.args.node (made_of c.args.arena.now) (classes_in c.args.pool.now c.args.self) c.requires.widths.are c.requires.node
     (ap (λ l. slice_index_or l c.args.node false) (sym c.as_slice.ensures) ∙ c.if-not-as_slice-node.true) c.requires.«open»
 
 pub absorb-requires : goal.absorb-requires
@@ -34,7 +34,7 @@ returns-in-Ok-clause-turn g c =
 
 pub returns-in-Ok-clause-closed : goal.returns-in-Ok-clause-closed
 returns-in-Ok-clause-closed g c =
-    cells_closed c.args.p.now c.args.node c.args.arena.now c.with_cells.new.arena c.absorb.new.arena c.args.pool.now c.with_cells.new.pool c.absorb.new.pool c.args.self c.in-Ok.cells c.absorb.new.self c.requires.node c.requires.held c.in-Ok.ensures.turn c.requires.«open» c.in-Ok.ensures.best c.absorb.ensures.classes c.absorb.ensures.same
+    cells_closed c.args.p.now c.args.widths.now c.args.node c.args.arena.now c.with_cells.new.arena c.absorb.new.arena c.args.pool.now c.with_cells.new.pool c.absorb.new.pool c.args.self c.in-Ok.cells c.absorb.new.self c.requires.widths c.requires.node c.requires.held c.in-Ok.ensures.turn c.requires.«open» c.in-Ok.ensures.best c.absorb.ensures.classes c.absorb.ensures.same
 
 pub returns-in-Ok-clause-few : goal.returns-in-Ok-clause-few
 returns-in-Ok-clause-few g c =

@@ -3,7 +3,7 @@ use Rattle.std.proofs.lemmas.Bool.{cases_Bool}
 use Rattle.elmore.specs.Trees.{parent_of}
 use Rattle.sol_arena.specs.Arenas.{slots_of, made_of}
 use Rattle.cand_pairs.specs.Merging.{Meets, fork_from}
-use Rattle.cand_pairs.specs.Solutions.{IsOpenSolutionOf}
+use Rattle.wire_widths.specs.WideSolutions.{IsWideOpenSolutionOf}
 use Rattle.cand_pool.specs.Candidates.{Candidates}
 use Rattle.cand_pool.specs.Pools.{items_of}
 use Rattle.cand_uses.specs.Pairs.{pairs_of}
@@ -26,9 +26,9 @@ merge-requires-clause-differ g c =
 pub merge-requires-clause-meet : goal.merge-requires-clause-meet
 merge-requires-clause-meet g c =
     let two = evens_two (search c.args.pool.now c.args.arena.now) c.args.self.even c.args.self.odd c.args.lower.even c.args.lower.odd c.requires.held in
-    can_meet c.args.p.now c.args.node false _ (slots_of c.args.arena.now) _ _ c.requires.below_root c.requires.node
+    can_meet c.args.p.now c.args.widths.now c.args.node false _ (slots_of c.args.arena.now) _ _ c.requires.widths c.requires.below_root c.requires.node c.requires.live
     (record { exact = c.requires.upper.part.exact false; solved = c.requires.upper.solved false })
-    (record { below = c.requires.lower.1.below false; exact = c.requires.lower.1.exact false; solved = c.requires.lower.1.solved false })
+    (c.requires.lower.1 false)
     two.both
 
 pub end_list-requires-clause-live : goal.end_list-requires-clause-live
@@ -92,11 +92,11 @@ merge-requires-2-clause-meet g c =
     let two = evens_two (search c.args.pool.now c.args.arena.now) c.args.self.even c.args.self.odd c.args.lower.even c.args.lower.odd c.requires.held in
     let one = merge_turn (search c.args.pool.now c.args.arena.now) (search c.merge.new.pool c.merge.new.arena) c.args.self.even c.args.lower.even c.in-Ok.even two.both (c.in-Ok.ensures.uses _ _ two.one two.two) c.in-Ok.ensures.others (c.in-Ok.ensures.spare _ _ two.one two.two) c.in-Ok.ensures.live in
     let met = met_first (search c.args.pool.now c.args.arena.now) (search c.merge.new.pool c.merge.new.arena) c.args.self.even c.args.self.odd c.args.lower.even c.args.lower.odd (c.in-Ok.even ∷ []) c.requires.held one in
-    let b_is_open = open_beside c.args.p.now (c.args.node + 1) (parent_of c.args.p.now.tree.nodes c.args.node) true c.args.arena.now c.merge.new.arena c.args.pool.now c.merge.new.pool (c.args.self.even ∷ c.args.lower.even ∷ []) (c.in-Ok.even ∷ []) (c.args.self.odd ∷ c.args.lower.odd ∷ []) met.beside one c.args.self.odd (0, omega arith, refl)
+    let b_is_open = open_beside c.args.p.now c.args.widths.now (c.args.node + 1) (parent_of c.args.p.now.tree.nodes c.args.node) true c.args.arena.now c.merge.new.arena c.args.pool.now c.merge.new.pool (c.args.self.even ∷ c.args.lower.even ∷ []) (c.in-Ok.even ∷ []) (c.args.self.odd ∷ c.args.lower.odd ∷ []) met.beside one c.args.self.odd (0, omega arith, refl)
     (record { exact = c.requires.upper.part.exact true; solved = c.requires.upper.solved true }) in
-    let d_is_above = carried_beside c.args.p.now c.args.node true (c.requires.lower.0 true) c.args.arena.now c.merge.new.arena c.args.pool.now c.merge.new.pool (c.args.self.even ∷ c.args.lower.even ∷ []) (c.in-Ok.even ∷ []) (c.args.self.odd ∷ c.args.lower.odd ∷ []) met.beside one c.args.lower.odd (1, omega arith, refl)
-    (record { below = c.requires.lower.1.below true; exact = c.requires.lower.1.exact true; solved = c.requires.lower.1.solved true }) in
-    can_meet c.args.p.now c.args.node true _ (slots_of c.merge.new.arena) _ _ c.requires.below_root c.requires.node b_is_open d_is_above met.left.both
+    let d_is_above = carried_beside c.args.p.now c.args.widths.now c.args.node 0 true (c.requires.lower.0 true) c.args.arena.now c.merge.new.arena c.args.pool.now c.merge.new.pool (c.args.self.even ∷ c.args.lower.even ∷ []) (c.in-Ok.even ∷ []) (c.args.self.odd ∷ c.args.lower.odd ∷ []) met.beside one c.args.lower.odd (1, omega arith, refl)
+    (c.requires.lower.1 true) in
+    can_meet c.args.p.now c.args.widths.now c.args.node true _ (slots_of c.merge.new.arena) _ _ c.requires.widths c.requires.below_root c.requires.node c.requires.live b_is_open d_is_above met.left.both
 
 pub end_list-requires-in-Err-merge-clause-live : goal.end_list-requires-in-Err-merge-clause-live
 end_list-requires-in-Err-merge-clause-live g c =
@@ -131,10 +131,10 @@ returns-in-Ok-merge-clause-open g c =
     let two = evens_two (search c.args.pool.now c.args.arena.now) c.args.self.even c.args.self.odd c.args.lower.even c.args.lower.odd c.requires.held in
     let one = merge_turn (search c.args.pool.now c.args.arena.now) (search c.merge.new.pool c.merge.new.arena) c.args.self.even c.args.lower.even c.in-Ok.even two.both (c.in-Ok.ensures.uses _ _ two.one two.two) c.in-Ok.ensures.others (c.in-Ok.ensures.spare _ _ two.one two.two) c.in-Ok.ensures.live in
     let met = met_first (search c.args.pool.now c.args.arena.now) (search c.merge.new.pool c.merge.new.arena) c.args.self.even c.args.self.odd c.args.lower.even c.args.lower.odd (c.in-Ok.even ∷ []) c.requires.held one in
-    let b_is_open = open_beside c.args.p.now (c.args.node + 1) (parent_of c.args.p.now.tree.nodes c.args.node) true c.args.arena.now c.merge.new.arena c.args.pool.now c.merge.new.pool (c.args.self.even ∷ c.args.lower.even ∷ []) (c.in-Ok.even ∷ []) (c.args.self.odd ∷ c.args.lower.odd ∷ []) met.beside one c.args.self.odd (0, omega arith, refl)
+    let b_is_open = open_beside c.args.p.now c.args.widths.now (c.args.node + 1) (parent_of c.args.p.now.tree.nodes c.args.node) true c.args.arena.now c.merge.new.arena c.args.pool.now c.merge.new.pool (c.args.self.even ∷ c.args.lower.even ∷ []) (c.in-Ok.even ∷ []) (c.args.self.odd ∷ c.args.lower.odd ∷ []) met.beside one c.args.self.odd (0, omega arith, refl)
     (record { exact = c.requires.upper.part.exact true; solved = c.requires.upper.solved true }) in
-    let d_is_above = carried_beside c.args.p.now c.args.node true (c.requires.lower.0 true) c.args.arena.now c.merge.new.arena c.args.pool.now c.merge.new.pool (c.args.self.even ∷ c.args.lower.even ∷ []) (c.in-Ok.even ∷ []) (c.args.self.odd ∷ c.args.lower.odd ∷ []) met.beside one c.args.lower.odd (1, omega arith, refl)
-    (record { below = c.requires.lower.1.below true; exact = c.requires.lower.1.exact true; solved = c.requires.lower.1.solved true }) in
+    let d_is_above = carried_beside c.args.p.now c.args.widths.now c.args.node 0 true (c.requires.lower.0 true) c.args.arena.now c.merge.new.arena c.args.pool.now c.merge.new.pool (c.args.self.even ∷ c.args.lower.even ∷ []) (c.in-Ok.even ∷ []) (c.args.self.odd ∷ c.args.lower.odd ∷ []) met.beside one c.args.lower.odd (1, omega arith, refl)
+    (c.requires.lower.1 true) in
     let b_is = other_items (search c.args.pool.now c.args.arena.now) (search c.merge.new.pool c.merge.new.arena) (c.args.self.even ∷ c.args.lower.even ∷ []) (c.in-Ok.even ∷ []) (c.args.self.odd ∷ c.args.lower.odd ∷ []) met.beside one c.args.self.odd (0, omega arith, refl) in
     let d_is = other_items (search c.args.pool.now c.args.arena.now) (search c.merge.new.pool c.merge.new.arena) (c.args.self.even ∷ c.args.lower.even ∷ []) (c.in-Ok.even ∷ []) (c.args.self.odd ∷ c.args.lower.odd ∷ []) met.beside one c.args.lower.odd (1, omega arith, refl) in
     let last = merge_turn (search c.merge.new.pool c.merge.new.arena) (search c.merge-2.new.pool c.merge-2.new.arena) c.args.self.odd c.args.lower.odd c.in-Ok-merge.odd met.left.both (c.in-Ok-merge.ensures.uses _ _ met.left.one met.left.two) c.in-Ok-merge.ensures.others
@@ -143,15 +143,15 @@ returns-in-Ok-merge-clause-open g c =
     let e_is = other_items (search c.merge.new.pool c.merge.new.arena) (search c.merge-2.new.pool c.merge-2.new.arena) (c.args.self.odd ∷ c.args.lower.odd ∷ []) (c.in-Ok-merge.odd ∷ []) (c.in-Ok.even ∷ []) then.beside last c.in-Ok.even (0, omega arith, refl) in
     let evens = c.in-Ok.ensures.merge _ _ two.one two.two in
     let odds = c.in-Ok-merge.ensures.merge _ _ met.left.one met.left.two in
-    let e_solved = met_solved c.args.p.now c.args.node false (made_of c.args.arena.now) (made_of c.merge.new.arena) _ _ _ c.requires.below_root c.requires.node c.requires.live
-    (c.requires.upper.solved false) (c.requires.lower.1.solved false) evens.solutions in
-    let o_solved = met_solved c.args.p.now c.args.node true (made_of c.merge.new.arena) (made_of c.merge-2.new.arena) _ _ _ c.requires.below_root c.requires.node c.requires.live
+    let e_solved = met_solved c.args.p.now c.args.widths.now c.args.node false (made_of c.args.arena.now) (made_of c.merge.new.arena) _ _ _ c.requires.widths.are c.requires.below_root c.requires.node c.requires.live
+    (c.requires.upper.solved false) (c.requires.lower.1 false).solved evens.solutions in
+    let o_solved = met_solved c.args.p.now c.args.widths.now c.args.node true (made_of c.merge.new.arena) (made_of c.merge-2.new.arena) _ _ _ c.requires.widths.are c.requires.below_root c.requires.node c.requires.live
     b_is_open.solved d_is_above.solved odds.solutions in
-    both_met c.args.p.now c.args.node c.args.arena.now c.merge-2.new.arena c.args.pool.now c.merge-2.new.pool c.args.self c.args.lower (record { even = c.in-Ok.even; odd = c.in-Ok-merge.odd })
+    both_met c.args.p.now c.args.widths.now c.args.node c.args.arena.now c.merge-2.new.arena c.args.pool.now c.merge-2.new.pool c.args.self c.args.lower (record { even = c.in-Ok.even; odd = c.in-Ok-merge.odd })
     c.requires.below_root c.requires.node c.requires.live c.requires.upper c.requires.lower
     (exact_as (Meets (pairs_of (items_of c.args.pool.now c.args.self.even)) (pairs_of (items_of c.args.pool.now c.args.lower.even))) _ _ (sym e_is) evens.pairs)
     (rw (b_is, d_is) at odds.pairs)
-    (solved_beside (IsOpenSolutionOf c.args.p.now false (fork_from c.args.p.now (parent_of c.args.p.now.tree.nodes c.args.node) c.args.node)) c.merge.new.arena c.merge-2.new.arena c.merge.new.pool c.merge-2.new.pool (c.args.self.odd ∷ c.args.lower.odd ∷ []) (c.in-Ok-merge.odd ∷ []) (c.in-Ok.even ∷ []) then.beside last c.in-Ok.even (0, omega arith, refl) e_solved)
+    (solved_beside (IsWideOpenSolutionOf c.args.p.now c.args.widths.now false (fork_from c.args.p.now (parent_of c.args.p.now.tree.nodes c.args.node) c.args.node)) c.merge.new.arena c.merge-2.new.arena c.merge.new.pool c.merge-2.new.pool (c.args.self.odd ∷ c.args.lower.odd ∷ []) (c.in-Ok-merge.odd ∷ []) (c.in-Ok.even ∷ []) then.beside last c.in-Ok.even (0, omega arith, refl) e_solved)
     o_solved
 
 pub returns-in-Ok-merge-clause-few : goal.returns-in-Ok-merge-clause-few

@@ -11,22 +11,22 @@ use Rattle.cand_turns.proofs.branch.Branch.with_cells.Goals as goal
 
 pub find-requires-clause-live : goal.find-requires-clause-live
 find-requires-clause-live g c =
-    let held = grown_held c.args.p.now c.args.node c.args.self.now c.args.arena.now c.args.pool.now c.reserve.new.self c.requires.held c.reserve.ensures.others c.reserve.ensures.more in
+    let held = grown_held c.args.p.now c.args.widths.now c.args.node c.args.self.now c.args.arena.now c.args.pool.now c.reserve.new.self c.requires.held c.reserve.ensures.others c.reserve.ensures.more in
     λ odd. class_live (search c.reserve.new.self c.args.arena.now) c.args.self.now odd (list_of c.args.self.now odd) refl held
 
 pub find-requires-clause-open : goal.find-requires-clause-open
-find-requires-clause-open g c = (made_of c.args.arena.now, grown_open c.args.p.now c.args.node c.args.self.now c.args.arena.now c.args.pool.now c.reserve.new.self c.requires.held c.reserve.ensures.others c.reserve.ensures.more c.requires.«open»)
+find-requires-clause-open g c = (made_of c.args.arena.now, grown_open c.args.p.now c.args.widths.now c.args.node c.args.self.now c.args.arena.now c.args.pool.now c.reserve.new.self c.requires.held c.reserve.ensures.others c.reserve.ensures.more c.requires.«open»)
 
 pub add_at-requires-clause-found : goal.add_at-requires-clause-found
 add_at-requires-clause-found g c =
-    let held = grown_held c.args.p.now c.args.node c.args.self.now c.args.arena.now c.args.pool.now c.reserve.new.self c.requires.held c.reserve.ensures.others c.reserve.ensures.more in
-    let opens = grown_open c.args.p.now c.args.node c.args.self.now c.args.arena.now c.args.pool.now c.reserve.new.self c.requires.held c.reserve.ensures.others c.reserve.ensures.more c.requires.«open» in (
+    let held = grown_held c.args.p.now c.args.widths.now c.args.node c.args.self.now c.args.arena.now c.args.pool.now c.reserve.new.self c.requires.held c.reserve.ensures.others c.reserve.ensures.more in
+    let opens = grown_open c.args.p.now c.args.widths.now c.args.node c.args.self.now c.args.arena.now c.args.pool.now c.reserve.new.self c.requires.held c.reserve.ensures.others c.reserve.ensures.more c.requires.«open» in (
       false,
       classes_in c.reserve.new.self c.args.self.now,
       record { by_buffers = c.in_ok-find.ensures.found.of_even; by_inverters = c.in_ok-find.ensures.found.of_odd },
       λ o. (
         class_uses (search c.reserve.new.self c.args.arena.now) c.args.self.now o (list_of c.args.self.now o) refl held,
-        open_list c.args.p.now c.args.node (made_of c.args.arena.now) (classes_in c.reserve.new.self c.args.self.now) o opens,
+        open_list c.args.p.now c.args.widths.now c.args.node (made_of c.args.arena.now) (classes_in c.reserve.new.self c.args.self.now) o opens,
       ),
     )
 
@@ -36,14 +36,14 @@ add_at-requires-2-clause-room g c =
 
 pub add_at-requires-2-clause-found : goal.add_at-requires-2-clause-found
 add_at-requires-2-clause-found g c =
-    let held = grown_held c.args.p.now c.args.node c.args.self.now c.args.arena.now c.args.pool.now c.reserve.new.self c.requires.held c.reserve.ensures.others c.reserve.ensures.more in
-    let opens = grown_open c.args.p.now c.args.node c.args.self.now c.args.arena.now c.args.pool.now c.reserve.new.self c.requires.held c.reserve.ensures.others c.reserve.ensures.more c.requires.«open» in (
+    let held = grown_held c.args.p.now c.args.widths.now c.args.node c.args.self.now c.args.arena.now c.args.pool.now c.reserve.new.self c.requires.held c.reserve.ensures.others c.reserve.ensures.more in
+    let opens = grown_open c.args.p.now c.args.widths.now c.args.node c.args.self.now c.args.arena.now c.args.pool.now c.reserve.new.self c.requires.held c.reserve.ensures.others c.reserve.ensures.more c.requires.«open» in (
       true,
       classes_in c.reserve.new.self c.args.self.now,
       record { by_buffers = c.in_ok-find.ensures.found.of_odd; by_inverters = c.in_ok-find.ensures.found.of_even },
       λ o. (
-        uses_after c.args.p.now c.args.node c.args.self.now c.args.arena.now c.add_at.new.arena c.reserve.new.self c.add_at.new.pool (c.in_ok-list.list ∷ []) held c.in_ok-list.ensures.turn o,
-        open_after c.args.p.now c.args.node c.args.self.now c.args.arena.now c.add_at.new.arena c.reserve.new.self c.add_at.new.pool (c.in_ok-list.list ∷ []) held c.in_ok-list.ensures.turn o opens,
+        uses_after c.args.p.now c.args.widths.now c.args.node c.args.self.now c.args.arena.now c.add_at.new.arena c.reserve.new.self c.add_at.new.pool (c.in_ok-list.list ∷ []) held c.in_ok-list.ensures.turn o,
+        open_after c.args.p.now c.args.widths.now c.args.node c.args.self.now c.args.arena.now c.add_at.new.arena c.reserve.new.self c.add_at.new.pool (c.in_ok-list.list ∷ []) held c.in_ok-list.ensures.turn o opens,
       ),
     )
 
@@ -66,21 +66,21 @@ returns-in-Ok-clause-turn g c =
 
 pub returns-in-Ok-clause-best : goal.returns-in-Ok-clause-best
 returns-in-Ok-clause-best g c = λ odd.
-    let held = grown_held c.args.p.now c.args.node c.args.self.now c.args.arena.now c.args.pool.now c.reserve.new.self c.requires.held c.reserve.ensures.others c.reserve.ensures.more in
-    let opens = grown_open c.args.p.now c.args.node c.args.self.now c.args.arena.now c.args.pool.now c.reserve.new.self c.requires.held c.reserve.ensures.others c.reserve.ensures.more c.requires.«open» in
+    let held = grown_held c.args.p.now c.args.widths.now c.args.node c.args.self.now c.args.arena.now c.args.pool.now c.reserve.new.self c.requires.held c.reserve.ensures.others c.reserve.ensures.more in
+    let opens = grown_open c.args.p.now c.args.widths.now c.args.node c.args.self.now c.args.arena.now c.args.pool.now c.reserve.new.self c.requires.held c.reserve.ensures.others c.reserve.ensures.more c.requires.«open» in
     let evens = c.in_ok-list.ensures.best false (classes_in c.reserve.new.self c.args.self.now)
     (record { by_buffers = c.in_ok-find.ensures.found.of_even; by_inverters = c.in_ok-find.ensures.found.of_odd })
-    (λ o. open_list c.args.p.now c.args.node (made_of c.args.arena.now) (classes_in c.reserve.new.self c.args.self.now) o opens) in
+    (λ o. open_list c.args.p.now c.args.widths.now c.args.node (made_of c.args.arena.now) (classes_in c.reserve.new.self c.args.self.now) o opens) in
     let odds = c.in-Ok.ensures.best true (classes_in c.reserve.new.self c.args.self.now)
     (record { by_buffers = c.in_ok-find.ensures.found.of_odd; by_inverters = c.in_ok-find.ensures.found.of_even })
-    (λ o. open_after c.args.p.now c.args.node c.args.self.now c.args.arena.now c.add_at.new.arena c.reserve.new.self c.add_at.new.pool (c.in_ok-list.list ∷ []) held c.in_ok-list.ensures.turn o opens) in
-    grown_best c.args.p.now c.args.node c.args.self.now c.args.arena.now c.args.pool.now c.reserve.new.self c.requires.held c.reserve.ensures.others c.reserve.ensures.more odd (made_of c.add_at-2.new.arena) (classes_in c.add_at-2.new.pool (record { even = c.in_ok-list.list; odd = c.in-Ok.other }) odd)
-    (both_made c.args.p.now c.args.node c.args.self.now c.reserve.new.self c.add_at.new.arena c.add_at-2.new.arena c.add_at.new.pool c.add_at-2.new.pool
+    (λ o. open_after c.args.p.now c.args.widths.now c.args.node c.args.self.now c.args.arena.now c.add_at.new.arena c.reserve.new.self c.add_at.new.pool (c.in_ok-list.list ∷ []) held c.in_ok-list.ensures.turn o opens) in
+    grown_best c.args.p.now c.args.widths.now c.args.node c.args.self.now c.args.arena.now c.args.pool.now c.reserve.new.self c.requires.held c.reserve.ensures.others c.reserve.ensures.more odd (made_of c.add_at-2.new.arena) (classes_in c.add_at-2.new.pool (record { even = c.in_ok-list.list; odd = c.in-Ok.other }) odd)
+    (both_made c.args.p.now c.args.widths.now c.args.node c.args.self.now c.reserve.new.self c.add_at.new.arena c.add_at-2.new.arena c.add_at.new.pool c.add_at-2.new.pool
     c.in_ok-list.list c.in-Ok.other c.in_ok-list.ensures.turn.held c.in-Ok.ensures.turn evens odds odd)
 
 pub returns-in-Ok-clause-few : goal.returns-in-Ok-clause-few
 returns-in-Ok-clause-few g c =
-    both_less c.args.p.now c.args.node c.args.self.now c.reserve.new.self c.add_at.new.arena c.add_at-2.new.arena c.add_at.new.pool c.add_at-2.new.pool
+    both_less c.args.p.now c.args.widths.now c.args.node c.args.self.now c.reserve.new.self c.add_at.new.arena c.add_at-2.new.arena c.add_at.new.pool c.add_at-2.new.pool
     c.in_ok-list.list c.in-Ok.other c.in_ok-list.ensures.turn.held c.in-Ok.ensures.turn c.in_ok-list.ensures.few c.in-Ok.ensures.few
 
 pub returns-in-Err-clause-turn : goal.returns-in-Err-clause-turn

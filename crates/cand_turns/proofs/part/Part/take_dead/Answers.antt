@@ -11,7 +11,7 @@ use Rattle.cand_turns.proofs.part.Part.take_dead.Goals as goal
 pub overflow_add-result : goal.overflow_add-result
 overflow_add-result g c =
     let small : c.in-Dead.own + c.args.c ≤ 10 ^ 11
-    = dead_sum c.args.p.now c.args.node c.in-Dead.own c.args.c c.requires.below_root c.requires.node c.requires.dead (subst (λ part. IsPart c.args.p.now (c.args.node + 1) (parent_of c.args.p.now.tree.nodes c.args.node) c.requires.part.0 c.args.pool.now part) c.in-Dead.is c.requires.part.1) c.requires.load in
+    = dead_sum c.args.p.now c.args.node c.in-Dead.own c.args.c c.requires.below_root c.requires.node c.requires.dead (subst (λ part. IsPart c.args.p.now c.args.widths.now (c.args.node + 1) (parent_of c.args.p.now.tree.nodes c.args.node) c.requires.part.0 c.args.pool.now part) c.in-Dead.is c.requires.part.1) c.requires.load in
     search rules
 
 pub load-requires-clause-held : goal.load-requires-clause-held
@@ -19,13 +19,13 @@ load-requires-clause-held g c = (c.requires.held.0, subst (λ part. AreHeld (at_
 
 pub load-requires-clause-modest : goal.load-requires-clause-modest
 load-requires-clause-modest g c =
-    open_at_modest c.args.p.now c.args.node (parent_of c.args.p.now.tree.nodes c.args.node) c.requires.part.0 (λ odd. map (loaded c.args.c) (classes_in c.args.pool.now c.in-Live.branch odd)) (parent_within c.args.p.now c.args.node c.requires.below_root c.requires.node)
-    (dead_live c.args.p.now c.args.node c.args.c c.requires.below_root c.requires.node c.requires.dead c.requires.load c.requires.part.0 (classes_in c.args.pool.now c.in-Live.branch)
-    (subst (λ part. IsPart c.args.p.now (c.args.node + 1) (parent_of c.args.p.now.tree.nodes c.args.node) c.requires.part.0 c.args.pool.now part) c.in-Live.is c.requires.part.1))
+    open_at_modest c.args.p.now c.args.widths.now c.args.node (parent_of c.args.p.now.tree.nodes c.args.node) c.requires.part.0 (λ odd. map (loaded c.args.c) (classes_in c.args.pool.now c.in-Live.branch odd)) c.requires.widths (parent_within c.args.p.now c.args.node c.requires.below_root c.requires.node)
+    (dead_live c.args.p.now c.args.widths.now c.args.node c.args.c c.requires.below_root c.requires.node c.requires.dead c.requires.load c.requires.part.0 (classes_in c.args.pool.now c.in-Live.branch)
+    (subst (λ part. IsPart c.args.p.now c.args.widths.now (c.args.node + 1) (parent_of c.args.p.now.tree.nodes c.args.node) c.requires.part.0 c.args.pool.now part) c.in-Live.is c.requires.part.1))
 
 pub returns-in-Dead-clause-part : goal.returns-in-Dead-clause-part
 returns-in-Dead-clause-part g c = λ ms part.
-    dead_dead c.args.p.now c.args.node c.in-Dead.own c.args.c c.requires.below_root c.requires.node c.requires.dead (subst (λ part. IsPart c.args.p.now (c.args.node + 1) (parent_of c.args.p.now.tree.nodes c.args.node) ms c.args.pool.now part) c.in-Dead.is part) c.requires.load
+    dead_dead c.args.p.now c.args.node c.in-Dead.own c.args.c c.requires.below_root c.requires.node c.requires.dead (subst (λ part. IsPart c.args.p.now c.args.widths.now (c.args.node + 1) (parent_of c.args.p.now.tree.nodes c.args.node) ms c.args.pool.now part) c.in-Dead.is part) c.requires.load
 
 pub returns-in-Live-clause-turn : goal.returns-in-Live-clause-turn
 returns-in-Live-clause-turn g c = λ slots held.
@@ -34,5 +34,5 @@ returns-in-Live-clause-turn g c = λ slots held.
 
 pub returns-in-Live-clause-part : goal.returns-in-Live-clause-part
 returns-in-Live-clause-part g c = λ ms part.
-    open_at_as c.args.p.now c.args.node (parent_of c.args.p.now.tree.nodes c.args.node) ms c.load.new.pool c.load.new.self (λ odd. map (loaded c.args.c) (classes_in c.args.pool.now c.in-Live.branch odd)) c.load.ensures.classes
-    (dead_live c.args.p.now c.args.node c.args.c c.requires.below_root c.requires.node c.requires.dead c.requires.load ms (classes_in c.args.pool.now c.in-Live.branch) (subst (λ part. IsPart c.args.p.now (c.args.node + 1) (parent_of c.args.p.now.tree.nodes c.args.node) ms c.args.pool.now part) c.in-Live.is part))
+    open_at_as c.args.p.now c.args.widths.now c.args.node (parent_of c.args.p.now.tree.nodes c.args.node) ms c.load.new.pool c.load.new.self (λ odd. map (loaded c.args.c) (classes_in c.args.pool.now c.in-Live.branch odd)) c.load.ensures.classes
+    (dead_live c.args.p.now c.args.widths.now c.args.node c.args.c c.requires.below_root c.requires.node c.requires.dead c.requires.load ms (classes_in c.args.pool.now c.in-Live.branch) (subst (λ part. IsPart c.args.p.now c.args.widths.now (c.args.node + 1) (parent_of c.args.p.now.tree.nodes c.args.node) ms c.args.pool.now part) c.in-Live.is part))

@@ -12,16 +12,16 @@ use Rattle.cand_turns.proofs.SwapLemmas.{swap_then}
 use Rattle.vg_slack.specs.Climbs.{IsSoFar}
 use Rattle.vg_slack.proofs.ClimbLemmas.{branch_live}
 use Rattle.vg_slack.proofs.KeptLemmas.{if_ok, root_kept}
-use Rattle.vg_slack.proofs.search.answer_at_root.Goals as goal
+use Rattle.vg_slack.proofs.search.choices_at_root.Goals as goal
 
 pub unreachable-requires : goal.unreachable-requires
 unreachable-requires g c =
     let p = c.args.p.now in
-    let part = subst (IsPart p 1 0 (made_of c.args.arena.now) c.args.pool.now) c.in_default.is c.requires.whole.part in
+    let part = subst (IsPart p c.args.widths.now 1 0 (made_of c.args.arena.now) c.args.pool.now) c.in_default.is c.requires.whole.part in
     absurd (let clash : true ≡ false = sym (root_live p) ∙ part_is_dead p 0 c.in_default.field-0 p.tree.a_tree.some_node part in cc)
 
 pub close-requires-clause-whole : goal.close-requires-clause-whole
-close-requires-clause-whole g c = subst (IsSoFar c.args.p.now 1 0 (made_of c.args.arena.now) c.args.pool.now) c.in-Live.is c.requires.whole
+close-requires-clause-whole g c = subst (IsSoFar c.args.p.now c.args.widths.now 1 0 (made_of c.args.arena.now) c.args.pool.now) c.in-Live.is c.requires.whole
 
 pub best_candidate-choice-requires-clause-live : goal.best_candidate-choice-requires-clause-live
 best_candidate-choice-requires-clause-live g c =
@@ -30,10 +30,11 @@ best_candidate-choice-requires-clause-live g c =
 pub best_candidate-choice-requires-clause-modest : goal.best_candidate-choice-requires-clause-modest
 best_candidate-choice-requires-clause-modest g c =
     small_modest (items_of c.close.new.pool c.in_ok-branch.branch.even)
-    (closed_small c.args.p.now 0 false (items_of c.close.new.pool c.in_ok-branch.branch.even) (c.in_ok-branch.ensures.closed.exact false))
+    (closed_small c.args.p.now c.args.widths.now 0 false (items_of c.close.new.pool c.in_ok-branch.branch.even) c.requires.widths (c.in_ok-branch.ensures.closed.exact false))
 
-pub best_placement-found-requires : goal.best_placement-found-requires
-best_placement-found-requires g c = record {
+pub choices_of-found-requires : goal.choices_of-found-requires
+choices_of-found-requires g c = record {
+  widths = c.requires.widths;
   root = record {
     candidates = items_of c.close.new.pool c.in_ok-branch.branch.even;
     exact = c.in_ok-branch.ensures.closed.exact false;
@@ -51,6 +52,6 @@ returns-clause-swap g c =
 
 pub returns-clause-kept : goal.returns-clause-kept
 returns-clause-kept g c =
-    if_ok c.best_placement-found.result
-    (root_kept c.args.p.now c.args.lists.now c.close.new.lists c.requires.below c.in_ok-branch.ensures.nodes c.in_ok-branch.ensures.others
+    if_ok c.choices_of-found.result
+    (root_kept c.args.p.now c.args.widths.now c.args.lists.now c.close.new.lists c.requires.below c.in_ok-branch.ensures.nodes c.in_ok-branch.ensures.others
     c.in_ok-branch.ensures.kept)
