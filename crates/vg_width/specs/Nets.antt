@@ -1,0 +1,16 @@
+-- What the functions between are told of a net with cells and widths.
+use Rattle.std.specs.Prelude.{ℕ, List, Option}
+use Rattle.elmore.specs.Legal.{IsPlaced}
+use Rattle.elmore.specs.Placements.{IsPlacement}
+use Rattle.elmore.specs.declared.problem.Problem.{Problem}
+use Rattle.wire_widths.specs.Fits.{Fits}
+use Rattle.wire_widths.specs.Widths.{AreWidths, IsLawful}
+use Rattle.wire_widths.specs.declared.width.Width.{Width}
+
+-- cells at places and a lawful choice of widths, with which no load and no delay is too large to be computed
+pub record IsWideNet (p : Problem) (widths : List Width) (cells : List (Option ℕ)) (chosen : List ℕ) : Type 0 where
+  pub are : AreWidths widths
+  pub fits : Fits p widths
+  pub placement : IsPlacement p cells
+  pub placed : IsPlaced p cells
+  pub lawful : IsLawful p widths chosen
