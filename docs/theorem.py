@@ -6,7 +6,8 @@ import re
 import sys
 
 TOP = os.path.dirname(os.path.dirname(os.path.realpath(__file__)))
-PAGES = ("docs/THEOREM.md", "docs/THEOREM_STA.md", "docs/THEOREM_SEGMENT.md", "docs/THEOREM_REPAIR.md", "docs/THEOREM_TOTAL.md")
+PAGES = ("docs/THEOREM.md", "docs/THEOREM_STA.md", "docs/THEOREM_SEGMENT.md", "docs/THEOREM_REPAIR.md", "docs/THEOREM_TOTAL.md",
+         "docs/THEOREM_WIDTH.md")
 
 
 def blocks(page):

@@ -28,7 +28,7 @@ const PAGES: [&str; 4] = [
 const MANUAL: &str = "docs/vginsert.1";
 
 /// The files that the runs on the pages read.
-const EXAMPLES: [&str; 15] = [
+const EXAMPLES: [&str; 16] = [
     "examples/acc3.cert",
     "examples/acc3_broken.cert",
     "examples/cells.lib",
@@ -43,6 +43,7 @@ const EXAMPLES: [&str; 15] = [
     "examples/soc.lib",
     "examples/soc.spef",
     "examples/soc.v",
+    "examples/soc.widths",
     "examples/tables.lib",
 ];
 

@@ -21,6 +21,8 @@ const OUT_VERILOG: Given = ("--out-verilog", "o.v");
 
 const CERT: Given = ("--cert", "k.txt");
 
+const WIDTHS: Given = ("--widths", "w.txt");
+
 static WIRE: [Given; 1] = [SPEF];
 
 static DESIGN: [Given; 4] = [SPEF, LIB, VERILOG, CONS];
@@ -28,6 +30,8 @@ static DESIGN: [Given; 4] = [SPEF, LIB, VERILOG, CONS];
 static BEST: [Given; 6] = [SPEF, LIB, VERILOG, CONS, OUT_SPEF, OUT_VERILOG];
 
 static CHECK: [Given; 5] = [SPEF, LIB, VERILOG, CONS, CERT];
+
+static WIDTH: [Given; 5] = [SPEF, LIB, VERILOG, CONS, WIDTHS];
 
 static SEGMENT: [Given; 2] = [SPEF, OUT_SPEF];
 
@@ -38,6 +42,7 @@ fn files_of(mode: &str) -> &'static [Given] {
         "time" | "sta" | "frontier" | "total" => &DESIGN,
         "best" | "repair" => &BEST,
         "check" => &CHECK,
+        "width" => &WIDTH,
         "segment" => &SEGMENT,
         _ => &[],
     }

@@ -23,6 +23,7 @@ fn lists_options_in_order(rt: HostRuntime) -> Result<(), Fail> {
         "--size",
         "--parts",
         "--target",
+        "--widths",
     ];
     let found = options().iter().map(|option| option.name());
     assert!(rt; found.eq(names.iter().copied()));

@@ -2,3 +2,4 @@ pub mod VerdictLemmas
 pub mod ProblemLemmas
 pub mod AnswerLemmas
 pub mod ApartLemmas
+pub mod WidthLemmas

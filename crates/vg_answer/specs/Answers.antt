@@ -10,7 +10,7 @@ use Rattle.vg_scan.specs.declared.comments.Comments.TheVariants.{Spef as SpefCom
 use Rattle.vg_report.specs.Faults.{cons_fault, lib_fault, spef_fault, ver_fault}
 use Rattle.vg_answer.specs.Faults.{IsSpefFault, IsDesignFault}
 use Rattle.vg_answer.specs.declared.input.Input.{Input}
-use Rattle.vg_answer.specs.declared.input.Input.TheVariants.{Spef, Lib, Verilog, Cons, Cert}
+use Rattle.vg_answer.specs.declared.input.Input.TheVariants.{Spef, Lib, Verilog, Cons, Cert, Widths}
 use Rattle.vg_answer.specs.declared.texts.DesignTexts.{DesignTexts}
 use Rattle.vg_answer.specs.declared.answer.Answer.{Answer}
 use Rattle.vg_answer.specs.declared.kind.AnswerKind.{AnswerKind}
@@ -77,6 +77,7 @@ Indexes (Err (Faulty Lib line)) file = ⊥
 Indexes (Err (Faulty Verilog line)) file = ⊥
 Indexes (Err (Faulty Cons line)) file = ⊥
 Indexes (Err (Faulty Cert line)) file = ⊥
+Indexes (Err (Faulty Widths line)) file = ⊥
 Indexes (Err (Taken name)) file = ⊥
 Indexes (Err Memory) file = Unit {0}
 

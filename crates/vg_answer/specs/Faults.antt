@@ -4,7 +4,7 @@ use Rattle.vg_cons.specs.Lines.{lines_of as cons_lines}
 use Rattle.vg_cons.specs.Faults.{IsFaultless, IsFaultIn}
 use Rattle.design_read.specs.Designs.{IsSpef, IsLib, IsModule, Texts}
 use Rattle.vg_answer.specs.declared.input.Input.{Input}
-use Rattle.vg_answer.specs.declared.input.Input.TheVariants.{Spef, Lib, Verilog, Cons, Cert}
+use Rattle.vg_answer.specs.declared.input.Input.TheVariants.{Spef, Lib, Verilog, Cons, Cert, Widths}
 use Rattle.lib_cells.specs.declared.fault.LibKind.{LibKind}
 use Rattle.lib_linear.specs.Faults.{IsFirstFault as IsFirstLibFault}
 use Rattle.spef_file.specs.Files.{IsFileFault}
@@ -13,7 +13,11 @@ use Rattle.ver_file.specs.Modules.{IsFirstFault as IsFirstVerFault}
 use Rattle.ver_syntax.specs.declared.fault.VerKind.{VerKind}
 use Rattle.vg_cons.specs.declared.fault.ConsKind.{ConsKind}
 use Rattle.vg_scan.specs.declared.fault.LineFault.{LineFault}
-use Rattle.vg_report.specs.Faults.{cons_fault, lib_fault, spef_fault, ver_fault}
+use Rattle.vg_report.specs.Faults.{cons_fault, lib_fault, spef_fault, ver_fault, width_fault}
+use Rattle.vg_scan.specs.Lines.{lines_of}
+use Rattle.vg_width.specs.Texts.{AreLinesOf, IsFaultIn as IsWidthFaultIn}
+use Rattle.vg_width.specs.declared.fault.WidthKind.{WidthKind}
+use Rattle.wire_widths.specs.declared.width.Width.{Width}
 
 -- the text tells the fault of the file
 pub record IsSpefFault (file text : List ℕ) : Type 0 where
@@ -39,6 +43,16 @@ pub record IsConsFault (cons text : List ℕ) : Type 0 where
   pub found : IsFaultIn (cons_lines cons) fault
   pub text_is : text ≡ cons_fault fault
 
+-- the widths have a fault, and the text tells it
+pub record IsWidthsFault (widths text : List ℕ) : Type 0 where
+  pub fault : LineFault WidthKind
+  pub found : IsWidthFaultIn (lines_of widths) fault
+  pub text_is : text ≡ width_fault fault
+
+-- the text denotes these widths
+abbrev pub DenotesWidths : List ℕ → List Width → Type 0
+DenotesWidths text rows = AreLinesOf (lines_of text) rows
+
 -- the files of a design
 abbrev pub design_inputs : List Input
 design_inputs = Spef ∷ Lib ∷ Verilog ∷ Cons ∷ []
@@ -50,6 +64,7 @@ IsInForm Lib text = IsLib text
 IsInForm Verilog text = IsModule text
 IsInForm Cons text = IsFaultless (cons_lines text)
 IsInForm Cert text = Unit {0}
+IsInForm Widths text = (rows : List Width) × DenotesWidths text rows
 
 -- it is not, and a line tells its fault
 abbrev pub IsFault : Input → List ℕ → List ℕ → Type 0
@@ -58,6 +73,7 @@ IsFault Lib text line = IsLibFault text line
 IsFault Verilog text line = IsVerFault text line
 IsFault Cons text line = IsConsFault text line
 IsFault Cert text line = ⊥
+IsFault Widths text line = IsWidthsFault text line
 
 -- a file of at most 2^28 bytes is read whole
 abbrev pub IsShort : List ℕ → Type 0
@@ -79,6 +95,7 @@ texts_by texts Lib = texts.lib
 texts_by texts Verilog = texts.verilog
 texts_by texts Cons = texts.cons
 texts_by texts Cert = []
+texts_by texts Widths = []
 
 -- the first fault of the four texts
 abbrev pub IsDesignFault : Texts → List ℕ → Input → Type 0

@@ -13,4 +13,6 @@ pub enum Input {
     Cons,
     /// The certificate.
     Cert,
+    /// The widths of wires.
+    Widths,
 }

@@ -35,7 +35,7 @@ report_more report before text xs at x low here is =
     ∙ ap (flat_map report) (ap (λ y. take at xs ++ y ∷ []) here ∙ sym (take_more xs at x low)))
 
 -- ---- cells
-range_more : (n : ℕ) → range_with_len 0 (n + 1) ≡ range_with_len 0 n ++ n ∷ []
+pub range_more : (n : ℕ) → range_with_len 0 (n + 1) ≡ range_with_len 0 n ++ n ∷ []
 range_more n =
     sym (map-id (range_with_len 0 (n + 1))) ∙ map-range_with_len_more (λ (i : ℕ). i) 0 n n (omega arith) ∙ ap (λ (l : List ℕ). l ++ n ∷ []) (map-id (range_with_len 0 n))
 

@@ -13,6 +13,8 @@ use Rattle.ver_syntax.specs.declared.fault.VerKind.{VerKind}
 use Rattle.ver_syntax.specs.declared.fault.VerKind.TheVariants.{Token, Grammar, SecondModule, Positional, Parameter, NameClash, InstanceTwice, Memory as VerMemory}
 use Rattle.vg_cons.specs.declared.fault.ConsKind.{ConsKind}
 use Rattle.vg_cons.specs.declared.fault.ConsKind.TheVariants.{Version, Word, Number, Twice, Memory}
+use Rattle.vg_width.specs.declared.fault.WidthKind.{WidthKind}
+use Rattle.vg_width.specs.declared.fault.WidthKind.TheVariants.{Version as WidthVersion, Word as WidthWord, Number as WidthNumber, First, TooMany, Memory as WidthMemory}
 
 abbrev pub number_kind : NumFault → List ℕ
 number_kind Form = codes "Form"
@@ -29,6 +31,17 @@ cons_kind Memory = codes "Memory"
 -- `KIND line L`
 abbrev pub cons_fault : LineFault ConsKind → List ℕ
 cons_fault fault = cons_kind fault.kind ++ (codes " line " ++ decimal fault.line)
+
+abbrev pub width_kind : WidthKind → List ℕ
+width_kind WidthVersion = codes "Version"
+width_kind WidthWord = codes "Word"
+width_kind WidthNumber = codes "Number"
+width_kind First = codes "First"
+width_kind TooMany = codes "TooMany"
+width_kind WidthMemory = codes "Memory"
+
+abbrev pub width_fault : LineFault WidthKind → List ℕ
+width_fault fault = width_kind fault.kind ++ (codes " line " ++ decimal fault.line)
 
 abbrev pub lib_kind : LibKind → List ℕ
 lib_kind Syntax = codes "Syntax"

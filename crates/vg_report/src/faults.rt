@@ -1,7 +1,7 @@
 //! The faults of files, as text.
 
 ghost use Rattle.std.specs.Prelude.{◌≡◌, ◌++◌, OnOk, OnErr, IfOk, codes, decimal, length, take};
-ghost use Rattle.vg_report.specs.Faults.{cons_kind, cons_fault, lib_kind, lib_fault, ver_kind, ver_fault, spef_kind, spef_fault, net_kind, net_fault};
+ghost use Rattle.vg_report.specs.Faults.{cons_kind, cons_fault, lib_kind, lib_fault, ver_kind, ver_fault, spef_kind, spef_fault, net_kind, net_fault, width_kind, width_fault};
 
 use crate::report::push;
 use lib_cells::{LibFault, LibKind};
@@ -11,6 +11,7 @@ use std::alloc::Global;
 use ver_syntax::{VerFault, VerKind};
 use vg_cons::{ConsFault, ConsKind};
 use vg_num::{Memory, NumFault, Row, print_signed};
+use vg_width::{WidthFault, WidthKind};
 
 /// The name of a fault of constraints.
 fn cons_kind(kind: ConsKind) -> &'static [u8]
@@ -24,6 +25,20 @@ fn cons_kind(kind: ConsKind) -> &'static [u8]
         ConsKind::Number(NumFault::TooLarge) => b"Number TooLarge",
         ConsKind::Twice => b"Twice",
         ConsKind::Memory => b"Memory",
+    }
+}
+
+/// The name of a fault of widths.
+fn width_kind(kind: WidthKind) -> &'static [u8]
+    ensures { result.now ≡ width_kind kind }
+{
+    match kind {
+        WidthKind::Version => b"Version",
+        WidthKind::Word => b"Word",
+        WidthKind::Number => b"Number",
+        WidthKind::First => b"First",
+        WidthKind::TooMany => b"TooMany",
+        WidthKind::Memory => b"Memory",
     }
 }
 
@@ -112,6 +127,15 @@ pub fn cons_fault(alloc: Global, fault: ConsFault) -> Result<Row<u8>, Memory>
 {
     let mut text = Vec::new(alloc);
     print_fault(cons_kind(fault.kind), fault.line, &mut text)?;
+    Ok(Row::from_vec(text))
+}
+
+/// A fault of widths as text: `KIND line L`.
+pub fn width_fault(alloc: Global, fault: WidthFault) -> Result<Row<u8>, Memory>
+    ensures { IfOk result (λ text. text ≡ width_fault fault) }
+{
+    let mut text = Vec::new(alloc);
+    print_fault(width_kind(fault.kind), fault.line, &mut text)?;
     Ok(Row::from_vec(text))
 }
 

@@ -8,9 +8,9 @@ mod report;
 mod timed;
 mod wire;
 
-pub use faults::{cons_fault, lib_fault, print_net_fault, spef_fault, ver_fault};
-pub use placement::{count_cells, report_best, report_front, report_pick};
+pub use faults::{cons_fault, lib_fault, print_net_fault, spef_fault, ver_fault, width_fault};
+pub use placement::{count_cells, print_cells, report_best, report_front, report_pick};
 pub use refusal::print_refusal;
-pub use report::{print_node, print_none, push};
+pub use report::{print_node, print_none, print_parts, print_value, push};
 pub use timed::report_timed;
 pub use wire::report_wire;

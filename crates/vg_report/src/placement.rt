@@ -27,8 +27,8 @@ pub fn count_cells(placement: &Placement) -> usize
         .count()
 }
 
-/// Appends a line for each node that has a cell, in tree order.
-fn print_cells(
+/// Appends a line for each node that has a cell, in tree order. Where there is no room, a part of them may stand there.
+pub fn print_cells(
     repeaters: &[Repeater],
     names: &TreeNames,
     placement: &Placement,

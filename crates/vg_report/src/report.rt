@@ -15,8 +15,9 @@ pub fn push(bytes: &[u8], to: &mut Vec<u8>) -> Result<(), Memory>
     Ok(())
 }
 
-/// Appends the node of an owner and a leaf: the owner, and after a colon the leaf, where it is not empty.
-fn print_parts(owner: &[u8], leaf: &[u8], to: &mut Vec<u8>) -> Result<(), Memory>
+/// Appends the node of an owner and a leaf: the owner, and after a colon the leaf, where it is not empty. Where there
+/// is no room, a part of it may stand there.
+pub fn print_parts(owner: &[u8], leaf: &[u8], to: &mut Vec<u8>) -> Result<(), Memory>
     ensures printed { OnOk result (to.new.items
         ≡ to.old.items ++ printed_node (record { owner = owner.now; leaf = leaf.now })) }
     ensures begun { OnErr result (take (length to.old.items) to.new.items ≡ to.old.items) }
@@ -84,8 +85,8 @@ pub fn print_refused(name: &[u8], number: u8, kind: &[u8], to: &mut Vec<u8>) -> 
     Ok(())
 }
 
-/// Appends `net NAME slack S`, with S in zeptoseconds.
-fn print_value(name: &[u8], slack: i128, to: &mut Vec<u8>) -> Result<(), Memory>
+/// Appends `net NAME slack S`, with S in zeptoseconds. Where there is no room, a part of it may stand there.
+pub fn print_value(name: &[u8], slack: i128, to: &mut Vec<u8>) -> Result<(), Memory>
     ensures printed { OnOk result (to.new.items
         ≡ to.old.items ++ (codes "net " ++ (name.now ++ (codes " slack " ++ signed_decimal slack)))) }
     ensures begun { OnErr result (take (length to.old.items) to.new.items ≡ to.old.items) }

@@ -1,12 +1,12 @@
 -- Of the texts of a request one answer is said, and none where an input is faulty.
 use Rattle.std.proofs.Common.{◌≡◌, ℕ, List}
 use Rattle.vg_words.specs.declared.ask.Mode.{Mode}
-use Rattle.vg_words.specs.declared.ask.Mode.TheVariants.{Wire, Time, Best, Frontier, Check, Gen, Sta, Segment, Repair, Total}
+use Rattle.vg_words.specs.declared.ask.Mode.TheVariants.{Wire, Time, Best, Frontier, Check, Gen, Sta, Segment, Repair, Total, Width}
 use Rattle.vg_run.specs.Modes.{design_texts, one_net, best_asked, repair_asked, total_asked, IsAnswerIn, IsFaultIn, IsTakenIn}
 use Rattle.vg_answer.specs.Answers.{Said}
 use Rattle.vg_answer.specs.declared.kind.AnswerKind.{AnswerKind}
 use Rattle.vg_answer.specs.declared.input.Input.{Input}
-use Rattle.vg_answer.specs.declared.input.Input.TheVariants.{Spef, Cert}
+use Rattle.vg_answer.specs.declared.input.Input.TheVariants.{Spef, Cert, Widths}
 use Rattle.vg_answer.proofs.ApartLemmas.{design_not_faulty}
 use Rattle.mode_wire.proofs.ApartLemmas.{one_kind as wire_kind, not_faulty as wire_not_faulty}
 use Rattle.mode_time.proofs.ApartLemmas.{one_kind as time_kind}
@@ -19,6 +19,7 @@ use Rattle.mode_repair.proofs.ApartLemmas.{one_kind as repair_kind}
 use Rattle.mode_segment.proofs.ApartLemmas.{one_kind as segment_kind, not_faulty as segment_not_faulty}
 use Rattle.mode_sta.proofs.ApartLemmas.{one_kind as sta_kind}
 use Rattle.mode_total.proofs.ApartLemmas.{one_kind as total_kind, not_taken as total_not_taken}
+use Rattle.mode_width.proofs.ApartLemmas.{one_kind as width_kind, not_faulty as width_not_faulty}
 use Rattle.vg_words.specs.Request.{prefix_of, cap_of, parts_of, size_of}
 use Rattle.vg_words.specs.declared.ask.Ask.{Ask}
 
@@ -37,6 +38,7 @@ one_kind Sta ask texts a b t u p q = sta_kind (design_texts texts) a b t u p q
 one_kind Segment ask texts a b t u p q = segment_kind (texts Spef) ask.net (parts_of ask) a b t u p q
 one_kind Repair ask texts a b t u p q = repair_kind (design_texts texts) (repair_asked ask) a b t u p q
 one_kind Total ask texts a b t u p q = total_kind (design_texts texts) (total_asked ask) a b t u p q
+one_kind Width ask texts a b t u p q = width_kind (design_texts texts) (texts Widths) (one_net ask) a b t u p q
 
 -- texts with an answer have no fault
 pub not_faulty : (mode : Mode) (ask : Ask) (texts : Input → Bytes) (kind : AnswerKind) (t : Said) (line : Bytes) (input : Input) → IsAnswerIn mode ask texts kind t
@@ -51,6 +53,7 @@ not_faulty Sta ask texts kind t line input d f = design_not_faulty (design_texts
 not_faulty Segment ask texts kind t line input d f = segment_not_faulty (texts Spef) ask.net (parts_of ask) kind t line input d f
 not_faulty Repair ask texts kind t line input d f = design_not_faulty (design_texts texts) d.design line input d.design_of.design_of f
 not_faulty Total ask texts kind t line input d f = design_not_faulty (design_texts texts) d.design line input d.design_of f
+not_faulty Width ask texts kind t line input d f = width_not_faulty (design_texts texts) (texts Widths) (one_net ask) kind t line input d f
 
 -- nor does a name of them begin with the prefix
 pub not_taken : (mode : Mode) (ask : Ask) (texts : Input → Bytes) (kind : AnswerKind) (t : Said) (name : Bytes) → IsAnswerIn mode ask texts kind t
@@ -65,3 +68,4 @@ not_taken Sta ask texts kind t name d taken_by = taken_by
 not_taken Segment ask texts kind t name d taken_by = taken_by
 not_taken Repair ask texts kind t name d taken_by = free_not_taken (design_texts texts) (prefix_of ask) d.design name d.design_of taken_by
 not_taken Total ask texts kind t name d taken_by = total_not_taken (design_texts texts) (total_asked ask) kind t name d taken_by
+not_taken Width ask texts kind t name d taken_by = taken_by

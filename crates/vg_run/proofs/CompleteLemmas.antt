@@ -5,7 +5,7 @@ use Rattle.vg_store.specs.Writing.{OutState}
 use Rattle.vg_words.specs.Request.{size_of, IsRequest}
 use Rattle.vg_words.specs.declared.ask.Ask.{Ask}
 use Rattle.vg_words.specs.declared.ask.Mode.{Mode}
-use Rattle.vg_words.specs.declared.ask.Mode.TheVariants.{Wire, Time, Best, Frontier, Check, Gen, Sta, Segment, Repair, Total}
+use Rattle.vg_words.specs.declared.ask.Mode.TheVariants.{Wire, Time, Best, Frontier, Check, Gen, Sta, Segment, Repair, Total, Width}
 use Rattle.vg_words.proofs.JudgeLemmas.{one}
 use Rattle.vg_design.specs.Designs.{Design}
 use Rattle.vg_design.specs.Refusals.{IsFirstRefusal}
@@ -15,10 +15,11 @@ use Rattle.vg_answer.specs.Answers.{Said}
 use Rattle.vg_answer.specs.Faults.{IsShort}
 use Rattle.vg_answer.specs.Verdicts.{status_for}
 use Rattle.vg_answer.specs.declared.input.Input.{Input}
-use Rattle.vg_answer.specs.declared.input.Input.TheVariants.{Spef}
+use Rattle.vg_answer.specs.declared.input.Input.TheVariants.{Spef, Widths}
 use Rattle.vg_answer.specs.declared.kind.AnswerKind.{AnswerKind}
 use Rattle.vg_answer.specs.declared.kind.AnswerKind.TheVariants.{Report, NoneGood, Refusal, Invalid}
 use Rattle.vg_answer.proofs.ApartLemmas.{design_not_faulty, no_both, not_refused}
+use Rattle.mode_width.proofs.ApartLemmas.{in_form_not_faulty}
 use Rattle.vg_run.specs.Complete.{AreFit, AreInForm, IsAccepted, IsComplete, NothingFailed, is_answer_of}
 use Rattle.vg_run.specs.Inputs.{Change, IsLong, IsRead, inputs, told}
 use Rattle.vg_run.specs.Modes.{IsAnswerIn, IsFaultIn, design_texts}
@@ -45,6 +46,7 @@ not_faulty Sta ask texts line input form f = design_not_faulty (design_texts tex
 not_faulty Segment ask texts line input form (e, f) = no_both form.0 f.fault (texts Spef) form.1 f.found
 not_faulty Repair ask texts line input form f = design_not_faulty (design_texts texts) form.0 line input form.1 f
 not_faulty Total ask texts line input form f = design_not_faulty (design_texts texts) form.0 line input form.1 f
+not_faulty Width ask texts line input (form, wide) f = in_form_not_faulty (design_texts texts) (texts Widths) form.0 wide.0 line input form.1 wide.1 f
 
 -- the net of made-up texts is not refused where nothing refuses it
 made_status : (size : ℕ) (kind : AnswerKind) (said : Said) → IsAccepted size → IsGenAnswer size kind said → is_answer_of Gen (status_for kind) ≡ true
@@ -94,6 +96,10 @@ status_of_kind Total Report e other = refl
 status_of_kind Total NoneGood e other = refl
 status_of_kind Total Refusal e other = refl
 status_of_kind Total Invalid e other = absurd cc
+status_of_kind Width Report e other = refl
+status_of_kind Width NoneGood e other = refl
+status_of_kind Width Refusal e other = refl
+status_of_kind Width Invalid e other = absurd cc
 
 answer_status : (mode : Mode) (ask : Ask) (texts : Input → Bytes) (kind : AnswerKind) (said : Said) → AreInForm mode ask texts → IsAnswerIn mode ask texts kind said
     → is_answer_of mode (status_for kind) ≡ true
@@ -107,6 +113,7 @@ answer_status Sta ask texts kind said form is = status_of_kind Sta kind (mode_gi
 answer_status Segment ask texts kind said form is = status_of_kind Segment kind (mode_gives Segment ask texts kind said is) (λ e. cc)
 answer_status Repair ask texts kind said form is = status_of_kind Repair kind (mode_gives Repair ask texts kind said is) (λ e. cc)
 answer_status Total ask texts kind said form is = status_of_kind Total kind (mode_gives Total ask texts kind said is) (λ e. cc)
+answer_status Width ask texts kind said form is = status_of_kind Width kind (mode_gives Width ask texts kind said is) (λ e. cc)
 
 module _ (ask : Ask) (files : Change FilesState) (out : Change OutState) (b : Input → Bytes) (fit : AreFit files.0 ask b) (fine : NothingFailed files out) where
   ended : (outcome : Outcome) → Ends ask files out outcome → (is_answer_of ask.mode (status_of outcome) ≡ true) ⊎ (status_of outcome ≡ 7)

@@ -7,7 +7,7 @@ use Rattle.std.proofs.lemmas.List.Kept.{AllPairs-cons}
 use Rattle.vg_words.specs.Request.{size_of}
 use Rattle.vg_words.specs.declared.ask.Ask.{Ask}
 use Rattle.vg_words.specs.declared.ask.Mode.{Mode}
-use Rattle.vg_words.specs.declared.ask.Mode.TheVariants.{Wire, Time, Best, Frontier, Check, Gen, Sta, Segment, Repair, Total}
+use Rattle.vg_words.specs.declared.ask.Mode.TheVariants.{Wire, Time, Best, Frontier, Check, Gen, Sta, Segment, Repair, Total, Width}
 use Rattle.vg_answer.specs.Answers.{Said, Written}
 use Rattle.vg_answer.specs.declared.input.Input.{Input}
 use Rattle.vg_answer.specs.declared.input.Input.TheVariants.{Spef}
@@ -93,6 +93,7 @@ module _ (ask : Ask) (apart : AreApart ask) where
         | inl none ↦ none_apart ask said.files none
         | inr (files, are) ↦ subst (λ (list : List Written). AreApartIn ask list) (sym are) (changed_apart files)
       ]
+  files_apart Width texts kind said is = none_apart ask said.files is.no_files
 
 not_named : (ask : Ask) (file : List ℕ) → (IsOutput ask file → ⊥) → (output : Output) → output_name ask output ≢ Some file
 not_named ask file none Netlist is = none (inr (inl is))

@@ -5,7 +5,7 @@ use Rattle.std.specs.Prelude.{if◌then◌else◌}
 use Rattle.vg_words.specs.Request.{cap_of, parts_of, prefix_of, size_of}
 use Rattle.vg_words.specs.declared.ask.Ask.{Ask}
 use Rattle.vg_words.specs.declared.ask.Mode.{Mode}
-use Rattle.vg_words.specs.declared.ask.Mode.TheVariants.{Wire, Time, Best, Frontier, Check, Gen, Sta, Segment, Repair, Total}
+use Rattle.vg_words.specs.declared.ask.Mode.TheVariants.{Wire, Time, Best, Frontier, Check, Gen, Sta, Segment, Repair, Total, Width}
 use Rattle.vg_design.specs.Designs.{Design}
 use Rattle.mode_wire.specs.Answers.{IsWireAnswer}
 use Rattle.mode_time.specs.Answers.{IsTimeSaid, nets_to_time}
@@ -22,6 +22,8 @@ use Rattle.mode_segment.specs.Answers.{IsSegmentSaid, nets_in}
 use Rattle.mode_sta.specs.Answers.{IsStaSaid}
 use Rattle.mode_total.specs.Choices.{Choice, Standing}
 use Rattle.mode_total.specs.Lines.{kind_for as total_kind_for, kind_in as kind_of_standing, kind_with}
+use Rattle.mode_width.specs.Answers.{IsWidthSaid}
+use Rattle.wire_widths.specs.declared.width.Width.{Width as WireWidth}
 use Rattle.vg_answer.specs.Answers.{Said}
 use Rattle.vg_answer.specs.Nets.{nets_for}
 use Rattle.vg_answer.specs.Verdicts.{Verdict, bare_verdict, is_invalid, is_none_good, is_refusal, kind_in, kind_of}
@@ -42,6 +44,7 @@ gives Best NoneGood = true
 gives Frontier NoneGood = true
 gives Repair NoneGood = true
 gives Total NoneGood = true
+gives Width NoneGood = true
 gives mode NoneGood = false
 gives Check Invalid = true
 gives mode Invalid = false
@@ -176,6 +179,12 @@ total_gives standings choices =
     by_tests (gives Total) (list_any is_refusal kinds) (list_any is_invalid kinds) (list_any is_none_good kinds) (λ _. refl)
     (λ any. absurd (let e : false ≡ true = sym (valid_kinds standings choices) ∙ any in cc)) (λ _. refl) refl
 
+width_gives : (d : Design) (widths : List WireWidth) (name : Bytes) (v : Verdict) → IsWidthSaid d widths name v → gives Width v.kind ≡ true
+width_gives d widths name v (IsWidthSaid.told_best net of fits best wide is) = ap (λ (u : Verdict). gives Width u.kind) is
+width_gives d widths name v (IsWidthSaid.told_none net of fits none is) = ap (λ (u : Verdict). gives Width u.kind) is
+width_gives d widths name v (IsWidthSaid.told_too_large net of large is) = ap (λ (u : Verdict). gives Width u.kind) is
+width_gives d widths name v (IsWidthSaid.told_refusal refusal refused is) = ap (λ (u : Verdict). gives Width u.kind) is
+
 pub mode_gives : (mode : Mode) (ask : Ask) (texts : Input → Bytes) (kind : AnswerKind) (said : Said) → IsAnswerIn mode ask texts kind said
     → gives mode kind ≡ true
 mode_gives Wire ask texts kind said is = wire_gives (texts Spef) (one_net ask) kind said is
@@ -198,6 +207,7 @@ mode_gives Repair ask texts kind said is =
     kind_among (gives Repair) (IsRepairSaid is.design (goal_of ask)) (repair_gives is.design (goal_of ask)) (nets_for is.design ask.net)
     is.repair_of.nets.verdicts kind refl is.repair_of.nets.each is.repair_of.nets.kind_is
 mode_gives Total ask texts kind said is = ap (gives Total) is.total.kind_is ∙ total_gives is.total.standings is.total.choices
+mode_gives Width ask texts kind said is = width_gives is.design is.widths (one_net ask) (bare_verdict kind said.text) is.says
 
 -- an answer that a certificate is not valid writes no file
 pub no_files_invalid : (mode : Mode) (ask : Ask) (texts : Input → Bytes) (said : Said) → IsAnswerIn mode ask texts Invalid said → said.files ≡ []
@@ -211,3 +221,4 @@ no_files_invalid Sta ask texts said is = is.no_files
 no_files_invalid Segment ask texts said is = absurd (let e : false ≡ true = mode_gives Segment ask texts Invalid said is in cc)
 no_files_invalid Repair ask texts said is = absurd (let e : false ≡ true = mode_gives Repair ask texts Invalid said is in cc)
 no_files_invalid Total ask texts said is = absurd (let e : false ≡ true = mode_gives Total ask texts Invalid said is in cc)
+no_files_invalid Width ask texts said is = is.no_files

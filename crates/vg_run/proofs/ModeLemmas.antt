@@ -4,13 +4,13 @@ use Rattle.std.specs.Prelude.{is_some}
 use Rattle.vg_words.specs.Request.{cap_of, parts_of, prefix_of, size_of}
 use Rattle.vg_words.specs.declared.ask.Ask.{Ask}
 use Rattle.vg_words.specs.declared.ask.Mode.{Mode}
-use Rattle.vg_words.specs.declared.ask.Mode.TheVariants.{Wire, Time, Best, Frontier, Check, Gen, Segment, Repair, Total}
+use Rattle.vg_words.specs.declared.ask.Mode.TheVariants.{Wire, Time, Best, Frontier, Check, Gen, Segment, Repair, Total, Width}
 use Rattle.vg_answer.specs.Answers.{AnswersBy, NoneTaken}
 use Rattle.vg_answer.specs.Faults.{IsDesignFault}
 use Rattle.vg_answer.specs.declared.answer.Answer.{Answer}
 use Rattle.vg_answer.specs.declared.answer.NoAnswer.{NoAnswer}
 use Rattle.vg_answer.specs.declared.input.Input.{Input}
-use Rattle.vg_answer.specs.declared.input.Input.TheVariants.{Spef, Cert}
+use Rattle.vg_answer.specs.declared.input.Input.TheVariants.{Spef, Cert, Widths}
 use Rattle.mode_wire.specs.Answers.{IsWireAnswer, IsWireFault}
 use Rattle.mode_time.specs.Answers.{IsTimeAnswer}
 use Rattle.vg_place.specs.Placings.{IsTaken}
@@ -22,6 +22,7 @@ use Rattle.mode_repair.specs.Answers.{IsRepairAnswer, Asked as RepairAsked}
 use Rattle.mode_repair.specs.declared.outcome.Goal.{Goal}
 use Rattle.mode_segment.specs.Answers.{IsSegmentAnswer, IsSegmentFault}
 use Rattle.mode_total.specs.Answers.{IsTotalAnswer, IsTotalTaken, Asked as TotalAsked}
+use Rattle.mode_width.specs.Answers.{IsWidthAnswer, IsWidthFault}
 use Rattle.vg_run.specs.Inputs.{written_cert}
 use Rattle.vg_run.specs.Modes.{AnswersFor, IsAnswerIn, IsFaultIn, IsTakenIn, best_asked, design_texts, goal_of, one_net, repair_asked, total_asked, written_prefix}
 
@@ -94,3 +95,10 @@ module _ (ask : Ask) (texts : Input → Bytes) (result : Result Answer NoAnswer)
       let asked : record { cap = cap; prefix = prefix } ≡ total_asked ask = λ i. record { cap = bound i; prefix = word i } in
       in_mode Total is
       (subst (λ (a : TotalAsked). AnswersBy (IsTotalAnswer (design_texts texts) a) (IsDesignFault (design_texts texts)) (IsTotalTaken (design_texts texts) a) result) asked says)
+
+  pub width_says : ask.mode ≡ Width → (name : Bytes) → name ≡ one_net ask
+      → AnswersBy (IsWidthAnswer (design_texts texts) (texts Widths) name) (IsWidthFault (design_texts texts) (texts Widths)) NoneTaken result
+      → AnswersFor ask texts result
+  width_says is name same says =
+      in_mode Width is
+      (subst (λ (n : Bytes). AnswersBy (IsWidthAnswer (design_texts texts) (texts Widths) n) (IsWidthFault (design_texts texts) (texts Widths)) NoneTaken result) same says)

@@ -12,7 +12,7 @@ use Rattle.vg_scan.specs.Prefixes.{is_letter, is_name_byte, is_prefix}
 use Rattle.vg_words.specs.Request.{IsRequest, has_bad_value, prefix_of, value}
 use Rattle.vg_words.specs.declared.ask.Ask.{Ask}
 use Rattle.vg_words.specs.declared.ask.Mode.{Mode as ModeSpec}
-use Rattle.vg_words.specs.declared.ask.Mode.TheVariants.{Wire, Time, Best, Frontier, Check, Gen, Sta, Segment, Repair, Total}
+use Rattle.vg_words.specs.declared.ask.Mode.TheVariants.{Wire, Time, Best, Frontier, Check, Gen, Sta, Segment, Repair, Total, Width}
 use Rattle.vg_words.specs.declared.option.Opt.{Opt}
 use Rattle.vg_words.specs.declared.option.Opt.TheVariants.{OutSpef, OutVerilog, Cert, Prefix}
 use Rattle.vg_words.proofs.FileLemmas.{files_differ}
@@ -37,6 +37,7 @@ cert_named Sta ask file e = absurd cc
 cert_named Segment ask file e = absurd cc
 cert_named Repair ask file e = absurd cc
 cert_named Total ask file e = absurd cc
+cert_named Width ask file e = absurd cc
 
 netlist_first : OutVerilog ≢ OutSpef
 netlist_first e = cc

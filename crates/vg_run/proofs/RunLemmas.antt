@@ -9,7 +9,7 @@ use Rattle.vg_store.specs.Writing.{OutState, Gains}
 use Rattle.vg_words.specs.Request.{IsRequest, IsRefused, ReadsWords, parts_of, prefix_of, cap_of}
 use Rattle.vg_words.specs.declared.ask.Ask.{Ask}
 use Rattle.vg_words.specs.declared.ask.Mode.{Mode}
-use Rattle.vg_words.specs.declared.ask.Mode.TheVariants.{Wire, Time, Best, Frontier, Check, Gen, Sta, Segment, Repair, Total}
+use Rattle.vg_words.specs.declared.ask.Mode.TheVariants.{Wire, Time, Best, Frontier, Check, Gen, Sta, Segment, Repair, Total, Width}
 use Rattle.vg_words.specs.declared.ask.WordFault.{WordFault}
 use Rattle.vg_words.specs.declared.ask.WordFault.TheVariants.{Unread, Missing, Excluded, BadValue, Equal, Memory as NoRoom}
 use Rattle.vg_words.proofs.JudgeLemmas.{refused_none, one}
@@ -23,7 +23,7 @@ use Rattle.vg_run.specs.Outcomes.{Ends, IsStatusOf, Tells, status_of, fault_stat
 use Rattle.vg_answer.specs.declared.kind.AnswerKind.{AnswerKind}
 use Rattle.vg_answer.specs.declared.kind.AnswerKind.TheVariants.{Report, NoneGood, Refusal, Invalid}
 use Rattle.vg_answer.specs.declared.input.Input.{Input}
-use Rattle.vg_answer.specs.declared.input.Input.TheVariants.{Spef, Lib, Verilog, Cons, Cert}
+use Rattle.vg_answer.specs.declared.input.Input.TheVariants.{Spef, Lib, Verilog, Cons, Cert, Widths}
 use Rattle.vg_run.specs.declared.inputs.Flaw.TheVariants.{Failed, TooLong, Faulty}
 use Rattle.vg_run.specs.declared.outcome.Outcome.{Outcome}
 use Rattle.vg_run.specs.declared.outcome.Outcome.TheVariants.{Printed, Flawed, Taken, Unwritten, WriteFault, Memory}
@@ -40,6 +40,7 @@ use Rattle.mode_repair.specs.Answers.{IsRepairAnswer}
 use Rattle.mode_segment.specs.Answers.{IsSegmentAnswer, IsSegmentFault}
 use Rattle.mode_sta.specs.Answers.{IsStaAnswer}
 use Rattle.mode_total.specs.Answers.{IsTotalAnswer, IsTotalTaken}
+use Rattle.mode_width.specs.Answers.{IsWidthAnswer, IsWidthFault}
 use Rattle.design_read.specs.Designs.{Texts}
 
 abbrev Bytes : Type 0
@@ -107,6 +108,7 @@ Agree Sta a b = design_texts a ≡ design_texts b
 Agree Segment a b = a Spef ≡ b Spef
 Agree Repair a b = design_texts a ≡ design_texts b
 Agree Total a b = design_texts a ≡ design_texts b
+Agree Width a b = (design_texts a ≡ design_texts b) × (a Widths ≡ b Widths)
 
 told_is : (file : Option Bytes) (a b : Bytes) → IsRead file a → file ≡ Some b → a ≡ b
 told_is file a b read is = subst (λ (o : Option Bytes). IfSome o (λ bytes. a ≡ bytes)) is read.is_file
@@ -129,6 +131,15 @@ agree_to_check tell a b read told =
     let c : a Cons ≡ b Cons = told_is (tell Cons) (a Cons) (b Cons) (read 3 Spef (omega arith)) (told 3 Spef (omega arith)) in
     λ i. record { spef = s i; lib = l i; verilog = v i; cons = c i }
 
+agree_to_width : (tell : Input → Option Bytes) (a b : Input → Bytes) → All (λ i. IsRead (tell i) (a i)) (inputs Width) → All (λ i. tell i ≡ Some (b i)) (inputs Width)
+    → design_texts a ≡ design_texts b
+agree_to_width tell a b read told =
+    let s : a Spef ≡ b Spef = told_is (tell Spef) (a Spef) (b Spef) (read 0 Spef (omega arith)) (told 0 Spef (omega arith)) in
+    let l : a Lib ≡ b Lib = told_is (tell Lib) (a Lib) (b Lib) (read 1 Spef (omega arith)) (told 1 Spef (omega arith)) in
+    let v : a Verilog ≡ b Verilog = told_is (tell Verilog) (a Verilog) (b Verilog) (read 2 Spef (omega arith)) (told 2 Spef (omega arith)) in
+    let c : a Cons ≡ b Cons = told_is (tell Cons) (a Cons) (b Cons) (read 3 Spef (omega arith)) (told 3 Spef (omega arith)) in
+    λ i. record { spef = s i; lib = l i; verilog = v i; cons = c i }
+
 pub agree : (mode : Mode) (tell : Input → Option Bytes) (a b : Input → Bytes) → All (λ i. IsRead (tell i) (a i)) (inputs mode) → All (λ i. tell i ≡ Some (b i)) (inputs mode) → Agree mode a b
 agree Wire tell a b read told = told_is (tell Spef) (a Spef) (b Spef) (read 0 Spef (omega arith)) (told 0 Spef (omega arith))
 agree Time tell a b read told = agree_on_all tell a b read told
@@ -141,6 +152,8 @@ agree Sta tell a b read told = agree_on_all tell a b read told
 agree Segment tell a b read told = told_is (tell Spef) (a Spef) (b Spef) (read 0 Spef (omega arith)) (told 0 Spef (omega arith))
 agree Repair tell a b read told = agree_on_all tell a b read told
 agree Total tell a b read told = agree_on_all tell a b read told
+agree Width tell a b read told =
+    (agree_to_width tell a b read told, told_is (tell Widths) (a Widths) (b Widths) (read 4 Spef (omega arith)) (told 4 Spef (omega arith)))
 
 -- what is said of the ones is said of the others
 pub answer_as : (mode : Mode) (ask : Ask) (a b : Input → Bytes) (kind : AnswerKind) (t : Said) → Agree mode a b → IsAnswerIn mode ask a kind t → IsAnswerIn mode ask b kind t
@@ -155,6 +168,8 @@ answer_as Sta ask a b kind t e is = subst (λ (texts : Texts). IsStaAnswer texts
 answer_as Segment ask a b kind t e is = subst (λ (text : Bytes). IsSegmentAnswer text ask.net (parts_of ask) kind t) e is
 answer_as Repair ask a b kind t e is = subst (λ (texts : Texts). IsRepairAnswer texts (repair_asked ask) kind t) e is
 answer_as Total ask a b kind t e is = subst (λ (texts : Texts). IsTotalAnswer texts (total_asked ask) kind t) e is
+answer_as Width ask a b kind t (e, same) is =
+    subst (λ (texts : Texts). IsWidthAnswer texts (b Widths) (one_net ask) kind t) e (subst (λ (file : Bytes). IsWidthAnswer (design_texts a) file (one_net ask) kind t) same is)
 
 pub taken_as : (mode : Mode) (ask : Ask) (a b : Input → Bytes) (name : Bytes) → Agree mode a b → IsTakenIn mode ask a name → IsTakenIn mode ask b name
 taken_as Wire ask a b name e is = is
@@ -167,6 +182,7 @@ taken_as Sta ask a b name e is = is
 taken_as Segment ask a b name e is = is
 taken_as Repair ask a b name e is = subst (λ (texts : Texts). IsTaken texts (prefix_of ask) name) e is
 taken_as Total ask a b name e is = subst (λ (texts : Texts). IsTotalTaken texts (total_asked ask) name) e is
+taken_as Width ask a b name e is = is
 
 pub faulty_as : (mode : Mode) (ask : Ask) (a b : Input → Bytes) (line : Bytes) (input : Input) → Agree mode a b → IsFaultIn mode ask a line input → IsFaultIn mode ask b line input
 faulty_as Wire ask a b line input e is = subst (λ (text : Bytes). IsWireFault text line input) e is
@@ -179,6 +195,8 @@ faulty_as Sta ask a b line input e is = subst (λ (texts : Texts). IsDesignFault
 faulty_as Segment ask a b line input e is = subst (λ (text : Bytes). IsSegmentFault text line input) e is
 faulty_as Repair ask a b line input e is = subst (λ (texts : Texts). IsDesignFault texts line input) e is
 faulty_as Total ask a b line input e is = subst (λ (texts : Texts). IsDesignFault texts line input) e is
+faulty_as Width ask a b line input (e, same) is =
+    subst (λ (texts : Texts). IsWidthFault texts (b Widths) line input) e (subst (λ (file : Bytes). IsWidthFault (design_texts a) file line input) same is)
 
 -- texts that were read are short
 module _ (tell : Input → Option Bytes) (a b : Input → Bytes) (list : List Input) (read : All (λ i. IsRead (tell i) (a i)) list) where
@@ -214,6 +232,9 @@ shorts Sta tell a b read e = all_short tell a b read e
 shorts Segment tell a b read e = all_one (λ i. IsShort (b i)) Spef (subst (λ (s : Bytes). IsShort s) e (read 0 Spef (omega arith)).short)
 shorts Repair tell a b read e = all_short tell a b read e
 shorts Total tell a b read e = all_short tell a b read e
+shorts Width tell a b read e =
+    let (s, l, v, c) = short_texts tell a b (inputs Width) read (omega arith) refl refl refl refl e.0 in
+    all_five (λ i. IsShort (b i)) Spef Lib Verilog Cons Widths s l v c (subst (λ (text : Bytes). IsShort text) e.1 (read 4 Spef (omega arith)).short)
 
 -- what is told and short is not too long
 pub not_long : (file : Option Bytes) (text : Bytes) → (file ≡ Some text) → IsShort text → IsLong file → ⊥

@@ -7,14 +7,15 @@ use Rattle.vg_store.specs.Writing.{OutState}
 use Rattle.vg_words.specs.Request.{size_of, IsRequest}
 use Rattle.vg_words.specs.declared.ask.Ask.{Ask}
 use Rattle.vg_words.specs.declared.ask.Mode.{Mode}
-use Rattle.vg_words.specs.declared.ask.Mode.TheVariants.{Wire, Best, Frontier, Check, Gen, Segment, Repair, Total}
+use Rattle.vg_words.specs.declared.ask.Mode.TheVariants.{Wire, Best, Frontier, Check, Gen, Segment, Repair, Total, Width}
 use Rattle.vg_design.specs.Designs.{Design}
 use Rattle.vg_design.specs.Nets.{IsPosedNet}
 use Rattle.vg_design.specs.declared.net_problem.PosedNet.{PosedNet}
 use Rattle.design_read.specs.Designs.{Texts, IsDesign, IsSpef}
 use Rattle.mode_gen.specs.Answers.{made_net, made_up}
+use Rattle.vg_answer.specs.Faults.{IsInForm}
 use Rattle.vg_answer.specs.declared.input.Input.{Input}
-use Rattle.vg_answer.specs.declared.input.Input.TheVariants.{Spef}
+use Rattle.vg_answer.specs.declared.input.Input.TheVariants.{Spef, Widths}
 use Rattle.vg_run.specs.Inputs.{Change}
 use Rattle.vg_run.specs.Modes.{IsTakenFor, design_texts}
 use Rattle.vg_run.specs.Run.{AreShort, AreTold}
@@ -26,6 +27,7 @@ answers_of Best = 0 ∷ 1 ∷ 2 ∷ []
 answers_of Frontier = 0 ∷ 1 ∷ 2 ∷ []
 answers_of Repair = 0 ∷ 1 ∷ 2 ∷ []
 answers_of Total = 0 ∷ 1 ∷ 2 ∷ []
+answers_of Width = 0 ∷ 1 ∷ 2 ∷ []
 answers_of Check = 0 ∷ 2 ∷ 8 ∷ []
 answers_of Gen = 0 ∷ []
 answers_of mode = 0 ∷ 2 ∷ []
@@ -45,11 +47,13 @@ pub record IsAccepted (size : ℕ) : Type 0 where
   pub net_of : IsPosedNet design made_net net
 
 -- The texts that a mode judges are in their form: the parasitics alone in modes `wire` and `segment`, those that are
--- made up in mode `gen`, and else the four of a design. A certificate need not be.
+-- made up in mode `gen`, and else the four of a design, in mode `width` with that of the widths. A certificate need not
+-- be.
 abbrev pub AreInForm : Mode → Ask → (Input → List ℕ) → Type 0
 AreInForm Wire ask texts = IsSpef (texts Spef)
 AreInForm Segment ask texts = IsSpef (texts Spef)
 AreInForm Gen ask texts = IsAccepted (size_of ask)
+AreInForm Width ask texts = AreADesign (design_texts texts) × IsInForm Widths (texts Widths)
 AreInForm mode ask texts = AreADesign (design_texts texts)
 
 -- The inputs of a request are told, have at most 2^28 bytes each and are in their form, and no name of the design

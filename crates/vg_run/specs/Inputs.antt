@@ -5,11 +5,11 @@ use Rattle.vg_store.specs.Reading.{FilesState}
 use Rattle.vg_words.specs.Request.{text_for}
 use Rattle.vg_words.specs.declared.ask.Ask.{Ask}
 use Rattle.vg_words.specs.declared.ask.Mode.{Mode}
-use Rattle.vg_words.specs.declared.ask.Mode.TheVariants.{Wire, Best, Check, Gen, Segment}
+use Rattle.vg_words.specs.declared.ask.Mode.TheVariants.{Wire, Best, Check, Gen, Segment, Width}
 use Rattle.vg_words.specs.declared.option.Opt.{Opt}
-use Rattle.vg_words.specs.declared.option.Opt.TheVariants.{Spef as SpefOption, Lib as LibOption, Verilog as VerilogOption, Cons as ConsOption, Cert as CertOption}
+use Rattle.vg_words.specs.declared.option.Opt.TheVariants.{Spef as SpefOption, Lib as LibOption, Verilog as VerilogOption, Cons as ConsOption, Cert as CertOption, Widths as WidthsOption}
 use Rattle.vg_answer.specs.declared.input.Input.{Input}
-use Rattle.vg_answer.specs.declared.input.Input.TheVariants.{Spef, Lib, Verilog, Cons, Cert}
+use Rattle.vg_answer.specs.declared.input.Input.TheVariants.{Spef, Lib, Verilog, Cons, Cert, Widths}
 use Rattle.vg_run.specs.declared.inputs.Texts.{Texts}
 use Rattle.vg_answer.specs.Faults.{design_inputs, IsShort}
 
@@ -19,6 +19,7 @@ inputs Wire = Spef ∷ []
 inputs Segment = Spef ∷ []
 inputs Check = Spef ∷ Lib ∷ Verilog ∷ Cons ∷ Cert ∷ []
 inputs Gen = []
+inputs Width = Spef ∷ Lib ∷ Verilog ∷ Cons ∷ Widths ∷ []
 inputs mode = design_inputs
 
 -- the certificate that mode `best` is to write, if it is named; other modes write none
@@ -36,6 +37,7 @@ option_of Lib = LibOption
 option_of Verilog = VerilogOption
 option_of Cons = ConsOption
 option_of Cert = CertOption
+option_of Widths = WidthsOption
 
 -- the name of an input: that in the words, or, where the design is made up, `gen`
 abbrev pub name_in : Mode → Ask → Input → List ℕ
@@ -69,6 +71,7 @@ texts_read texts Lib = texts.design.lib.bytes.items
 texts_read texts Verilog = texts.design.verilog.bytes.items
 texts_read texts Cons = texts.design.cons.bytes.items
 texts_read texts Cert = texts.cert.bytes.items
+texts_read texts Widths = texts.widths.bytes.items
 
 -- the states before and after
 abbrev pub Change : Type 0 → Type 0

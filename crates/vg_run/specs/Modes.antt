@@ -2,7 +2,7 @@
 use Rattle.std.specs.Prelude.{ℕ, List, [], Option, Some, None, Result, unwrap_or, is_some, if◌then◌else◌}
 use Rattle.design_read.specs.Designs.{Texts}
 use Rattle.vg_words.specs.declared.ask.Mode.{Mode}
-use Rattle.vg_words.specs.declared.ask.Mode.TheVariants.{Wire, Time, Best, Frontier, Check, Gen, Sta, Segment, Repair, Total}
+use Rattle.vg_words.specs.declared.ask.Mode.TheVariants.{Wire, Time, Best, Frontier, Check, Gen, Sta, Segment, Repair, Total, Width}
 use Rattle.mode_gen.specs.Answers.{made_up, IsGenAnswer}
 use Rattle.vg_place.specs.Placings.{IsTaken}
 use Rattle.mode_best.specs.Answers.{Asked, IsBestAnswer}
@@ -15,8 +15,9 @@ use Rattle.mode_segment.specs.Answers.{IsSegmentAnswer, IsSegmentFault}
 use Rattle.mode_sta.specs.Answers.{IsStaAnswer}
 use Rattle.mode_time.specs.Answers.{IsTimeAnswer}
 use Rattle.mode_total.specs.Answers.{IsTotalAnswer, IsTotalTaken, Asked as TotalAsked}
+use Rattle.mode_width.specs.Answers.{IsWidthAnswer, IsWidthFault}
 use Rattle.vg_answer.specs.declared.input.Input.{Input}
-use Rattle.vg_answer.specs.declared.input.Input.TheVariants.{Spef, Lib, Verilog, Cons, Cert}
+use Rattle.vg_answer.specs.declared.input.Input.TheVariants.{Spef, Lib, Verilog, Cons, Cert, Widths}
 use Rattle.vg_answer.specs.declared.answer.Answer.{Answer}
 use Rattle.vg_answer.specs.declared.kind.AnswerKind.{AnswerKind}
 use Rattle.vg_answer.specs.declared.answer.NoAnswer.{NoAnswer}
@@ -30,7 +31,7 @@ use Rattle.vg_run.specs.Inputs.{written_cert}
 abbrev pub design_texts : (Input → List ℕ) → Texts
 design_texts texts = record { spef = texts Spef; lib = texts Lib; verilog = texts Verilog; cons = texts Cons }
 
--- the net that modes `wire` and `check` are asked for
+-- the net that modes `wire`, `check` and `width` are asked for
 abbrev pub one_net : Ask → List ℕ
 one_net ask = unwrap_or ask.net []
 
@@ -66,13 +67,15 @@ IsAnswerIn Sta ask texts kind said = IsStaAnswer (design_texts texts) kind said
 IsAnswerIn Segment ask texts kind said = IsSegmentAnswer (texts Spef) ask.net (parts_of ask) kind said
 IsAnswerIn Repair ask texts kind said = IsRepairAnswer (design_texts texts) (repair_asked ask) kind said
 IsAnswerIn Total ask texts kind said = IsTotalAnswer (design_texts texts) (total_asked ask) kind said
+IsAnswerIn Width ask texts kind said = IsWidthAnswer (design_texts texts) (texts Widths) (one_net ask) kind said
 
--- the first fault of the texts that it judges: mode `gen` judges those of the design that it makes up, and mode `check`
--- judges the certificate when all others are in their form
+-- the first fault of the texts that it judges: mode `gen` judges those of the design that it makes up, mode `check`
+-- judges the certificate when all others are in their form, and mode `width` judges the widths last
 abbrev pub IsFaultIn : Mode → Ask → (Input → List ℕ) → List ℕ → Input → Type 0
 IsFaultIn Wire ask texts line input = IsWireFault (texts Spef) line input
 IsFaultIn Segment ask texts line input = IsSegmentFault (texts Spef) line input
 IsFaultIn Gen ask texts line input = IsDesignFault (made_up (size_of ask)) line input
+IsFaultIn Width ask texts line input = IsWidthFault (design_texts texts) (texts Widths) line input
 IsFaultIn mode ask texts line input = IsDesignFault (design_texts texts) line input
 
 -- a name of the design begins with the prefix, for which modes `best` and `repair` ask, and mode `total` where it is to

@@ -28,6 +28,7 @@ pub enum Flaw {
 pub struct Texts {
     pub design: DesignTexts,
     pub cert: InputText,
+    pub widths: InputText,
 }
 
 const SPEF_INPUTS: [Input; 1] = [Input::Spef];
@@ -42,6 +43,14 @@ const CHECK_INPUTS: [Input; 5] = [
     Input::Cert,
 ];
 
+const WIDTH_INPUTS: [Input; 5] = [
+    Input::Spef,
+    Input::Lib,
+    Input::Verilog,
+    Input::Cons,
+    Input::Widths,
+];
+
 /// The option that names an input.
 fn option_of(input: Input) -> Opt
     ensures { result ≡ option_of input }
@@ -52,6 +61,7 @@ fn option_of(input: Input) -> Opt
         Input::Verilog => Opt::Verilog,
         Input::Cons => Opt::Cons,
         Input::Cert => Opt::Cert,
+        Input::Widths => Opt::Widths,
     }
 }
 
@@ -75,6 +85,7 @@ fn inputs(mode: Mode) -> &'static [Input]
             &DESIGN_INPUTS,
         Mode::Check => &CHECK_INPUTS,
         Mode::Gen => &[],
+        Mode::Width => &WIDTH_INPUTS,
     }
 }
 
@@ -98,6 +109,7 @@ impl Texts {
         Texts {
             design,
             cert: no_text(alloc),
+            widths: no_text(alloc),
         }
     }
 
@@ -112,6 +124,7 @@ impl Texts {
             Input::Verilog => self.design.verilog = text,
             Input::Cons => self.design.cons = text,
             Input::Cert => self.cert = text,
+            Input::Widths => self.widths = text,
         }
     }
 }

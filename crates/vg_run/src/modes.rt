@@ -19,6 +19,7 @@ use mode_segment::segment_for;
 use mode_sta::sta_for;
 use mode_time::time_for;
 use mode_total::total_for;
+use mode_width::width_for;
 use mode_wire::wire_for;
 use std::alloc::Global;
 use vg_answer::{Answer, NoAnswer};
@@ -60,7 +61,11 @@ pub(crate) fn answer(alloc: Global, texts: Texts, ask: &Ask) -> Result<Answer, N
     requires size { IsSized ask.now }
     ensures { AnswersFor ask.now (texts_read texts) result }
 {
-    let Texts { design, cert } = texts;
+    let Texts {
+        design,
+        cert,
+        widths,
+    } = texts;
     let prefix = ask.prefix().as_bytes();
     match ask.mode {
         Mode::Wire => wire_for(alloc, design.spef, ask.text(Opt::Net).as_bytes()),
@@ -76,5 +81,6 @@ pub(crate) fn answer(alloc: Global, texts: Texts, ask: &Ask) -> Result<Answer, N
         Mode::Segment => segment_for(alloc, design.spef, asked_net(ask), ask.parts()),
         Mode::Repair => repair_for(alloc, design, asked_net(ask), goal(ask), prefix),
         Mode::Total => total_for(alloc, design, ask.cap(), written_prefix(ask)),
+        Mode::Width => width_for(alloc, design, widths, ask.text(Opt::Net).as_bytes()),
     }
 }

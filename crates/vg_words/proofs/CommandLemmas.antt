@@ -18,7 +18,7 @@ use Rattle.clap.proofs.WalkLemmas.{both}
 use Rattle.vg_words.specs.Command.{action_for, app, bare, long_name}
 use Rattle.vg_words.specs.Options.{is_flag, options}
 use Rattle.vg_words.specs.declared.option.Opt.{Opt}
-use Rattle.vg_words.specs.declared.option.Opt.TheVariants.{Mode, Spef, Lib, Verilog, Cons, Net, All, OutSpef, OutVerilog, Cert, Cap, Prefix, Size, Parts, Target}
+use Rattle.vg_words.specs.declared.option.Opt.TheVariants.{Mode, Spef, Lib, Verilog, Cons, Net, All, OutSpef, OutVerilog, Cert, Cap, Prefix, Size, Parts, Target, Widths}
 use Rattle.vg_words.proofs.OptionLemmas.{one_flag, same_of_valued}
 
 -- the matches of a simple command, by another name
@@ -118,7 +118,7 @@ abbrev before_flag : List Opt
 before_flag = Mode ∷ Spef ∷ Lib ∷ Verilog ∷ Cons ∷ Net ∷ []
 
 abbrev after_flag : List Opt
-after_flag = OutSpef ∷ OutVerilog ∷ Cert ∷ Cap ∷ Prefix ∷ Size ∷ Parts ∷ Target ∷ []
+after_flag = OutSpef ∷ OutVerilog ∷ Cert ∷ Cap ∷ Prefix ∷ Size ∷ Parts ∷ Target ∷ Widths ∷ []
 
 with_defaults : (rows : List Row) → fold with_default rows rules ≡ with_flag rows
 with_defaults rows =

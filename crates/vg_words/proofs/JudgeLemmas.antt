@@ -17,9 +17,9 @@ use mathlib.Core.Path.{fun_ext}
 use Rattle.vg_words.specs.Options.{options, file_options, is_same, required, mode_of, mode_name}
 use Rattle.vg_words.specs.Request.{Setting, Sets, Values, values_in, value_of, IsRequest, is_missing, is_excluded, flag_value, has_bad_value, is_bad, is_cap, is_parts, is_size, is_target, or_else, of_first, of_pair, first_equal, fault_in, fault_of_mode, fault_of_name, fault_of, HasMode, IsRefused, ReadsWords, value, cap_in, cap_of, parts_in, parts_of, size_in, size_of, target_in, target_of}
 use Rattle.vg_words.specs.declared.option.Opt.{Opt}
-use Rattle.vg_words.specs.declared.option.Opt.TheVariants.{Mode, Spef, Lib, Verilog, Cons, Net, All, OutSpef, OutVerilog, Cert, Cap, Prefix, Size, Parts, Target}
+use Rattle.vg_words.specs.declared.option.Opt.TheVariants.{Mode, Spef, Lib, Verilog, Cons, Net, All, OutSpef, OutVerilog, Cert, Cap, Prefix, Size, Parts, Target, Widths}
 use Rattle.vg_words.specs.declared.ask.Mode.{Mode as ModeSpec}
-use Rattle.vg_words.specs.declared.ask.Mode.TheVariants.{Wire, Time, Best, Frontier, Check, Gen, Sta, Segment, Repair, Total}
+use Rattle.vg_words.specs.declared.ask.Mode.TheVariants.{Wire, Time, Best, Frontier, Check, Gen, Sta, Segment, Repair, Total, Width}
 use Rattle.vg_words.specs.declared.ask.WordFault.{WordFault}
 use Rattle.vg_words.specs.declared.ask.WordFault.TheVariants.{Unread, Missing, Excluded, BadValue, Equal, Memory}
 
@@ -102,6 +102,7 @@ requested_values : (values : Values) (ask : Ask) → values Mode ≡ Some (mode_
     → values Verilog ≡ ask.verilog → values Cons ≡ ask.cons → values Net ≡ ask.net → values All ≡ flag_value ask.all
     → values OutSpef ≡ ask.out_spef → values OutVerilog ≡ ask.out_verilog → values Cert ≡ ask.cert → values Cap ≡ ask.cap
     → values Prefix ≡ ask.prefix → values Size ≡ ask.size → values Parts ≡ ask.parts → values Target ≡ ask.target
+    → values Widths ≡ ask.widths
     → (option : Opt) → values option ≡ value ask option
 requested_values values ask = each (λ option. values option ≡ value ask option)
 
@@ -117,7 +118,8 @@ named_or text own mode rest e later =
 -- a text that names a mode is its name
 mode_named : (text : List ℕ) (mode : ModeSpec) → mode_of text ≡ Some mode → text ≡ mode_name mode
 mode_named text mode e =
-    let after_repair : Option ModeSpec = if bytes_eq text (codes "total") then Some Total else None in
+    let after_total : Option ModeSpec = if bytes_eq text (codes "width") then Some Width else None in
+    let after_repair : Option ModeSpec = if bytes_eq text (codes "total") then Some Total else after_total in
     let after_segment : Option ModeSpec = if bytes_eq text (codes "repair") then Some Repair else after_repair in
     let after_sta : Option ModeSpec = if bytes_eq text (codes "segment") then Some Segment else after_segment in
     let after_gen : Option ModeSpec = if bytes_eq text (codes "sta") then Some Sta else after_sta in
@@ -135,7 +137,8 @@ mode_named text mode e =
     (λ e. named_or text Sta mode after_sta e
     (λ e. named_or text Segment mode after_segment e
     (λ e. named_or text Repair mode after_repair e
-    (λ e. named_or text Total mode None e (λ none. absurd (cc)))))))))))
+    (λ e. named_or text Total mode after_total e
+    (λ e. named_or text Width mode None e (λ none. absurd (cc))))))))))))
 
 mode_given : (name : Option (List ℕ)) (mode : ModeSpec) → HasMode name mode → name ≡ Some (mode_name mode)
 mode_given None mode h = absurd h
@@ -146,11 +149,12 @@ pub requested : (words : List (List ℕ)) (values : Values) (mode : ModeSpec) (a
     → (fault_of values ≡ None) × HasMode (values Mode) mode
     → ask.mode ≡ mode → ask.spef ≡ values Spef → ask.lib ≡ values Lib → ask.verilog ≡ values Verilog → ask.cons ≡ values Cons → ask.net ≡ values Net
     → flag_value ask.all ≡ values All → ask.out_spef ≡ values OutSpef → ask.out_verilog ≡ values OutVerilog → ask.cert ≡ values Cert → ask.cap ≡ values Cap
-    → ask.prefix ≡ values Prefix → ask.size ≡ values Size → ask.parts ≡ values Parts → ask.target ≡ values Target → IsRequest words ask
-requested words values mode ask given (e, h) m s l v c n a os ov r k p z q t =
+    → ask.prefix ≡ values Prefix → ask.size ≡ values Size → ask.parts ≡ values Parts → ask.target ≡ values Target → ask.widths ≡ values Widths
+    → IsRequest words ask
+requested words values mode ask given (e, h) m s l v c n a os ov r k p z q t w =
     let named = mode_given (values Mode) mode h ∙ ap (λ x. Some (mode_name x)) (sym m) in
     let kept = requested_values values ask named (sym s) (sym l) (sym v) (sym c) (sym n) (sym a) (sym os) (sym ov) (sym r) (sym k) (sym p) (sym z)
-    (sym q) (sym t) in
+    (sym q) (sym t) (sym w) in
     record {
       settings = given.settings;
       set = given.set;
@@ -170,6 +174,7 @@ named_mode Sta = refl
 named_mode Segment = refl
 named_mode Repair = refl
 named_mode Total = refl
+named_mode Width = refl
 
 one_mode : (a b : ModeSpec) → mode_name a ≡ mode_name b → a ≡ b
 one_mode a b e = some_mode a b (sym (named_mode a) ∙ ap mode_of e ∙ named_mode b)
@@ -206,6 +211,7 @@ one words a b x y =
       size = values Size i;
       parts = values Parts i;
       target = values Target i;
+      widths = values Widths i;
     }
 
 -- words that are refused are no request
@@ -317,6 +323,7 @@ asks_as_in Sta ask w = no_net ask.net ask.all (w.allowed Net) (w.allowed All)
 asks_as_in Segment ask w = net_or_all ask.net ask.all (w.found Net refl) (w.allowed All)
 asks_as_in Repair ask w = net_or_all ask.net ask.all (w.found Net refl) (w.allowed All)
 asks_as_in Total ask w = all_nets ask.net ask.all (w.allowed Net) (w.found All refl)
+asks_as_in Width ask w = one_net ask.net ask.all (w.found Net refl) (w.allowed All)
 
 pub one_or_all : (words : List (List ℕ)) (ask : Ask) → IsRequest words ask → AsksAsIn ask.mode ask
 one_or_all words ask is = asks_as_in ask.mode ask (whole_request words ask is)
@@ -341,6 +348,7 @@ cert_of_net Sta ask w named = absurd (named (no_cert ask.cert (w.allowed Cert)))
 cert_of_net Segment ask w named = absurd (named (no_cert ask.cert (w.allowed Cert)))
 cert_of_net Repair ask w named = absurd (named (no_cert ask.cert (w.allowed Cert)))
 cert_of_net Total ask w named = absurd (named (no_cert ask.cert (w.allowed Cert)))
+cert_of_net Width ask w named = absurd (named (no_cert ask.cert (w.allowed Cert)))
 
 pub certs : (words : List (List ℕ)) (ask : Ask) → IsRequest words ask → ask.cert ≢ None → AsksForNet ask
 certs words ask is = cert_of_net ask.mode ask (whole_request words ask is)

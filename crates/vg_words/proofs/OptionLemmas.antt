@@ -9,12 +9,13 @@ use Rattle.clap.specs.Lexer.{long_of}
 use Rattle.vg_words.specs.Command.{long_name}
 use Rattle.vg_words.specs.Options.{name_of, options, place_of, is_flag, is_same}
 use Rattle.vg_words.specs.declared.option.Opt.{Opt}
-use Rattle.vg_words.specs.declared.option.Opt.TheVariants.{Mode, Spef, Lib, Verilog, Cons, Net, All, OutSpef, OutVerilog, Cert, Cap, Prefix, Size, Parts, Target}
+use Rattle.vg_words.specs.declared.option.Opt.TheVariants.{Mode, Spef, Lib, Verilog, Cons, Net, All, OutSpef, OutVerilog, Cert, Cap, Prefix, Size, Parts, Target, Widths}
 
 -- what holds of each option holds of all
 pub each : (P : Opt → Type 0) → P Mode → P Spef → P Lib → P Verilog → P Cons → P Net → P All → P OutSpef → P OutVerilog
-    → P Cert → P Cap → P Prefix → P Size → P Parts → P Target → (option : Opt) → P option
-each P mode spef lib verilog cons net all out_spef out_verilog cert cap prefix size parts target option =
+    → P Cert → P Cap → P Prefix → P Size → P Parts → P Target → P Widths → (option : Opt)
+    → P option
+each P mode spef lib verilog cons net all out_spef out_verilog cert cap prefix size parts target widths option =
     elim option as P [
       | Mode ↦ mode
       | Spef ↦ spef
@@ -31,13 +32,14 @@ each P mode spef lib verilog cons net all out_spef out_verilog cert cap prefix s
       | Size ↦ size
       | Parts ↦ parts
       | Target ↦ target
+      | Widths ↦ widths
     ]
 
 -- each option stands at its place in the list of options
 at_place : {A : Type 0} (f : Opt → A) (d : A) (o : Opt) → get_or (map f options) (place_of o) d ≡ f o
 at_place f d =
     each (λ o. get_or (map f options) (place_of o) d ≡ f o)
-    refl refl refl refl refl refl refl refl refl refl refl refl refl refl refl
+    refl refl refl refl refl refl refl refl refl refl refl refl refl refl refl refl
 
 -- so what is the same over the list of options is the same of each
 pub same_of_each : {A : Type 0} (f g : Opt → A) → map f options ≡ map g options → (o : Opt) → f o ≡ g o

@@ -6,7 +6,7 @@ use Rattle.vg_words.specs.Options.{names_file}
 use Rattle.vg_words.specs.Request.{IsRequest, cap_of, parts_of, size_of, target_in, target_of, value}
 use Rattle.vg_words.specs.declared.ask.Ask.{Ask}
 use Rattle.vg_words.specs.declared.ask.Mode.{Mode}
-use Rattle.vg_words.specs.declared.ask.Mode.TheVariants.{Wire, Time, Best, Frontier, Check, Gen, Sta, Segment, Repair, Total}
+use Rattle.vg_words.specs.declared.ask.Mode.TheVariants.{Wire, Time, Best, Frontier, Check, Gen, Sta, Segment, Repair, Total, Width}
 use Rattle.vg_words.specs.declared.option.Opt.{Opt}
 
 abbrev pub OneRequest : Type 0
@@ -36,9 +36,10 @@ AsksAsIn Sta ask = AsksForNone ask
 AsksAsIn Segment ask = AsksForNet ask ⊎ AsksForAll ask
 AsksAsIn Repair ask = AsksForNet ask ⊎ AsksForAll ask
 AsksAsIn Total ask = AsksForAll ask
+AsksAsIn Width ask = AsksForNet ask
 
--- in modes `wire` and `check` a request asks for one net, in modes `time`, `best`, `frontier`, `segment` and `repair`
--- for one or for all, in mode `total` for all, and in modes `gen` and `sta` it names none
+-- in modes `wire`, `check` and `width` a request asks for one net, in modes `time`, `best`, `frontier`, `segment` and
+-- `repair` for one or for all, in mode `total` for all, and in modes `gen` and `sta` it names none
 abbrev pub OneOrAll : Type 0
 OneOrAll = (words : List (List ℕ)) (ask : Ask) → IsRequest words ask → AsksAsIn ask.mode ask
 

@@ -3,9 +3,9 @@ use Rattle.std.specs.Prelude.{ℕ, ◌==◌, Bool, true, false, List, [], ◌∷
 use Rattle.std.specs.List.{list_any}
 use Rattle.std.specs.Str.{bytes_eq}
 use Rattle.vg_words.specs.declared.option.Opt.{Opt}
-use Rattle.vg_words.specs.declared.option.Opt.TheVariants.{Mode, Spef, Lib, Verilog, Cons, Net, All, OutSpef, OutVerilog, Cert, Cap, Prefix, Size, Parts, Target}
+use Rattle.vg_words.specs.declared.option.Opt.TheVariants.{Mode, Spef, Lib, Verilog, Cons, Net, All, OutSpef, OutVerilog, Cert, Cap, Prefix, Size, Parts, Target, Widths}
 use Rattle.vg_words.specs.declared.ask.Mode.{Mode as ModeSpec}
-use Rattle.vg_words.specs.declared.ask.Mode.TheVariants.{Wire, Time, Best, Frontier, Check, Gen, Sta, Segment, Repair, Total}
+use Rattle.vg_words.specs.declared.ask.Mode.TheVariants.{Wire, Time, Best, Frontier, Check, Gen, Sta, Segment, Repair, Total, Width}
 
 abbrev pub name_of : Opt → List ℕ
 name_of Mode = codes "--mode"
@@ -23,6 +23,7 @@ name_of Prefix = codes "--prefix"
 name_of Size = codes "--size"
 name_of Parts = codes "--parts"
 name_of Target = codes "--target"
+name_of Widths = codes "--widths"
 
 -- the place of an option in the order of options
 abbrev pub place_of : Opt → ℕ
@@ -41,6 +42,7 @@ place_of Prefix = 11
 place_of Size = 12
 place_of Parts = 13
 place_of Target = 14
+place_of Widths = 15
 
 abbrev pub is_same : Opt → Opt → Bool
 is_same a b = place_of a == place_of b
@@ -48,7 +50,7 @@ is_same a b = place_of a == place_of b
 abbrev pub options : List Opt
 options =
     Mode ∷ Spef ∷ Lib ∷ Verilog ∷ Cons ∷ Net ∷ All ∷ OutSpef ∷ OutVerilog ∷ Cert ∷ Cap ∷ Prefix ∷ Size ∷ Parts
-    ∷ Target ∷ []
+    ∷ Target ∷ Widths ∷ []
 
 -- the option has no value: it is given, or it is not
 abbrev pub is_flag : Opt → Bool
@@ -57,7 +59,7 @@ is_flag option = false
 
 -- the options that name files
 abbrev pub file_options : List Opt
-file_options = Spef ∷ Lib ∷ Verilog ∷ Cons ∷ OutSpef ∷ OutVerilog ∷ Cert ∷ []
+file_options = Spef ∷ Lib ∷ Verilog ∷ Cons ∷ OutSpef ∷ OutVerilog ∷ Cert ∷ Widths ∷ []
 
 abbrev pub names_file : Opt → Bool
 names_file option = list_any (is_same option) file_options
@@ -74,7 +76,8 @@ mode_of text =
     else (if bytes_eq text (codes "sta") then Some Sta
     else (if bytes_eq text (codes "segment") then Some Segment
     else (if bytes_eq text (codes "repair") then Some Repair
-    else (if bytes_eq text (codes "total") then Some Total else None)))))))))
+    else (if bytes_eq text (codes "total") then Some Total
+    else (if bytes_eq text (codes "width") then Some Width else None))))))))))
 
 abbrev pub mode_name : ModeSpec → List ℕ
 mode_name Wire = codes "wire"
@@ -87,6 +90,7 @@ mode_name Sta = codes "sta"
 mode_name Segment = codes "segment"
 mode_name Repair = codes "repair"
 mode_name Total = codes "total"
+mode_name Width = codes "width"
 
 -- the options that a mode asks for; some of these may be left out (`may_be_left`)
 abbrev pub required : ModeSpec → List Opt
@@ -100,6 +104,7 @@ required Sta = Spef ∷ Lib ∷ Verilog ∷ Cons ∷ []
 required Segment = Spef ∷ Net ∷ OutSpef ∷ Parts ∷ []
 required Repair = Spef ∷ Lib ∷ Verilog ∷ Cons ∷ Net ∷ OutSpef ∷ OutVerilog ∷ []
 required Total = Spef ∷ Lib ∷ Verilog ∷ Cons ∷ All ∷ OutSpef ∷ OutVerilog ∷ []
+required Width = Spef ∷ Lib ∷ Verilog ∷ Cons ∷ Net ∷ Widths ∷ []
 
 -- those that it may be given besides
 abbrev pub optional : ModeSpec → List Opt
@@ -113,6 +118,7 @@ optional Sta = []
 optional Segment = All ∷ []
 optional Repair = All ∷ Cap ∷ Prefix ∷ Target ∷ []
 optional Total = Cap ∷ Prefix ∷ []
+optional Width = []
 
 -- those that it may be given; it has no use for others
 abbrev pub allowed : ModeSpec → List Opt

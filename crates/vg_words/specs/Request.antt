@@ -9,7 +9,7 @@ use Rattle.vg_num.specs.Number.{are_digits, signed_scaled, value_of as number_of
 use Rattle.vg_scan.specs.Prefixes.{is_prefix}
 use Rattle.vg_words.specs.Options.{name_of, mode_of, mode_name, is_flag, is_same, options, file_options, required, allowed, may_write_nothing}
 use Rattle.vg_words.specs.declared.option.Opt.{Opt}
-use Rattle.vg_words.specs.declared.option.Opt.TheVariants.{Mode, Spef, Lib, Verilog, Cons, Net, All, OutSpef, OutVerilog, Cert, Cap, Prefix, Size, Parts, Target}
+use Rattle.vg_words.specs.declared.option.Opt.TheVariants.{Mode, Spef, Lib, Verilog, Cons, Net, All, OutSpef, OutVerilog, Cert, Cap, Prefix, Size, Parts, Target, Widths}
 use Rattle.vg_words.specs.declared.ask.Mode.{Mode as ModeSpec}
 use Rattle.vg_words.specs.declared.ask.Ask.{Ask}
 use Rattle.vg_words.specs.declared.ask.WordFault.{WordFault}
@@ -213,6 +213,7 @@ value ask Prefix = ask.prefix
 value ask Size = ask.size
 value ask Parts = ask.parts
 value ask Target = ask.target
+value ask Widths = ask.widths
 
 -- that value as a text, empty where there is none
 abbrev pub text_for : Ask → Opt → List ℕ

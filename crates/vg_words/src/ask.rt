@@ -43,6 +43,8 @@ pub enum Mode {
     /// better, each with such a choice. Where their names are given, it writes the netlist and the parasitics with the
     /// cells of the last one.
     Total,
+    /// Prints a best choice of repeaters on one net and of one width for each of its wires.
+    Width,
 }
 
 const WIRE_OPTIONS: [Opt; 2] = [Opt::Spef, Opt::Net];
@@ -84,6 +86,15 @@ const TOTAL_OPTIONS: [Opt; 7] = [
     Opt::OutVerilog,
 ];
 
+const WIDTH_OPTIONS: [Opt; 6] = [
+    Opt::Spef,
+    Opt::Lib,
+    Opt::Verilog,
+    Opt::Cons,
+    Opt::Net,
+    Opt::Widths,
+];
+
 /// What mode `time` may be given besides.
 const TIME_EXTRAS: [Opt; 2] = [Opt::All, Opt::Prefix];
 
@@ -117,6 +128,7 @@ impl Mode {
             Mode::Sta => &STA_OPTIONS,
             Mode::Segment => &SEGMENT_OPTIONS,
             Mode::Total => &TOTAL_OPTIONS,
+            Mode::Width => &WIDTH_OPTIONS,
         }
     }
 
@@ -125,7 +137,7 @@ impl Mode {
         ensures { result.now ≡ optional self }
     {
         match self {
-            Mode::Wire | Mode::Check | Mode::Gen | Mode::Sta => &[],
+            Mode::Wire | Mode::Check | Mode::Gen | Mode::Sta | Mode::Width => &[],
             Mode::Time => &TIME_EXTRAS,
             Mode::Best => &CHANGE_EXTRAS,
             Mode::Frontier => &FRONTIER_EXTRAS,
@@ -169,6 +181,7 @@ impl Mode {
             Mode::Segment => "segment",
             Mode::Repair => "repair",
             Mode::Total => "total",
+            Mode::Width => "width",
         }
     }
 }
@@ -205,6 +218,8 @@ pub struct Ask {
     pub parts: Option<Text>,
     /// The slack (ps) that is enough, as it is written.
     pub target: Option<Text>,
+    /// The name of the file that lists the widths of wires.
+    pub widths: Option<Text>,
 }
 
 /// What the names of cells that are put in begin with, where the words do not say.
@@ -231,6 +246,7 @@ impl Ask {
             Opt::Size => &self.size,
             Opt::Parts => &self.parts,
             Opt::Target => &self.target,
+            Opt::Widths => &self.widths,
         };
         match value {
             Some(text) => text.as_str(),

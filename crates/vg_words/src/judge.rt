@@ -40,6 +40,8 @@ fn mode_of(name: &str) -> Option<Mode>
         Some(Mode::Repair)
     } else if name == "total" {
         Some(Mode::Total)
+    } else if name == "width" {
+        Some(Mode::Width)
     } else {
         None
     }
@@ -268,6 +270,7 @@ fn ask_of(alloc: Global, mode: Mode, given: &Given<'_>) -> Result<Ask, Memory>
     ensures size { IfOk result (λ ask. ask.size ≡ given_by given.now Opt.Size) }
     ensures parts { IfOk result (λ ask. ask.parts ≡ given_by given.now Opt.Parts) }
     ensures target { IfOk result (λ ask. ask.target ≡ given_by given.now Opt.Target) }
+    ensures widths { IfOk result (λ ask. ask.widths ≡ given_by given.now Opt.Widths) }
 {
     let spef = text_of(alloc, given.get(Opt::Spef))?;
     let lib = text_of(alloc, given.get(Opt::Lib))?;
@@ -282,6 +285,7 @@ fn ask_of(alloc: Global, mode: Mode, given: &Given<'_>) -> Result<Ask, Memory>
     let size = text_of(alloc, given.get(Opt::Size))?;
     let parts = text_of(alloc, given.get(Opt::Parts))?;
     let target = text_of(alloc, given.get(Opt::Target))?;
+    let widths = text_of(alloc, given.get(Opt::Widths))?;
     Ok(Ask {
         mode,
         spef,
@@ -298,6 +302,7 @@ fn ask_of(alloc: Global, mode: Mode, given: &Given<'_>) -> Result<Ask, Memory>
         size,
         parts,
         target,
+        widths,
     })
 }
 
@@ -313,8 +318,9 @@ fn ask_of(alloc: Global, mode: Mode, given: &Given<'_>) -> Result<Ask, Memory>
 /// may be given `--all` in the place of `--net`. Mode `repair` asks for what mode `best` asks for, and may be given
 /// `--all` in the place of `--net`, `--cap`, `--prefix` and `--target`. Mode `total` asks for `--spef`, `--lib`,
 /// `--verilog`, `--cons` and `--all`, and for both of `--out-spef` and `--out-verilog` or neither, and may be given
-/// `--cap` and `--prefix`. The faults come in the order of `WordFault`, and of one kind the first option in the order
-/// of `Opt`. Answers `Memory` where there is no room.
+/// `--cap` and `--prefix`. Mode `width` asks for `--spef`, `--lib`, `--verilog`, `--cons`, `--net` and `--widths`. The
+/// faults come in the order of `WordFault`, and of one kind the first option in the order of `Opt`. Answers `Memory`
+/// where there is no room.
 pub fn read_words(alloc: Global, words: &[String]) -> Result<Ask, WordFault>
     ensures { ReadsWords result (texts words.now) }
 {

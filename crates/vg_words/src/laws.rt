@@ -5,9 +5,9 @@ pub fn one_request()
     ensures { OneRequest }
 {}
 
-/// A request asks for one net in modes `wire` and `check`, for one net or for all nets in modes `time`, `best`,
-/// `frontier`, `segment` and `repair`, for all nets in mode `total`, and names none in modes `gen` and `sta`. The
-/// function does nothing: its contract is the law, which a proof may cite.
+/// A request asks for one net in modes `wire`, `check` and `width`, for one net or for all nets in modes `time`,
+/// `best`, `frontier`, `segment` and `repair`, for all nets in mode `total`, and names none in modes `gen` and `sta`.
+/// The function does nothing: its contract is the law, which a proof may cite.
 pub fn one_or_all()
     ensures { OneOrAll }
 {}

@@ -39,10 +39,12 @@ pub enum Opt {
     /// The slack (ps) that is enough. A negative one stands in one word with the option, as in `--target=-100`: a word
     /// of its own that begins with `-` is no value.
     Target,
+    /// The name of the file that lists the widths of wires.
+    Widths,
 }
 
 /// All options, in order.
-pub const OPTIONS: [Opt; 15] = [
+pub const OPTIONS: [Opt; 16] = [
     Opt::Mode,
     Opt::Spef,
     Opt::Lib,
@@ -58,10 +60,11 @@ pub const OPTIONS: [Opt; 15] = [
     Opt::Size,
     Opt::Parts,
     Opt::Target,
+    Opt::Widths,
 ];
 
 /// Those that name files.
-pub const FILE_OPTIONS: [Opt; 7] = [
+pub const FILE_OPTIONS: [Opt; 8] = [
     Opt::Spef,
     Opt::Lib,
     Opt::Verilog,
@@ -69,6 +72,7 @@ pub const FILE_OPTIONS: [Opt; 7] = [
     Opt::OutSpef,
     Opt::OutVerilog,
     Opt::Cert,
+    Opt::Widths,
 ];
 
 /// All options, in the order in which refusals name them.
@@ -99,6 +103,7 @@ impl Opt {
             Opt::Size => "--size",
             Opt::Parts => "--parts",
             Opt::Target => "--target",
+            Opt::Widths => "--widths",
         }
     }
 

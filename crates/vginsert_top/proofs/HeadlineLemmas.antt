@@ -8,7 +8,7 @@ use Rattle.vg_words.specs.Request.{cap_of, parts_of, prefix_of, IsRequest}
 use Rattle.vg_words.proofs.JudgeLemmas.{few}
 use Rattle.vg_words.specs.declared.ask.Ask.{Ask}
 use Rattle.vg_words.specs.declared.ask.Mode.{Mode}
-use Rattle.vg_words.specs.declared.ask.Mode.TheVariants.{Wire, Time, Best as BestMode, Frontier, Check, Gen, Sta as StaMode, Segment as SegmentMode, Repair as RepairMode, Total as TotalMode}
+use Rattle.vg_words.specs.declared.ask.Mode.TheVariants.{Wire, Time, Best as BestMode, Frontier, Check, Gen, Sta as StaMode, Segment as SegmentMode, Repair as RepairMode, Total as TotalMode, Width as WidthMode}
 use Rattle.spef_net.specs.declared.net.ParNet.{ParNet}
 use Rattle.spef_patch_laws.specs.ReplacementLaws.{HasSameNet, replaced_names}
 use Rattle.spef_patch_laws.specs.Replacements.{replaced}
@@ -43,6 +43,7 @@ use Rattle.run_laws.proofs.RetimeLemmas.{written_files_retime}
 use Rattle.run_laws.proofs.CertLemmas.{certificates_are_written, valid_certificates_are_best, written_certificates_check}
 use Rattle.vginsert_top.proofs.RepairLemmas.{repair_headline}
 use Rattle.vginsert_top.proofs.TotalLemmas.{total_headline}
+use Rattle.vginsert_top.proofs.WidthLemmas.{width_headline}
 use Rattle.vginsert_top.specs.Headline.{BestHeadline, BestOf, Certified, FrontOf, Headline, HeadlineIn, SegmentHeadline, SegmentOf, Shown, StaHeadline, StaOf}
 
 abbrev Bytes : Type 0
@@ -284,6 +285,7 @@ headline_in StaMode words ask files out kind mode is prints = sta_headline ask f
 headline_in SegmentMode words ask files out kind mode is prints = segment_headline words ask files out kind mode is prints
 headline_in RepairMode words ask files out kind mode is prints = repair_headline words ask files out kind mode is prints
 headline_in TotalMode words ask files out kind mode is prints = total_headline words ask is files out kind mode prints
+headline_in WidthMode words ask files out kind mode is prints = width_headline words ask files out kind mode is prints
 
 module _ (words : List Bytes) {ask : Ask} {files : Change FilesState} {out err : Change OutState} {status : ℕ} (is : IsRequest words ask)
     (run : IsStatusOf ask files out err status) where

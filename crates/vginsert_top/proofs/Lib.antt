@@ -1,3 +1,4 @@
 pub mod RepairLemmas
 pub mod TotalLemmas
+pub mod WidthLemmas
 pub mod HeadlineLemmas

@@ -1,16 +1,21 @@
--- What a run promises of each net that is asked for in modes `best`, `repair`, `frontier` and `segment`, of a design in
--- modes `sta` and `total`, and of certificates.
-use Rattle.std.specs.Prelude.{◌≡◌, ◌≢◌, ℕ, ℤ, List, [], ◌++◌, map, Option, Some}
+-- What a run promises of each net that is asked for in modes `best`, `repair`, `frontier`, `segment` and `width`, of a
+-- design in modes `sta` and `total`, and of certificates.
+use Rattle.std.specs.Prelude.{◌≡◌, ◌≢◌, ℕ, ℤ, ◌≤ℤ◌, List, [], ◌++◌, map, Option, Some}
 use Rattle.std.specs.List.{All, AllZip, Contains, flat_map}
+use Rattle.elmore.specs.Best.{IsBest}
+use Rattle.wire_widths.specs.Fits.{Fits}
+use Rattle.wire_widths.specs.Widths.{IsWideBest}
+use Rattle.wire_widths.specs.declared.width.Width.{Width}
 use Rattle.vg_store.specs.Reading.{FilesState}
 use Rattle.vg_store.specs.Writing.{OutState, Gains}
 use Rattle.vg_words.specs.Request.{cap_of, parts_of, prefix_of}
 use Rattle.vg_words.specs.declared.ask.Ask.{Ask}
 use Rattle.vg_words.specs.declared.ask.Mode.{Mode}
-use Rattle.vg_words.specs.declared.ask.Mode.TheVariants.{Best as BestMode, Frontier, Check, Sta as StaMode, Segment as SegmentMode, Repair as RepairMode, Total as TotalMode}
+use Rattle.vg_words.specs.declared.ask.Mode.TheVariants.{Best as BestMode, Frontier, Check, Sta as StaMode, Segment as SegmentMode, Repair as RepairMode, Total as TotalMode, Width as WidthMode}
 use Rattle.spef_net.specs.declared.net.ParNet.{ParNet}
 use Rattle.spef_patch_laws.specs.ReplacementLaws.{HasSameNet}
 use Rattle.spef_wire.specs.declared.refusal.Refusal.{Refusal}
+use Rattle.spef_wire.specs.declared.refusal.Refusal.TheVariants.{TooLarge}
 use Rattle.vg_design.specs.Designs.{Design, net_names}
 use Rattle.vg_design.specs.Nets.{IsNetProblem}
 use Rattle.vg_design.specs.Parts.{cells_of}
@@ -27,9 +32,10 @@ use Rattle.vg_report.specs.Reports.{best_report, front_report, none_line, refusa
 use Rattle.design_read.specs.Designs.{Texts, IsDesign, IsSpef}
 use Rattle.change_laws.specs.Laws.{RetimesInTexts}
 use Rattle.vg_answer.specs.Answers.{Said}
+use Rattle.vg_answer.specs.Faults.{DenotesWidths}
 use Rattle.vg_answer.specs.Nets.{nets_for}
 use Rattle.vg_answer.specs.declared.input.Input.{Input}
-use Rattle.vg_answer.specs.declared.input.Input.TheVariants.{Spef}
+use Rattle.vg_answer.specs.declared.input.Input.TheVariants.{Spef, Widths}
 use Rattle.vg_answer.specs.declared.kind.AnswerKind.{AnswerKind}
 use Rattle.vg_answer.specs.declared.kind.AnswerKind.TheVariants.{Report}
 use Rattle.vg_place.specs.Placings.{Files, kept}
@@ -47,6 +53,9 @@ use Rattle.mode_segment.specs.Lines.{segment_line}
 use Rattle.mode_sta.specs.Lines.{cycle_line, no_path_line, sta_report}
 use Rattle.mode_total.specs.Answers.{IsTotalSaid, last_picked}
 use Rattle.mode_total.specs.Choices.{Choice, Standing}
+use Rattle.mode_width.specs.Lines.{width_report}
+use Rattle.vg_slack.specs.Choices.{HasNoWideGood}
+use Rattle.vg_width.specs.declared.wide.WideBest.{WideBest}
 use Rattle.vg_run.specs.Inputs.{AreRead, Change}
 use Rattle.vg_run.specs.Modes.{design_texts, goal_of}
 use Rattle.vg_run.specs.Run.{HoldsAt}
@@ -118,6 +127,23 @@ pub data RepairOf (d : Design) (goal : Goal) (Retimes : List ℕ → ℤ → Typ
       → row ≡ (NoneGood, none_line name) → RepairOf d goal Retimes name row
   refused : (refusal : Refusal) → IsFirstRefusal d name refusal → row ≡ (Refused, refusal_line name refusal)
       → RepairOf d goal Retimes name row
+
+-- The lines of a net in mode `width`. Either they report a placement of its problem and one of these widths for each
+-- wire: by the loads and delays with these, the placement is legal, gives each sink the polarity that it wants and has
+-- exactly this slack; no placement with any of the widths has more, and no best placement without widths has. Or they
+-- say that no placement is good with any of the widths; or they refuse the net as too large, where its loads do not fit
+-- with these widths; or they name the first reason against the net.
+pub data WidthOf (d : Design) (widths : List Width) (name lines : List ℕ) : Type 0 where
+  widened : (net : NetProblem) → IsNetProblem d name net → Fits net.problem widths → (best : WideBest)
+      → IsWideBest net.problem widths best.placement.cells best.chosen best.slack
+      → ((cells : List (Option ℕ)) (x : ℤ) → IsBest net.problem cells x → x ≤ℤ best.slack)
+      → lines ≡ width_report name (cells_of d.library.repeaters) net best → WidthOf d widths name lines
+  none_good : (net : NetProblem) → IsNetProblem d name net → Fits net.problem widths
+      → HasNoWideGood net.problem widths → lines ≡ none_line name → WidthOf d widths name lines
+  too_large : (net : NetProblem) → IsNetProblem d name net → (Fits net.problem widths → ⊥)
+      → lines ≡ refusal_line name TooLarge → WidthOf d widths name lines
+  refused : (refusal : Refusal) → IsFirstRefusal d name refusal → lines ≡ refusal_line name refusal
+      → WidthOf d widths name lines
 
 -- The four files that were read denote a design, and an output gained the lines of the nets that are asked for, one net
 -- after another, each as `Tells` has it.
@@ -211,7 +237,22 @@ pub record TotalHeadline (files : Change FilesState) (out : Change OutState) (as
   pub written : (file : List ℕ) → ask.out_spef ≡ Some file
       → HasTotalFiles files.1 ask (design_texts texts) total.standings total.choices
 
--- what the reports of modes `best`, `repair`, `frontier`, `sta`, `segment` and `total` say
+-- The files that were read denote a design and widths, and an output gained the lines of the net that is asked for, as
+-- `WidthOf` has them.
+pub record WidthHeadline (files : FilesState) (out : Change OutState) (ask : Ask) : Type 0 where
+  pub texts : Input → List ℕ
+  pub read : AreRead files ask texts
+  pub design : Design
+  pub design_of : IsDesign (design_texts texts) design
+  pub widths : List Width
+  pub widths_of : DenotesWidths (texts Widths) widths
+  pub name : List ℕ
+  pub named : ask.net ≡ Some name
+  pub lines : List ℕ
+  pub lines_of : WidthOf design widths name lines
+  pub printed : Gains out.0 out.1 lines
+
+-- what the reports of modes `best`, `repair`, `frontier`, `sta`, `segment`, `total` and `width` say
 abbrev pub HeadlineIn : Mode → Change FilesState → Change OutState → Ask → Type 0
 HeadlineIn BestMode files out ask = BestHeadline files out ask
 HeadlineIn Frontier files out ask = Reports files.0 out ask (λ texts d name lines. FrontOf d (cap_of ask) name lines)
@@ -219,6 +260,7 @@ HeadlineIn StaMode files out ask = StaHeadline files.0 out ask
 HeadlineIn SegmentMode files out ask = SegmentHeadline files out ask
 HeadlineIn RepairMode files out ask = RepairHeadline files out ask
 HeadlineIn TotalMode files out ask = TotalHeadline files out ask
+HeadlineIn WidthMode files out ask = WidthHeadline files.0 out ask
 HeadlineIn mode files out ask = Unit {0}
 
 abbrev pub Headline : Change FilesState → Change OutState → Ask → Type 0

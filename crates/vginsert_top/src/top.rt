@@ -23,7 +23,7 @@ use vg_words::read_words;
 /// | status | when |
 /// |---|---|
 /// | 0 | the report was printed, of all nets that are asked for |
-/// | 1 | modes `best`, `repair` and `frontier`: it was printed, and tells of some net that no placement on it is good, or none within the cap, or that its slack is short of the target; mode `total`: it was printed, and tells that no choice of a good placement for each net is within the cap; no net is refused |
+/// | 1 | modes `best`, `repair` and `frontier`: it was printed, and tells of some net that no placement on it is good, or none within the cap, or that its slack is short of the target; mode `total`: it was printed, and tells that no choice of a good placement for each net is within the cap; mode `width`: it was printed, and tells that no placement is good with any of the widths; no net is refused |
 /// | 2 | it was printed, and some net is refused; or, in mode `sta`, nets form a cycle, or there is none |
 /// | 3 | the words are no request |
 /// | 4 | an input is not in its form, or has more than 2^28 bytes; or, in modes `best` and `repair`, and in mode `total` where it names outputs, a name of the design begins with the prefix |
@@ -81,9 +81,9 @@ pub fn run<F: Files, O: Out, E: Out>(
     // Where the inputs are in their form and nothing fails, the run answers, or is out of memory.
     ensures complete { IsComplete (texts words.now) (F.state files.old, F.state files.new)
         (O.state out.old, O.state out.new) result }
-    // Each reported placement is best, and the written files re-time to its slack; each printed frontier is exact, also
-    // that of a whole design; the slacks of a whole design are those of its paths; a net whose resistors are cut is read
-    // as the cut net, and is no worse.
+    // Each reported placement is best, in mode `width` with the widths of wires, and the written files re-time to its
+    // slack; each printed frontier is exact, also that of a whole design; the slacks of a whole design are those of its
+    // paths; a net whose resistors are cut is read as the cut net, and is no worse.
     ensures headline { (result ≡ 0) ⊎ ((result ≡ 1) ⊎ (result ≡ 2)) → ForRequest (texts words.now)
         (Headline (F.state files.old, F.state files.new) (O.state out.old, O.state out.new)) }
     // A certificate that was asked for is there, and mode `check` finds it valid.

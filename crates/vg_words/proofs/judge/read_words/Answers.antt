@@ -14,4 +14,4 @@ returns c =
     let told = c.in_ok-ask_of.ensures in
     requested (texts c.args.words.now) (given_by c.in_ok-given.given) c.in_ok-mode.mode c.in_ok-ask_of.field-0 c.in_ok-given.ensures c.in_ok-mode.ensures
     told.mode told.spef told.lib told.verilog told.cons told.net told.all told.out_spef told.out_verilog told.cert told.cap told.prefix told.size told.parts
-    told.target
+    told.target told.widths

@@ -1,0 +1,3 @@
+pub mod PrintLemmas
+pub mod WidthLemmas
+pub mod ApartLemmas
