@@ -46,6 +46,7 @@ RUNS = {
     "`frontier`": ["frontier", *SMALL, "--net", "n1"],
     "`frontier --all`": ["frontier", *SOC, "--all"],
     "`total --all`": ["total", *SOC, "--all", *OUTPUTS],
+    "`width`": ["width", *SOC, "--net", "acc[0]", "--widths", os.path.join(EXAMPLES, "soc.widths")],
     "`check`": ["check", *SMALL, "--net", "n1", *SMALL_CERT],
     "`time --all`": ["time", *SOC, "--all"],
     "`wire`": ["wire", "--spef", os.path.join(EXAMPLES, "fork.spef"), "--net", "n1"],

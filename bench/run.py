@@ -15,18 +15,22 @@
 | `all` | `--mode time --all` and `--mode best --all` | all nets of designs of four files |
 | `repair` | `--mode repair --all` with three targets, beside `best --all` and `frontier --all` of the same program | all nets of designs of four files |
 | `total` | `--mode total --all`, with and without a cap and written files, beside `frontier --all` of the same program | the design of `examples/`, and designs of four files |
+| `width` | `--mode width` with 1, 2, 4 and 8 widths, beside `--mode best` of the same program | chains and random trees with 60 to 4,096 nodes between driver and sinks, with 2 and 16 repeaters |
 | `sta` | `--mode time --all` and `--mode sta` | designs of four files with short paths and with long ones, and one path through 2^20 nets |
 | `segment` | `--mode segment --all` with 4 parts, and up to 16 MB also with 16; besides `--mode wire` for a small net, and `cp` of both files | extracted designs |
 
-The sizes are the nodes in modes `best` and `cert`, the nodes but two in mode `frontier`, and those of the SPEF files in modes `design`, `time` and `segment` (1, 16, 64 and 256 MB if none is given), `all` (1, 16, 64 and 192 MB), `repair` and `total` (1, 4 and 16 MB) and `sta`
-(16, 64 and 192 MB; where some are given, the one path goes through 8,192 nets for each MB of the last one), of the netlists (256 MB) and of the libraries (64 MB). With `--beside OTHER` each row but those of `rows`, `library`, `repair` and `total` also tells the seconds
+The sizes are the nodes in modes `best` and `cert`, the nodes but two in modes `frontier` and `width`, and those of the SPEF files in modes `design`, `time` and `segment` (1, 16, 64 and 256 MB if none is given), `all` (1, 16, 64 and 192 MB), `repair` and `total` (1, 4 and 16 MB) and `sta`
+(16, 64 and 192 MB; where some are given, the one path goes through 8,192 nets for each MB of the last one), of the netlists (256 MB) and of the libraries (64 MB). With `--beside OTHER` each row but those of `rows`, `library`, `repair`, `total` and `width` also tells the seconds
 and the memory of another program with the same arguments, run right after. In modes `best` and `cert` the changed files are written, too;
-in mode `cert` each program checks its own certificate, unless this has more than 2^28 bytes. In mode `segment` the nets that are too large when they are cut stay.
+in mode `cert` each program checks its own certificate, unless this has more than 2^28 bytes. In mode `width` seconds
+are those of the processor, the least of seven runs in turn with `best`, or of one that takes a second; a run is ended after 20, and no longer one of its kind is begun. In mode `segment` the nets that are too large when they are cut stay.
 Seconds are the least of five runs of the whole process, peak memory is what GNU time tells, 1 MB is 2^20 bytes.
 """
 import argparse
 import os
 import shutil
+import signal
+import statistics
 import subprocess
 import sys
 import tempfile
@@ -36,6 +40,7 @@ HERE = os.path.dirname(os.path.abspath(__file__))
 LIBRARY = os.path.join(HERE, "..", "examples", "cells.lib")
 BEST_FILES = ["--spef", "net.spef", "--lib", "made.lib", "--verilog", "net.v", "--cons", "net.cons"]
 MOST_BYTES = 2**28
+MOST_SECONDS = 20  # of the processor, for a run in mode `width`
 STACK = ["prlimit", f"--stack={2**23}"]  # of mode `sta`, whatever the system gives: 8 bytes for each net of the one path
 SHAPES = {"chain": "a chain", "star": "a star", "tree": "a binary tree"}
 
@@ -67,6 +72,28 @@ def measure_good(words, most=0):
     if any(not 0 <= status <= most for status, _, _, _ in runs):
         sys.exit(f"run.py: a status that is not to come: {' '.join(words)}")
     return runs[0][1], min(run[2] for run in runs), min(run[3] for run in runs)
+
+
+def spawn(words, out):
+    """Runs a program once, which prints to a file: its status, and the seconds of the processor, user and system."""
+    to_file = (os.POSIX_SPAWN_OPEN, 1, out, os.O_WRONLY | os.O_CREAT | os.O_TRUNC, 0o644)
+    _, status, usage = os.wait4(os.posix_spawnp(words[0], words, os.environ, file_actions=[to_file]), 0)
+    return os.waitstatus_to_exitcode(status), usage.ru_utime + usage.ru_stime
+
+
+def measure_beside(words, other):
+    """What a run printed, its memory, the least seconds of the processor of seven runs and of as many of another program in turn,
+    and the median of the ratios. Of one that takes a second it is the only run; of one that is over MOST_SECONDS nothing is told."""
+    limit = ["prlimit", f"--cpu={MOST_SECONDS}:{MOST_SECONDS + 1}"]
+    status, first = spawn(["/usr/bin/time", "-q", "-o", "peak", "-f", "%M", *limit, *words], "report")
+    if status == 128 + signal.SIGXCPU:
+        return None
+    if status:
+        sys.exit(f"run.py: a status that is not to come: {' '.join(words)}")
+    pairs = [(first if first >= 1 else spawn(words, "turn")[1], spawn(other, "turn")[1]) for _ in range(1 if first >= 1 else 7)]
+    with open("peak") as peak, open("report", "rb") as report:
+        ratio = statistics.median(one / best for one, best in pairs)
+        return report.read(), int(peak.read()) * 1024, min(one for one, _ in pairs), min(best for _, best in pairs), ratio
 
 
 def head(*titles):
@@ -311,6 +338,38 @@ def run_total(programs, *sizes):
                 row(mb(os.path.getsize("net.spef")), f"{nets:,}", cap, name, f"{points:,}", mb(len(report)), f"{seconds:.2f}", mb(peak), f"{seconds / base:.2f}")
 
 
+def slack_of(report):
+    return int(report.split(b" ", 4)[3])
+
+
+def run_width(programs, *sizes):
+    titles = ["more slack than `best`, ps", "cells", "wider wires", "seconds", "peak memory", "seconds of `best`", "times `best`"]
+    head("net", "places", "repeaters", "widths", *titles)
+    best, slow = [programs[0], "--mode", "best", *BEST_FILES, "--net", "n", "--out-spef", "out.spef", "--out-verilog", "out.v"], set()
+    width = [programs[0], "--mode", "width", *BEST_FILES, "--net", "n", "--widths", "made.widths"]
+    for shape in ["chain", "tree"]:
+        for places in sizes or ["60", "240", "1024", "4096"]:
+            make_best_net(str(int(places) + 2), shape)
+            for repeaters in ["2", "16"]:
+                make("repeaters.py", [repeaters], "made.lib")
+                base = slack_of(measure_good(best)[0])
+                for widths in [1, 2, 4, 8]:
+                    told = [shape, f"{int(places):,}", repeaters, str(widths)]
+                    make("widths.py", [str(widths)], "made.widths")
+                    is_slow = any((shape, repeaters, fewer) in slow for fewer in range(widths + 1))
+                    run = None if is_slow else measure_beside(width, best)
+                    if run is None:
+                        slow.add((shape, repeaters, widths))
+                        row(*told, "not run" if is_slow else f"ended after {MOST_SECONDS} s", *[""] * 6)
+                        continue
+                    report, peak, seconds, seconds_of_best, ratio = run
+                    words, gain = report.split(b"\n", 1)[0].decode().split(" "), slack_of(report) - base
+                    if gain < 0 or (gain and widths == 1):
+                        print("run.py: a slack that is not to come", file=sys.stderr)
+                    cells = [f"{gain // 10**9:,}", f"{int(words[7]):,}", f"{int(words[9]):,}"]
+                    row(*told, *cells, f"{seconds:.3f}", mb(peak), f"{seconds_of_best:.3f}", f"{ratio:.2f}")
+
+
 def sta_designs(sizes):
     """Writes designs, one after the other, and tells of what kind each is."""
     for kind in ["clocked", "chained"]:
@@ -366,6 +425,7 @@ MODES = {
     "all": run_all,
     "repair": run_repair,
     "total": run_total,
+    "width": run_width,
     "sta": run_sta,
     "segment": run_segment,
 }
