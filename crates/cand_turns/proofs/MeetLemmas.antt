@@ -1,6 +1,5 @@
 -- Two branches meet at a node.
-use Rattle.std.proofs.Common.{◌≡◌, ◌≢◌, ℕ, ◌+◌, ◌*◌, ◌^◌, ◌<◌, ◌≤◌, Bool, true, false, List, [], ◌∷◌, ◌++◌, length, refl, sym, ap, ◌∙◌, subst, arith, pos, Option, suc}
-use Rattle.std.specs.Prelude.{◌-ℤ◌}
+use Rattle.std.proofs.Common.{◌≡◌, ◌≢◌, ℕ, ◌+◌, ◌^◌, ◌<◌, ◌≤◌, Bool, true, false, List, [], ◌∷◌, ◌++◌, length, refl, sym, ap, ◌∙◌, subst, arith, Option, suc}
 use Rattle.std.proofs.lemmas.Int.{ints}
 use Rattle.std.proofs.lemmas.List.{length-append}
 use Rattle.std.proofs.lemmas.List.Sorted.{IsPermutation-refl, IsPermutation-append_comm, IsPermutation-append_left, IsPermutation-cons, IsPermutation-sym}
@@ -8,7 +7,7 @@ use Rattle.std.proofs.lemmas.List.Elements.{All-nil, All-contains}
 use Rattle.std.specs.List.{All, Contains}
 use Rattle.elmore.specs.Pairs.{IsUndominated}
 use Rattle.elmore.specs.Problems.{is_live}
-use Rattle.elmore.specs.Trees.{parent_of, resistance}
+use Rattle.elmore.specs.Trees.{parent_of}
 use Rattle.elmore.specs.declared.pair.Pair.{Pair}
 use Rattle.elmore.specs.declared.problem.Problem.{Problem}
 use Rattle.sol_arena.specs.declared.arena.Arena.{Arena}
@@ -17,13 +16,10 @@ use Rattle.sol_arena.specs.declared.slot.Slot.{Slot}
 use Rattle.sol_arena.specs.Arenas.{made_of}
 use Rattle.sol_arena.specs.Slots.{made_in}
 use Rattle.sol_arena.specs.Meanings.{cells_of, AreApart, joined}
-use Rattle.cand_pairs.specs.Candidates.{IsLive as IsLiveNode, fork_of}
-use Rattle.cand_pairs.specs.Merging.{IsSmallPair, live_from, own_from, fork_from, meet, raised, Meets}
-use Rattle.cand_pairs.proofs.FromLemmas.{live_here, live_own, not_yet}
+use Rattle.cand_pairs.specs.Candidates.{IsLive as IsLiveNode}
+use Rattle.cand_pairs.specs.Merging.{IsSmallPair, fork_from, meet, raised, Meets}
 use Rattle.cand_pairs.proofs.JoinLemmas.{is_child_of, parent_within}
-use Rattle.cand_pairs.proofs.PairPartLemmas.{live_child_parts}
 use Rattle.cand_pairs.proofs.MergeLemmas.{same_exact}
-use Rattle.cand_pairs.proofs.SmallPairLemmas.{live_from_in}
 use Rattle.wire_widths.specs.Widths.{AreWidths, wire_a}
 use Rattle.wire_widths.specs.WidePairs.{IsWidePairAt, WideWires, carried_by}
 use Rattle.wire_widths.specs.WideParts.{IsWideOpenFrom}
@@ -38,7 +34,6 @@ use Rattle.cand_pool.specs.declared.ends.List.{List as NamedList}
 use Rattle.cand_uses.specs.Pairs.{pair_of, pairs_of}
 use Rattle.cand_uses.specs.Uses.{HoldsFor, IsExchange, MeanTheSame}
 use Rattle.cand_uses.proofs.ExchangeLemmas.{exchange_of, exchange_as, exchanged_held}
-use Rattle.cand_lists.proofs.ExactLemmas.{pair_in}
 use Rattle.vg_merge.specs.Merges.{CanMeet, IsMet}
 use Rattle.cand_turns.specs.Swaps.{Search, search, Lists, all_of, AreHeld, IsTurn, AreOf}
 use Rattle.cand_turns.specs.Branches.{classes_in}

@@ -1,5 +1,5 @@
 -- What the wire of a node makes of a class there under several of its widths.
-use Rattle.std.proofs.Common.{◌≡◌, ◌≢◌, ◌⊎◌, ℕ, ◌+◌, ◌*◌, ◌<◌, ◌≤◌, Bool, true, false, List, [], ◌∷◌, ◌++◌, length, refl, sym, ap, ◌∙◌, subst, arith, inl, inr}
+use Rattle.std.proofs.Common.{◌≡◌, ◌≢◌, ◌⊎◌, ℕ, ◌+◌, ◌<◌, ◌≤◌, Bool, true, false, List, [], ◌∷◌, ◌++◌, length, sym, ap, ◌∙◌, subst, arith, inl, inr}
 use Rattle.std.specs.List.{Contains}
 use Rattle.std.proofs.lemmas.Bool.{cases_lt}
 use Rattle.std.proofs.lemmas.List.Sorted.{IsPermutation-refl, IsPermutation-append_comm}
@@ -15,7 +15,7 @@ use Rattle.cand_pairs.proofs.MergeLemmas.{dense_exact, same_exact}
 use Rattle.wire_widths.specs.WidePairs.{IsWidePairAt, WideWires}
 use Rattle.wire_widths.specs.WideSolutions.{IsWideSolutionOf}
 use Rattle.wire_widths.specs.declared.width.Width.{Width}
-use Rattle.cand_pool.specs.Candidates.{Candidate, Candidates}
+use Rattle.cand_pool.specs.Candidates.{Candidates}
 use Rattle.cand_pool.specs.Pools.{Block, Holds, items_of, spare, name, KeepsOthers}
 use Rattle.cand_pool.specs.declared.ends.List.{List as NamedList}
 use Rattle.cand_pool.proofs.PublicLaws.{held_items, held_named, nothing_held}
@@ -27,7 +27,7 @@ use Rattle.cand_lists.proofs.ExactLemmas.{both_over, both_take}
 use Rattle.cand_turns.specs.Swaps.{Search, search, Lists, all_of, AreHeld, IsSwap, IsTurn}
 use Rattle.cand_turns.specs.Branches.{classes_in}
 use Rattle.cand_turns.specs.declared.branch.Branch.{Branch}
-use Rattle.cand_turns.specs.Solved.{CanWiden, AreSolved, Beside, IsBesideSolution, IsCarriedClass, IsCarriedAt}
+use Rattle.cand_turns.specs.Solved.{CanWiden, Beside, IsBesideSolution, IsCarriedClass, IsCarriedAt}
 use Rattle.cand_turns.specs.Widened.{IsClosedClass, RowWires, IsUnderRows}
 use Rattle.cand_turns.proofs.SwapLemmas.{beside, other_items, turn_among}
 use Rattle.cand_turns.proofs.MeetLemmas.{exact_as, merge_turn, solved_beside}

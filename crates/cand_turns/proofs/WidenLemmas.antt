@@ -1,28 +1,23 @@
 -- A list whose candidates each have a choice more, made beside the list that they come from.
-use Rattle.std.proofs.Common.{◌≡◌, ◌≢◌, ℕ, ◌+◌, ◌<◌, ◌≤◌, List, [], ◌∷◌, map, length, refl, sym, ap, ◌∙◌, subst, arith, Some, None}
-use Rattle.std.specs.List.{All, AllZip, Contains}
+use Rattle.std.proofs.Common.{◌≡◌, ℕ, ◌≤◌, List, [], ◌∷◌, map, length, refl, sym, ap, subst, arith, None}
+use Rattle.std.specs.List.{All}
 use Rattle.std.proofs.lemmas.List.Elements.{All-map}
-use Rattle.std.proofs.lemmas.List.{length-map}
-use Rattle.elmore.specs.declared.pair.Pair.{Pair}
 use Rattle.sol_arena.specs.declared.arena.Arena.{Arena}
 use Rattle.sol_arena.specs.declared.slot.Made.{Made}
-use Rattle.sol_arena.specs.declared.slot.Slot.{Slot}
 use Rattle.sol_arena.specs.Arenas.{slots_of, made_of}
 use Rattle.sol_arena.specs.Meanings.{cells_of}
-use Rattle.sol_arena.specs.Slots.{none, IsLive as IsLiveSolution}
+use Rattle.sol_arena.specs.Slots.{IsLive as IsLiveSolution}
 use Rattle.sol_arena.specs.Reach.{IsRestored}
-use Rattle.sol_arena.specs.Uses.{held_of}
-use Rattle.cand_pool.specs.Candidates.{Candidate, Candidates}
-use Rattle.cand_pool.specs.Pools.{Block, IsLive, items_of, spare, name, KeepsOthers}
+use Rattle.cand_pool.specs.Candidates.{Candidates}
+use Rattle.cand_pool.specs.Pools.{Block, IsLive, items_of, spare, KeepsOthers}
 use Rattle.cand_pool.specs.declared.ends.List.{List as NamedList}
 use Rattle.cand_pool.proofs.PublicLaws.{held_items, held_named}
-use Rattle.cand_uses.specs.Uses.{uses_by, HoldsFor, IsExchange}
 use Rattle.cand_uses.proofs.ExchangeLemmas.{exchange_as}
-use Rattle.vg_convex.specs.Lists.{AreBareAt, AreAdded, IsWithCell, AreWithCells, KeepsSolutions}
+use Rattle.vg_convex.specs.Lists.{AreBareAt, AreAdded, AreWithCells}
 use Rattle.vg_convex.specs.declared.work.Made.{Made as Result}
 use Rattle.vg_convex.proofs.Adds.{added_exchange}
-use Rattle.cand_turns.specs.Swaps.{Search, search, Slots, at_slots, AreHeld, IsSwap, IsTurn}
-use Rattle.cand_turns.specs.Widened.{IsChosen, AreChosen, chosen_for}
+use Rattle.cand_turns.specs.Swaps.{search, Slots, at_slots, AreHeld, IsSwap, IsTurn}
+use Rattle.cand_turns.specs.Widened.{AreChosen, chosen_for}
 use Rattle.cand_turns.proofs.SwapLemmas.{turn_then, swap_then, other_items}
 use Rattle.cand_turns.proofs.BranchLemmas.{one_held}
 use Rattle.cand_turns.proofs.AddLemmas.{add_turn, grown, grown_turn}

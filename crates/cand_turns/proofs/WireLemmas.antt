@@ -1,13 +1,11 @@
 -- How large the numbers of a class at a node are, and what its wire leaves of them under one of its widths.
-use Rattle.std.proofs.Common.{map, ◌≡◌, ◌≢◌, ℕ, ◌+◌, ◌*◌, ◌^◌, ◌<◌, ◌≤◌, Bool, true, false, List, [], ◌∷◌, length, get_or, refl, sym, ap, ◌∙◌, subst, arith, zero, suc, pos, Option}
-use Rattle.std.specs.Prelude.{◌-ℤ◌, ◌<ℤ◌, Some}
-use Rattle.std.specs.List.{All, AllPairs, AllZip, Contains}
+use Rattle.std.proofs.Common.{map, ◌≡◌, ◌≢◌, ℕ, ◌+◌, ◌*◌, ◌^◌, ◌<◌, ◌≤◌, Bool, List, [], ◌∷◌, length, get_or, refl, sym, ap, ◌∙◌, subst, arith, zero, suc, Option}
+use Rattle.std.specs.Prelude.{◌<ℤ◌, Some}
+use Rattle.std.specs.List.{AllPairs, Contains}
 use Rattle.std.proofs.lemmas.Bool.{ne_eqb}
 use Rattle.std.proofs.lemmas.Int.{ints}
 use Rattle.std.proofs.lemmas.List.{get_or_default, length-map}
-use Rattle.std.proofs.lemmas.List.Elements.{Contains-get_or}
 use Rattle.elmore.specs.Pairs.{Dominates, IsBelow, IsUndominated}
-use Rattle.elmore.specs.Problems.{is_live}
 use Rattle.elmore.specs.Trees.{resistance}
 use Rattle.elmore.specs.declared.pair.Pair.{Pair}
 use Rattle.elmore.specs.declared.problem.Problem.{Problem}
@@ -18,19 +16,18 @@ use Rattle.cand_pairs.specs.Candidates.{IsLive, wired}
 use Rattle.cand_pairs.proofs.MergeLemmas.{same_exact}
 use Rattle.cand_pairs.proofs.StepLemmas.{over_trans}
 use Rattle.wire_widths.specs.Widths.{added_by, plain, resistance_by, width_at, wire_r, wire_a}
-use Rattle.wire_widths.specs.Fits.{Fits}
 use Rattle.wire_widths.specs.WidePairs.{IsWidePairAt, carried_by}
-use Rattle.wire_widths.specs.WideSolutions.{IsWideSolutionOf, IsWideCarriedSolution, wire_site, with_row}
+use Rattle.wire_widths.specs.WideSolutions.{wire_site, with_row}
 use Rattle.wire_widths.specs.declared.width.Width.{Width}
 use Rattle.wire_widths.proofs.WideSmallLemmas.{wide_pair_small, wide_carried_small, wire_r_small}
 use Rattle.wire_widths.proofs.PlainLemmas.{first_carried}
-use Rattle.cand_pool.specs.Candidates.{Candidate, Candidates, IsModest, AreModest, loaded, wired_to}
+use Rattle.cand_pool.specs.Candidates.{Candidate, Candidates, AreModest, loaded, wired_to}
 use Rattle.cand_pool.specs.Sequences.{lowest}
 use Rattle.cand_uses.specs.Pairs.{pair_of, pairs_of}
 use Rattle.cand_uses.specs.Uses.{MeanTheSame}
 use Rattle.cand_lists.specs.ListLaws.{AreRising, through_wire, above_wire}
 use Rattle.cand_lists.proofs.KeptLemmas.{kept_length}
-use Rattle.cand_lists.proofs.ExactLemmas.{wire_exact, load_exact, wire_loads, above_takes, pair_in, of_pair}
+use Rattle.cand_lists.proofs.ExactLemmas.{wire_exact, load_exact, wire_loads, above_takes, pair_in}
 use Rattle.cand_turns.specs.Solved.{CanWiden, AreSolved, Beside, IsBesideSolution}
 use Rattle.cand_turns.specs.Widened.{IsClosedClass, IsChosen, AreChosen, RowWires, IsUnderRows}
 

@@ -1,5 +1,5 @@
 -- What the wire of a node, under some of its widths, makes of a list there.
-use Rattle.std.specs.Prelude.{◌≡◌, ℕ, ◌+◌, ◌<◌, ◌≤◌, Bool, List, Some, Option}
+use Rattle.std.specs.Prelude.{◌≡◌, ℕ, ◌<◌, ◌≤◌, Bool, List, Some}
 use Rattle.std.specs.List.{AllZip, Contains}
 use Rattle.elmore.specs.Pairs.{IsUndominated}
 use Rattle.elmore.specs.declared.pair.Pair.{Pair}

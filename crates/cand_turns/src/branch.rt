@@ -150,7 +150,8 @@ impl Branch {
             (search pool.new arena.new) (lists_of branch))
             (λ _. IsSwap (search pool.old arena.old) (lists_of self ++ lists_of lower) (search pool.new arena.new) []) }
         ensures open { IfOk result (λ branch.
-            IsOpenAt p.now widths.now node (parent_of p.now.tree.nodes node) (made_of arena.new) (classes_in pool.new branch)) }
+            IsOpenAt p.now widths.now node (parent_of p.now.tree.nodes node) (made_of arena.new)
+            (classes_in pool.new branch)) }
         ensures few { IfOk result (λ branch. (odd : Bool)
             → length (classes_in pool.new branch odd)
             ≤ length (classes_in pool.old self odd) + length (classes_in pool.old lower odd)) }

@@ -3,7 +3,7 @@
 ghost use Rattle.std.specs.Prelude.{◌≡◌, ◌+◌, ◌*◌, ◌<◌, ◌≤◌, Bool, true, false, not, [], ◌∷◌, ◌++◌, length, slice_index_or, IfOk, OnOk, MatchResult};
 ghost use Rattle.elmore.specs.Allowances.{allowed_at};
 ghost use Rattle.sol_arena.specs.Arenas.{slots_of, made_of};
-ghost use Rattle.cand_pool.specs.Candidates.{Candidates};
+ghost use Rattle.cand_pool.specs.Candidates.{AreModest, Candidates};
 ghost use Rattle.cand_pool.specs.Pools.{spare, IsLive, items_of};
 ghost use Rattle.cand_uses.specs.Pairs.{pairs_of};
 ghost use Rattle.cand_uses.specs.Uses.{HoldsFor, MeanTheSame};
@@ -13,7 +13,6 @@ ghost use Rattle.cand_turns.specs.Branches.{classes_in, list_of, lists_of};
 ghost use Rattle.cand_turns.specs.Solved.{CanWiden, IsOpenAt, IsClosedAt};
 ghost use Rattle.vg_convex.specs.Answers.{HasFound};
 ghost use Rattle.vg_convex.specs.Orders.{IsShelf};
-ghost use Rattle.cand_turns.specs.Parts.{Solutions};
 ghost use Rattle.cand_turns.specs.Tooled.{AreToolsOf, HaveFound, HaveFoundAt, added_at};
 ghost use Rattle.cand_turns.specs.Celled.{IsMadeOfClasses, IsOpenList, AreBest};
 
@@ -34,7 +33,6 @@ use wire_widths::Width;
 fn find_at<L: Ledger>(
     pool: &Pool,
     p: &Problem,
-    widths: &[Width],
     node: usize,
     from: &List,
     shelf: &Shelf,
@@ -42,14 +40,13 @@ fn find_at<L: Ledger>(
     steps: &mut Steps<L>,
 ) -> Result<(), Memory>
     requires node { node < length p.now.tree.nodes }
-    requires widths { CanWiden p.now widths.now }
     requires shelf { IsShelf p.now.reps shelf.now }
     requires live { IsLive pool.now from.now }
-    requires open { (odd : Bool) × (ms : Solutions) × IsOpenList p.now widths.now node odd ms (items_of pool.now from.now) }
+    requires rising { AreRising (items_of pool.now from.now) }
+    requires modest { AreModest (items_of pool.now from.now) }
     ensures found { OnOk result
         (HasFound (allowed_at p.now.allowed node) p.now.reps (items_of pool.now from.now) work.new) }
 {
-    let _ = widths;
     let allowed = &p.allowed.as_slice()[node];
     find_each(pool, from, p.reps.as_slice(), shelf, allowed, work, steps)?;
     Ok(())
@@ -107,16 +104,15 @@ impl Branch {
         &self,
         pool: &Pool,
         p: &Problem,
-        widths: &[Width],
         node: usize,
         tools: &mut Tools,
         steps: &mut Steps<L>,
     ) -> Result<(), Memory>
         requires node { node < length p.now.tree.nodes }
-        requires widths { CanWiden p.now widths.now }
         requires tools { AreToolsOf p.now tools.old }
         requires live { (odd : Bool) → IsLive pool.now (list_of self.now odd) }
-        requires open { (ms : Solutions) × IsOpenAt p.now widths.now (node + 1) node ms (classes_in pool.now self.now) }
+        requires rising { (odd : Bool) → AreRising (classes_in pool.now self.now odd) }
+        requires modest { (odd : Bool) → AreModest (classes_in pool.now self.now odd) }
         ensures tools { AreToolsOf p.now tools.new }
         ensures found { OnOk result (HaveFound p.now node (classes_in pool.now self.now) tools.new) }
     {
@@ -126,8 +122,8 @@ impl Branch {
             odd,
             ..
         } = tools;
-        find_at(pool, p, widths, node, &self.even, shelf, even, steps)?;
-        find_at(pool, p, widths, node, &self.odd, shelf, odd, steps)?;
+        find_at(pool, p, node, &self.even, shelf, even, steps)?;
+        find_at(pool, p, node, &self.odd, shelf, odd, steps)?;
         Ok(())
     }
 
@@ -153,12 +149,12 @@ impl Branch {
             (λ cells. IsTurn (search pool.old arena.old) [] (search pool.new arena.new) (lists_of cells))
             (λ _. IsSwap (search pool.old arena.old) [] (search pool.new arena.new) []) }
         ensures best { IfOk result (λ cells. (odd : Bool)
-            → AreBest p.now widths.now node odd (IsMadeOfClasses p.now node odd (classes_in pool.old self.now)) (made_of arena.new)
-            (classes_in pool.new cells odd)) }
+            → AreBest p.now widths.now node odd (IsMadeOfClasses p.now node odd (classes_in pool.old self.now))
+            (made_of arena.new) (classes_in pool.new cells odd)) }
         ensures few { IfOk result (λ cells. (odd : Bool) → length (classes_in pool.new cells odd) ≤ length p.now.reps) }
     {
         pool.reserve(2 * p.reps.len())?;
-        self.find(pool, p, widths, node, tools, steps)?;
+        self.find(pool, p, node, tools, steps)?;
         let Tools {
             shelf,
             even,

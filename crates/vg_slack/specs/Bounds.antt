@@ -1,5 +1,5 @@
--- How long the lists of a search are where wires have one width: in each class a node has at most one candidate for each sink at it or below, and
--- one for each repeater at each place at it or below.
+-- How long the lists of a search are where wires have one width: in each class a node has at most one candidate for
+-- each sink at it or below, and one for each repeater at each place at it or below.
 use Rattle.std.specs.Prelude.{◌≡◌, ℕ, ◌+◌, ◌≤◌, Bool, List, length}
 use Rattle.std.specs.List.{sum_by}
 use Rattle.elmore.specs.Problems.{is_sink}

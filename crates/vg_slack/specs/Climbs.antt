@@ -1,5 +1,6 @@
 -- How far a search has come up a net.
 use Rattle.std.specs.Prelude.{◌≡◌, ℕ, ◌+◌, ◌<◌, List, [], ◌∷◌, ◌++◌, length, slice_index_or, slice_set}
+use Rattle.elmore.specs.Trees.{parent_of}
 use Rattle.elmore.specs.declared.problem.Problem.{Problem}
 use Rattle.wire_widths.specs.declared.width.Width.{Width}
 use Rattle.sol_arena.specs.declared.slot.Made.{Made}
@@ -28,6 +29,10 @@ without parts v = slice_set parts v (Dead 0)
 pub record IsSoFar (p : Problem) (widths : List Width) (i v : ℕ) (ms : List Made) (s : Block) (x : Part) : Type 0 where
   pub part : IsPart p widths i v ms s x
   pub few : IsFew p widths i v s x
+
+-- the part of the parent of a node, with the children from this node's number on, but for itself, that came in
+abbrev pub IsAboveSoFar : Problem → List Width → ℕ → List Made → Block → Part → Type 0
+IsAboveSoFar p widths node ms s x = IsSoFar p widths (node + 1) (parent_of p.tree.nodes node) ms s x
 
 -- to none of these nodes a child came in
 abbrev pub AreBegun : Problem → List Width → List Made → Block → List Part → Type 0

@@ -70,9 +70,9 @@ fn placement_of(p: &Problem, choices: Choices) -> Placement
     }
 }
 
-/// The best placement of a problem, where this is what a best solution chooses whose wires have their only width: the one
-/// without a cell where it is best, and else that of the solution. `None`: no placement is good. Answers `Memory` when
-/// out of memory.
+/// The best placement of a problem, where this is what a best solution chooses whose wires have their only width: the
+/// one without a cell where it is best, and else that of the solution. `None`: no placement is good. Answers `Memory`
+/// when out of memory.
 pub(crate) fn best_placement(
     alloc: Global,
     p: &Problem,

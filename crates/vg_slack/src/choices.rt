@@ -20,8 +20,8 @@ pub struct Choices {
     pub sites: Row<Option<u32>>,
 }
 
-/// What the best solution chooses that the candidates of the root come to, where this one of them was chosen. `None`: no
-/// placement is good with any widths.
+/// What the best solution chooses that the candidates of the root come to, where this one of them was chosen. `None`:
+/// no placement is good with any widths.
 pub(crate) fn choices_of(
     alloc: Global,
     arena: &Arena,

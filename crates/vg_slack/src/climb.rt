@@ -9,7 +9,7 @@ ghost use Rattle.cand_turns.specs.Branches.{classes_in, lists_of};
 ghost use Rattle.cand_turns.specs.Parts.{lists_in};
 ghost use Rattle.cand_turns.specs.Solved.{CanWiden, IsClosedAt};
 ghost use Rattle.cand_turns.specs.Tooled.{AreToolsOf, added_at};
-ghost use Rattle.vg_slack.specs.Climbs.{all_lists, part_at, without, IsSoFar, AreBegun, AreParts};
+ghost use Rattle.vg_slack.specs.Climbs.{all_lists, part_at, without, IsAboveSoFar, IsSoFar, AreBegun, AreParts};
 ghost use Rattle.vg_slack.specs.Kept.{lists_at, AreEmpty, IsKeptOf, AreKept};
 ghost use Rattle.vg_slack.specs.Waits.{last_at, IsWaiting, IsAtRoot};
 
@@ -87,7 +87,8 @@ pub(crate) fn close<L: Ledger>(
     ensures turn { MatchResult result
         (λ closed. IsTurn (search pool.old arena.old) (lists_of branch) (search pool.new arena.new) (lists_of closed))
         (λ _. IsSwap (search pool.old arena.old) (lists_of branch) (search pool.new arena.new) []) }
-    ensures closed { IfOk result (λ closed. IsClosedAt p.now widths.now node (made_of arena.new) (classes_in pool.new closed)) }
+    ensures closed { IfOk result (λ closed.
+        IsClosedAt p.now widths.now node (made_of arena.new) (classes_in pool.new closed)) }
     ensures few { IfOk result (λ closed. (odd : Bool)
         → length (classes_in pool.new closed odd) ≤ length (classes_in pool.old branch odd) + added_at p.now node) }
     ensures nodes { length lists.new.nodes.items ≡ length lists.old.nodes.items }
@@ -122,7 +123,7 @@ fn take_in<L: Ledger>(
     requires widths { CanWiden p.now widths.now }
     requires tools { AreToolsOf p.now tools.old }
     requires held { AreHeld (search pool.old arena.old) (lists_in upper ++ lists_in part) }
-    requires upper { IsSoFar p.now widths.now (node + 1) (parent_of p.now.tree.nodes node) (made_of arena.old) pool.old upper }
+    requires upper { IsAboveSoFar p.now widths.now node (made_of arena.old) pool.old upper }
     requires whole { IsSoFar p.now widths.now (node + 1) node (made_of arena.old) pool.old part }
     requires none { AreEmpty (lists_at lists.old node) }
     ensures tools { AreToolsOf p.now tools.new }

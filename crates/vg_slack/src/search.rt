@@ -95,8 +95,8 @@ fn choices_of_parts<L: Ledger>(
     choices_at_root(alloc, pool, arena, p, widths, root, tools, lists, steps)
 }
 
-/// What a best solution of a problem chooses, or none, by a search whose lists stand in a lent pool, and its solutions in
-/// a lent arena. Answers `Memory` when out of memory.
+/// What a best solution of a problem chooses, or none, by a search whose lists stand in a lent pool, and its solutions
+/// in a lent arena. Answers `Memory` when out of memory.
 fn choices_in<L: Ledger>(
     alloc: Global,
     p: &Problem,

@@ -9,7 +9,8 @@ use Rattle.vg_width.specs.declared.wide.WideBest.{WideBest}
 -- none where no placement is good with any widths, and else a best one with its widths
 abbrev pub IsWideAnswer : Problem → List Width → Option WideBest → Type 0
 IsWideAnswer p widths answer =
-    MatchOption answer (HasNoWideGood p widths) (λ best. IsWideBest p widths best.placement.cells best.chosen best.slack)
+    MatchOption answer (HasNoWideGood p widths)
+    (λ best. IsWideBest p widths best.placement.cells best.chosen best.slack)
 
 -- these number widths, of which there are few
 abbrev pub AreFew : List ℕ → Type 0

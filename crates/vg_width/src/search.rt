@@ -83,8 +83,8 @@ fn split(alloc: Global, p: &Problem, widths: &[Width], choices: Choices) -> Resu
 }
 
 /// The best choice of repeaters and of one width for each wire of a net whose loads stay within their limit with all
-/// widths (Lillis, Cheng and Lin 1996). `None`: no placement is good with any widths. Answers `Memory` where there is no
-/// room.
+/// widths (Lillis, Cheng and Lin 1996). `None`: no placement is good with any widths. Answers `Memory` where there is
+/// no room.
 pub fn wide_best(alloc: Global, p: &Problem, widths: &Widths) -> Result<Option<WideBest>, Memory>
     requires fits { Fits p.now widths.now.rows }
     ensures { IfOk result (IsWideAnswer p.now widths.now.rows) }

@@ -6,7 +6,7 @@ ghost use Rattle.elmore.specs.Legal.{IsPlaced};
 ghost use Rattle.elmore.specs.Placed.{IsLeast};
 ghost use Rattle.elmore.specs.Placements.{IsPlacement};
 ghost use Rattle.elmore.specs.Problems.{IsDriverWithin, IsSmall, sink_of};
-ghost use Rattle.vg_width.specs.Nets.{IsWideNet};
+ghost use Rattle.vg_width.specs.Nets.{IsWideNet, left_after};
 ghost use Rattle.vg_width.specs.Room.{room_of};
 ghost use Rattle.wire_widths.specs.Fits.{Fits};
 ghost use Rattle.wire_widths.specs.Widths.{IsLawful, IsWideSlack};
@@ -36,7 +36,7 @@ fn least_slack(sinks: &[Option<Sink>], delays: &[u128], start: i128) -> i128
     requires delays { (v : ℕ) → v < length sinks.now → slice_index_or delays.now v 0 ≤ 10 ^ 25 }
     requires start_low { (pos 0 -ℤ pos (10 ^ 25)) ≤ℤ start }
     requires start_high { start ≤ℤ pos (10 ^ 25) }
-    ensures { IsLeast sinks.now (λ v sink. sink.required -ℤ (start +ℤ pos (slice_index_or delays.now v 0))) result }
+    ensures { IsLeast sinks.now (left_after start delays.now) result }
 {
     let mut least = i128::MAX;
     'sinks: for v in 0..sinks.len() {

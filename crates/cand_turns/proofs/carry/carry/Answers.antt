@@ -1,5 +1,5 @@
-use Rattle.std.proofs.Common.{◌≡◌, ◌+◌, ◌*◌, ◌<◌, ◌≤◌, ◌^◌, ◌∷◌, [], ◌++◌, ℕ, List, length, refl, sym, ap, ◌∙◌, subst, arith}
-use Rattle.sol_arena.specs.Arenas.{slots_of, made_of}
+use Rattle.std.proofs.Common.{◌<◌, ◌^◌, ◌∷◌, [], length, refl, sym, ap, subst, arith}
+use Rattle.sol_arena.specs.Arenas.{made_of}
 use Rattle.cand_pairs.proofs.SmallPairLemmas.{resistance_small}
 use Rattle.cand_pool.specs.Candidates.{Candidates, AreModest}
 use Rattle.cand_pool.specs.Pools.{items_of}

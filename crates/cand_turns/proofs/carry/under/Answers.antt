@@ -1,12 +1,11 @@
-use Rattle.std.proofs.Common.{◌≡◌, ◌≢◌, ◌+◌, ◌<◌, ◌≤◌, ◌^◌, ◌∷◌, [], ℕ, List, get_or, length, sym, ap, ◌∙◌, subst, arith}
+use Rattle.std.proofs.Common.{◌≡◌, ◌+◌, ◌∷◌, [], ℕ, get_or, length, sym, ap, subst, arith}
 use Rattle.std.proofs.lemmas.List.Elements.{Contains-get_or}
-use Rattle.sol_arena.specs.Arenas.{slots_of, made_of}
+use Rattle.sol_arena.specs.Arenas.{made_of}
 use Rattle.wire_widths.specs.Widths.{wire_a, wire_r}
-use Rattle.cand_pool.specs.Candidates.{Candidate, Candidates}
+use Rattle.cand_pool.specs.Candidates.{Candidates}
 use Rattle.cand_pool.specs.Pools.{items_of}
 use Rattle.cand_pool.proofs.PublicLaws.{held_items}
 use Rattle.cand_uses.specs.Pairs.{pair_of, pairs_of}
-use Rattle.cand_lists.specs.ListLaws.{above_wire}
 use Rattle.vg_convex.specs.Lists.{AreBareAt}
 use Rattle.cand_turns.specs.Swaps.{search}
 use Rattle.cand_turns.specs.Widened.{AreChosen, IsUnderRows}

@@ -1,11 +1,10 @@
-use Rattle.std.proofs.Common.{◌≡◌, ◌+◌, ◌*◌, ◌<◌, ◌≤◌, ◌^◌, ◌∷◌, [], ◌++◌, ℕ, Bool, true, false, List, length, refl, sym, ap, ◌∙◌, subst, arith, inl, inr}
-use Rattle.sol_arena.specs.Arenas.{slots_of, made_of}
-use Rattle.elmore.specs.declared.pair.Pair.{Pair}
+use Rattle.std.proofs.Common.{◌≡◌, ◌+◌, ◌∷◌, [], ℕ, length, refl, sym, ap, subst, arith}
+use Rattle.sol_arena.specs.Arenas.{made_of}
 use Rattle.cand_pool.specs.Candidates.{Candidates}
 use Rattle.cand_pool.specs.Pools.{items_of}
-use Rattle.cand_pool.proofs.PublicLaws.{held_items, held_named}
+use Rattle.cand_pool.proofs.PublicLaws.{held_items}
 use Rattle.cand_uses.specs.Pairs.{pairs_of}
-use Rattle.cand_turns.specs.Swaps.{search, IsTurn}
+use Rattle.cand_turns.specs.Swaps.{search}
 use Rattle.cand_turns.specs.Widened.{IsUnderRows}
 use Rattle.cand_turns.proofs.SwapLemmas.{turn_then, swap_then, beside, other_items}
 use Rattle.cand_turns.proofs.PartLemmas.{err_answers}

@@ -1,11 +1,11 @@
-use Rattle.std.proofs.Common.{◌≡◌, ◌+◌, ◌*◌, ◌<◌, ◌≤◌, ◌∷◌, [], ◌++◌, ℕ, List, length, refl, sym, ap, ◌∙◌, subst, arith}
-use Rattle.sol_arena.specs.Arenas.{slots_of, made_of}
+use Rattle.std.proofs.Common.{◌+◌, ◌∷◌, [], length, refl, sym, ap, subst, arith}
+use Rattle.sol_arena.specs.Arenas.{made_of}
 use Rattle.cand_pool.specs.Candidates.{Candidates}
 use Rattle.cand_pool.specs.Pools.{items_of}
 use Rattle.cand_uses.specs.Pairs.{pairs_of}
 use Rattle.cand_turns.specs.Swaps.{search}
 use Rattle.cand_turns.specs.Widened.{IsUnderRows}
-use Rattle.cand_turns.proofs.SwapLemmas.{turn_then, swap_then, beside}
+use Rattle.cand_turns.proofs.SwapLemmas.{turn_then}
 use Rattle.cand_turns.proofs.BranchLemmas.{one_held, two_held, end_turn}
 use Rattle.cand_turns.proofs.AddLemmas.{rest_held, list_more, still_held}
 use Rattle.cand_turns.proofs.CellLemmas.{both_few}

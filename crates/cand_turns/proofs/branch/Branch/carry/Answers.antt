@@ -1,15 +1,13 @@
-use Rattle.std.proofs.Common.{◌≡◌, ◌+◌, ◌*◌, ◌<◌, ◌≤◌, ◌^◌, ◌∷◌, [], ◌++◌, ℕ, Bool, true, false, List, length, refl, sym, ap, ◌∙◌, subst, arith, inl, inr}
+use Rattle.std.proofs.Common.{◌*◌, ◌∷◌, [], true, false, length, refl, ap, subst, arith, inl, inr}
 use Rattle.std.proofs.lemmas.Bool.{cases_Bool}
 use Rattle.std.proofs.lemmas.List.Sorted.{IsPermutation-append_comm}
-use Rattle.sol_arena.specs.Arenas.{slots_of, made_of}
-use Rattle.elmore.specs.declared.pair.Pair.{Pair}
+use Rattle.sol_arena.specs.Arenas.{made_of}
 use Rattle.cand_pool.specs.Candidates.{Candidates}
 use Rattle.cand_pool.specs.Pools.{items_of}
 use Rattle.cand_uses.specs.Pairs.{pairs_of}
 use Rattle.cand_turns.specs.Swaps.{search}
-use Rattle.cand_turns.specs.Branches.{classes_in}
 use Rattle.cand_turns.specs.Solved.{IsCarriedClass}
-use Rattle.cand_turns.proofs.SwapLemmas.{turn_then, front_held, other_items, beside, order_held}
+use Rattle.cand_turns.proofs.SwapLemmas.{turn_then, front_held, other_items, order_held}
 use Rattle.cand_turns.proofs.BranchLemmas.{one_held, even_turn, odd_turn, end_turn}
 use Rattle.cand_turns.proofs.AddLemmas.{rest_held}
 use Rattle.cand_turns.proofs.MeetLemmas.{carried_beside}

@@ -1,4 +1,4 @@
-use Rattle.std.proofs.Common.{[], ◌∷◌, true, false, refl, arith}
+use Rattle.std.proofs.Common.{◌+◌, [], ◌∷◌, true, false, refl, arith}
 use Rattle.sol_arena.specs.Arenas.{slots_of, made_of}
 use Rattle.cand_turns.specs.Swaps.{search}
 use Rattle.cand_turns.specs.Branches.{classes_in, list_of}
@@ -6,6 +6,7 @@ use Rattle.cand_turns.proofs.SwapLemmas.{turn_then, swap_then}
 use Rattle.cand_turns.proofs.BranchLemmas.{one_held, end_turn}
 use Rattle.cand_turns.proofs.AddLemmas.{grown, two_adds, still_held, add_lost}
 use Rattle.cand_turns.proofs.CellLemmas.{open_list}
+use Rattle.cand_turns.proofs.MeetLemmas.{open_modest}
 use Rattle.cand_turns.proofs.ClassLemmas.{class_live, class_uses, uses_after, open_after, one_less, both_made, both_less, grown_held, grown_open, grown_best}
 use Rattle.cand_turns.proofs.branch.Branch.with_cells.Goals as goal
 
@@ -14,8 +15,15 @@ find-requires-clause-live g c =
     let held = grown_held c.args.p.now c.args.widths.now c.args.node c.args.self.now c.args.arena.now c.args.pool.now c.reserve.new.self c.requires.held c.reserve.ensures.others c.reserve.ensures.more in
     λ odd. class_live (search c.reserve.new.self c.args.arena.now) c.args.self.now odd (list_of c.args.self.now odd) refl held
 
-pub find-requires-clause-open : goal.find-requires-clause-open
-find-requires-clause-open g c = (made_of c.args.arena.now, grown_open c.args.p.now c.args.widths.now c.args.node c.args.self.now c.args.arena.now c.args.pool.now c.reserve.new.self c.requires.held c.reserve.ensures.others c.reserve.ensures.more c.requires.«open»)
+pub find-requires-clause-rising : goal.find-requires-clause-rising
+find-requires-clause-rising g c =
+    let opens = grown_open c.args.p.now c.args.widths.now c.args.node c.args.self.now c.args.arena.now c.args.pool.now c.reserve.new.self c.requires.held c.reserve.ensures.others c.reserve.ensures.more c.requires.«open» in
+    λ odd. (opens.part.exact odd).rising
+
+pub find-requires-clause-modest : goal.find-requires-clause-modest
+find-requires-clause-modest g c =
+    let opens = grown_open c.args.p.now c.args.widths.now c.args.node c.args.self.now c.args.arena.now c.args.pool.now c.reserve.new.self c.requires.held c.reserve.ensures.others c.reserve.ensures.more c.requires.«open» in
+    λ odd. open_modest c.args.p.now c.args.widths.now (c.args.node + 1) c.args.node odd (classes_in c.reserve.new.self c.args.self.now odd) c.requires.widths c.requires.node (opens.part.exact odd)
 
 pub add_at-requires-clause-found : goal.add_at-requires-clause-found
 add_at-requires-clause-found g c =

@@ -1,4 +1,4 @@
-use Rattle.std.proofs.Common.{◌≡◌, ◌+◌, subst, sym, ap, ℕ}
+use Rattle.std.proofs.Common.{◌+◌, subst, ap, ℕ}
 use Rattle.elmore.specs.Trees.{parent_of}
 use Rattle.sol_arena.specs.Arenas.{made_of}
 use Rattle.cand_turns.specs.Branches.{classes_in}
