@@ -1,4 +1,5 @@
 pub mod TextsLemmas
 pub mod ChainLemmas
-pub mod HashChainLemmas
+pub mod FiledLemmas
 pub mod NameTableLemmas
+pub mod OrderedRowLemmas

@@ -1,42 +1,19 @@
--- Tables of names: their chains, and the number of a name.
-use Rattle.std.proofs.Common.{◌≡◌, ◌≢◌, ℕ, zero, suc, ◌+◌, ◌<◌, ◌≤◌, inl, inr, Bool, true, false, List, [], ◌∷◌, ◌++◌, length, get_or, arith, refl, sym, ap, ◌∙◌, subst, length-append, ◌||◌, Some, None, slice_index}
-use Rattle.std.specs.List.{list_any, position_or_len}
+-- Tables of names: their rows, and the number of a name.
+use Rattle.std.proofs.Common.{◌≡◌, ◌≢◌, ℕ, zero, suc, ◌+◌, ◌<◌, ◌≤◌, inl, inr, Bool, true, false, List, [], ◌∷◌, ◌++◌, length, get_or, arith, refl, sym, ap, ◌∙◌, subst, length-append, ◌||◌, Some, None, take, ◌-◌}
+use Rattle.std.specs.List.{list_any, position_or_len, slice_get}
 use Rattle.std.specs.Str.{bytes_eq}
 use Rattle.std.proofs.lemmas.Slice.Eq.{bytes_eq-Decides}
 use Rattle.std.proofs.lemmas.List.Sums.{position_or_len_is, fails_before_first}
 use Rattle.std.proofs.lemmas.List.Quantifiers.{position-Some}
-use Rattle.std.proofs.lemmas.List.{get_or-map, length-map, map-append}
+use Rattle.std.proofs.lemmas.Option.{get_or_from_slice_get, slice_get_within}
 use Rattle.std.proofs.Math.ListN.{get_or-append}
-use Rattle.std.proofs.Math.Seq.{get_or-append_seam}
+use Rattle.std.proofs.Math.Seq.{get_or-append_seam, take-length}
+use Rattle.std.proofs.lemmas.List.{take-append-le}
 use Rattle.name_tables.specs.Distinct.{number_of, number_in, with_name}
-use Rattle.name_tables.specs.HashChains.{AreHashChains, LeadsTo, bucket_of}
-use Rattle.name_tables.specs.Hashes.{hash_of}
-use Rattle.name_tables.specs.NameTables.{AreDistinct, IsTable, hashes_of}
-use Rattle.name_tables.specs.declared.hash_chains.HashChains.{HashChains}
-use Rattle.name_tables.specs.declared.hash_chains.Link.{Link}
+use Rattle.name_tables.specs.NameTables.{AreDistinct, AreRows, IsTable}
+use Rattle.name_tables.specs.declared.rows.Rows.{Rows}
 use Rattle.name_tables.proofs.ChainLemmas.{lt_or_le}
 use Rattle.vg_scan.proofs.FirstLemmas.{lt_yes, lt_no, not_true}
-
-pub length-hashes_of : (texts : List (List ℕ)) → length (hashes_of texts) ≡ length texts
-unfolding hashes_of
-length-hashes_of texts = length-map texts hash_of
-
-pub get-hashes_of : (texts : List (List ℕ)) (row : ℕ) → row < length texts → get_or (hashes_of texts) row 0 ≡ hash_of (get_or texts row [])
-unfolding hashes_of
-get-hashes_of texts row l = get_or-map hash_of texts row [] 0 l
-
-pub hashes_of-append : (texts : List (List ℕ)) (text : List ℕ) → hashes_of (texts ++ text ∷ []) ≡ hashes_of texts ++ hash_of text ∷ []
-unfolding hashes_of
-hashes_of-append texts text = map-append hash_of texts (text ∷ [])
-
-pub no_hashes : hashes_of [] ≡ []
-unfolding hashes_of
-no_hashes = refl
-
--- a name is not where no row of its bucket is
-pub not_there : (buckets : ℕ) (texts : List (List ℕ)) (name : List ℕ) (hash : ℕ) → hash ≡ hash_of name → (row : ℕ) → row < length texts
-    → bucket_of buckets (slice_index (hashes_of texts) row) ≢ bucket_of buckets hash → get_or texts row [] ≢ name
-not_there buckets texts name hash e row l other same = other (ap (bucket_of buckets) (get-hashes_of texts row l ∙ ap hash_of same ∙ sym e))
 
 eq_yes : (a b : List ℕ) → b ≡ a → bytes_eq a b ≡ true
 eq_yes a b e = (bytes_eq-Decides a b).1 (sym e)
@@ -88,28 +65,21 @@ distinct_more names name distinct absent i j less within same =
           absent i (omega arith) (sym left ∙ same ∙ ap (λ k. get_or (names ++ name ∷ []) k []) at ∙ get_or-append_seam names name [] [])
     ]
 
-pub table_more : (names : List (List ℕ)) (name : List ℕ) (old new : HashChains) (hash : ℕ) → AreDistinct names → AreHashChains old (hashes_of names)
-    → ((hashes : List ℕ) → AreHashChains old hashes → AreHashChains new (hashes ++ hash ∷ [])) → length new.lasts.items ≡ length old.lasts.items → hash ≡ hash_of name
-    → length names < length old.lasts.items → ((row : ℕ) → row < length names → get_or names row [] ≢ name) → IsTable (names ++ name ∷ []) new
-table_more names name old new hash distinct chained more same hash_is less absent = record {
-  distinct = distinct_more names name distinct absent;
-  chained = subst (λ hashes. AreHashChains new hashes) (ap (λ h. hashes_of names ++ h ∷ []) hash_is ∙ sym (hashes_of-append names name)) (more (hashes_of names) chained);
+pub table_more : (names : List (List ℕ)) (name : List ℕ) (old new : Rows) → IsTable names old → AreRows (names ++ name ∷ []) new → length new.chains.lasts.items ≡ length old.chains.lasts.items
+    → length names < length old.chains.lasts.items → ((row : ℕ) → row < length names → get_or names row [] ≢ name) → IsTable (names ++ name ∷ []) new
+table_more names name old new table rows same less absent = record {
+  distinct = distinct_more names name table.distinct absent;
+  filed = rows;
   room = omega (arith, same, length-append names (name ∷ []));
 }
 
--- one turn of a look-up along a chain
-pub turn_absent : (buckets : ℕ) (texts : List (List ℕ)) (name : List ℕ) (hash link row : ℕ) (before : Link) → hash ≡ hash_of name → link ≡ suc row → link ≤ length texts
-    → bucket_of buckets (slice_index (hashes_of texts) row) ≡ bucket_of buckets hash → LeadsTo buckets (hashes_of texts) row (slice_index (hashes_of texts) row) before → get_or texts row [] ≢ name
-    → ((k : ℕ) → link ≤ k → k < length texts → get_or texts k [] ≢ name) → (k : ℕ) → before.next ≤ k → k < length texts → get_or texts k [] ≢ name
-turn_absent buckets texts name hash link row before hash_is is_row within here chained other absent k low high same =
-    elim (lt_or_le k row) as (λ _. ⊥) [
-      | inl less ↦ not_there buckets texts name hash hash_is k high (λ e. chained.later k low less (e ∙ sym here)) same
-      | inr ge ↦
-          elim (lt_or_le row k) as (λ _. ⊥) [
-            | inl more ↦ absent k (omega arith) high same
-            | inr le ↦ let at : k ≡ row = omega arith in other (ap (λ j. get_or texts j []) (sym at) ∙ same)
-          ]
-    ]
+-- the same names in other rows
+pub table_same : (names : List (List ℕ)) (old new : Rows) → IsTable names old → AreRows names new → length new.chains.lasts.items ≡ length old.chains.lasts.items → IsTable names new
+table_same names old new table rows same = record {
+  distinct = table.distinct;
+  filed = rows;
+  room = omega (arith, same, table.room);
+}
 
 -- a name without a number is none of them
 pub absent_of : (names : List (List ℕ)) (name : List ℕ) → None ≡ number_of names name → (row : ℕ) → row < length names → get_or names row [] ≢ name
@@ -138,9 +108,22 @@ number_known names name row some =
       | inr ge ↦ let there = known_of names name row some in let last = no_less (bytes_eq name) names ge in absurd (let clash : true ≡ false = sym (eq_yes name (get_or names row []) there.1) ∙ last row there.0 in cc)
     ]
 
-pub no_table : (texts : List (List ℕ)) (chains : HashChains) → texts ≡ [] → AreHashChains chains [] → IsTable texts chains
-no_table texts chains e h = record {
+-- names without the last one
+pub without_last : (names : List (List ℕ)) (name : List ℕ) → take (length (names ++ name ∷ []) - 1) (names ++ name ∷ []) ≡ names
+without_last names name =
+    let count : length (names ++ name ∷ []) - 1 ≡ length names = omega (arith, length-append names (name ∷ [])) in
+    ap (λ n. take n (names ++ name ∷ [])) count ∙ take-append-le (length names) names (name ∷ []) (omega arith) ∙ take-length names
+
+pub no_table : (texts : List (List ℕ)) (rows : Rows) → texts ≡ [] → AreRows [] rows → IsTable texts rows
+no_table texts rows e h = record {
   distinct = λ i j less within. absurd (let n : length texts ≡ 0 = subst (λ (ts : List (List ℕ)). length ts ≡ 0) (sym e) refl in omega arith);
-  chained = subst (λ (hashes : List ℕ). AreHashChains chains hashes) (sym (ap hashes_of e ∙ no_hashes)) h;
+  filed = subst (λ (names : List (List ℕ)). AreRows names rows) (sym e) h;
   room = (let n : length texts ≡ 0 = subst (λ (ts : List (List ℕ)). length ts ≡ 0) (sym e) refl in omega arith);
 }
+
+-- where a name is among names, by its row and as it is read there
+pub there_at : (names : List (List ℕ)) (row : ℕ) (name : List ℕ) → slice_get names row ≡ Some name → (row < length names) × (get_or names row [] ≡ name)
+there_at names row name there = (slice_get_within names row name there, get_or_from_slice_get names row name [] there)
+
+pub not_at : (names : List (List ℕ)) (name : List ℕ) → ((row : ℕ) → row < length names → get_or names row [] ≢ name) → (row : ℕ) → slice_get names row ≢ Some name
+not_at names name absent row there = let at = there_at names row name there in absent row at.0 at.1

@@ -1,6 +1,7 @@
 pub mod Texts
 pub mod Chains
 pub mod Hashes
-pub mod HashChains
+pub mod Filed
 pub mod Distinct
+pub mod OrderedRows
 pub mod NameTables

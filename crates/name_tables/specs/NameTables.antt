@@ -1,19 +1,20 @@
 -- Tables of names.
-use Rattle.std.specs.Prelude.{◌≢◌, ℕ, ◌<◌, ◌≤◌, [], List, length, map, slice_index_or}
-use Rattle.name_tables.specs.HashChains.{AreHashChains}
+use Rattle.std.specs.Prelude.{◌≢◌, ℕ, ◌<◌, ◌≤◌, [], List, length, slice_index_or}
+use Rattle.name_tables.specs.Filed.{AreFiled}
 use Rattle.name_tables.specs.Hashes.{hash_of}
-use Rattle.name_tables.specs.declared.hash_chains.HashChains.{HashChains}
+use Rattle.name_tables.specs.OrderedRows.{row_kept}
+use Rattle.name_tables.specs.declared.rows.Rows.{Rows}
 
 -- no name stands twice
 abbrev pub AreDistinct : List (List ℕ) → Type 0
 AreDistinct names = (i j : ℕ) → i < j → j < length names → slice_index_or names i [] ≢ slice_index_or names j []
 
--- the hashes of texts
-unfoldable pub hashes_of : List (List ℕ) → List ℕ
-hashes_of texts = map hash_of texts
+-- each of these names is in the chain of its hash, or kept in order
+abbrev pub AreRows : List (List ℕ) → Rows → Type 0
+AreRows names rows = AreFiled hash_of (row_kept rows.ordered) names rows.chains
 
--- the chains are those of distinct names, which have a bucket each or more
-pub record IsTable (names : List (List ℕ)) (chains : HashChains) : Type 0 where
+-- the rows are those of distinct names, which have a bucket each or more
+pub record IsTable (names : List (List ℕ)) (rows : Rows) : Type 0 where
   pub distinct : AreDistinct names
-  pub chained : AreHashChains chains (hashes_of names)
-  pub room : length names ≤ length chains.lasts.items
+  pub filed : AreRows names rows
+  pub room : length names ≤ length rows.chains.lasts.items

@@ -3,13 +3,11 @@
 ghost use Rattle.std.specs.Prelude.{◌≡◌, ◌≢◌, ◌==◌, ℕ, suc, ◌+◌, ◌-◌, ◌*◌, ◌<◌, ◌≤◌, ◌^◌, ◌++◌, [], ◌∷◌, List, length, slice_index_or, vec_len, IfOk, IfSome, IfNone, OnErr, OnOk, IsTrue, ◌↔◌};
 ghost use Rattle.std.specs.Vec.{vec_capacity};
 ghost use Rattle.name_tables.specs.Distinct.{number_of, with_name, number_in};
-ghost use Rattle.name_tables.specs.HashChains.{AreHashChains};
 ghost use Rattle.name_tables.specs.Hashes.{hash_of};
-ghost use Rattle.name_tables.specs.NameTables.{AreDistinct, hashes_of, IsTable};
+ghost use Rattle.name_tables.specs.NameTables.{AreDistinct, IsTable};
 
 use crate::hash::hash_of;
-use crate::hash_chains::{HashChains, Link};
-use crate::same::is_same;
+use crate::rows::Rows;
 use crate::texts::Texts;
 use std::alloc::Global;
 use std::marker::Model;
@@ -27,7 +25,7 @@ const MOST_ROOM: usize = 1 << 24;
 pub struct Names {
     alloc: Global,
     texts: Texts,
-    chains: HashChains,
+    rows: Rows,
 }
 
 impl Model for Names {
@@ -38,65 +36,21 @@ impl Model for Names {
 
     ghost view = { λ names. names.texts };
 
-    ghost invariant = { λ names. IsTable names.texts names.chains };
-}
-
-/// Whether a link's row has this name, of this hash.
-fn is_named(texts: &Texts, link: Link, name: &[u8], hash: u32) -> bool
-    requires row { (0 < link.next) × (link.next ≤ length texts.now) }
-    requires holds { link.hash ≡ hash_of (slice_index_or texts.now (link.next - 1) []) }
-    requires hash { hash ≡ hash_of name.now }
-    ensures { IsTrue result ↔ (slice_index_or texts.now (link.next - 1) [] ≡ name.now) }
-{
-    link.hash == hash && is_same(texts.get(link.next as usize - 1), name)
-}
-
-/// The number of a name of this hash. `None`: it is not there.
-fn row_of(texts: &Texts, chains: &HashChains, name: &[u8], hash: u32) -> Option<u32>
-    requires chained { AreHashChains chains.now (hashes_of texts.now) }
-    requires some { 0 < length chains.now.lasts.items }
-    requires hash { hash ≡ hash_of name.now }
-    ensures found { IfSome result (λ row. (row < length texts.now) × (slice_index_or texts.now row [] ≡ name.now)) }
-    ensures absent { IfNone result ((row : ℕ) → row < length texts.now → slice_index_or texts.now row [] ≢ name.now) }
-{
-    let mut link = chains.last(hash);
-    'row: while link.next != 0 {
-        if is_named(texts, link, name, hash) {
-            return Some(link.next - 1);
-        }
-        link = chains.before(link.next as usize - 1);
-    }
-    None
-}
-
-/// Texts in chains over so many buckets.
-fn chain(alloc: Global, texts: &Texts, buckets: usize) -> Result<HashChains, Memory>
-    requires some { 0 < buckets }
-    requires few { length texts.now < 2 ^ 32 - 1 }
-    ensures chained { IfOk result (λ chains. AreHashChains chains (hashes_of texts.now)) }
-    ensures buckets { IfOk result (λ chains. length chains.lasts.items ≡ buckets) }
-{
-    let mut chains = HashChains::new(alloc, buckets)?;
-    'text: for at in 0..texts.len() {
-        chains.push(hash_of(texts.get(at)))?;
-    }
-    Ok(chains)
+    ghost invariant = { λ names. IsTable names.texts names.rows };
 }
 
 /// Makes room for one name more. Answers `Memory` where there is none.
-fn make_room(alloc: Global, texts: &Texts, chains: &mut HashChains) -> Result<(), Memory>
-    requires table { IsTable texts.now chains.old }
+fn make_room(alloc: Global, texts: &Texts, rows: &mut Rows) -> Result<(), Memory>
+    requires table { IsTable texts.now rows.old }
     requires few { length texts.now < 2 ^ 32 - 1 }
-    ensures table { IsTable texts.now chains.new }
-    ensures more { OnOk result (length texts.now < length chains.new.lasts.items) }
-    ensures room { OnOk result (vec_len chains.new.befores < vec_capacity chains.new.befores) }
+    ensures table { IsTable texts.now rows.new }
+    ensures more { OnOk result (length texts.now < length rows.new.chains.lasts.items) }
 {
     let count = texts.len();
-    if count == chains.buckets() {
+    if count == rows.chains.buckets() {
         let buckets = if count == 0 { FIRST_BUCKETS } else { 2 * count };
-        *chains = chain(alloc, texts, buckets)?;
+        *rows = Rows::of(alloc, texts, buckets)?;
     }
-    chains.reserve()?;
     Ok(())
 }
 
@@ -108,22 +62,19 @@ impl Names {
         Names {
             alloc,
             texts: Texts::new(alloc),
-            chains: HashChains::empty(alloc),
+            rows: Rows::empty(alloc),
         }
     }
 
-    /// No names, with room for about so many, so that they are chained once. Answers `Memory` where there is none.
+    /// No names, with room for about so many, so that they are put into buckets once. Answers `Memory` where there is
+    /// none.
     pub fn with_room(alloc: Global, count: usize) -> Result<Names, Memory>
         ensures { IfOk result (λ names. names ≡ []) }
     {
         let buckets = count.min(MOST_ROOM).next_power_of_two();
-        let chains = HashChains::new(alloc, buckets)?;
+        let rows = Rows::new(alloc, buckets)?;
         let texts = Texts::new(alloc);
-        Ok(Names {
-            alloc,
-            texts,
-            chains,
-        })
+        Ok(Names { alloc, texts, rows })
     }
 
     /// The same names once more. Answers `Memory` where there is no room.
@@ -131,11 +82,11 @@ impl Names {
         ensures { IfOk result (λ names. names ≡ self.now) }
     {
         let texts = self.texts.copy(self.alloc)?;
-        let chains = self.chains.copy(self.alloc)?;
+        let rows = self.rows.copy(self.alloc)?;
         Ok(Names {
             alloc: self.alloc,
             texts,
-            chains,
+            rows,
         })
     }
 
@@ -143,7 +94,7 @@ impl Names {
     pub fn are_distinct(&self)
         ensures { AreDistinct self.now }
     {
-        let _ = &self.chains;
+        let _ = &self.rows;
     }
 
     /// How many names there are.
@@ -165,10 +116,10 @@ impl Names {
         requires { hash ≡ hash_of name.now }
         ensures { result ≡ number_of self.now name.now }
     {
-        if self.chains.buckets() == 0 {
+        if self.rows.chains.buckets() == 0 {
             return None;
         }
-        row_of(&self.texts, &self.chains, name, hash)
+        self.rows.find(&self.texts, name, hash)
     }
 
     /// The number of a name. `None`: it is not there.
@@ -191,12 +142,15 @@ impl Names {
             return Ok(id);
         }
         let id = self.texts.len() as u32;
-        make_room(self.alloc, &self.texts, &mut self.chains)?;
-        let Ok(()) = self.texts.push(name) else {
-            return Err(Memory);
-        };
-        self.chains.push(hash)?;
-        Ok(id)
+        make_room(self.alloc, &self.texts, &mut self.rows)?;
+        self.texts.push(name)?;
+        match self.rows.push(name, hash) {
+            Ok(()) => Ok(id),
+            Err(_) => {
+                self.texts.pop();
+                Err(Memory)
+            }
+        }
     }
 
     /// The name of a number.

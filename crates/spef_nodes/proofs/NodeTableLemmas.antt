@@ -1,18 +1,18 @@
--- A table of nodes: walks along a chain, and one node more.
-use Rattle.std.proofs.Common.{◌≡◌, ℕ, zero, suc, ◌^◌, ◌<◌, ◌≤◌, inl, inr, Bool, true, false, ◌||◌, cond, List, [], ◌∷◌, ◌++◌, length, get_or, refl, sym, ap, ◌∙◌, subst, arith, Some}
-use Rattle.std.proofs.lemmas.Bool.{cases_lt, cases_eq}
-use Rattle.std.proofs.lemmas.List.{length-map}
+-- A table of nodes, and one node more.
+use Rattle.std.proofs.Common.{◌≡◌, ◌≢◌, ℕ, zero, suc, ◌<◌, ◌≤◌, Bool, true, false, ◌||◌, cond, List, [], ◌∷◌, ◌++◌, length, get_or, refl, sym, ap, ◌∙◌, subst, arith, Some}
 use Rattle.std.proofs.lemmas.Slice.Eq.{bytes_eq-Decides}
+use Rattle.std.specs.Bool.{Decides}
 use Rattle.std.specs.Str.{bytes_eq}
 use Rattle.std.specs.List.{slice_get}
 use Rattle.vg_scan.specs.declared.name.NodeName.{NodeName}
-use Rattle.name_tables.specs.declared.chains.Chains.{Chains}
-use Rattle.name_tables.specs.Chains.{IsLastBelow, AreChains}
 use Rattle.vg_scan.specs.Nodes.{same_node, has_node}
 use Rattle.spef_nodes.specs.Members.{with_node}
-use Rattle.spef_nodes.specs.NodeTables.{bucket_of, buckets_of, nodes_in, IsTable}
+use Rattle.spef_nodes.specs.NodeTables.{nodes_in, AreRows, IsTable}
+use Rattle.spef_nodes.specs.declared.node_rows.NodeRows.{NodeRows}
 use Rattle.spef_nodes.specs.Nodes.{ParNode, Note, note_at, noted, noted_all}
-use Rattle.std.proofs.Common.{min, drop}
+use Rattle.std.proofs.Common.{min, drop, take, ◌+◌, ◌-◌, length-append, length-take}
+use Rattle.std.proofs.lemmas.List.{take-append-le}
+use Rattle.std.proofs.Math.Seq.{take-length}
 use Rattle.std.proofs.lemmas.Int.{clamps}
 use Rattle.spef_nodes.proofs.NodeListLemmas.{same_is}
 
@@ -47,32 +47,15 @@ nodes_more (o ∷ os) (l ∷ ls) owner leaf e = ap (λ ns. record { owner = o; l
 some_is : {A : Type 0} (a b : A) → Some a ≡ Some b → a ≡ b
 some_is a b e = cc
 
--- the node of a number, by its owner and its leaf
-pub named_same : (owners leaves : List (List ℕ)) (at : ℕ) (key node : NodeName) (r : Bool) → at < length owners → at < length leaves
-    → r ≡ same_node key (record { owner = get_or owners at []; leaf = get_or leaves at [] }) → slice_get (nodes_in owners leaves) at ≡ Some node → r ≡ same_node key node
-named_same owners leaves at key node r h k e f =
-    e ∙ ap (same_node key) (let p : Some (record { owner = get_or owners at []; leaf = get_or leaves at [] }) ≡ Some node = sym (nodes_get owners leaves at h k) ∙ f in some_is _ node p)
+-- nodes that are the same, and that are not
+pub same_refl : (node : NodeName) → same_node node node ≡ true
+same_refl node =
+    let a : bytes_eq node.owner node.owner ≡ true = (bytes_eq-Decides node.owner node.owner).1 refl in
+    let b : bytes_eq node.leaf node.leaf ≡ true = (bytes_eq-Decides node.leaf node.leaf).1 refl in
+    rw (a, b) refl
 
-pub named_there : (owners leaves : List (List ℕ)) (at : ℕ) (key : NodeName) (r : Bool) → at < length owners → at < length leaves
-    → r ≡ same_node key (record { owner = get_or owners at []; leaf = get_or leaves at [] }) → r ≡ true → slice_get (nodes_in owners leaves) at ≡ Some key
-named_there owners leaves at key r h k e f = nodes_get owners leaves at h k ∙ ap Some (sym (same_is key _ (sym e ∙ f)))
-
--- the bucket of the node of a number
-bucket_at : (buckets : ℕ) (nodes : List NodeName) (at : ℕ) (q : NodeName) → slice_get nodes at ≡ Some q → get_or (buckets_of buckets nodes) at 0 ≡ bucket_of buckets q
-bucket_at buckets [] at q e = absurd (cc)
-bucket_at buckets (x ∷ xs) zero q e = ap (bucket_of buckets) (some_is x q e)
-bucket_at buckets (x ∷ xs) (suc at) q e = bucket_at buckets xs at q e
-
--- what stands at a number past the last one of a node's bucket is another node
-pub elsewhere : (buckets : ℕ) (nodes : List NodeName) (node : NodeName) (bucket link n : ℕ) → bucket ≡ bucket_of buckets node → IsLastBelow (buckets_of buckets nodes) n bucket link
-    → (at : ℕ) (q : NodeName) → link ≤ at → at < n → slice_get nodes at ≡ Some q → same_node node q ≡ false
-elsewhere buckets nodes node bucket link n is h at q low high e = by_test (same_node node q) refl
-  where
-    by_test : (b : Bool) → same_node node q ≡ b → b ≡ false
-    by_test false s = refl
-    by_test true s =
-        let same : node ≡ q = same_is node q s in
-        absurd (h.later at low high (bucket_at buckets nodes at q e ∙ ap (bucket_of buckets) (sym same) ∙ sym is))
+pub same_decides : (a b : NodeName) → Decides (same_node a b) (a ≡ b)
+same_decides a b = (same_is a b, λ e. ap (same_node a) (sym e) ∙ same_refl a)
 
 pub none_has : (nodes : List NodeName) (node : NodeName) → ((at : ℕ) (q : NodeName) → slice_get nodes at ≡ Some q → same_node node q ≡ false) → has_node nodes node ≡ false
 none_has [] node h = refl
@@ -81,20 +64,12 @@ none_has (x ∷ xs) node h =
     let b : has_node xs node ≡ false = none_has xs node (λ at q e. h (suc at) q e) in
     ap (λ t. t || has_node xs node) a ∙ b
 
--- a chain's walk, one node later
-pub walked : (buckets : ℕ) (nodes : List NodeName) (node : NodeName) (bucket link row before : ℕ) → bucket ≡ bucket_of buckets node
-    → link ≡ suc row → get_or (buckets_of buckets nodes) row 0 ≡ bucket → IsLastBelow (buckets_of buckets nodes) row (get_or (buckets_of buckets nodes) row 0) before
-    → ((q : NodeName) → slice_get nodes row ≡ Some q → same_node node q ≡ false)
-    → ((at : ℕ) (q : NodeName) → link ≤ at → slice_get nodes at ≡ Some q → same_node node q ≡ false)
-    → (at : ℕ) (q : NodeName) → before ≤ at → slice_get nodes at ≡ Some q → same_node node q ≡ false
-walked buckets nodes node bucket link row before is l here h not_here later at q low e =
-    elim (cases_lt at row) as (λ _. same_node node q ≡ false) [
-      | inl less ↦ elsewhere buckets nodes node bucket before row is (subst (λ b. IsLastBelow (buckets_of buckets nodes) row b before) here h) at q low less e
-      | inr more ↦ elim (cases_eq at row) as (λ _. same_node node q ≡ false) [
-        | inl same ↦ not_here q (ap (slice_get nodes) (sym same) ∙ e)
-        | inr differ ↦ later at q (omega arith) e
-      ]
-    ]
+pub none_there : (nodes : List NodeName) (node : NodeName) → ((row : ℕ) → slice_get nodes row ≢ Some node) → has_node nodes node ≡ false
+none_there nodes node absent = none_has nodes node (λ at q e. by_test at q e (same_node node q) refl)
+  where
+    by_test : (at : ℕ) (q : NodeName) → slice_get nodes at ≡ Some q → (b : Bool) → same_node node q ≡ b → b ≡ false
+    by_test at q e false s = refl
+    by_test at q e true s = absurd (absent at (e ∙ ap Some (sym (same_is node q s))))
 
 -- places of a list with one item more
 pub slice_get_front : {X : Type 0} (xs ys : List X) (i : ℕ) → i < length xs → slice_get (xs ++ ys) i ≡ slice_get xs i
@@ -118,35 +93,50 @@ has_at (y ∷ xs) (suc i) x r e = or_true (same_node x y) (has_node xs x) (has_a
     or_true true b h = refl
     or_true false b h = h
 
+pub not_there : (nodes : List NodeName) (node : NodeName) → has_node nodes node ≡ false → (row : ℕ) → slice_get nodes row ≢ Some node
+not_there nodes node absent row there = let clash : true ≡ false = sym (has_at nodes row node same_refl there) ∙ absent in cc
+
 pub with_there : (nodes : List NodeName) (id : ℕ) (node : NodeName) → ((y : NodeName) → same_node y y ≡ true) → slice_get nodes id ≡ Some node → nodes ≡ with_node nodes node
 with_there nodes id node r e = sym (ap (λ b. cond b nodes (nodes ++ node ∷ [])) (has_at nodes id node r e))
 
 pub with_new : (nodes : List NodeName) (node : NodeName) → has_node nodes node ≡ false → with_node nodes node ≡ nodes ++ node ∷ []
 with_new nodes node e = ap (λ b. cond b nodes (nodes ++ node ∷ [])) e
 
-pub same_refl : (node : NodeName) → same_node node node ≡ true
-same_refl node =
-    let a : bytes_eq node.owner node.owner ≡ true = (bytes_eq-Decides node.owner node.owner).1 refl in
-    let b : bytes_eq node.leaf node.leaf ≡ true = (bytes_eq-Decides node.leaf node.leaf).1 refl in
-    rw (a, b) refl
-
 -- an empty table
 pub no_nodes : (owners leaves : List (List ℕ)) → owners ≡ [] → nodes_in owners leaves ≡ []
 unfolding nodes_in
 no_nodes owners leaves e = ap (λ os. nodes_in os leaves) e
 
-pub table_none : (owners leaves : List (List ℕ)) (chains : Chains) → owners ≡ [] → leaves ≡ [] → AreChains chains []
-    → 0 < length chains.lasts.items → length chains.lasts.items ≤ 2 ^ 32 → IsTable owners leaves chains
-table_none owners leaves chains e f h some fit = record {
+pub table_none : (owners leaves : List (List ℕ)) (rows : NodeRows) → owners ≡ [] → leaves ≡ [] → AreRows [] rows → 0 < length rows.chains.lasts.items → IsTable owners leaves rows
+table_none owners leaves rows e f h some = record {
   some = some;
-  fit = fit;
   even = ap length e ∙ sym (ap length f);
-  chained = subst (λ (nodes : List NodeName). AreChains chains (buckets_of (length chains.lasts.items) nodes)) (sym (no_nodes owners leaves e)) h;
+  rows_are = subst (λ (nodes : List NodeName). AreRows nodes rows) (sym (no_nodes owners leaves e)) h;
 }
 
--- there are as many buckets of nodes as owners
-pub bucket_count : (buckets : ℕ) (owners leaves : List (List ℕ)) → length owners ≡ length leaves → length (buckets_of buckets (nodes_in owners leaves)) ≡ length owners
-bucket_count buckets owners leaves even = length-map (nodes_in owners leaves) (bucket_of buckets) ∙ nodes_count owners leaves even
+-- a table whose nodes are these, in these rows
+pub table_of : (owners leaves : List (List ℕ)) (nodes : List NodeName) (rows : NodeRows) → 0 < length rows.chains.lasts.items → length owners ≡ length leaves → nodes_in owners leaves ≡ nodes → AreRows nodes rows
+    → IsTable owners leaves rows
+table_of owners leaves nodes rows some even is h = record { some = some; even = even; rows_are = subst (λ (ns : List NodeName). AreRows ns rows) (sym is) h }
+
+-- the nodes without the last one
+nodes_take : (n : ℕ) (owners leaves : List (List ℕ)) → nodes_in (take n owners) (take n leaves) ≡ take n (nodes_in owners leaves)
+unfolding nodes_in
+nodes_take zero owners leaves = refl
+nodes_take (suc n) [] leaves = refl
+nodes_take (suc n) (o ∷ os) [] = refl
+nodes_take (suc n) (o ∷ os) (l ∷ ls) = ap (λ ns. record { owner = o; leaf = l } ∷ ns) (nodes_take n os ls)
+
+pub nodes_back : (owners leaves owners' leaves' : List (List ℕ)) (nodes : List NodeName) (node : NodeName) → length owners ≡ length leaves → nodes_in owners leaves ≡ nodes ++ node ∷ []
+    → owners' ≡ take (length owners - 1) owners → leaves' ≡ take (length leaves - 1) leaves → (length owners' ≡ length leaves') × (nodes_in owners' leaves' ≡ nodes)
+nodes_back owners leaves owners' leaves' nodes node even is o l =
+    let count : length owners ≡ length nodes + 1 = omega (arith, nodes_count owners leaves even, ap length is, length-append nodes (node ∷ [])) in
+    let n : length owners - 1 ≡ length nodes = omega arith in
+    let m : length leaves - 1 ≡ length nodes = omega arith in (
+      omega (arith, ap length o, ap length l, length-take (length owners - 1) owners, length-take (length leaves - 1) leaves),
+      ap (λ os. nodes_in os leaves') (o ∙ ap (λ k. take k owners) n) ∙ ap (nodes_in (take (length nodes) owners)) (l ∙ ap (λ k. take k leaves) m)
+          ∙ nodes_take (length nodes) owners leaves ∙ ap (take (length nodes)) is ∙ take-append-le (length nodes) nodes (node ∷ []) (omega arith) ∙ take-length nodes,
+    )
 
 pub nodes_min : (owners leaves : List (List ℕ)) → length (nodes_in owners leaves) ≡ min (length owners) (length leaves)
 unfolding nodes_in

@@ -1,5 +1,6 @@
 pub mod Members
 pub mod Nodes
+pub mod OrderedNodes
 pub mod NodeTables
 pub mod Notes
 pub mod Names

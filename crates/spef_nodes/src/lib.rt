@@ -4,9 +4,11 @@
 mod members;
 mod node;
 mod node_reader;
+mod node_rows;
 mod node_table;
 mod nodes;
 mod notes;
+mod ordered_nodes;
 
 pub use members::is_inner;
 pub use node::{Node, Spelled, read_node};

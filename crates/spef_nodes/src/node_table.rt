@@ -1,23 +1,24 @@
 //! The nodes of a net, and a table to look them up.
 
-ghost use Rattle.std.specs.Prelude.{◌≡◌, ◌^◌, ◌<◌, ◌≤◌, [], ◌∷◌, ◌++◌, length, false, Some, IfOk, IfSome, IfNone, OnOk, OnErr};
+ghost use Rattle.std.specs.Prelude.{◌≡◌, ◌-◌, ◌^◌, ◌<◌, ◌≤◌, [], ◌∷◌, ◌++◌, length, false, Some, IfOk, IfSome, IfNone, OnOk, OnErr, IsTrue, ◌↔◌};
 ghost use Rattle.std.specs.List.{slice_get, fold};
-ghost use Rattle.vg_scan.specs.Nodes.{has_node, same_node};
+ghost use Rattle.vg_scan.specs.Nodes.{has_node};
 ghost use Rattle.spef_nodes.specs.Members.{node_named, with_node, Owns};
-ghost use Rattle.spef_nodes.specs.NodeTables.{node_at, hash_with, bucket_of, nodes_in, nodes_of, IsTable};
+ghost use Rattle.spef_nodes.specs.NodeTables.{node_at, hash_with, node_hash, nodes_in, nodes_of, IsTable};
 
 use crate::members::is_inner;
-use name_tables::{Chains, Texts, is_same};
+use crate::node_rows::NodeRows;
+use name_tables::{Link, Texts, is_same};
 use std::alloc::Global;
 use std::marker::Model;
 use vg_num::Memory;
 
-/// The names of nodes, and chains of those that are in one bucket.
+/// The names of nodes, and their rows.
 #[derive(Drop)]
 struct Table {
     pub owners: Texts,
     pub leaves: Texts,
-    pub chains: Chains,
+    pub rows: NodeRows,
 }
 
 /// Distinct nodes, numbered from 0 in the order in which they came first, in one buffer. Contracts see the list of
@@ -36,7 +37,7 @@ impl Model for NodeTable {
 
     ghost view = { λ nodes. nodes_in nodes.table.owners nodes.table.leaves };
 
-    ghost invariant = { λ nodes. IsTable nodes.table.owners nodes.table.leaves nodes.table.chains };
+    ghost invariant = { λ nodes. IsTable nodes.table.owners nodes.table.leaves nodes.table.rows };
 }
 
 /// The hash of a text: texts that end with numbers close to each other have hashes as close. The factor is odd, so that
@@ -52,14 +53,12 @@ fn hash_of(text: &[u8]) -> u64
     hash
 }
 
-/// The bucket of a node among so many; each of them is used where they are a power of two.
-fn bucket_of(buckets: usize, owner: &[u8], leaf: &[u8]) -> usize
-    requires { 0 < buckets }
-    ensures bucket { result ≡ bucket_of buckets (node_named owner.now leaf.now) }
-    ensures within { result < buckets }
+/// The hash of a node, of 32 bits.
+#[tactic(auto, unfolding(crate::specs::NodeTables::node_hash))]
+fn node_hash(owner: &[u8], leaf: &[u8]) -> u32
+    ensures { result ≡ node_hash (node_named owner.now leaf.now) }
 {
-    let hash = hash_of(owner) * 31 + hash_of(leaf);
-    hash as usize & (buckets - 1)
+    ((hash_of(owner) * 31 + hash_of(leaf)) % 0x1_0000_0000) as u32
 }
 
 /// Puts a node's name last. Answers `Memory` where there is no room; nothing changes then.
@@ -81,40 +80,44 @@ fn add_name(owners: &mut Texts, leaves: &mut Texts, owner: &[u8], leaf: &[u8]) -
 }
 
 impl Table {
-    /// Whether the node of a number has this name.
-    fn is_named(&self, at: usize, owner: &[u8], leaf: &[u8]) -> bool
-        requires owner { at < length self.now.owners }
-        requires leaf { at < length self.now.leaves }
-        ensures { result ≡ same_node (node_named owner.now leaf.now) (node_at self.now.owners self.now.leaves at) }
+    /// Whether a link's row has this node, of this hash.
+    fn is_named(&self, link: Link, owner: &[u8], leaf: &[u8], hash: u32) -> bool
+        requires row { (0 < link.next) × (link.next ≤ length self.now.owners) }
+        requires even { length self.now.owners ≡ length self.now.leaves }
+        requires holds { link.hash ≡ node_hash (node_at self.now.owners self.now.leaves (link.next - 1)) }
+        requires hash { hash ≡ node_hash (node_named owner.now leaf.now) }
+        ensures { IsTrue result
+            ↔ (node_at self.now.owners self.now.leaves (link.next - 1) ≡ node_named owner.now leaf.now) }
     {
-        is_same(owner, self.owners.get(at)) && is_same(leaf, self.leaves.get(at))
+        let row = link.next as usize - 1;
+        link.hash == hash
+            && is_same(owner, self.owners.get(row))
+            && is_same(leaf, self.leaves.get(row))
     }
 
-    /// The number of a node whose bucket is this one. `None`: it is not there.
-    fn find_in(&self, bucket: usize, owner: &[u8], leaf: &[u8]) -> Option<u32>
-        requires table { IsTable self.now.owners self.now.leaves self.now.chains }
-        requires bucket { bucket ≡ bucket_of (length self.now.chains.lasts.items) (node_named owner.now leaf.now) }
-        requires within { bucket < length self.now.chains.lasts.items }
+    /// The number of a node of this hash. `None`: it is not there.
+    fn find(&self, owner: &[u8], leaf: &[u8], hash: u32) -> Option<u32>
+        requires table { IsTable self.now.owners self.now.leaves self.now.rows }
+        requires hash { hash ≡ node_hash (node_named owner.now leaf.now) }
         ensures found { IfSome result (λ id. slice_get (nodes_of self.now) id ≡ Some (node_named owner.now leaf.now)) }
         ensures absent { IfNone result (has_node (nodes_of self.now) (node_named owner.now leaf.now) ≡ false) }
     {
-        let mut link = self.chains.last(bucket);
-        'row: while link != 0 {
-            let row = link as usize - 1;
-            if self.is_named(row, owner, leaf) {
-                return Some(link - 1);
+        let mut link = self.rows.chains.last(hash);
+        'row: while link.next != 0 {
+            if self.is_named(link, owner, leaf, hash) {
+                return Some(link.next - 1);
             }
-            link = self.chains.before(row);
+            link = self.rows.chains.before(link.next as usize - 1);
         }
-        None
+        self.rows.ordered.find(owner, leaf)
     }
 
-    /// Puts a node last whose bucket is this one. Answers `Memory` where there is no room; nothing changes then.
-    fn add(&mut self, bucket: usize, owner: &[u8], leaf: &[u8]) -> Result<u32, Memory>
-        requires table { IsTable self.old.owners self.old.leaves self.old.chains }
-        requires bucket { bucket ≡ bucket_of (length self.old.chains.lasts.items) (node_named owner.now leaf.now) }
-        requires within { bucket < length self.old.chains.lasts.items }
-        ensures table { IsTable self.new.owners self.new.leaves self.new.chains }
+    /// Puts a new node of this hash last. Answers `Memory` where there is no room; nothing changes then.
+    fn add(&mut self, owner: &[u8], leaf: &[u8], hash: u32) -> Result<u32, Memory>
+        requires table { IsTable self.old.owners self.old.leaves self.old.rows }
+        requires hash { hash ≡ node_hash (node_named owner.now leaf.now) }
+        requires new { has_node (nodes_of self.old) (node_named owner.now leaf.now) ≡ false }
+        ensures table { IsTable self.new.owners self.new.leaves self.new.rows }
         ensures nodes { OnOk result (nodes_of self.new ≡ nodes_of self.old ++ node_named owner.now leaf.now ∷ []) }
         ensures number { IfOk result (λ id. id ≡ length (nodes_of self.old)) }
         ensures unchanged { OnErr result (nodes_of self.new ≡ nodes_of self.old) }
@@ -123,10 +126,15 @@ impl Table {
         if count >= 0xFFFF_FFFF {
             return Err(Memory);
         }
-        self.chains.reserve()?;
         add_name(&mut self.owners, &mut self.leaves, owner, leaf)?;
-        self.chains.push(bucket)?;
-        Ok(count as u32)
+        match self.rows.push(owner, leaf, hash) {
+            Ok(()) => Ok(count as u32),
+            Err(_) => {
+                self.owners.pop();
+                self.leaves.pop();
+                Err(Memory)
+            }
+        }
     }
 }
 
@@ -137,12 +145,12 @@ impl NodeTable {
         requires fit { buckets ≤ 2 ^ 32 }
         ensures { IfOk result (λ nodes. nodes ≡ []) }
     {
-        let chains = Chains::new(alloc, buckets)?;
+        let rows = NodeRows::new(alloc, buckets)?;
         Ok(NodeTable {
             table: Table {
                 owners: Texts::new(alloc),
                 leaves: Texts::new(alloc),
-                chains,
+                rows,
             },
         })
     }
@@ -155,10 +163,10 @@ impl NodeTable {
         ensures number { IfOk result (λ id. slice_get self.new id ≡ Some (node_named owner.now leaf.now)) }
         ensures unchanged { OnErr result (self.new ≡ self.old) }
     {
-        let bucket = bucket_of(self.table.chains.buckets(), owner, leaf);
-        match self.table.find_in(bucket, owner, leaf) {
+        let hash = node_hash(owner, leaf);
+        match self.table.find(owner, leaf, hash) {
             Some(id) => Ok(id),
-            None => self.table.add(bucket, owner, leaf),
+            None => self.table.add(owner, leaf, hash),
         }
     }
 
@@ -167,8 +175,7 @@ impl NodeTable {
         ensures found { IfSome result (λ id. slice_get self.now id ≡ Some (node_named owner.now leaf.now)) }
         ensures absent { IfNone result (has_node self.now (node_named owner.now leaf.now) ≡ false) }
     {
-        let bucket = bucket_of(self.table.chains.buckets(), owner, leaf);
-        self.table.find_in(bucket, owner, leaf)
+        self.table.find(owner, leaf, node_hash(owner, leaf))
     }
 
     /// The number of a node of the net of this name: one that is there, or one inside the net, which is put last where
@@ -177,14 +184,14 @@ impl NodeTable {
         ensures owned { Owns result net.now self.old (node_named owner.now leaf.now) self.new }
         ensures unchanged { OnErr result (self.new ≡ self.old) }
     {
-        let bucket = bucket_of(self.table.chains.buckets(), owner, leaf);
-        match self.table.find_in(bucket, owner, leaf) {
+        let hash = node_hash(owner, leaf);
+        match self.table.find(owner, leaf, hash) {
             Some(id) => Ok(Some(id)),
             None => {
                 if !is_inner(net, owner, leaf) {
                     return Ok(None);
                 }
-                let Ok(id) = self.table.add(bucket, owner, leaf) else {
+                let Ok(id) = self.table.add(owner, leaf, hash) else {
                     return Err(Memory);
                 };
                 Ok(Some(id))
@@ -200,7 +207,7 @@ impl NodeTable {
         let Table {
             owners,
             leaves,
-            chains: _,
+            rows: _,
         } = table;
         (owners, leaves)
     }

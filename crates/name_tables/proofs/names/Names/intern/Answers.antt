@@ -1,7 +1,10 @@
-use Rattle.std.proofs.Common.{◌≡◌, ◌≢◌, ◌<◌, ℕ, [], ◌∷◌, ◌++◌, List, length, get_or, ap, ◌∙◌, sym, subst, None, arith}
+use Rattle.std.proofs.Common.{◌≡◌, ◌≢◌, ◌<◌, ℕ, [], ◌∷◌, ◌++◌, List, length, get_or, ap, ◌∙◌, sym, subst, None, arith, take, ◌-◌}
 use Rattle.name_tables.specs.Distinct.{number_of}
+use Rattle.name_tables.specs.Hashes.{hash_of}
+use Rattle.name_tables.specs.OrderedRows.{row_kept}
 use Rattle.name_tables.specs.NameTables.{IsTable}
-use Rattle.name_tables.proofs.NameTableLemmas.{known_of, absent_of, number_known, with_known, with_new, no_place, table_more, length-hashes_of}
+use Rattle.name_tables.proofs.NameTableLemmas.{known_of, absent_of, number_known, with_known, with_new, no_place, not_at, table_more, table_same, without_last}
+use Rattle.name_tables.proofs.FiledLemmas.{length-hashes_by}
 use Rattle.name_tables.proofs.names.Names.intern.Goals as goal
 
 pub returns-in-Some-clause-number : goal.returns-in-Some-clause-number
@@ -15,23 +18,39 @@ returns-in-Some-clause-names c =
 pub push-requires-2-clause-few : goal.push-requires-2-clause-few
 push-requires-2-clause-few c =
     let names : c.self.inside.texts ≡ c.args.self.now = c.self.view_is in
-    omega (arith, c.make_room.ensures.table.chained.count, length-hashes_of c.self.inside.texts, ap length names, c.requires)
+    omega (arith, c.make_room.ensures.table.filed.chained.count, length-hashes_by hash_of (row_kept c.make_room.new.rows.ordered) c.self.inside.texts, ap length names, c.requires)
 
 absent : (texts names : List (List ℕ)) (name : List ℕ) → texts ≡ names → None ≡ number_of names name → (row : ℕ) → row < length texts → get_or texts row [] ≢ name
 absent texts names name e none = absent_of texts name (none ∙ ap (λ (ns : List (List ℕ)). number_of ns name) (sym e))
 
-pub invariant_of-self-2 : goal.invariant_of-self-2
-invariant_of-self-2 c =
-    subst (λ (ts : List (List ℕ)). IsTable ts c.push-2.new.self) (sym c.in-Ok.ensures.last)
-    (table_more c.self.inside.texts c.args.name.now c.make_room.new.chains c.push-2.new.self c.hash_of-hash.result c.make_room.ensures.table.distinct c.make_room.ensures.table.chained c.in_ok-push.ensures.last c.push-2.ensures.buckets c.hash_of-hash.ensures c.in_ok-make_room.ensures.more
-    (absent c.self.inside.texts c.args.self.now c.args.name.now c.self.view_is c.in_default.ensures))
+pub invariant_of-self-in-Ok : goal.invariant_of-self-in-Ok
+invariant_of-self-in-Ok c =
+    let texts = c.self.inside.texts in
+    let none = absent texts c.args.self.now c.args.name.now c.self.view_is c.in_default.ensures in
+    let table = c.make_room.ensures.table in
+    subst (λ (ts : List (List ℕ)). IsTable ts c.push-2.new.self) (sym c.in_ok-push.ensures.last)
+    (table_more texts c.args.name.now c.make_room.new.rows c.push-2.new.self table (c.in-Ok.ensures.last texts table.filed (not_at texts c.args.name.now none)) c.push-2.ensures.buckets c.in_ok-make_room.ensures.more none)
 
-pub returns-clause-number : goal.returns-clause-number
-returns-clause-number c =
+popped : (texts longer shorter : List (List ℕ)) (name : List ℕ) → longer ≡ texts ++ name ∷ [] → shorter ≡ take (length longer - 1) longer → shorter ≡ texts
+popped texts longer shorter name push pop = pop ∙ ap (λ (ts : List (List ℕ)). take (length ts - 1) ts) push ∙ without_last texts name
+
+pub invariant_of-self-in-Err : goal.invariant_of-self-in-Err
+invariant_of-self-in-Err c =
+    let texts = c.self.inside.texts in
+    let table = c.make_room.ensures.table in
+    let back : c.pop.new.self ≡ texts = popped texts c.push.new.self c.pop.new.self c.args.name.now c.in_ok-push.ensures.last c.pop.ensures in
+    subst (λ (ts : List (List ℕ)). IsTable ts c.push-2.new.self) (sym back)
+    (table_same texts c.make_room.new.rows c.push-2.new.self table (c.in-Err.ensures.unchanged texts table.filed) c.push-2.ensures.buckets)
+
+pub returns-in-Err-clause-unchanged : goal.returns-in-Err-clause-unchanged
+returns-in-Err-clause-unchanged c = popped c.self.inside.texts c.push.new.self c.pop.new.self c.args.name.now c.in_ok-push.ensures.last c.pop.ensures ∙ c.self.view_is
+
+pub returns-in-Ok-clause-number : goal.returns-in-Ok-clause-number
+returns-in-Ok-clause-number c =
     let no = no_place c.args.self.now c.args.name.now (absent_of c.args.self.now c.args.name.now c.in_default.ensures) in
     let count : c.len-id.result ≡ length c.args.self.now = omega (arith, c.len-id.ensures, ap length c.self.view_is) in
     count ∙ sym no
 
-pub returns-clause-names : goal.returns-clause-names
-returns-clause-names c =
-    c.in-Ok.ensures.last ∙ ap (λ (ns : List (List ℕ)). ns ++ c.args.name.now ∷ []) c.self.view_is ∙ sym (with_new c.args.self.now c.args.name.now (absent_of c.args.self.now c.args.name.now c.in_default.ensures))
+pub returns-in-Ok-clause-names : goal.returns-in-Ok-clause-names
+returns-in-Ok-clause-names c =
+    c.in_ok-push.ensures.last ∙ ap (λ (ns : List (List ℕ)). ns ++ c.args.name.now ∷ []) c.self.view_is ∙ sym (with_new c.args.self.now c.args.name.now (absent_of c.args.self.now c.args.name.now c.in_default.ensures))
