@@ -1,5 +1,5 @@
-pub mod TableLemmas
 pub mod LineLemmas
 pub mod WordLemmas
 pub mod BoxLemmas
-pub mod TimeLemmas
+pub mod BoxTreeLemmas
+pub mod RowLemmas

@@ -1,3 +1,4 @@
+pub mod BoxTrees
 pub mod Named
 pub mod Names
 pub mod Lines

@@ -12,10 +12,10 @@ use crate::fault::ConsKind;
 use crate::format::Format;
 use crate::node::NodeRef;
 use crate::row::Row;
-use crate::tables::{NodeCells, NodeSet, NodeTimes, PortDrives, PortLoads, buckets_for};
+use crate::tables::{NodeRows, NodeSet, PortRows, buckets_for};
 use std::alloc::Global;
 use std::marker::Model;
-use vg_num::Memory;
+use vg_num::{Memory, Row as Cells};
 use vg_scan::Name;
 
 /// The version of a constraints text, and its rows by kind. Contracts see the record `Rows`, with the rows in the order
@@ -23,13 +23,13 @@ use vg_scan::Name;
 pub struct Constraints {
     format: Option<Format>,
     default: Option<i128>,
-    required: NodeTimes,
-    arrival: NodeTimes,
+    required: NodeRows<i128>,
+    arrival: NodeRows<i128>,
     want: NodeSet,
-    drive: PortDrives,
-    load: PortLoads,
+    drive: PortRows<(u64, i128)>,
+    load: PortRows<u64>,
     block: NodeSet,
-    allow: NodeCells,
+    allow: NodeRows<Cells<Name>>,
     boxes: Boxes,
 }
 
@@ -73,19 +73,19 @@ impl Constraints {
     pub(crate) fn new(alloc: Global, bytes: usize) -> Result<Constraints, Memory>
         ensures { IfOk result (λ cons. cons ≡ no_rows) }
     {
-        let required = NodeTimes::new(alloc, buckets_for(bytes))?;
-        // Arrival times are those of drivers, of which there are few.
-        let arrival = NodeTimes::new(alloc, buckets_for(bytes / 16))?;
+        let many = buckets_for(bytes);
+        // Of each other kind there are mostly few rows: of drivers, of ports, of single nodes.
+        let few = buckets_for(bytes / 16);
         Ok(Constraints {
             format: None,
             default: None,
-            required,
-            arrival,
-            want: NodeSet::new(alloc),
-            drive: PortDrives::new(alloc),
-            load: PortLoads::new(alloc),
-            block: NodeSet::new(alloc),
-            allow: NodeCells::new(alloc),
+            required: NodeRows::new(alloc, many)?,
+            arrival: NodeRows::new(alloc, few)?,
+            want: NodeSet::new(alloc, few)?,
+            drive: PortRows::new(alloc, few)?,
+            load: PortRows::new(alloc, few)?,
+            block: NodeSet::new(alloc, many)?,
+            allow: NodeRows::new(alloc, few)?,
             boxes: Boxes::new(alloc),
         })
     }
@@ -118,15 +118,25 @@ impl Constraints {
     {
         match row {
             Row::Default(time) => self.add_default(time),
-            Row::Required(pin, time) => check_fresh(self.required.insert(&pin, time)),
-            Row::Arrival(pin, time) => check_fresh(self.arrival.insert(&pin, time)),
-            Row::Want(pin) => check_fresh(self.want.insert(pin)),
-            Row::Drive(port, drive) => check_fresh(self.drive.insert(port, drive)),
-            Row::Load(port, load) => check_fresh(self.load.insert(port, load)),
-            Row::Block(node) => check_fresh(self.block.insert(node)),
-            Row::Allow(node, cells) => check_fresh(self.allow.insert(node, cells)),
+            Row::Required(pin, time) => check_fresh(self.required.insert(NodeRef::of(&pin), time)),
+            Row::Arrival(pin, time) => check_fresh(self.arrival.insert(NodeRef::of(&pin), time)),
+            Row::Want(pin) => check_fresh(self.want.insert(NodeRef::of(&pin))),
+            Row::Drive(port, drive) => check_fresh(self.drive.insert(&port, drive)),
+            Row::Load(port, load) => check_fresh(self.load.insert(&port, load)),
+            Row::Block(node) => check_fresh(self.block.insert(NodeRef::of(&node))),
+            Row::Allow(node, cells) => check_fresh(
+                self.allow
+                    .insert(NodeRef::of(&node), Cells::from_vec(cells)),
+            ),
             Row::BlockBox(corners) => check_room(self.boxes.add(corners)),
         }
+    }
+
+    /// Readies the rows for look-ups. Answers `Memory` where there is no room.
+    pub(crate) fn arrange(&mut self) -> Result<(), Memory>
+        ensures { self.new ≡ self.old }
+    {
+        self.boxes.arrange()
     }
 
     fn add_default(&mut self, time: i128) -> Result<(), ConsKind>
@@ -166,14 +176,14 @@ fn check_room(stored: Result<(), Memory>) -> Result<(), ConsKind>
 pub fn required(cons: &Constraints, pin: NodeRef<'_>) -> Option<i128>
     ensures { result ≡ required_of cons.now (named pin.entry) }
 {
-    cons.required.get(pin).or(cons.default)
+    cons.required.get(pin).copied().or(cons.default)
 }
 
 /// When a signal is at a pin, in zeptoseconds: 0 where nothing is given.
 pub fn arrival(cons: &Constraints, pin: NodeRef<'_>) -> i128
     ensures { result ≡ arrival_of cons.now (named pin.entry) }
 {
-    cons.arrival.get(pin).unwrap_or(0)
+    cons.arrival.get(pin).copied().unwrap_or(0)
 }
 
 /// Whether a pin wants the inverted signal.
@@ -187,14 +197,14 @@ pub fn wants_inverted(cons: &Constraints, pin: NodeRef<'_>) -> bool
 pub fn port_drive(cons: &Constraints, port: &Name) -> (u64, i128)
     ensures { result ≡ drive_of cons.now port.now }
 {
-    cons.drive.get(port).unwrap_or((0, 0))
+    cons.drive.get(port).copied().unwrap_or((0, 0))
 }
 
 /// The capacitance that a port drives, in attofarads: 0 where nothing is given.
 pub fn port_load(cons: &Constraints, port: &Name) -> u64
     ensures { result ≡ load_of cons.now port.now }
 {
-    cons.load.get(port).unwrap_or(0)
+    cons.load.get(port).copied().unwrap_or(0)
 }
 
 /// Whether nothing may be placed at a node.
@@ -209,7 +219,10 @@ pub fn is_blocked(cons: &Constraints, node: NodeRef<'_>) -> bool
 pub fn allows<'a>(cons: &'a Constraints, node: NodeRef<'_>) -> Option<&'a [Name]>
     ensures { option_copied result ≡ allowed_of cons.now (named node.entry) }
 {
-    cons.allow.get(node)
+    match cons.allow.get(node) {
+        Some(cells) => Some(cells.as_slice()),
+        None => None,
+    }
 }
 
 /// Whether a box has the point (x, y) inside or on its border; both are in thousandths. It takes no memory.

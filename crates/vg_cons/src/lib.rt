@@ -20,6 +20,7 @@
 //! but a box is given once for its name. What follows a `#` on its line is passed over.
 #![tactic(auto)]
 
+mod box_tree;
 mod boxes;
 mod constraints;
 mod fault;

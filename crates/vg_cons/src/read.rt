@@ -98,6 +98,20 @@ fn read_lines(alloc: Global, cons: &mut Constraints, bytes: &[u8]) -> Result<(),
     Ok(())
 }
 
+/// The rows, readied for look-ups. Answers `Memory` where there is no room.
+fn arranged(mut cons: Constraints) -> Result<Constraints, ConsFault>
+    ensures rows { IfOk result (λ ready. ready ≡ cons) }
+    ensures fault { IfErr result (λ fault. fault.kind ≡ Memory) }
+{
+    match cons.arrange() {
+        Ok(()) => Ok(cons),
+        Err(_) => Err(ConsFault {
+            kind: ConsKind::Memory,
+            line: 1,
+        }),
+    }
+}
+
 /// The version and the rows of a constraints text, or its first fault with the number of its line.
 ///
 /// Answers `Memory` where there is no room, with the line at which it was wanted.
@@ -114,7 +128,7 @@ pub fn read_constraints(alloc: Global, bytes: &[u8]) -> Result<Constraints, Cons
         });
     };
     match read_lines(alloc, &mut cons, bytes) {
-        Ok(()) => Ok(cons),
+        Ok(()) => arranged(cons),
         Err(fault) => Err(fault),
     }
 }

@@ -1,0 +1,10 @@
+use Rattle.std.proofs.Common.{◌∙◌, ap}
+use Rattle.vg_scan.specs.Nodes.{node_value}
+use Rattle.vg_cons.specs.Names.{port_value}
+use Rattle.vg_cons.proofs.RowLemmas.{port_is}
+use Rattle.vg_cons.proofs.tables.PortRows.get.Goals as goal
+
+pub returns : goal.returns
+returns g c =
+    c.get.ensures ∙ ap (node_value c.self.inside.rows) c.node_of.ensures
+    ∙ port_is c.self.inside.rows c.args.port.now c.self.invariant ∙ ap (λ rows. port_value rows c.args.port.now) c.self.view_is
