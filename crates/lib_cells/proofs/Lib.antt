@@ -1,5 +1,8 @@
 pub mod ReduceLemmas
+pub mod LookUpLemmas
 pub mod PinLemmas
+pub mod PinTableLemmas
+pub mod FirstPlaceLemmas
 pub mod LineLemmas
 pub mod FlawLemmas
 pub mod OrderLemmas

@@ -9,7 +9,7 @@ use Rattle.lib_text.specs.Groups.{Group, groups_in, names_of, value_in}
 use Rattle.lib_cells.specs.declared.cell.CellInfo.{CellInfo}
 use Rattle.lib_cells.specs.declared.pin.PinDir.{PinDir}
 use Rattle.lib_cells.specs.declared.pin.PinDir.TheVariants.{Input, Output, Inout, Internal, Unstated}
-use Rattle.lib_cells.specs.declared.pin.PinInfo.{PinInfo}
+use Rattle.lib_cells.specs.PinInfos.{PinInfo}
 use Rattle.lib_cells.specs.declared.units.Units.{Units}
 use Rattle.lib_cells.specs.Units.{capacitance_places, resistance_places, time_places}
 use Rattle.lib_cells.specs.Values.{given}

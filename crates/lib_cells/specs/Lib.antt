@@ -2,6 +2,8 @@ pub mod Function
 pub mod Reducing
 pub mod Units
 pub mod Values
+pub mod PinInfos
+pub mod PinTables
 pub mod Cells
 pub mod Pins
 pub mod Flaws

@@ -2,8 +2,6 @@
 use Rattle.std.specs.Prelude.{ℕ, max, List, [], Option, Some, None}
 use Rattle.std.specs.List.{cons_option}
 use Rattle.lib_text.specs.Groups.{Group}
-use Rattle.lib_cells.specs.declared.pin.PinInfo.{PinInfo}
-use Rattle.lib_cells.specs.declared.pin.Shared.{Shared}
 use Rattle.lib_cells.specs.Values.{given}
 
 -- the greater of two numbers, or the one that is there
@@ -15,14 +13,3 @@ greater (Some a) (Some b) = Some (max a b)
 -- the numbers that two attributes of a group give
 abbrev pub pair_in : List ℕ → List ℕ → ℕ → Group → List ℕ
 pair_in rise fall places group = cons_option (given group rise places) (cons_option (given group fall places) [])
-
--- what all pins of a group share, with a name
-abbrev pub named : Shared → List ℕ → PinInfo
-named shared name = record {
-  name = name;
-  direction = shared.direction;
-  cap = shared.cap;
-  drive = shared.drive;
-  max = shared.max;
-  related = shared.related;
-}

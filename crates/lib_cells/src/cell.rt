@@ -4,19 +4,19 @@ ghost use Rattle.std.specs.Prelude.{◌≡◌, IfOk};
 ghost use Rattle.lib_cells.specs.Cells.{area_of, cell_groups, cell_info, cells_of, first_name, name_of};
 ghost use Rattle.lib_cells.specs.Units.{AreUnits};
 
-use crate::pin::{PinInfo, pins_of};
+use crate::pins::{Pins, pins_of};
 use crate::units::Units;
 use crate::values::given;
 use lib_text::Group;
 use std::alloc::Global;
-use vg_num::{Memory, Row};
+use vg_num::Memory;
 use vg_scan::Name;
 
 /// A cell of a library.
 #[derive(Drop)]
 pub struct CellInfo {
     pub name: Name,
-    pub pins: Row<PinInfo>,
+    pub pins: Pins,
     /// Its area (thousandths); 0 where it is not given.
     pub area: u64,
 }

@@ -1,19 +1,18 @@
-//! The pins of a cell.
+//! What a pin group says of its pins.
 
-ghost use Rattle.std.specs.Prelude.{◌≡◌, ℕ, List, ◌++◌, ◌≤◌, [], flat_map, IfOk, OnOk, map};
+ghost use Rattle.std.specs.Prelude.{◌≡◌, ℕ, List, ◌≤◌, flat_map, IfOk};
 ghost use Rattle.std.specs.Str.{bytes_eq};
-ghost use Rattle.lib_cells.specs.Cells.{both, direction_named, direction_of, distinct, drive_of, greatest, intrinsics, is_output, names_in, pin_info, pins_of, related_in, related_of, resistances, timings};
-ghost use Rattle.lib_cells.specs.Pins.{greater, named, pair_in};
-ghost use Rattle.lib_text.specs.Groups.{names_of};
+ghost use Rattle.lib_cells.specs.Cells.{both, direction_named, direction_of, drive_of, greatest, is_output, pin_info, timings};
+ghost use Rattle.lib_cells.specs.Pins.{greater, pair_in};
+ghost use Rattle.lib_cells.specs.PinTables.{named};
 ghost use Rattle.lib_cells.specs.Units.{AreUnits};
 
-use crate::related_pins::{copy_names, related_of};
+use crate::related_pins::{RelatedPins, related_of};
 use crate::units::Units;
 use crate::values::given;
 use lib_text::Group;
 use std::alloc::Global;
-use vg_num::{Memory, Row};
-use vg_scan::Name;
+use vg_num::Memory;
 
 /// Which way a pin goes. Source: Liberty User Guide, Synopsys, on the attribute `direction`.
 #[derive(Clone, Copy, Debug, PartialEq, Eq, Drop)]
@@ -26,20 +25,19 @@ pub enum PinDir {
     Unstated,
 }
 
-/// A pin of a cell.
+/// What all pins of a pin group share.
 #[derive(Drop)]
-pub struct PinInfo {
-    pub name: Name,
+pub struct PinGroup {
     pub direction: PinDir,
-    /// Its capacitance (aF), where it is given.
+    /// Their capacitance (aF), where it is given.
     pub cap: Option<u64>,
-    /// Its delay without a load (zs) and its resistance (mΩ), where it is an output and both are given: the greatest
-    /// intrinsic time and the greatest resistance of its timing groups.
+    /// Their delay without a load (zs) and their resistance (mΩ), where they are outputs and both are given: the
+    /// greatest intrinsic time and the greatest resistance of the timing groups.
     pub drive: Option<(u64, u64)>,
-    /// The greatest load that it may charge (aF), where it is given.
+    /// The greatest load that each of them may charge (aF), where it is given.
     pub max: Option<u64>,
-    /// The pins that the timing groups of an output name as related, each once, in the order of the text.
-    pub related: Row<Name>,
+    /// The pins that the timing groups of an output name as related.
+    pub related: RelatedPins,
 }
 
 fn is_word(text: &[u8], word: &[u8]) -> bool
@@ -141,25 +139,15 @@ fn drive_of(units: Units, pin: &Group<'_>, direction: PinDir) -> Option<(u64, u6
     )
 }
 
-/// What all pins of a pin group share.
-#[derive(Drop)]
-struct Shared {
-    direction: PinDir,
-    cap: Option<u64>,
-    drive: Option<(u64, u64)>,
-    max: Option<u64>,
-    related: Row<Name>,
-}
-
-impl Shared {
-    /// What the pins of a group share.
-    fn of(alloc: Global, units: Units, pin: &Group<'_>) -> Result<Shared, Memory>
+impl PinGroup {
+    /// What the pins of a pin group share.
+    pub(crate) fn of(alloc: Global, units: Units, pin: &Group<'_>) -> Result<PinGroup, Memory>
         requires { AreUnits units }
-        ensures { IfOk result (λ shared. (name : List ℕ) → named shared name ≡ pin_info units pin.now name) }
+        ensures { IfOk result (λ group. (name : List ℕ) → named group name ≡ pin_info units pin.now name) }
     {
         let direction = direction_of(pin);
         let related = related_of(alloc, pin, direction)?;
-        Ok(Shared {
+        Ok(PinGroup {
             direction,
             cap: given(pin, b"capacitance", units.capacitances()),
             drive: drive_of(units, pin, direction),
@@ -167,47 +155,4 @@ impl Shared {
             related,
         })
     }
-
-    /// The pin of this name.
-    fn named(&self, alloc: Global, name: &[u8]) -> Result<PinInfo, Memory>
-        ensures { IfOk result (λ info. info ≡ named self.now name.now) }
-    {
-        Ok(PinInfo {
-            name: Name::from_bytes(alloc, name)?,
-            direction: self.direction,
-            cap: self.cap,
-            drive: self.drive,
-            max: self.max,
-            related: copy_names(alloc, self.related.as_slice())?,
-        })
-    }
-}
-
-/// Appends the pins of a pin group.
-fn push_pins(
-    alloc: Global,
-    units: Units,
-    pin: &Group<'_>,
-    pins: &mut Vec<PinInfo>,
-) -> Result<(), Memory>
-    requires { AreUnits units }
-    ensures { IfOk result (λ _. pins.new.items ≡ pins.old.items ++ map (pin_info units pin.now) (names_of pin.now)) }
-{
-    let shared = Shared::of(alloc, units, pin)?;
-    'name: for name in pin.names() {
-        pins.push(shared.named(alloc, name)?)?;
-    }
-    Ok(())
-}
-
-/// The pins of a cell.
-pub(crate) fn pins_of(alloc: Global, units: Units, cell: &Group<'_>) -> Result<Row<PinInfo>, Memory>
-    requires { AreUnits units }
-    ensures { IfOk result (λ pins. pins ≡ pins_of units cell.now) }
-{
-    let mut pins = Vec::new(alloc);
-    'pin: for pin in cell.groups(b"pin") {
-        push_pins(alloc, units, &pin, &mut pins)?;
-    }
-    Ok(Row::from_vec(pins))
 }

@@ -1,6 +1,6 @@
 //! The pins that a pin's timing groups name as related.
 
-ghost use Rattle.std.specs.Prelude.{◌≡◌, fold, IfOk};
+ghost use Rattle.std.specs.Prelude.{◌≡◌, [], fold, option_copied, unwrap_or, IfOk};
 ghost use Rattle.name_tables.specs.Distinct.{with_name};
 ghost use Rattle.lib_cells.specs.Cells.{related_in, related_of};
 ghost use Rattle.lib_cells.specs.Cells.{direction_of};
@@ -9,11 +9,50 @@ use crate::pin::{PinDir, is_output};
 use lib_text::Group;
 use name_tables::Names;
 use std::alloc::Global;
-use vg_num::{Memory, Row};
-use vg_scan::{Name, Words};
+use std::marker::Model;
+use vg_num::Memory;
+use vg_scan::Words;
 
 /// The most names that a table takes.
 const MOST_NAMES: usize = 4_294_967_295;
+
+/// The pins that the timing groups of a pin group name as related, each once, in the order of the text. Contracts see
+/// the list of their names. It takes no memory where there are none.
+#[derive(Drop)]
+pub struct RelatedPins {
+    names: Option<Box<Names>>,
+}
+
+impl Model for RelatedPins {
+    ghost use Rattle.std.specs.Prelude.{List, ℕ, [], option_map, unwrap_or};
+
+    ghost Value = { List (List ℕ) };
+
+    ghost view = { λ related. unwrap_or (option_map (λ names. names.value) related.names) [] };
+}
+
+impl RelatedPins {
+    /// The pins of these names.
+    fn new(alloc: Global, names: Names) -> Result<RelatedPins, Memory>
+        ensures { IfOk result (λ related. related ≡ names) }
+    {
+        if names.is_empty() {
+            return Ok(RelatedPins { names: None });
+        }
+        let names = Box::new(alloc, names)?;
+        Ok(RelatedPins { names: Some(names) })
+    }
+
+    /// Their names, to be found by a table. `None`: there are none.
+    pub fn names(&self) -> Option<&Names>
+        ensures { unwrap_or (option_copied result) [] ≡ self.now }
+    {
+        match &self.names {
+            Some(names) => Some(names),
+            None => None,
+        }
+    }
+}
 
 /// Puts a name last where it is new.
 pub(crate) fn add_name(names: &mut Names, name: &[u8]) -> Result<(), Memory>
@@ -39,26 +78,12 @@ fn add_related(names: &mut Names, timing: &Group<'_>) -> Result<(), Memory>
     Ok(())
 }
 
-/// The names of a table as a list.
-fn list_of(alloc: Global, names: &Names) -> Result<Row<Name>, Memory>
-    ensures { IfOk result (λ list. list ≡ names.now) }
-{
-    let Ok(count) = u32::try_from(names.len()) else {
-        return Err(Memory);
-    };
-    let mut list = Vec::with_capacity(alloc, names.len())?;
-    'name: for id in 0..count {
-        list.push(Name::from_bytes(alloc, names.name(id))?)?;
-    }
-    Ok(Row::from_vec(list))
-}
-
 /// The pins that the timing groups of a pin name as related, each once, where the pin is an output.
 pub(crate) fn related_of(
     alloc: Global,
     pin: &Group<'_>,
     direction: PinDir,
-) -> Result<Row<Name>, Memory>
+) -> Result<RelatedPins, Memory>
     requires { direction ≡ direction_of pin.now }
     ensures { IfOk result (λ related. related ≡ related_of pin.now) }
 {
@@ -68,16 +93,6 @@ pub(crate) fn related_of(
             add_related(&mut names, &timing)?;
         }
     }
-    list_of(alloc, &names)
-}
-
-/// The same names, in memory of their own.
-pub(crate) fn copy_names(alloc: Global, names: &[Name]) -> Result<Row<Name>, Memory>
-    ensures { IfOk result (λ copies. copies ≡ names.now) }
-{
-    let mut copies = Vec::with_capacity(alloc, names.len())?;
-    'name: for at in 0..names.len() {
-        copies.push(names[at].copy(alloc)?)?;
-    }
-    Ok(Row::from_vec(copies))
+    let related = RelatedPins::new(alloc, names)?;
+    Ok(related)
 }

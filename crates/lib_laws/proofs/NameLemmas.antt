@@ -11,7 +11,7 @@ use Rattle.lib_text.specs.Arguments.{are_names, arguments_of, is_comma, is_name,
 use Rattle.lib_text.specs.Groups.{Group, names_of}
 use Rattle.lib_text.specs.Strings.{quoting_after}
 use Rattle.lib_cells.specs.Cells.{first_name, pin_groups, pin_info, pins_of}
-use Rattle.lib_cells.specs.declared.pin.PinInfo.{PinInfo}
+use Rattle.lib_cells.specs.PinInfos.{PinInfo}
 use Rattle.lib_cells.specs.declared.units.Units.{Units}
 use Rattle.lib_linear.specs.Libraries.{plain}
 use Rattle.lib_linear.specs.Repeaters.{AreRepeaters, IsRepeater}

@@ -9,7 +9,7 @@ use Rattle.std.proofs.lemmas.List.Sorted.{All-permutation}
 use Rattle.std.proofs.lemmas.Slice.Eq.{bytes_eq-Decides}
 use Rattle.lib_text.specs.Groups.{Group}
 use Rattle.lib_cells.specs.declared.cell.CellInfo.{CellInfo}
-use Rattle.lib_cells.specs.declared.pin.PinInfo.{PinInfo}
+use Rattle.lib_cells.specs.PinInfos.{PinInfo}
 use Rattle.lib_cells.specs.declared.units.Units.{Units}
 use Rattle.lib_cells.specs.Cells.{cell_info, name_of, pins_of}
 use Rattle.lib_linear.specs.declared.repeater.Repeater.{Repeater}

@@ -1,4 +1,3 @@
-pub mod LookUpLemmas
 pub mod RepeaterLemmas
 pub mod RepeaterLaws
 pub mod RepeaterOrder

@@ -12,7 +12,7 @@ use Rattle.vg_scan.specs.Lines.{is_ink}
 use Rattle.elmore.specs.declared.rep.Rep.{Rep}
 use Rattle.lib_text.specs.Groups.{Group}
 use Rattle.lib_cells.specs.declared.fault.LibKind.TheVariants.{CellTwice}
-use Rattle.lib_cells.specs.declared.pin.PinInfo.{PinInfo}
+use Rattle.lib_cells.specs.PinInfos.{PinInfo}
 use Rattle.lib_linear.specs.declared.repeater.Repeater.{Repeater}
 use Rattle.lib_cells.specs.declared.units.Units.{Units}
 use Rattle.lib_cells.specs.Cells.{cell_groups, name_of, pins_of}

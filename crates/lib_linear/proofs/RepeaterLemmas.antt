@@ -1,10 +1,10 @@
 -- Why the functions that look for repeaters find them.
-use Rattle.std.proofs.Common.{◌≡◌, ℕ, ◌==◌, Bool, true, false, ◌⊎◌, inl, inr, nat_lt, List, [], ◌∷◌, Option, Some, None, find, option_map, refl, sym, ap, ◌∙◌, arith}
+use Rattle.std.proofs.Common.{◌≡◌, ℕ, ◌==◌, Bool, true, false, ◌⊎◌, inl, inr, nat_lt, List, [], ◌∷◌, Option, Some, None, find, length, slice_get, option_map, refl, sym, ap, ◌∙◌, arith}
 use Rattle.std.proofs.lemmas.Bool.Decides.{nat_tests}
 use Rattle.std.specs.Option.{MatchOption}
 use Rattle.lib_text.specs.Groups.{Group}
 use Rattle.lib_cells.specs.declared.pin.PinDir.TheVariants.{Input, Output}
-use Rattle.lib_cells.specs.declared.pin.PinInfo.{PinInfo}
+use Rattle.lib_cells.specs.PinInfos.{PinInfo}
 use Rattle.lib_cells.specs.Cells.{direction_of, is_output, pin_groups}
 use Rattle.lib_cells.specs.declared.units.Units.{Units}
 use Rattle.lib_linear.specs.Repeaters.{AreTwoPins, IsFunction, Follows, is_timed}
@@ -35,6 +35,13 @@ module _ (units : Units) (cell : Group) (input : List ℕ) where
 
 list_two : {X : Type 0} (a b c d : X) → a ∷ b ∷ [] ≡ c ∷ d ∷ [] → (a ≡ c) × (b ≡ d)
 list_two a b c d e = (grind arith, grind arith)
+
+-- a list of two elements
+pub are_two : {X : Type 0} (xs : List X) (a b : X) → length xs ≡ 2 → slice_get xs 0 ≡ Some a → slice_get xs 1 ≡ Some b → xs ≡ a ∷ b ∷ []
+are_two [] a b n e f = absurd (omega (arith, n))
+are_two (x ∷ []) a b n e f = absurd (omega (arith, n))
+are_two (x ∷ y ∷ []) a b n e f = let g : Some x ≡ Some a = e in let h : Some y ≡ Some b = f in cc
+are_two (x ∷ y ∷ z ∷ xs) a b n e f = absurd (omega (arith, n))
 
 no_both : (a b : PinInfo) → a.direction ≡ Input → b.direction ≡ Output → a ≡ b → ⊥
 no_both a b i o e = let f : Input ≡ Output = sym i ∙ ap (λ p. p.direction) e ∙ o in absurd (cc)

@@ -8,7 +8,7 @@ use Rattle.lib_text.specs.Groups.{Group, library_of}
 use Rattle.lib_text.specs.Joined.{joined}
 use Rattle.lib_text.specs.Syntax.{IsLibrary}
 use Rattle.lib_cells.specs.declared.cell.CellInfo.{CellInfo}
-use Rattle.lib_cells.specs.declared.pin.PinInfo.{PinInfo}
+use Rattle.lib_cells.specs.PinInfos.{PinInfo}
 use Rattle.lib_linear.specs.declared.repeater.Repeater.{Repeater}
 use Rattle.lib_cells.specs.Cells.{cell_groups, cells_of}
 use Rattle.lib_cells.specs.Flaws.{header_flaws, value_flaws}

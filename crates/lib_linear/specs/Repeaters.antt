@@ -9,7 +9,7 @@ use Rattle.std.specs.Cmp.Lexicographic.{slice_cmp}
 use Rattle.elmore.specs.declared.rep.Rep.{Rep}
 use Rattle.lib_text.specs.Groups.{Group, groups_in, value_in}
 use Rattle.lib_cells.specs.declared.pin.PinDir.TheVariants.{Input, Output}
-use Rattle.lib_cells.specs.declared.pin.PinInfo.{PinInfo}
+use Rattle.lib_cells.specs.PinInfos.{PinInfo}
 use Rattle.lib_linear.specs.declared.repeater.Repeater.{Repeater}
 use Rattle.lib_cells.specs.declared.units.Units.{Units}
 use Rattle.lib_cells.specs.Cells.{area_of, direction_of, is_output, name_of, pin_groups, pins_of, related_in, timings}

@@ -1,15 +1,14 @@
 //! A library, and what it says of pins.
 
-ghost use Rattle.std.specs.Prelude.{◌≡◌, [], ◌<◌, find, map, option_copied, slice_get};
+ghost use Rattle.std.specs.Prelude.{◌≡◌, [], ◌<◌, find, map, option_copied, slice_get, unwrap_or};
 ghost use Rattle.std.specs.Str.{bytes_eq};
 ghost use Rattle.lib_linear.specs.Libraries.{AreOfCells, cap_of, drive_in, limit_of, pin_in, related_to};
 
 use crate::repeater::Repeater;
-use lib_cells::{CellInfo, PinInfo};
+use lib_cells::{CellInfo, Pin};
 use name_tables::Names;
 use std::marker::Model;
 use vg_num::Row;
-use vg_scan::Name;
 
 /// The cells of a library, and those of them that are repeaters. Contracts see both as lists: the cells in the order of
 /// the text, the repeaters by rising resistance, then by name.
@@ -70,22 +69,12 @@ fn cell_of<'a>(names: &Names, cells: &'a [CellInfo], name: &[u8]) -> Option<&'a 
     }
 }
 
-/// The first pin of this name of a cell.
-fn pin_of<'a>(cell: &'a CellInfo, name: &[u8]) -> Option<&'a PinInfo>
-    ensures { option_copied result ≡ find (λ p. bytes_eq name.now p.name) cell.now.pins }
-{
-    cell.pins
-        .as_slice()
-        .iter()
-        .find(|pin| name == pin.name.as_bytes())
-}
-
 /// The first pin of this name of the cell of this name.
-fn pin_in<'a>(library: &'a Library, cell: &[u8], pin: &[u8]) -> Option<&'a PinInfo>
-    ensures { option_copied result ≡ pin_in library.now cell.now pin.now }
+fn pin_in<'a>(library: &'a Library, cell: &[u8], pin: &[u8]) -> Option<Pin<'a>>
+    ensures { result ≡ pin_in library.now cell.now pin.now }
 {
     let cell = cell_of(&library.names, library.cells.as_slice(), cell)?;
-    pin_of(cell, pin)
+    cell.pins.find(pin)
 }
 
 /// A law: what a library says of the pins of a repeater is what the repeater does, and no two repeaters are of one
@@ -108,7 +97,7 @@ pub fn repeaters(library: &Library) -> &[Repeater]
 pub fn pin_cap(library: &Library, cell: &[u8], pin: &[u8]) -> Option<u64>
     ensures { result ≡ cap_of library.now cell.now pin.now }
 {
-    pin_in(library, cell, pin)?.cap
+    pin_in(library, cell, pin)?.group.cap
 }
 
 /// The delay without a load (zs) and the resistance (mΩ) of a pin: the greatest that its timing groups give. `None`: no
@@ -117,7 +106,7 @@ pub fn pin_cap(library: &Library, cell: &[u8], pin: &[u8]) -> Option<u64>
 pub fn pin_drive(library: &Library, cell: &[u8], pin: &[u8]) -> Option<(u64, u64)>
     ensures { result ≡ drive_in library.now cell.now pin.now }
 {
-    pin_in(library, cell, pin)?.drive
+    pin_in(library, cell, pin)?.group.drive
 }
 
 /// The greatest load that a pin may charge (aF). `None`: no such cell or pin, or it has no such limit. It takes no
@@ -125,16 +114,13 @@ pub fn pin_drive(library: &Library, cell: &[u8], pin: &[u8]) -> Option<(u64, u64
 pub fn pin_limit(library: &Library, cell: &[u8], pin: &[u8]) -> Option<u64>
     ensures { result ≡ limit_of library.now cell.now pin.now }
 {
-    pin_in(library, cell, pin)?.max
+    pin_in(library, cell, pin)?.group.max
 }
 
-/// The pins that the timing groups of an output name as related, each once, in the order of the text; none of any other
-/// pin. It takes no memory.
-pub fn related<'a>(library: &'a Library, cell: &[u8], pin: &[u8]) -> &'a [Name]
-    ensures { result.now ≡ related_to library.now cell.now pin.now }
+/// The pins that the timing groups of an output name as related, each once, in the order of the text, to be found by a
+/// table. `None`: there are none, as of any other pin. It takes no memory.
+pub fn related<'a>(library: &'a Library, cell: &[u8], pin: &[u8]) -> Option<&'a Names>
+    ensures { unwrap_or (option_copied result) [] ≡ related_to library.now cell.now pin.now }
 {
-    match pin_in(library, cell, pin) {
-        Some(info) => info.related.as_slice(),
-        None => &[],
-    }
+    pin_in(library, cell, pin)?.group.related.names()
 }

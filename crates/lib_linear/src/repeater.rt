@@ -6,13 +6,13 @@ ghost use Rattle.std.specs.Str.{bytes_eq};
 ghost use Rattle.vg_scan.specs.Lines.{words};
 ghost use Rattle.lib_text.specs.Groups.{groups_in};
 ghost use Rattle.elmore.specs.declared.rep.Rep.{Rep as RepSpec};
-ghost use Rattle.lib_cells.specs.declared.pin.PinInfo.{PinInfo as PinSpec};
+ghost use Rattle.lib_cells.specs.PinInfos.{PinInfo};
 ghost use Rattle.lib_cells.specs.Cells.{area_of, cell_info, direction_of, is_output, pin_groups};
 ghost use Rattle.lib_linear.specs.Repeaters.{AreInOut, ArePartsOf, AreSmall, AreTwoPins, Follows, IsFunction, IsNoRepeater, IsRep, IsRepeater, IsUsable, is_arc, is_full, is_related, is_timed};
 ghost use Rattle.lib_cells.specs.Units.{AreUnits};
 
 use elmore::Rep;
-use lib_cells::{CellInfo, PinDir, PinInfo, Units, direction_of, given, reduces_to, says};
+use lib_cells::{CellInfo, Pin, PinDir, Pins, Units, direction_of, given, reduces_to, says};
 use lib_text::Group;
 use std::alloc::Global;
 use vg_num::Memory;
@@ -90,26 +90,28 @@ fn is_usable(cell: &Group<'_>) -> bool
 }
 
 /// Whether two pins are an input and an output, of different names.
-fn are_two(input: &PinInfo, output: &PinInfo) -> bool
+fn are_two(input: &Pin<'_>, output: &Pin<'_>) -> bool
     ensures { MatchBool result (AreInOut input.now output.now) (AreInOut input.now output.now → ⊥) }
 {
-    input.direction == PinDir::Input
-        && output.direction == PinDir::Output
+    input.group.direction == PinDir::Input
+        && output.group.direction == PinDir::Output
         && input.name != output.name
 }
 
 /// The input and the output that these pins are, where they are one of each, of different names.
-fn two_pins(pins: &[PinInfo]) -> Option<(&PinInfo, &PinInfo)>
-    ensures { MatchOption result ((input output : PinSpec) → AreTwoPins pins.now input output → ⊥) (λ two.
-        AreTwoPins pins.now two.0.now two.1.now) }
+fn two_pins(pins: &Pins) -> Option<(Pin<'_>, Pin<'_>)>
+    ensures { MatchOption result ((input output : PinInfo) → AreTwoPins pins.now input output → ⊥) (λ two.
+        AreTwoPins pins.now two.0 two.1) }
 {
-    let [a, b] = pins else {
+    if pins.len() != 2 {
         return None;
-    };
-    if are_two(a, b) {
+    }
+    let a = pins.get(0);
+    let b = pins.get(1);
+    if are_two(&a, &b) {
         return Some((a, b));
     }
-    if are_two(b, a) { Some((b, a)) } else { None }
+    if are_two(&b, &a) { Some((b, a)) } else { None }
 }
 
 fn is_output(pin: &Group<'_>) -> bool
@@ -159,17 +161,17 @@ fn rep_of(
     units: Units,
     cell: &Group<'_>,
     area: u64,
-    input: &PinInfo,
-    output: &PinInfo,
+    input: &Pin<'_>,
+    output: &Pin<'_>,
 ) -> Option<Rep>
     requires units { AreUnits units }
     requires area { area ≡ area_of cell.now }
     ensures { MatchOption result ((rep : RepSpec) → IsRep units cell.now input.now output.now rep → ⊥)
         (IsRep units cell.now input.now output.now) }
 {
-    let inverts = follows(units, cell, input.name.as_bytes())?;
-    let cin = input.cap?;
-    let (k, r) = output.drive?;
+    let inverts = follows(units, cell, input.name)?;
+    let cin = input.group.cap?;
+    let (k, r) = output.group.drive?;
     if !are_small(k, r, area) {
         return None;
     }
@@ -179,7 +181,7 @@ fn rep_of(
         k,
         r,
         cost: area,
-        limit: output.max,
+        limit: output.group.max,
     })
 }
 
@@ -188,17 +190,17 @@ fn parts_of<'a>(
     units: Units,
     cell: &Group<'_>,
     info: &'a CellInfo,
-) -> Option<(&'a PinInfo, &'a PinInfo, Rep)>
+) -> Option<(Pin<'a>, Pin<'a>, Rep)>
     requires units { AreUnits units }
     requires info { info.now ≡ cell_info units cell.now }
     ensures { MatchOption result (IsNoRepeater units cell.now) (λ parts.
-        ArePartsOf units cell.now parts.0.now parts.1.now parts.2) }
+        ArePartsOf units cell.now parts.0 parts.1 parts.2) }
 {
     if !is_usable(cell) {
         return None;
     }
-    let (input, output) = two_pins(info.pins.as_slice())?;
-    let rep = rep_of(units, cell, info.area, input, output)?;
+    let (input, output) = two_pins(&info.pins)?;
+    let rep = rep_of(units, cell, info.area, &input, &output)?;
     Some((input, output, rep))
 }
 
@@ -218,8 +220,8 @@ pub(crate) fn repeater_of(
     };
     Ok(Some(Repeater {
         cell: info.name.copy(alloc)?,
-        input: input.name.copy(alloc)?,
-        output: output.name.copy(alloc)?,
+        input: Name::from_bytes(alloc, input.name)?,
+        output: Name::from_bytes(alloc, output.name)?,
         rep,
     }))
 }

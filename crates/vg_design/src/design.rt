@@ -1,6 +1,6 @@
 //! The files of a design, read.
 
-ghost use Rattle.std.specs.Prelude.{◌≡◌, ◌<◌, ◌≤◌, Some, length, slice_get, IfOk, IfSome};
+ghost use Rattle.std.specs.Prelude.{◌≡◌, ◌<◌, ◌≤◌, [], Some, length, option_copied, slice_get, unwrap_or, IfOk, IfSome};
 ghost use Rattle.name_tables.specs.Distinct.{number_of};
 ghost use Rattle.elmore.specs.Problems.{AreRising};
 ghost use Rattle.lib_linear.specs.Libraries.{related_to};
@@ -11,6 +11,7 @@ ghost use Rattle.vg_design.specs.Designs.{net_names};
 ghost use Rattle.vg_design.specs.Steps.{IsPin};
 
 use lib_linear::{Library, Repeater, related, repeaters};
+use name_tables::Names;
 use spef_file::{SpefIndex, SpefText};
 use std::alloc::Global;
 use std::marker::Model;
@@ -18,7 +19,6 @@ use ver_module::{Instance, Module, Net};
 use ver_net::{Connections, PinRef, connect};
 use vg_cons::Constraints;
 use vg_num::Memory;
-use vg_scan::Name;
 
 /// What the four files of a design say together: the parasitics of its nets (SPEF), its cells (Liberty), its netlist
 /// (Verilog) and its constraints. Contracts see the SPEF text and what the other three denote.
@@ -141,9 +141,10 @@ impl Design {
         repeaters(&self.library)
     }
 
-    /// The pins that an output of a cell names as related, in the library; none of any other pin. It takes no memory.
-    pub fn related(&self, cell: &[u8], pin: &[u8]) -> &[Name]
-        ensures { result.now ≡ related_to self.now.library cell.now pin.now }
+    /// The pins that an output of a cell names as related, in the library, to be found by a table. `None`: there are
+    /// none, as of any other pin. It takes no memory.
+    pub fn related(&self, cell: &[u8], pin: &[u8]) -> Option<&Names>
+        ensures { unwrap_or (option_copied result) [] ≡ related_to self.now.library cell.now pin.now }
     {
         related(&self.library, cell, pin)
     }

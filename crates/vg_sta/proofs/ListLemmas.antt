@@ -1,6 +1,8 @@
 -- What lists contain that are made of others.
-use Rattle.std.proofs.Common.{◌≡◌, ℕ, zero, suc, ◌+◌, Bool, true, false, cond, List, [], ◌∷◌, ◌++◌, map, filter, take, slice_get, refl, sym, ap, ◌∙◌, subst, arith, Option, Some, None}
-use Rattle.std.specs.List.{Contains, cons_option, filter_map}
+use Rattle.std.proofs.Common.{◌≡◌, ℕ, zero, suc, ◌+◌, nat_lt, Bool, true, false, not, ◌||◌, cond, List, [], ◌∷◌, ◌++◌, length, map, filter, take, position, slice_get, refl, sym, ap, ◌∙◌, subst, arith, Option, Some, None}
+use Rattle.std.specs.List.{Contains, cons_option, filter_map, list_any, position_or_len}
+use Rattle.std.specs.Option.{is_some}
+use Rattle.std.proofs.lemmas.Bool.Decides.{nat_tests}
 use Rattle.std.proofs.lemmas.List.{take_more}
 use Rattle.std.proofs.lemmas.List.Elements.{filter_map-append}
 use Rattle.std.proofs.lemmas.Option.{get_or_from_slice_get, slice_get-get_or, slice_get_within}
@@ -90,3 +92,22 @@ in_filter_map {X = X} {Y = Y} f (z ∷ xs) y in' = either (λ there. let (x, fou
 pub filter_map_more : {X Y : Type 0} (f : X → Option Y) (xs : List X) (i : ℕ) (x : X) → slice_get xs i ≡ Some x → filter_map f (take (i + 1) xs) ≡ filter_map f (take i xs) ++ cons_option (f x) []
 filter_map_more {X = X} {Y = Y} f xs i x is =
     ap (filter_map f) (take_more xs i x (slice_get_within xs i x is) ∙ ap (λ (y : X). take i xs ++ y ∷ []) (get_or_from_slice_get xs i x x is)) ∙ filter_map-append f (take i xs) (x ∷ [])
+
+-- ---- tests
+
+any_there : {X : Type 0} (p : X → Bool) (xs : List X) → list_any p xs ≡ nat_lt (position_or_len p xs) (length xs)
+any_there p [] = refl
+any_there p (x ∷ xs) = by_test (p x) (any_there p xs)
+  where
+    by_test : (t : Bool) → list_any p xs ≡ nat_lt (position_or_len p xs) (length xs)
+        → (t || list_any p xs) ≡ nat_lt (cond (not t) (1 + position_or_len p xs) 0) (suc (length xs))
+    by_test true e = grind (arith, nat_tests)
+    by_test false e = grind (arith, nat_tests)
+
+-- an element that passes has a place
+pub placed : {X : Type 0} (p : X → Bool) (xs : List X) → is_some (position p xs) ≡ list_any p xs
+placed p xs = by_test (nat_lt (position_or_len p xs) (length xs)) ∙ sym (any_there p xs)
+  where
+    by_test : (t : Bool) → is_some (cond t (Some (position_or_len p xs)) None) ≡ t
+    by_test true = refl
+    by_test false = refl

@@ -6,18 +6,18 @@ ghost use Rattle.std.specs.Str.{bytes_eq};
 ghost use Rattle.vg_sta.specs.Steps.{leads_by};
 
 use crate::outputs::Output;
+use name_tables::Names;
 use sta_graph::Lead;
 use vg_num::Memory;
-use vg_scan::Name;
 
 /// More leads than these are not held.
 pub(crate) const MOST: usize = 1 << 30;
 
 /// Whether a pin is one of those that an output names as related.
-fn is_related(related: &[Name], pin: &[u8]) -> bool
+fn is_related(related: &Names, pin: &[u8]) -> bool
     ensures { result ≡ list_any (bytes_eq pin.now) related.now }
 {
-    related.iter().any(|name| pin == name.as_bytes())
+    related.find(pin).is_some()
 }
 
 /// Puts last the leads of a sink, which is a pin of the instance with these outputs.

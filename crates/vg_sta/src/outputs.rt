@@ -7,12 +7,12 @@ ghost use Rattle.ver_module.specs.Netlists.{IsWithin};
 ghost use Rattle.vg_sta.specs.Spans.{IsPut};
 ghost use Rattle.vg_sta.specs.Outputs.{onward_at, onward_by, onward_of, outputs_in, section_by, sections_in};
 
+use name_tables::Names;
 use std::alloc::Global;
 use std::marker::Model;
 use ver_module::{Instance, LinkRef, Pin};
 use vg_design::Design;
 use vg_num::Memory;
-use vg_scan::Name;
 
 /// An output of an instance that is linked to one net, where the net has a section.
 #[derive(Drop)]
@@ -20,7 +20,7 @@ pub(crate) struct Output<'a> {
     /// The section of the net.
     pub section: u32,
     /// The pins of the instance that the output names as related.
-    pub related: &'a [Name],
+    pub related: &'a Names,
 }
 
 impl<'a> Model for Output<'a> {
@@ -82,7 +82,7 @@ fn output_by<'a>(
     ensures { result ≡ onward_by design.now cell.now pin.now }
 {
     let section = section_by(design, sections, pin.link)?;
-    let related = design.related(cell, pin.name);
+    let related = design.related(cell, pin.name)?;
     if related.is_empty() {
         None
     } else {

@@ -1,6 +1,6 @@
 use Rattle.std.proofs.Common.{sym, ◌∙◌}
 use Rattle.std.specs.Str.{bytes_eq}
-use Rattle.lib_linear.proofs.LookUpLemmas.{by_table, by_no_table}
+use Rattle.lib_cells.proofs.LookUpLemmas.{by_table, by_no_table}
 use Rattle.lib_linear.proofs.library.cell_of.Goals as goal
 
 pub returns-in-None : goal.returns-in-None

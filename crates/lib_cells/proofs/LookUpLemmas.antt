@@ -11,21 +11,21 @@ module _ {X A : Type 0} (f : X → A) (p : A → Bool) where
   place_map [] = refl
   place_map (x ∷ xs) = ap (λ n. cond (not (p (f x))) (1 + n) 0) (place_map xs)
 
-  position_map : (xs : List X) → position p (map f xs) ≡ position (λ x. p (f x)) xs
+  pub position_map : (xs : List X) → position p (map f xs) ≡ position (λ x. p (f x)) xs
   position_map xs = rw (place_map xs, length-map xs f) refl
 
 past : (n l : ℕ) → nat_lt n l ≡ false → l ≤ n
 past n l e = grind (arith, nat_tests)
 
 module _ {X : Type 0} (p : X → Bool) (xs : List X) where
-  absent : position p xs ≡ None → find p xs ≡ None
+  pub absent : position p xs ≡ None → find p xs ≡ None
   absent h = by_test (nat_lt (position_or_len p xs) (length xs)) refl
     where
       by_test : (t : Bool) → nat_lt (position_or_len p xs) (length xs) ≡ t → find p xs ≡ None
       by_test true t = let g = rw t at h in absurd (cc)
       by_test false t = find_at p xs ∙ slice_get_past xs (position_or_len p xs) (past (position_or_len p xs) (length xs) t)
 
-  present : (k : ℕ) → position p xs ≡ Some k → find p xs ≡ slice_get xs k
+  pub present : (k : ℕ) → position p xs ≡ Some k → find p xs ≡ slice_get xs k
   present k h = by_test (nat_lt (position_or_len p xs) (length xs)) refl
     where
       by_test : (t : Bool) → nat_lt (position_or_len p xs) (length xs) ≡ t → find p xs ≡ slice_get xs k

@@ -1,0 +1,8 @@
+use Rattle.std.proofs.Common.{length, sym, ap, ◌∙◌}
+use Rattle.lib_cells.proofs.PinTableLemmas.{length-pins_in}
+use Rattle.lib_cells.proofs.pins.Pins.len.Goals as goal
+
+pub returns : goal.returns
+returns c =
+    let table = c.self.inside.table in
+    c.len.ensures ∙ sym (length-pins_in table.groups.items table.names table.numbers.items c.self.invariant.0.one_each) ∙ ap length c.self.view_is
