@@ -108,20 +108,22 @@ fn writes(
     let mut out = MemOut::new(alloc, chunk, fails)?;
     let is_put = put_all(&mut out, TEXT).is_ok()
         && put_all(&mut out, b"").is_ok()
-        && put_all(&mut out, b"!").is_ok();
+        && put_all(&mut out, b"!").is_ok()
+        && out.finish().is_ok();
     Ok(is_put == all && out.as_bytes() == prefix)
 }
 
 /// How many bytes a call takes, the calls that fail, what is written, and whether it is all. By 3 bytes the text takes
-/// two calls.
-static WRITTEN_PARTS: [(usize, &[u64], &[u8], bool); 7] = [
+/// two calls, and `finish` one behind them.
+static WRITTEN_PARTS: [(usize, &[u64], &[u8], bool); 8] = [
     (1, &[], b"a file!", true),
     (3, &[], b"a file!", true),
     (1 << 20, &[], b"a file!", true),
     (3, &[0], b"", false),
     (3, &[1], b"a f", false),
     (3, &[2], TEXT, false),
-    (3, &[3], b"a file!", true),
+    (3, &[3], b"a file!", false),
+    (3, &[4], b"a file!", true),
 ];
 
 #[test]
@@ -146,7 +148,7 @@ fn is_written(rt: &HostRuntime) -> Result<bool, Fail> {
 #[test]
 fn reads_and_writes_the_systems_files(rt: HostRuntime) -> Result<(), Fail> {
     assert!(rt; is_written(&rt)?);
-    let mut files = RealFiles::new(&rt);
+    let mut files = RealFiles::new(&rt, rt.alloc());
     assert!(rt; reads(rt.alloc(), &mut files, WRITTEN, TEXT));
     std::fs::remove_file(&rt, WRITTEN)?;
     assert!(rt; misses(rt.alloc(), &mut files, WRITTEN));

@@ -128,7 +128,8 @@ fn counts(alloc: Global) -> Result<Vec<usize>, Fail> {
     let library = sold(alloc)?;
     let mut counts = Vec::new(alloc);
     for (cell, pin, _) in &RELATED {
-        counts.push(related(&library, cell.as_bytes(), pin.as_bytes()).len())?;
+        let names = related(&library, cell.as_bytes(), pin.as_bytes());
+        counts.push(names.map_or(0, |names| names.len()))?;
     }
     Ok(counts)
 }

@@ -1,16 +1,19 @@
 //! Files that are written: what no clause says of them.
 use crate::texts_files::{OLD, TEXT, made_files, reads};
 use std::alloc::Global;
+use std::fs::{self, Permissions};
+use std::os::unix::fs::{MetadataExt, PermissionsExt, symlink};
 use std::test::Fail;
 use vg_patch::{Patch, Patched};
-use vg_run::write_patched;
+use vg_run::draft_patched;
 use vg_scan::Span;
-use vg_store::{Files, RealFiles, write_file};
+use vg_store::{Files, RealFiles, draft_file, write_file};
 
 const NEW: &[u8] = b"newer";
 
-/// Whether the new bytes are written, by this chunk and where these calls fail, and what the file then holds. The other
-/// file has to stay, and a call that fails is not to keep the next write from what it does.
+/// Whether the new bytes are written, by this chunk and where these calls fail, and what the file then holds: nothing
+/// of them where a call fails. The other file has to stay, and a call that fails is not to keep the next write from
+/// what it does.
 fn leaves(
     alloc: Global,
     chunk: usize,
@@ -28,21 +31,22 @@ fn leaves(
 }
 
 /// How many bytes a call takes, the calls that fail, the file, whether it is written, and what it then holds. By chunks
-/// of 2 the new bytes take five calls: `create`, three of `put`, and `finish`.
-static WRITES: [(usize, &[u64], &str, bool, Option<&[u8]>); 9] = [
+/// of 2 the new bytes take six calls: `create`, three of `put`, `finish` and `publish`.
+static WRITES: [(usize, &[u64], &str, bool, Option<&[u8]>); 10] = [
     (64, &[], "old", true, Some(NEW)),
     (2, &[], "old", true, Some(NEW)),
     (2, &[], "fresh", true, Some(NEW)),
     (2, &[0], "old", false, Some(OLD)),
     (2, &[0], "fresh", false, None),
-    (2, &[1], "old", false, Some(b"")),
-    (2, &[2], "old", false, Some(b"ne")),
-    (2, &[3], "fresh", false, Some(b"newe")),
-    (2, &[4], "old", false, Some(NEW)),
+    (2, &[1], "old", false, Some(OLD)),
+    (2, &[2], "old", false, Some(OLD)),
+    (2, &[3], "fresh", false, None),
+    (2, &[4], "old", false, Some(OLD)),
+    (2, &[5], "old", false, Some(OLD)),
 ];
 
 #[test]
-fn writes_whole_files_and_first_pieces(rt: HostRuntime) -> Result<(), Fail> {
+fn writes_files_whole_or_not_at_all(rt: HostRuntime) -> Result<(), Fail> {
     for (chunk, fails, name, written, held) in &WRITES {
         assert!(rt;
             leaves(rt.alloc(), *chunk, fails, name, *written, *held)?,
@@ -68,13 +72,15 @@ fn writes_texts_with_replaced_parts(rt: HostRuntime) -> Result<(), Fail> {
     let text = changed(rt.alloc())?;
     for chunk in [1, 3, 64] {
         let mut files = made_files(rt.alloc(), chunk, &[])?;
-        assert!(rt; write_patched(&mut files, "old", &text).is_ok());
+        assert!(rt; draft_patched(&mut files, "old", &text).is_ok());
+        assert!(rt; files.get("old") == Some(OLD));
+        assert!(rt; files.publish().is_ok());
         assert!(rt; files.get("old") == Some(b"One  and three!"));
     }
     Ok(())
 }
 
-/// Reads a file while it is written.
+/// Reads a file while a draft of it is written.
 fn reads_on(alloc: Global) -> Result<bool, Fail> {
     let mut files = made_files(alloc, 2, &[])?;
     let mut buf = [0u8; 4];
@@ -84,11 +90,11 @@ fn reads_on(alloc: Global) -> Result<bool, Fail> {
     let empty = files.put(b"")?;
     let put = files.put(NEW)?;
     let after = files.next(&mut buf)?;
-    Ok(before == 0 && empty == 0 && put == 2 && after == 2 && buf == *b"ne\0\0")
+    Ok(before == 2 && empty == 0 && put == 2 && after == 1 && buf == *b"dl\0\0")
 }
 
 #[test]
-fn reads_what_is_put(rt: HostRuntime) -> Result<(), Fail> {
+fn reads_what_a_file_held(rt: HostRuntime) -> Result<(), Fail> {
     assert!(rt; reads_on(rt.alloc())?);
     Ok(())
 }
@@ -98,14 +104,62 @@ const WRITTEN: &str = "vg_store_whole.tmp";
 // The file stands where the test runs, and is removed again. No file can stand at the other paths, or take the bytes.
 #[test]
 fn writes_the_systems_files(rt: HostRuntime) -> Result<(), Fail> {
-    let mut files = RealFiles::new(&rt);
+    let mut files = RealFiles::new(&rt, rt.alloc());
     for bytes in [NEW, b"", TEXT] {
         assert!(rt; write_file(&mut files, WRITTEN, bytes).is_ok());
         assert!(rt; reads(rt.alloc(), &mut files, WRITTEN, bytes));
     }
-    std::fs::remove_file(&rt, WRITTEN)?;
+    fs::remove_file(&rt, WRITTEN)?;
     for path in [".", "vg_store_none/whole.tmp", "/dev/full"] {
         assert!(rt; write_file(&mut files, path, NEW).is_err(), "{path}");
     }
+    Ok(())
+}
+
+const LINKED: &str = "vg_store_linked.tmp";
+
+const LINK: &str = "vg_store_link.tmp";
+
+/// Whether a write to a link replaces the file that it names, which keeps its permissions, and the link stays.
+fn replaces_linked(rt: &HostRuntime) -> Result<bool, Fail> {
+    fs::write(rt, LINKED, OLD)?;
+    fs::set_permissions(rt, LINKED, Permissions::from_mode(0o640))?;
+    symlink(rt, LINKED, LINK)?;
+    let mut files = RealFiles::new(rt, rt.alloc());
+    let is_written = write_file(&mut files, LINK, NEW).is_ok();
+    let is_read = reads(rt.alloc(), &mut files, LINKED, NEW);
+    let stays = fs::symlink_metadata(rt, LINK)?.is_symlink();
+    let mode = fs::metadata(rt, LINKED)?.mode();
+    fs::remove_file(rt, LINK)?;
+    fs::remove_file(rt, LINKED)?;
+    Ok(is_written && is_read && stays && mode & 0o777 == 0o640)
+}
+
+#[test]
+fn replaces_what_a_link_names(rt: HostRuntime) -> Result<(), Fail> {
+    assert!(rt; replaces_linked(&rt)?);
+    Ok(())
+}
+
+const DRAFTED: &str = "vg_store_drafted.tmp";
+
+/// The first draft in the folder where the test runs.
+const DRAFT: &str = ".vginsert-0";
+
+/// Whether a draft that waits has the only one of its place, and leaves nothing when it is dropped.
+fn drafts_once(rt: &HostRuntime) -> Result<bool, Fail> {
+    let alloc = rt.alloc();
+    let again = format!(in alloc; "./{DRAFTED}")?;
+    let mut files = RealFiles::new(rt, alloc);
+    let is_drafted = draft_file(&mut files, DRAFTED, NEW).is_ok() && fs::exists(rt, DRAFT)?;
+    let is_refused = draft_file(&mut files, again.as_str(), NEW).is_err();
+    let is_absent = !fs::exists(rt, DRAFTED)?;
+    drop(files);
+    Ok(is_drafted && is_refused && is_absent && !fs::exists(rt, DRAFT)?)
+}
+
+#[test]
+fn drafts_a_file_once(rt: HostRuntime) -> Result<(), Fail> {
+    assert!(rt; drafts_once(&rt)?);
     Ok(())
 }

@@ -48,7 +48,7 @@ const EXAMPLES: [&str; 16] = [
 ];
 
 fn main(rt: HostRuntime) -> ExitCode {
-    let mut real = RealFiles::new(&rt);
+    let mut real = RealFiles::new(&rt, rt.alloc());
     let Ok(mut files) = copy_files(rt.alloc(), &mut real, &[&PAGES, &EXAMPLES]) else {
         return ExitCode::FAILURE;
     };

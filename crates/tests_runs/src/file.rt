@@ -36,7 +36,7 @@ pub(crate) struct Sum {
 
 /// The text of the file of this name.
 pub(crate) fn text_of<R: Files>(alloc: Global, rt: &R, name: &str) -> Result<String, Fault> {
-    let mut files = RealFiles::new(rt);
+    let mut files = RealFiles::new(rt, alloc);
     let Ok(bytes) = read_all(alloc, &mut files, name) else {
         return Err(Fault::NoFile);
     };
@@ -52,7 +52,7 @@ fn base_files<R: Files>(alloc: Global, rt: &R, base: Option<&str>) -> Result<Vec
     let Some(base) = base else {
         return Ok(given);
     };
-    let mut files = RealFiles::new(rt);
+    let mut files = RealFiles::new(rt, alloc);
     for name in &BASE_FILES {
         let path = format!(in alloc; "bases/{base}/{name}")?;
         if let Ok(bytes) = read_all(alloc, &mut files, path.as_str()) {
@@ -124,7 +124,7 @@ fn found_in_case<R: Files>(
             run_case(alloc, &mut files, base, case)
         }
         Over::Real => {
-            let mut files = RealFiles::new(rt);
+            let mut files = RealFiles::new(rt, alloc);
             let found = run_case(alloc, &mut files, base, case);
             remove_files(rt, case);
             found

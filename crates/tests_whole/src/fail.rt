@@ -106,62 +106,57 @@ fn reading_fails(rt: HostRuntime) -> Result<(), Fail> {
     Ok(())
 }
 
-/// How many bytes of a text a file has, if it has some of its first ones.
-fn begun(files: &MemFiles, name: &str, text: &[u8]) -> Option<usize> {
-    let file = files.get(name)?;
-    if text.starts_with(file) {
-        Some(file.len())
-    } else {
-        None
-    }
-}
-
-/// Whether the outputs before one are whole, and those behind it as before.
-fn others_stand(files: &MemFiles, whole: &MemFiles, at: usize, before: Option<&[u8]>) -> bool {
+/// Whether the first outputs, so many, are whole, and the others as before.
+fn are_whole_first(files: &MemFiles, whole: &MemFiles, count: usize, before: Option<&str>) -> bool {
+    let kept = before.map(|text| text.as_bytes());
     OUTPUTS.iter().enumerate().all(|(number, name)| {
-        number == at
-            || (number < at && files.get(name) == whole.get(name))
-            || (at < number && holds(files, name, before))
+        if number < count {
+            files.get(name) == whole.get(name)
+        } else {
+            holds(files, name, kept)
+        }
     })
 }
 
-/// The most calls of writing one of the files.
+/// The files that a run of mode `best` leaves where this call fails, and whether it tells that writing the file of this
+/// name failed.
+fn failed_output(
+    alloc: Global,
+    call: usize,
+    name: &str,
+    before: Option<&str>,
+) -> Result<(MemFiles, bool), Fail> {
+    let told = format!(in alloc; "vginsert: write failed: {name}\n")?;
+    failed_files(alloc, BEST, call, before, (6, "", told.as_str()))
+}
+
+/// The most calls of drafting one of the files.
 const MOST_CALLS: usize = 1000;
 
-/// How many calls of writing an output fail as they have to, from this number on in a run: the first leaves the file as
-/// it was, the second empty, and each next one with up to 64 bytes more of the text, the last one with all of it. The
-/// other outputs are the same all the time.
-fn writing_calls(
+/// How many calls of drafting an output fail as they have to, from this number on in a run: all outputs stay as before.
+fn drafting_calls(
     alloc: Global,
     whole: &MemFiles,
     first: usize,
-    output: (usize, &str),
+    name: &str,
     before: Option<&str>,
 ) -> Result<Option<usize>, Fail> {
-    let (at, name) = output;
-    let told = format!(in alloc; "vginsert: write failed: {name}\n")?;
-    let kept = before.map(|text| text.as_bytes());
-    let text = whole.get(name).unwrap_or(b"");
-    let mut had = 0;
     for count in 0..MOST_CALLS {
-        let wanted = (6, "", told.as_str());
-        let call = first.saturating_add(count);
-        let (files, ended) = failed_files(alloc, BEST, call, before, wanted)?;
+        let (files, ended) = failed_output(alloc, first.saturating_add(count), name, before)?;
         if !ended {
-            return Ok(if had == text.len() { Some(count) } else { None });
+            return Ok(Some(count));
         }
-        let has = begun(&files, name, text);
-        let goes_on = match count {
-            0 => holds(&files, name, kept),
-            1 => has == Some(0),
-            _ => has.is_some_and(|has| has > had && has - had <= CHUNK),
-        };
-        if !goes_on || !others_stand(&files, whole, at, kept) {
+        if !are_whole_first(&files, whole, 0, before) {
             return Ok(None);
         }
-        had = has.unwrap_or(0);
     }
     Ok(None)
+}
+
+/// How many calls drafting an output takes: one of `create`, one of `put` a piece, and one of `finish`.
+fn calls_of_draft(whole: &MemFiles, name: &str) -> usize {
+    let bytes = whole.get(name).map_or(0, |text| text.len());
+    bytes.div_ceil(CHUNK).saturating_add(2)
 }
 
 /// The files that a run of mode `best` leaves in which no call fails.
@@ -195,17 +190,29 @@ fn ends_whole(
     Ok(ended && are_whole(&files, whole))
 }
 
-/// Each call of writing fails once, over files from before and where there are none. The run in which the call behind
-/// all of them is to fail ends with status 0.
+/// Each call of drafting and of publishing fails once, over files from before and where there are none. All outputs are
+/// as before where drafting fails, and those that were published are whole where publishing does. The run in which the
+/// call behind all of them is to fail ends with status 0.
 #[test]
 fn writing_fails(rt: HostRuntime) -> Result<(), Fail> {
     let whole = whole_files(rt.alloc())?;
     for before in [None, Some(BEFORE)] {
         let mut first = best_reading_calls(&whole);
-        for (at, name) in OUTPUTS.iter().enumerate() {
-            let calls = writing_calls(rt.alloc(), &whole, first, (at, name), before)?;
-            assert!(rt; calls.is_some_and(|calls| calls > 3), "{name}");
+        for name in &OUTPUTS {
+            let calls = drafting_calls(rt.alloc(), &whole, first, name, before)?;
+            assert!(rt;
+                calls.is_some_and(|calls| calls >= calls_of_draft(&whole, name)),
+                "{name}"
+            );
             first = first.saturating_add(calls.unwrap_or(0));
+        }
+        for (at, name) in OUTPUTS.iter().enumerate() {
+            let (files, ended) = failed_output(rt.alloc(), first, name, before)?;
+            assert!(rt;
+                ended && are_whole_first(&files, &whole, at, before),
+                "{name}"
+            );
+            first = first.saturating_add(1);
         }
         assert!(rt; ends_whole(rt.alloc(), &whole, first, before)?);
     }
@@ -297,14 +304,15 @@ fn prints_whole(alloc: Global, behind: usize) -> Result<bool, Fail> {
     ends_over(alloc, BEST, &mut files, 1, (&[behind as u64], &[]), wanted)
 }
 
-/// Each call of standard output fails once.
+/// Each call of standard output fails once, and last the one of `finish`.
 #[test]
 fn each_print_fails(rt: HostRuntime) -> Result<(), Fail> {
     let whole = whole_files(rt.alloc())?;
-    for call in 0..BEST_SAYS.len() {
+    let last = BEST_SAYS.len();
+    for call in 0..=last {
         assert!(rt; fails_printing(rt.alloc(), &whole, call)?, "{call}");
     }
-    assert!(rt; prints_whole(rt.alloc(), BEST_SAYS.len())?);
+    assert!(rt; prints_whole(rt.alloc(), last + 1)?);
     Ok(())
 }
 

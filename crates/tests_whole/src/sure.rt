@@ -43,7 +43,7 @@ fn ends_with_the_same_status(rt: HostRuntime) -> Result<(), Fail> {
     Ok(())
 }
 
-/// A file that is created is told no longer, and reads as an empty one.
+/// A file that is written is told no longer, and reads as an empty one.
 #[test]
 fn drops_what_is_written(rt: HostRuntime) -> Result<(), Fail> {
     let mut files = sure_files(rt.alloc())?;

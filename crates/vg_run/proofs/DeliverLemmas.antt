@@ -1,47 +1,28 @@
 -- How delivering an answer ends for a request.
-use Rattle.std.proofs.Common.{◌≡◌, inl, inr, ℕ, List, sym, ◌∙◌, subst, Option, Some, None}
+use Rattle.std.proofs.Common.{◌≡◌, inl, inr, ℕ, List, sym, ◌∙◌, subst}
 use Rattle.vg_store.specs.Causes.{Rose}
 use Rattle.vg_store.specs.Reading.{FilesState}
 use Rattle.vg_store.specs.States.{KeepsWriting}
-use Rattle.vg_store.specs.Writing.{OutState, StaysOrPrefix, WriteFaultAt}
+use Rattle.vg_store.specs.Writing.{OutState, WriteFaultAt}
 use Rattle.vg_words.specs.declared.ask.Ask.{Ask}
 use Rattle.vg_run.specs.Modes.{IsAnswerFor}
 use Rattle.vg_answer.specs.Answers.{said_by, Written}
 use Rattle.vg_run.specs.Inputs.{AreRead, Change}
 use Rattle.vg_run.specs.Outcomes.{Ends, IsDelivered}
-use Rattle.vg_run.specs.Run.{AreWritten, HoldAfter, StaysOrBegins, output_name, OthersStay}
+use Rattle.vg_run.specs.Run.{AreWritten}
 use Rattle.vg_run.proofs.InputLemmas.{writing_kept}
+use Rattle.vg_run.proofs.WriteLemmas.{held_since, others_since}
 use Rattle.vg_answer.specs.declared.answer.Answer.{Answer}
 use Rattle.vg_answer.specs.declared.input.Input.{Input}
 use Rattle.vg_run.specs.declared.outcome.Outcome.{Outcome}
-use Rattle.vg_answer.specs.declared.output.Output.{Output}
 
 -- reading the inputs changed no file, and nothing that is told of writing
 module _ (old mid new : FilesState) (kept : (file : List ℕ) → mid.holds file ≡ old.holds file) (writing : KeepsWriting old mid) where
-  begun_since : (name : Option (List ℕ)) (text : List ℕ) → StaysOrBegins (mid, new) name text → StaysOrBegins (old, new) name text
-  begun_since None text stays = tt
-  begun_since (Some file) text stays = subst (λ (held : Option (List ℕ)). StaysOrPrefix held (new.holds file) text) (kept file) stays
-
-  others_since : (ask : Ask) (said : List Written) → OthersStay (mid, new) ask said → OthersStay (old, new) ask said
-  others_since ask said stay file none = stay file none ∙ kept file
-
   written_since : (ask : Ask) (said : List Written) → AreWritten (mid, new) ask said → AreWritten (old, new) ask said
   written_since ask said written = record {
     whole = written.whole;
-    others = others_since ask said written.others;
+    others = others_since old mid new kept ask said written.others;
     none = λ empty. writing_kept old mid new writing (written.none empty);
-  }
-
-  held_since : (ask : Ask) (said : List Written) (output : Output) → HoldAfter (mid, new) ask said output → HoldAfter (old, new) ask said output
-  held_since ask said output hold = record {
-    before = hold.before;
-    text = hold.text;
-    behind = hold.behind;
-    said_are = hold.said_are;
-    whole = hold.whole;
-    begins = begun_since (output_name ask output) hold.text hold.begins;
-    later = λ k d low file named. hold.later k d low file named ∙ kept file;
-    others = others_since ask said hold.others;
   }
 
   fault_since : (IsBlamed : List ℕ → Type 0) → WriteFaultAt mid new IsBlamed → WriteFaultAt old new IsBlamed
@@ -61,7 +42,7 @@ module _ (old mid new : FilesState) (kept : (file : List ℕ) → mid.holds file
           kind = answer.kind;
           said = said_by answer;
           is = is;
-          hold = held_since ask (said_by answer).files output unwritten.hold;
+          hold = held_since old mid new kept ask (said_by answer).files output unwritten.hold;
           fault = fault_since _ unwritten.fault;
         },
         same,

@@ -26,6 +26,8 @@ writing_kept old mid new first next = record {
   same_blame = next.same_blame ∙ first.same_blame;
   same_target = next.same_target ∙ first.same_target;
   same_writing = next.same_writing ∙ first.same_writing;
+  same_draft = next.same_draft ∙ first.same_draft;
+  same_drafts = next.same_drafts ∙ first.same_drafts;
 }
 
 -- the first that is bad, by its place

@@ -2,6 +2,7 @@ pub mod GainLemmas
 pub mod InputLemmas
 pub mod PieceLemmas
 pub mod WriteLemmas
+pub mod DraftLemmas
 pub mod FileLemmas
 pub mod RequestLemmas
 pub mod ApartLemmas

@@ -1,18 +1,19 @@
 -- Files that are written one after another.
-use Rattle.std.proofs.Common.{◌≡◌, ◌≢◌, ℕ, suc, ◌+◌, ◌<◌, List, length, take, refl, sym, ◌∙◌, subst, arith, Option, Some, None, IfSome}
-use Rattle.std.specs.Prelude.{drop}
+use Rattle.std.proofs.Common.{◌≡◌, ◌≢◌, ℕ, ◌+◌, ◌<◌, ◌≤◌, List, [], length, take, take-append-drop, refl, sym, ◌∙◌, subst, arith, Option, Some, None, IfSome}
+use Rattle.std.specs.Prelude.{Contains, drop, map}
 use Rattle.std.specs.List.{All}
 use Rattle.std.proofs.Math.ListN.{get_or}
-use Rattle.std.proofs.Math.Seq.{split_at}
+use Rattle.std.proofs.Math.Seq.{drop-cons}
 use Rattle.std.proofs.lemmas.Int.{clamps}
 use Rattle.std.proofs.lemmas.List.{get_or-take, get_or_default, get_or-drop, length-drop, length-take}
 use Rattle.std.proofs.lemmas.List.Elements.{All-more, All-take}
 use Rattle.vg_store.specs.Reading.{FilesState}
-use Rattle.vg_store.specs.Writing.{StaysOrPrefix}
+use Rattle.vg_store.specs.Writing.{FilesStay}
 use Rattle.vg_words.specs.declared.ask.Ask.{Ask}
 use Rattle.vg_answer.specs.Answers.{Written}
+use Rattle.vg_answer.specs.declared.output.Output.{Output}
 use Rattle.vg_run.specs.Inputs.{Change}
-use Rattle.vg_run.specs.Run.{AreApartIn, AreHeld, HoldAfter, HoldsAt, OthersStay, StaysAt, StaysOrBegins, output_name}
+use Rattle.vg_run.specs.Run.{AreApartIn, AreHeld, HoldAfter, HoldsAt, OthersStay, StaysAt, output_name}
 
 -- where a file stays, it holds what it held
 hold_on : (files : Change FilesState) (name : Option (List ℕ)) (text : List ℕ) → StaysAt files name → HoldsAt files.0 name text → HoldsAt files.1 name text
@@ -67,28 +68,28 @@ module _ (ask : Ask) (said : List Written) (at : ℕ) (d : Written) (low : at < 
             = get_or-take (at + 1) said k e (omega (arith, within)) ∙ sym (get_or-take at said k e within) in
             subst (λ (w : Written). output_name ask w.output ≢ Some file) here (none k e (omega (arith, clamps, more, within, low)))
 
-    -- those behind it are as they were
-    later_stay : OthersStay (start, new) ask (take (at + 1) said) → All (λ w. StaysAt (start, new) (output_name ask w.output)) (drop (suc at) said)
+    -- it and those behind it are as they were
+    later_stay : OthersStay (start, new) ask (take at said) → All (λ w. StaysAt (start, new) (output_name ask w.output)) (drop at said)
     later_stay stay k e less file named =
-        let size = length-drop (suc at) said in
-        let place : get_or (drop (suc at) said) k e ≡ get_or said (suc at + k) e = get_or-drop (suc at) said k e in
-        let inside : suc at + k < length said = omega (arith, clamps, size, less) in
-        let same : get_or said (suc at + k) e ≡ get_or said (suc at + k) d = get_or_default said (suc at + k) e d inside in
-        let here : output_name ask (get_or said (suc at + k) d).output ≡ Some file
+        let size = length-drop at said in
+        let place : get_or (drop at said) k e ≡ get_or said (at + k) e = get_or-drop at said k e in
+        let inside : at + k < length said = omega (arith, clamps, size, less) in
+        let same : get_or said (at + k) e ≡ get_or said (at + k) d = get_or_default said (at + k) e d inside in
+        let here : output_name ask (get_or said (at + k) d).output ≡ Some file
         = subst (λ (w : Written). output_name ask w.output ≡ Some file) (place ∙ same) named in
-        stay file (λ j e low. none_before j e low file (suc at + k) (omega arith) inside here)
+        stay file (λ j e low. none_before j e low file (at + k) (omega arith) inside here)
       where
-        none_before : (j : ℕ) (e : Written) → j < length (take (at + 1) said) → (file : List ℕ) (k : ℕ) → at < k → k < length said
-            → output_name ask (get_or said k d).output ≡ Some file → output_name ask (get_or (take (at + 1) said) j e).output ≢ Some file
+        none_before : (j : ℕ) (e : Written) → j < length (take at said) → (file : List ℕ) (k : ℕ) → at ≤ k → k < length said → output_name ask (get_or said k d).output ≡ Some file
+            → output_name ask (get_or (take at said) j e).output ≢ Some file
         none_before j e low file k behind within named one =
-            let size = length-take (at + 1) said in
-            let before : j < at + 1 = omega (arith, clamps, size, low) in
-            let same : get_or (take (at + 1) said) j e ≡ get_or said j d
-            = get_or-take (at + 1) said j e before ∙ get_or_default said j e d (omega (arith, before, behind, within)) in
+            let size = length-take at said in
+            let before : j < at = omega (arith, clamps, size, low) in
+            let same : get_or (take at said) j e ≡ get_or said j d
+            = get_or-take at said j e before ∙ get_or_default said j e d (omega (arith, before, behind, within)) in
             apart j k d (omega (arith, before, behind)) within file (subst (λ (w : Written). output_name ask w.output ≡ Some file) same one) named
 
     -- it stayed until then
-    stayed : OthersStay (start, mid) ask (take at said) → StaysAt (start, mid) (output_name ask (get_or said at d).output)
+    pub stayed : OthersStay (start, mid) ask (take at said) → StaysAt (start, mid) (output_name ask (get_or said at d).output)
     stayed stay file named = stay file (λ k e less. none_first k e less file named)
       where
         none_first : (k : ℕ) (e : Written) → k < length (take at said) → (file : List ℕ) → output_name ask (get_or said at d).output ≡ Some file
@@ -99,27 +100,17 @@ module _ (ask : Ask) (said : List Written) (at : ℕ) (d : Written) (low : at < 
             let here : get_or (take at said) k e ≡ get_or said k d = get_or-take at said k e within ∙ get_or_default said k e d (omega (arith, within, low)) in
             apart_from k within file (subst (λ (w : Written). output_name ask w.output ≡ Some file) here one) named
 
-    others_all : OthersStay (start, mid) ask (take at said) → OthersStay (start, new) ask said
-    others_all stay file none = others file (none at d low) ∙ stay file (All-take (λ w. output_name ask w.output ≢ Some file) at said none)
-
-    -- writing it failed
-    fails_here : AreHeld (start, mid) ask (take at said) → OthersStay (start, mid) ask (take at said)
-        → StaysOrBegins (mid, new) (output_name ask (get_or said at d).output) (get_or said at d).text → HoldAfter (start, new) ask said (get_or said at d).output
-    fails_here held stay begins = record {
+    -- writing it failed, and nothing changed any more
+    fails_here : AreHeld (start, mid) ask (take at said) → OthersStay (start, mid) ask (take at said) → FilesStay mid new → HoldAfter (start, new) ask said (get_or said at d).output
+    fails_here held stay kept = record {
       before = take at said;
-      text = (get_or said at d).text;
-      behind = drop (suc at) said;
-      said_are = split_at said at d low;
-      whole = held_still held;
-      begins = begun (output_name ask (get_or said at d).output) begins (stayed stay);
-      later = later_stay (others_more stay);
-      others = others_all stay;
+      behind = drop at said;
+      said_are = sym (take-append-drop at said);
+      whole = λ k e less. hold_on (mid, new) (output_name ask (get_or (take at said) k e).output) (get_or (take at said) k e).text (λ file _. kept file) (held k e less);
+      unwritten = subst (λ (list : List Written). Contains (map (λ w. w.output) list) (get_or said at d).output) (sym (drop-cons said at d low)) (0, omega arith, refl);
+      later = later_stay (λ file none. kept file ∙ stay file none);
+      others = λ file none. kept file ∙ stay file (All-take (λ w. output_name ask w.output ≢ Some file) at said none);
     }
-      where
-        begun : (name : Option (List ℕ)) → StaysOrBegins (mid, new) name (get_or said at d).text → StaysAt (start, mid) name
-            → StaysOrBegins (start, new) name (get_or said at d).text
-        begun None begins was = tt
-        begun (Some file) begins was = subst (λ (held : Option (List ℕ)). StaysOrPrefix held (new.holds file) (get_or said at d).text) (was file refl) begins
 
 -- the file at a place of the list, by its own name
 module _ (ask : Ask) (said : List Written) (at : ℕ) (d w : Written) (low : at < length said) (apart : AreApartIn ask said) (here : get_or said at d ≡ w)
@@ -135,9 +126,28 @@ module _ (ask : Ask) (said : List Written) (at : ℕ) (d w : Written) (low : at 
       let hold = subst (λ (this : Written). HoldsAt new (output_name ask this.output) this.text) (sym here) holds in
       (held_more ask said at d low apart start mid new other held hold, others_more ask said at d low apart start mid new other stay)
 
-  pub one_failed : OthersKept w → AreHeld (start, mid) ask (take at said) → OthersStay (start, mid) ask (take at said)
-      → StaysOrBegins (mid, new) (output_name ask w.output) w.text → HoldAfter (start, new) ask said w.output
-  one_failed others held stay begins =
-      let other = subst (λ (this : Written). OthersKept this) (sym here) others in
-      let begun = subst (λ (this : Written). StaysOrBegins (mid, new) (output_name ask this.output) this.text) (sym here) begins in
-      subst (λ (this : Written). HoldAfter (start, new) ask said this.output) here (fails_here ask said at d low apart start mid new other held stay begun)
+  pub one_failed : AreHeld (start, mid) ask (take at said) → OthersStay (start, mid) ask (take at said) → FilesStay mid new → HoldAfter (start, new) ask said w.output
+  one_failed held stay kept =
+      subst (λ (this : Written). HoldAfter (start, new) ask said this.output) here
+      (fails_here ask said at d low apart start mid new (λ file _. kept file) held stay kept)
+
+  pub one_stayed : OthersStay (start, mid) ask (take at said) → StaysAt (start, mid) (output_name ask w.output)
+  one_stayed stay =
+      subst (λ (this : Written). StaysAt (start, mid) (output_name ask this.output)) here
+      (stayed ask said at d low apart start mid mid (λ file _. refl) stay)
+
+-- what holds of files since a state from which nothing had changed before
+module _ (old mid new : FilesState) (kept : FilesStay old mid) (ask : Ask) (said : List Written) where
+  pub others_since : OthersStay (mid, new) ask said → OthersStay (old, new) ask said
+  others_since stay file none = stay file none ∙ kept file
+
+  pub held_since : (output : Output) → HoldAfter (mid, new) ask said output → HoldAfter (old, new) ask said output
+  held_since output hold = record {
+    before = hold.before;
+    behind = hold.behind;
+    said_are = hold.said_are;
+    whole = hold.whole;
+    unwritten = hold.unwritten;
+    later = λ k d low file named. hold.later k d low file named ∙ kept file;
+    others = others_since hold.others;
+  }

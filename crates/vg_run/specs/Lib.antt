@@ -4,3 +4,4 @@ pub mod Flaws
 pub mod Run
 pub mod Complete
 pub mod Outcomes
+pub mod Drafts

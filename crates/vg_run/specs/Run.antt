@@ -1,10 +1,10 @@
 -- What a run of the program promises.
-use Rattle.std.specs.Prelude.{◌≡◌, ◌≢◌, ◌⊎◌, ℕ, ◌≤◌, List, [], ◌∷◌, ◌++◌, ◌==◌, Bool, true, codes, Option, Some, IfSome, unwrap_or}
+use Rattle.std.specs.Prelude.{◌≡◌, ◌≢◌, ◌⊎◌, ℕ, ◌≤◌, List, [], ◌∷◌, ◌++◌, ◌==◌, Bool, true, codes, Contains, map, Option, Some, IfSome, unwrap_or}
 use Rattle.std.specs.List.{All, AllPairs, list_any}
 use Rattle.vg_store.specs.Causes.{Rose}
 use Rattle.vg_store.specs.Reading.{FilesState}
 use Rattle.vg_store.specs.States.{KeepsWriting}
-use Rattle.vg_store.specs.Writing.{OutState, Gains, GainsPrefix, StaysOrPrefix, WriteFaultAt}
+use Rattle.vg_store.specs.Writing.{OutState, Gains, GainsPrefix, WriteFaultAt}
 use Rattle.vg_words.specs.Options.{name_of as option_name}
 use Rattle.vg_words.specs.Request.{parts_of, size_of, IsRequest, IsRefused}
 use Rattle.vg_words.specs.declared.ask.Mode.TheVariants.{Gen, Segment}
@@ -125,19 +125,14 @@ abbrev pub PrintsSome : Change FilesState → (List ℕ → Type 0) → Ask → 
 PrintsSome files Gained ask = (kind : AnswerKind) × Prints kind files Gained ask
 
 -- ---- faults of writing
--- a file that is written stays, or holds a prefix of its text
-abbrev pub StaysOrBegins : Change FilesState → Option (List ℕ) → List ℕ → Type 0
-StaysOrBegins files name text = IfSome name (λ file. StaysOrPrefix (files.0.holds file) (files.1.holds file) text)
-
--- Of a list of files writing the one of this output failed: those before it hold their texts, it stays or holds a
--- prefix of its text, and those behind it, and all other files, are as they were.
+-- Of a list of files writing the one of this output failed: some first ones hold their texts; it and the others of the
+-- list, and all files that are none of them, are as they were.
 pub record HoldAfter (files : Change FilesState) (ask : Ask) (said : List Written) (output : Output) : Type 0 where
   pub before : List Written
-  pub text : List ℕ
   pub behind : List Written
-  pub said_are : said ≡ before ++ record { output = output; text = text } ∷ behind
+  pub said_are : said ≡ before ++ behind
   pub whole : AreHeld files ask before
-  pub begins : StaysOrBegins files (output_name ask output) text
+  pub unwritten : Contains (map (λ w. w.output) behind) output
   pub later : All (λ w. StaysAt files (output_name ask w.output)) behind
   pub others : OthersStay files ask said
 

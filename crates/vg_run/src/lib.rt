@@ -1,11 +1,12 @@
-//! A request: its inputs are read in order, its mode answers, the files of the answer are written in order, and the
-//! answer is printed.
+//! A request: its inputs are read in order, its mode answers, drafts of the answer's files are made and then published
+//! in order, and the answer is printed.
 #![tactic(auto)]
 
 mod inputs;
 mod modes;
 mod outcome;
 mod outputs;
+mod publish;
 mod request;
 mod tell;
 mod write;
@@ -14,4 +15,4 @@ pub use inputs::{Flaw, Texts, read_inputs};
 pub use outcome::Outcome;
 pub use request::{fault_status, run_request};
 pub use tell::tell_words;
-pub use write::{write_patched, write_text};
+pub use write::{draft_patched, draft_text};

@@ -1,77 +1,47 @@
 //! A request, from the inputs that are read to the bytes that are written.
 
-ghost use Rattle.std.specs.Prelude.{◌≡◌, ◌≢◌, ◌≤◌, ℕ, List, Some, map, IfErr, OnErr, OnOk};
+ghost use Rattle.std.specs.Prelude.{◌≡◌, ℕ, List, map, OnErr, OnOk};
 ghost use Rattle.std.specs.List.{AllPass};
 ghost use Rattle.vg_scan.specs.Printed.{is_solid};
-ghost use Rattle.vg_store.specs.Writing.{WriteFaultAt};
+ghost use Rattle.vg_store.specs.Causes.{HasCause};
+ghost use Rattle.vg_store.specs.Writing.{Gains, GainsPrefix};
 ghost use Rattle.vg_words.specs.Request.{prefix_of};
-ghost use Rattle.vg_answer.specs.Answers.{text_of, written_by};
+ghost use Rattle.vg_answer.specs.Answers.{written_by};
 ghost use Rattle.vg_run.specs.Outcomes.{Ends, IsDelivered, IsPrinted, IsStatusOf, fault_status};
-ghost use Rattle.vg_run.specs.Run.{AreApart, AreApartIn, AreWritten, HoldAfter, HoldsAt, IsOutput, IsSized, OthersStay, StaysOrBegins, output_name};
+ghost use Rattle.vg_run.specs.Run.{AreApart, AreApartIn, IsOutput, IsSized, OthersStay};
 
 use crate::inputs::{Flaw, read_inputs};
 use crate::modes::answer;
 use crate::outcome::Outcome;
-use crate::outputs::output_name;
+use crate::publish::write_files;
 use crate::tell::tell;
-use crate::write::write_text;
 use std::alloc::Global;
-use vg_answer::{Answer, NewFile, NewText, NoAnswer, Output};
+use vg_answer::{Answer, NoAnswer};
 use vg_store::{Failed, Files, Out, ReadAll, put_all};
 use vg_words::{Ask, WordFault};
 
-/// Writes a text to an output, which makes the outcome that is given.
+/// Writes a text to an output, and hands it on to the system for good.
+fn put_whole<O: Out>(out: &mut O, text: &[u8]) -> Result<(), Failed>
+    ensures all { OnOk result (Gains (O.state out.old) (O.state out.new) text.now) }
+    ensures prefix { OnErr result (GainsPrefix (O.state out.old) (O.state out.new) text.now) }
+    ensures cause { HasCause (O.state out.old).faults (O.state out.new).faults result }
+{
+    put_all(out, text)?;
+    out.finish()?;
+    Ok(())
+}
+
+/// Prints a text, which makes the outcome that is given.
 fn print<O: Out>(out: &mut O, text: &[u8], outcome: Outcome) -> Outcome
     ensures { IsPrinted (O.state out.old, O.state out.new) text.now outcome result }
 {
-    match put_all(out, text) {
+    match put_whole(out, text) {
         Ok(()) => outcome,
         Err(Failed) => Outcome::WriteFault,
     }
 }
 
-/// Writes a text to the file that the words name for an output, if they name one.
-fn write_output<F: Files>(
-    ask: &Ask,
-    output: Output,
-    text: &NewText,
-    files: &mut F,
-) -> Result<(), Failed>
-    ensures whole { OnOk result (HoldsAt (F.state files.new) (output_name ask.now output) (text_of text.now)) }
-    ensures prefix { OnErr result
-        (StaysOrBegins (F.state files.old, F.state files.new) (output_name ask.now output) (text_of text.now)) }
-    ensures others { (other : List ℕ) → output_name ask.now output ≢ Some other
-        → (F.state files.new).holds other ≡ (F.state files.old).holds other }
-    ensures failed { OnErr result
-        (WriteFaultAt (F.state files.old) (F.state files.new) (λ blamed. output_name ask.now output ≡ Some blamed)) }
-    ensures never_falls { (F.state files.old).write_faults ≤ (F.state files.new).write_faults }
-{
-    match output_name(ask, output) {
-        None => Ok(()),
-        Some(name) => write_text(files, name, text),
-    }
-}
-
-/// Writes the files of an answer in order. An error tells at which of them writing failed.
-fn write_files<F: Files>(ask: &Ask, written: &[NewFile], files: &mut F) -> Result<(), Output>
-    requires apart { AreApartIn ask.now (map written_by written.now) }
-    ensures written { OnOk result
-        (AreWritten (F.state files.old, F.state files.new) ask.now (map written_by written.now)) }
-    ensures failed { IfErr result
-        (HoldAfter (F.state files.old, F.state files.new) ask.now (map written_by written.now)) }
-    ensures cause { IfErr result (λ output.
-        WriteFaultAt (F.state files.old) (F.state files.new) (λ blamed. output_name ask.now output ≡ Some blamed)) }
-    ensures others { OthersStay (F.state files.old, F.state files.new) ask.now (map written_by written.now) }
-{
-    'file: for file in written {
-        let Ok(()) = write_output(ask, file.output, &file.text, files) else {
-            return Err(file.output);
-        };
-    }
-    Ok(())
-}
-
-/// Writes the files of an answer, and prints its text.
+/// Writes the files of an answer, and then prints its text.
 fn deliver<F: Files, O: Out>(ask: &Ask, answer: &Answer, files: &mut F, out: &mut O) -> Outcome
     requires apart { AreApartIn ask.now (map written_by answer.now.files.items) }
     ensures delivered { IsDelivered ask.now (F.state files.old, F.state files.new)

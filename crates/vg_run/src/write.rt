@@ -1,30 +1,30 @@
-//! A file that is written as a whole, from the pieces of its text.
+//! A draft of a file, from the pieces of its text.
 
-ghost use Rattle.std.specs.Prelude.{◌≡◌, ◌≢◌, ℕ, ◌≤◌, List, ◌++◌, true, false, Some, IfSome, OnOk, OnErr};
+ghost use Rattle.std.specs.Prelude.{◌≡◌, ℕ, ◌≤◌, List, ◌++◌, true, false, Some, OnOk, OnErr};
 ghost use Rattle.vg_answer.specs.Answers.{text_of};
 ghost use Rattle.vg_store.specs.States.{KeepsReading};
-ghost use Rattle.vg_store.specs.Writing.{FileGains, FileGainsPrefix, StaysOrPrefix, WriteFaultAt};
+ghost use Rattle.vg_store.specs.Writing.{DraftGains, DraftGainsPrefix, OneWaits, WriteFaultAt};
 
 use arrayvec::ArrayVec;
 use vg_answer::NewText;
 use vg_patch::Patched;
-use vg_store::{Failed, Files, append, write_file};
+use vg_store::{Failed, Files, append, draft_file};
 
 /// How many bytes of small pieces are gathered before they are written.
 const ROOM: usize = 8192;
 
 /// Puts a piece behind those that wait. Where there is no room for it, what waits is written first, and a piece of more
-/// bytes than the room has is written after it, by itself. So the file and what waits together gain the piece.
+/// bytes than the room has is written after it, by itself. So the draft and what waits together gain the piece.
 fn append_gathered<F: Files>(
     files: &mut F,
     waiting: &mut ArrayVec<u8, ROOM>,
     piece: &[u8],
 ) -> Result<(), Failed>
     requires is_created { (F.state files.old).writing ≡ true }
-    ensures all { OnOk result ((gained : List ℕ) × FileGains (F.state files.old) (F.state files.new) gained
+    ensures all { OnOk result ((gained : List ℕ) × DraftGains (F.state files.old) (F.state files.new) gained
         × (waiting.old.items ++ piece.now ≡ gained ++ waiting.new.items)) }
     ensures prefix { OnErr result
-        (FileGainsPrefix (F.state files.old) (F.state files.new) (waiting.old.items ++ piece.now)) }
+        (DraftGainsPrefix (F.state files.old) (F.state files.new) (waiting.old.items ++ piece.now)) }
     ensures failed { OnErr result
         (WriteFaultAt (F.state files.old) (F.state files.new) (λ blamed. (F.state files.old).target ≡ Some blamed)) }
     ensures never_falls { (F.state files.old).write_faults ≤ (F.state files.new).write_faults }
@@ -45,12 +45,12 @@ fn append_gathered<F: Files>(
     Ok(())
 }
 
-/// Appends a text to the file that is being written, piece by piece. Small pieces are gathered, so that many of them
+/// Appends a text to the draft that is being written, piece by piece. Small pieces are gathered, so that many of them
 /// are one write.
 fn append_pieces<F: Files>(files: &mut F, text: &Patched) -> Result<(), Failed>
     requires is_created { (F.state files.old).writing ≡ true }
-    ensures all { OnOk result (FileGains (F.state files.old) (F.state files.new) text.now) }
-    ensures prefix { OnErr result (FileGainsPrefix (F.state files.old) (F.state files.new) text.now) }
+    ensures all { OnOk result (DraftGains (F.state files.old) (F.state files.new) text.now) }
+    ensures prefix { OnErr result (DraftGainsPrefix (F.state files.old) (F.state files.new) text.now) }
     ensures failed { OnErr result
         (WriteFaultAt (F.state files.old) (F.state files.new) (λ blamed. (F.state files.old).target ≡ Some blamed)) }
     ensures never_falls { (F.state files.old).write_faults ≤ (F.state files.new).write_faults }
@@ -68,16 +68,14 @@ fn append_pieces<F: Files>(files: &mut F, text: &Patched) -> Result<(), Failed>
     Ok(())
 }
 
-/// Writes a file whole: creates it, puts all of the text and finishes it. At the first `Failed` it stops and answers
-/// it: the count of write faults rose in this call, at this file, which is as it was or holds a prefix of the text. It
-/// takes no memory. Of the text it copies small pieces alone, which it gathers in a fixed buffer so that many of them
-/// are one write.
-pub fn write_patched<F: Files>(files: &mut F, name: &str, text: &Patched) -> Result<(), Failed>
-    ensures whole { OnOk result (IfSome ((F.state files.new).holds name.now) (λ file. file ≡ text.now)) }
-    ensures prefix { OnErr result
-        (StaysOrPrefix ((F.state files.old).holds name.now) ((F.state files.new).holds name.now) text.now) }
-    ensures others { (other : List ℕ) → other ≢ name.now
-        → (F.state files.new).holds other ≡ (F.state files.old).holds other }
+/// Makes a draft of a file with this text: creates it, puts all of the text and finishes it. At the first `Failed` it
+/// stops and answers it: the count of write faults rose in this call, at this file, and no more drafts wait than
+/// before. No file changes. It takes no memory. Of the text it copies small pieces alone, which it gathers in a fixed
+/// buffer so that many of them are one write.
+pub fn draft_patched<F: Files>(files: &mut F, name: &str, text: &Patched) -> Result<(), Failed>
+    ensures drafted { OnOk result (OneWaits (F.state files.old) (F.state files.new) name.now text.now) }
+    ensures dropped { OnErr result ((F.state files.new).drafts ≡ (F.state files.old).drafts) }
+    ensures kept { (file : List ℕ) → (F.state files.new).holds file ≡ (F.state files.old).holds file }
     ensures failed { OnErr result (WriteFaultAt (F.state files.old) (F.state files.new) (λ blamed. blamed ≡ name.now)) }
     ensures never_falls { (F.state files.old).write_faults ≤ (F.state files.new).write_faults }
     ensures ended { OnOk result ((F.state files.new).writing ≡ false) }
@@ -90,13 +88,12 @@ pub fn write_patched<F: Files>(files: &mut F, name: &str, text: &Patched) -> Res
     Ok(())
 }
 
-/// Writes a new file whole, as `write_patched` does: a text of which parts are replaced in pieces, another in one.
-pub fn write_text<F: Files>(files: &mut F, name: &str, text: &NewText) -> Result<(), Failed>
-    ensures whole { OnOk result (IfSome ((F.state files.new).holds name.now) (λ file. file ≡ text_of text.now)) }
-    ensures prefix { OnErr result
-        (StaysOrPrefix ((F.state files.old).holds name.now) ((F.state files.new).holds name.now) (text_of text.now)) }
-    ensures others { (other : List ℕ) → other ≢ name.now
-        → (F.state files.new).holds other ≡ (F.state files.old).holds other }
+/// Makes a draft of a new file, as `draft_patched` does: of a text of which parts are replaced in pieces, of another in
+/// one.
+pub fn draft_text<F: Files>(files: &mut F, name: &str, text: &NewText) -> Result<(), Failed>
+    ensures drafted { OnOk result (OneWaits (F.state files.old) (F.state files.new) name.now (text_of text.now)) }
+    ensures dropped { OnErr result ((F.state files.new).drafts ≡ (F.state files.old).drafts) }
+    ensures kept { (file : List ℕ) → (F.state files.new).holds file ≡ (F.state files.old).holds file }
     ensures failed { OnErr result (WriteFaultAt (F.state files.old) (F.state files.new) (λ blamed. blamed ≡ name.now)) }
     ensures never_falls { (F.state files.old).write_faults ≤ (F.state files.new).write_faults }
     ensures ended { OnOk result ((F.state files.new).writing ≡ false) }
@@ -104,7 +101,7 @@ pub fn write_text<F: Files>(files: &mut F, name: &str, text: &NewText) -> Result
     ensures reading { KeepsReading (F.state files.old) (F.state files.new) }
 {
     match text {
-        NewText::Patched(text) => write_patched(files, name, text),
-        NewText::Whole(text) => write_file(files, name, text),
+        NewText::Patched(text) => draft_patched(files, name, text),
+        NewText::Whole(text) => draft_file(files, name, text),
     }
 }

@@ -1,9 +1,9 @@
--- Pieces that are written to a file one after another.
-use Rattle.std.proofs.Common.{◌≡◌, ◌≢◌, inl, inr, ◌+◌, ◌≤◌, ℕ, List, [], ◌++◌, length, take, drop, Option, Some, None, IfSome, IsSome, option_map, refl, sym, ap, subst, ◌∙◌, arith, append_assoc, length-drop}
+-- Pieces that are written to a draft one after another, and drafts that are published.
+use Rattle.std.proofs.Common.{◌≡◌, ◌≢◌, ◌+◌, ◌≤◌, ℕ, List, [], ◌++◌, length, take, drop, Option, Some, None, IfSome, IsSome, option_map, refl, sym, ap, subst, ◌∙◌, arith, append_assoc, length-drop}
 use Rattle.std.proofs.Math.Seq.{take-add}
 use Rattle.std.proofs.lemmas.Grind.{common_steps}
-use Rattle.vg_store.specs.States.{FilesState, KeepsReading, file_named}
-use Rattle.vg_store.specs.Writing.{BeginsWriting, FileGains, FileGainsPrefix, StaysOrEmpty, StaysOrPrefix}
+use Rattle.vg_store.specs.States.{Draft, FilesState, KeepsReading, this_draft}
+use Rattle.vg_store.specs.Writing.{BeginsWriting, DraftGains, DraftGainsPrefix, FilesStay, IsDraftOf, Publishes}
 use Rattle.vg_store.proofs.PieceLemmas.{rest_of, rest_of-drop}
 
 appended_none : (file : Option (List ℕ)) (bytes : List ℕ) → file ≡ option_map (λ held. held ++ take 0 bytes) file
@@ -21,41 +21,36 @@ appended_two (Some old) (Some mid) new n k bytes first second =
     cc
 
 -- a file gains nothing at first
-pub gains_none : (files : FilesState) (bytes : List ℕ) → FileGains files files (take 0 bytes)
+pub gains_none : (files : FilesState) (bytes : List ℕ) → DraftGains files files (take 0 bytes)
 gains_none files bytes = record {
-  appended = appended_none (file_named files.holds files.target) bytes;
-  others = λ file differs. refl;
+  appended = appended_none files.draft bytes;
+  kept = λ file. refl;
+  same_drafts = refl;
 }
 
-same_file : (target : Option (List ℕ)) (old new : List ℕ → Option (List ℕ)) → ((file : List ℕ) → new file ≡ old file) → file_named new target ≡ file_named old target
-same_file None old new kept = refl
-same_file (Some name) old new kept = kept name
-
--- where all files stay, the one that is written has gained a prefix
-pub gains_nothing : (old new : FilesState) (bytes : List ℕ) → new.target ≡ old.target → ((file : List ℕ) → new.holds file ≡ old.holds file) → FileGainsPrefix old new bytes
-gains_nothing old new bytes same kept = (
+-- where the draft, all files and the drafts that wait stay, it has gained a prefix
+pub gains_nothing : (old new : FilesState) (bytes : List ℕ) → new.draft ≡ old.draft → FilesStay old new → new.drafts ≡ old.drafts → DraftGainsPrefix old new bytes
+gains_nothing old new bytes same kept waiting = (
   0,
   omega arith,
-  record {
-    appended = ap (file_named new.holds) same ∙ same_file old.target old.holds new.holds kept ∙ appended_none (file_named old.holds old.target) bytes;
-    others = λ file differs. kept file;
-  },
+  record { appended = same ∙ appended_none old.draft bytes; kept = kept; same_drafts = waiting },
 )
 
 -- what two pieces in a row gain
-pub gains_next : (old mid new : FilesState) (n k : ℕ) (bytes : List ℕ) → mid.target ≡ old.target → FileGains old mid (take n bytes) → FileGains mid new (take k (rest_of n bytes))
-    → FileGains old new (take (n + k) bytes)
-gains_next old mid new n k bytes same first second = record {
-  appended = appended_two (file_named old.holds old.target) (file_named mid.holds mid.target) (file_named new.holds new.target) n k bytes first.appended (rw (rest_of-drop n bytes) at second.appended);
-  others = λ file differs. second.others file (rw same differs) ∙ first.others file differs;
+pub gains_next : (old mid new : FilesState) (n k : ℕ) (bytes : List ℕ) → DraftGains old mid (take n bytes) → DraftGains mid new (take k (rest_of n bytes))
+    → DraftGains old new (take (n + k) bytes)
+gains_next old mid new n k bytes first second = record {
+  appended = appended_two old.draft mid.draft new.draft n k bytes first.appended (rw (rest_of-drop n bytes) at second.appended);
+  kept = λ file. second.kept file ∙ first.kept file;
+  same_drafts = second.same_drafts ∙ first.same_drafts;
 }
 
 -- a prefix of the second piece
-pub gains_then_prefix : (old mid new : FilesState) (n : ℕ) (bytes : List ℕ) → n ≤ length bytes → mid.target ≡ old.target → FileGains old mid (take n bytes)
-    → FileGainsPrefix mid new (rest_of n bytes) → FileGainsPrefix old new bytes
-gains_then_prefix old mid new n bytes within same first (k, short, second) =
+pub gains_then_prefix : (old mid new : FilesState) (n : ℕ) (bytes : List ℕ) → n ≤ length bytes → DraftGains old mid (take n bytes)
+    → DraftGainsPrefix mid new (rest_of n bytes) → DraftGainsPrefix old new bytes
+gains_then_prefix old mid new n bytes within first (k, short, second) =
     let length_same = ap length (rest_of-drop n bytes) in
-    (n + k, omega (arith, length-drop n bytes), gains_next old mid new n k bytes same first second)
+    (n + k, omega (arith, length-drop n bytes), gains_next old mid new n k bytes first second)
 
 -- reading stays in two calls in a row
 pub keeps_two : (old mid new : FilesState) → KeepsReading old mid → KeepsReading mid new → KeepsReading old new
@@ -67,50 +62,51 @@ keeps_two old mid new first second = record {
   same_reading = second.same_reading ∙ first.same_reading;
 }
 
--- the file of this name is the one that is written, or it is not told
-gained_by_name : (name bytes : List ℕ) (target here : Option (List ℕ)) (old new : List ℕ → Option (List ℕ)) → here ≡ old name → IfSome target (λ told. told ≡ name) → (IsSome here → IsSome target)
-    → file_named new target ≡ option_map (λ held. held ++ bytes) (file_named old target) → ((file : List ℕ) → target ≢ Some file → new file ≡ old file)
-    → new name ≡ option_map (λ held. held ++ bytes) here
-gained_by_name name bytes None None old new is named told gained others = others name (λ e. absurd (cc)) ∙ sym is
-gained_by_name name bytes None (Some held) old new is named told gained others = absurd (let never = told refl in cc)
-gained_by_name name bytes (Some told) here old new is named tells gained others =
-    subst (λ (n : List ℕ). new n ≡ option_map (λ held. held ++ bytes) (old n)) named gained ∙ ap (option_map (λ held. held ++ bytes)) (sym is)
+-- a file of another name is not the one that is written
+other_file : (target : Option (List ℕ)) (name other : List ℕ) → IfSome target (λ told. told ≡ name) → other ≢ name → target ≢ Some other
+other_file None name other named differs = λ e. absurd (cc)
+other_file (Some told) name other named differs = λ e. differs (let same : told ≡ other = cc in sym same ∙ named)
 
 only_these : (bytes : List ℕ) (old new : Option (List ℕ)) → IfSome old (λ held. held ≡ []) → new ≡ option_map (λ held. held ++ bytes) old → IfSome new (λ held. held ≡ bytes)
 only_these bytes None new empty gained = subst (λ (o : Option (List ℕ)). IfSome o (λ held. held ≡ bytes)) (sym gained) tt
 only_these bytes (Some held) new empty gained = subst (λ (o : Option (List ℕ)). IfSome o (λ l. l ≡ bytes)) (sym gained) (ap (λ l. l ++ bytes) empty)
 
--- a file that was created and then gained these bytes holds them, where it is told
-pub holds_these : (name bytes : List ℕ) (old new : FilesState) → BeginsWriting name old → new.target ≡ old.target → FileGains old new bytes → IfSome (new.holds name) (λ held. held ≡ bytes)
-holds_these name bytes old new begun same gained =
-    only_these bytes (old.holds name) (new.holds name) begun.empty
-    (gained_by_name name bytes old.target (old.holds name) old.holds new.holds refl begun.named begun.told (sym (ap (file_named new.holds) same) ∙ gained.appended) gained.others)
+-- a draft that was begun and then gained these bytes is one of this file with them
+pub draft_of_these : (name bytes : List ℕ) (old begun mid : FilesState) → BeginsWriting name begun → FilesStay old begun → mid.target ≡ begun.target → DraftGains begun mid bytes
+    → IsDraftOf old name bytes (this_draft mid)
+draft_of_these name bytes old begun mid is kept same gained = record {
+  named = subst (λ (o : Option (List ℕ)). IfSome o (λ told. told ≡ name)) (sym same) is.named;
+  told = λ told. subst (λ (o : Option (List ℕ)). IsSome o) (sym same) (is.told (subst (λ (o : Option (List ℕ)). IsSome o) (sym (kept name)) told));
+  whole = only_these bytes begun.draft mid.draft is.empty gained.appended;
+}
 
-prefix_if : (count : ℕ) (bytes : List ℕ) (file : Option (List ℕ)) → count ≤ length bytes → IfSome file (λ held. held ≡ take count bytes)
-    → IfSome file (λ held. (n : ℕ) × (n ≤ length bytes) × (held ≡ take n bytes))
-prefix_if count bytes None short is = tt
-prefix_if count bytes (Some held) short is = (count, short, is)
+-- a file of which a draft was published holds what was drafted, where it is told
+pub published_holds : (name bytes : List ℕ) (mid old new : FilesState) (draft : Draft) → IsDraftOf mid name bytes draft → old.holds name ≡ mid.holds name → Publishes old new draft
+    → IfSome (new.holds name) (λ held. held ≡ bytes)
+published_holds name bytes mid old new draft is same published =
+    by draft.name refl
+  where
+    if_told : (file : Option (List ℕ)) → (IsSome file → ⊥) → IfSome file (λ held. held ≡ bytes)
+    if_told None never = tt
+    if_told (Some held) never = absurd (never refl)
 
--- after a fault it holds a prefix
-pub holds_prefix : (name bytes : List ℕ) (old mid new : FilesState) → BeginsWriting name mid → new.target ≡ mid.target → FileGainsPrefix mid new bytes → StaysOrPrefix (old.holds name) (new.holds name) bytes
-holds_prefix name bytes old mid new begun same (count, short, gained) =
-    inr (prefix_if count bytes (new.holds name) short (holds_these name (take count bytes) mid new begun same gained))
+    none_named : draft.name ≡ None → IsSome (new.holds name) → ⊥
+    none_named none told =
+        let stays : new.holds name ≡ mid.holds name = published.others name (λ e. absurd (cc)) ∙ same in
+        let named : IsSome draft.name = is.told (subst (λ (o : Option (List ℕ)). IsSome o) stays told) in
+        absurd (cc)
 
--- an empty file holds a prefix
-pub empty_is_prefix : (old new : Option (List ℕ)) (bytes : List ℕ) → StaysOrEmpty old new → StaysOrPrefix old new bytes
-empty_is_prefix old new bytes (inl same) = inl same
-empty_is_prefix old new bytes (inr empty) = inr (subst (λ (o : Option (List ℕ)). IfSome o (λ held. (n : ℕ) × (n ≤ length bytes) × (held ≡ take n bytes))) (sym empty) (0, omega arith, refl))
+    by : (o : Option (List ℕ)) → draft.name ≡ o → IfSome (new.holds name) (λ held. held ≡ bytes)
+    by None none = if_told (new.holds name) (none_named none)
+    by (Some told) some =
+        let its : told ≡ name = subst (λ (o : Option (List ℕ)). IfSome o (λ told. told ≡ name)) some is.named in
+        let holds : new.holds name ≡ draft.bytes = published.whole name (some ∙ ap (λ l. Some l) its) in
+        subst (λ (o : Option (List ℕ)). IfSome o (λ held. held ≡ bytes)) (sym holds) is.whole
 
--- all of the bytes are a prefix
-pub all_is_prefix : (name bytes : List ℕ) (old mid new : FilesState) → BeginsWriting name mid → new.target ≡ mid.target → FileGains mid new bytes → StaysOrPrefix (old.holds name) (new.holds name) bytes
-all_is_prefix name bytes old mid new begun same gained =
-    let all : bytes ≡ take (length bytes) bytes = grind (arith, common_steps) in
-    inr (prefix_if (length bytes) bytes (new.holds name) (omega arith) (subst (λ (l : List ℕ). IfSome (new.holds name) (λ held. held ≡ l)) all (holds_these name bytes mid new begun same gained)))
-
--- a file of another name is not the one that is written
-pub other_file : (target : Option (List ℕ)) (name other : List ℕ) → IfSome target (λ told. told ≡ name) → other ≢ name → target ≢ Some other
-other_file None name other named differs = λ e. absurd (cc)
-other_file (Some told) name other named differs = λ e. differs (let same : told ≡ other = cc in sym same ∙ named)
+-- and other files stay
+pub published_others : (name bytes : List ℕ) (mid old new : FilesState) (draft : Draft) → IsDraftOf mid name bytes draft → Publishes old new draft
+    → (other : List ℕ) → other ≢ name → new.holds other ≡ old.holds other
+published_others name bytes mid old new draft is published other differs = published.others other (other_file draft.name name other is.named differs)
 
 -- what is blamed is the file of this name
 pub blamed_by_name : (target blame : Option (List ℕ)) (name : List ℕ) → IfSome target (λ told. told ≡ name) → IfSome blame (λ blamed. target ≡ Some blamed) → IfSome blame (λ blamed. blamed ≡ name)

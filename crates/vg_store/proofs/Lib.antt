@@ -2,4 +2,4 @@ pub mod FileLemmas
 mod MapLemmas
 mod NumberLemmas
 mod PieceLemmas
-mod SureLemmas
+mod ToldLemmas

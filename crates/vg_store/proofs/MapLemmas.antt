@@ -1,5 +1,5 @@
--- Bytes that are written to a file in memory, by its number.
-use Rattle.std.proofs.Common.{◌≡◌, ◌≢◌, ◌+◌, ℕ, suc, arith, Bool, true, false, cond, List, [], ◌∷◌, ◌++◌, Option, Some, None, option_map, string_bytes, String, Vec, vec_items, refl, sym, ap, subst, ◌∙◌}
+-- What is told of a file in memory is replaced, by its number.
+use Rattle.std.proofs.Common.{◌≡◌, ◌≢◌, ◌+◌, ℕ, suc, arith, Bool, true, false, cond, List, [], ◌∷◌, Option, Some, None, option_map, string_bytes, String, refl, sym, ap, subst, ◌∙◌}
 use Rattle.std.specs.Prelude.{slice_get}
 use Rattle.std.specs.Str.{bytes_eq}
 use Rattle.std.specs.String.{string_eq, string_eq_equiv}
@@ -12,7 +12,7 @@ use Rattle.std.proofs.lemmas.Option.{slice_get-map}
 use Rattle.std.proofs.lemmas.Slice.Eq.{bytes_eq-Decides}
 use Rattle.indexmap.specs.IndexMap.{IndexMap, IsUnique, get_by_text, insert_entry, values, with_value_at}
 use Rattle.indexmap.proofs.CallerLemmas.{keys-with_value_at, updates-with_value_at}
-use Rattle.vg_store.specs.Contents.{bytes_of, named}
+use Rattle.vg_store.specs.Contents.{named}
 
 -- the entry of a number, from its name and its value
 entry_from : {X : Type 0} (name : List ℕ) (v : X) (entry : Option (String Global × X)) → option_map string_bytes (option_map (λ e. e.0) entry) ≡ Some name → option_map (λ e. e.1) entry ≡ Some v
@@ -58,20 +58,6 @@ module _ {X S : Type 0} (files : IndexMap (String Global) X S) (n : ℕ) (name :
       by true equal = absurd (differs (sym ((bytes_eq-Decides name file).0 equal)))
       by false differ = differ
 
-module _ {S : Type 0} (files : IndexMap (String Global) (Vec ℕ Global) S) (n : ℕ) (name : List ℕ) (old new : Vec ℕ Global) (unique : IsUnique string_eq files) (is : named files (Some n) ≡ Some name)
-    (value : slice_get (values files) n ≡ Some old) where
-  -- the bytes of the file of this number
-  pub held_at : bytes_of files name ≡ Some old.items
-  held_at = ap (option_map vec_items) (file_there files n name old new unique is value)
-
-  -- the file of this number holds what was written
-  pub written_at : bytes_of (with_value_at files n new) name ≡ Some new.items
-  written_at = ap (option_map vec_items) (replaced_at files n name old new unique is value)
-
-  -- and the others what they held
-  pub others_at : (file : List ℕ) → file ≢ name → bytes_of (with_value_at files n new) file ≡ bytes_of files file
-  others_at file differs = ap (option_map vec_items) (stay_at files n name old new unique is value file differs)
-
 -- the name of a number that has a value
 name_at_value : {X S : Type 0} (files : IndexMap (String Global) X S) (n : ℕ) (v : X) → slice_get (values files) n ≡ Some v → (name : List ℕ) × (named files (Some n) ≡ Some name)
 name_at_value files n v value =
@@ -88,32 +74,6 @@ pub stay_apart : {X S : Type 0} (files : IndexMap (String Global) X S) (n : ℕ)
 stay_apart files n old new unique value file differs =
     let (name, is) = name_at_value files n old value in
     stay_at files n name old new unique is value file (λ e. differs (is ∙ ap (λ l. Some l) (sym e)))
-
-module _ {S : Type 0} (files : IndexMap (String Global) (Vec ℕ Global) S) (n : ℕ) (old new : Vec ℕ Global) (unique : IsUnique string_eq files) (value : slice_get (values files) n ≡ Some old) where
-  -- a file that does not have this number holds what it held
-  pub others_apart : (file : List ℕ) → named files (Some n) ≢ Some file → bytes_of (with_value_at files n new) file ≡ bytes_of files file
-  others_apart file differs = ap (option_map vec_items) (stay_apart files n old new unique value file differs)
-
-  -- and all files do, where the same is written
-  pub all_stay : new.items ≡ old.items → (file : List ℕ) → bytes_of (with_value_at files n new) file ≡ bytes_of files file
-  all_stay same file =
-      let (name, is) = name_at_value files n old value in
-      by name is (bytes_eq name file) refl
-    where
-      by : (name : List ℕ) → named files (Some n) ≡ Some name → (b : Bool) → bytes_eq name file ≡ b → bytes_of (with_value_at files n new) file ≡ bytes_of files file
-      by name is true equal =
-          let e = (bytes_eq-Decides name file).0 equal in
-          subst (λ (l : List ℕ). bytes_of (with_value_at files n new) l ≡ bytes_of files l) e
-          (written_at files n name old new unique is value ∙ ap (λ l. Some l) same ∙ sym (held_at files n name old new unique is value))
-      by name is false differ =
-          others_at files n name old new unique is value file
-          (λ e. let never : bytes_eq name file ≡ true = (bytes_eq-Decides name file).1 (sym e) in absurd (cc))
-
--- the file of this name gains the bytes that were appended
-pub gained_at : {S : Type 0} (files : IndexMap (String Global) (Vec ℕ Global) S) (n : ℕ) (old new : Vec ℕ Global) (bytes : List ℕ) → IsUnique string_eq files → slice_get (values files) n ≡ Some old
-    → new.items ≡ old.items ++ bytes → (name : List ℕ) → named files (Some n) ≡ Some name → bytes_of (with_value_at files n new) name ≡ option_map (λ held. held ++ bytes) (bytes_of files name)
-gained_at files n old new bytes unique value more name is =
-    written_at files n name old new unique is value ∙ ap (λ l. Some l) more ∙ ap (option_map (λ held. held ++ bytes)) (sym (held_at files n name old new unique is value))
 
 -- a write by number leaves the names
 pub same_names : {X S : Type 0} (files : IndexMap (String Global) X S) (n : ℕ) (w : X) (number : Option ℕ) → named (with_value_at files n w) number ≡ named files number

@@ -1,13 +1,13 @@
 -- What files in memory hold.
-use Rattle.std.specs.Prelude.{ℕ, Bool, List, [], drop, Option, option_map, unwrap_or}
-use Rattle.vg_store.specs.Contents.{bytes_of, named, room_at}
+use Rattle.std.specs.Prelude.{ℕ, ◌-◌, Bool, List, [], drop, map, Option, Some, unwrap_or, vec_capacity, vec_len}
+use Rattle.vg_store.specs.Contents.{draft_of, named, told_of}
 use Rattle.vg_store.specs.Reading.{read_file}
-use Rattle.vg_store.specs.States.{FilesState}
+use Rattle.vg_store.specs.States.{Draft, FilesState}
 use Rattle.vg_store.specs.declared.mem_files.MemFiles.{MemFiles}
 
 -- the bytes of the file of this name
 abbrev pub held : MemFiles → List ℕ → Option (List ℕ)
-held files name = bytes_of files.files name
+held files name = told_of files.files name
 
 -- the name of the file that was opened last
 abbrev pub source_of : MemFiles → Option (List ℕ)
@@ -25,7 +25,7 @@ taken_of files = files.place
 abbrev pub is_reading : MemFiles → Bool
 is_reading files = files.reading
 
--- the name of the file that was created last
+-- the name of the file of which a draft was begun last
 abbrev pub target_of : MemFiles → Option (List ℕ)
 target_of files = named files.files files.target
 
@@ -33,13 +33,25 @@ target_of files = named files.files files.target
 abbrev pub write_blame_of : MemFiles → Option (List ℕ)
 write_blame_of files = named files.files files.write_faults.blamed
 
--- whether a file is being written
+-- whether a draft is being written
 abbrev pub is_writing : MemFiles → Bool
 is_writing files = files.writing
 
--- how many more bytes fit in the memory that the file that was created last has
+-- the bytes of the draft that was begun last
+abbrev pub drafted : MemFiles → List ℕ
+drafted files = files.draft.items
+
+-- the drafts that wait, the oldest first
+abbrev pub drafts_of : MemFiles → List Draft
+drafts_of files = map (draft_of files.files) files.waiting.items
+
+-- how many more bytes fit in the memory that the draft has
 abbrev pub room_of : MemFiles → ℕ
-room_of files = unwrap_or (option_map (room_at files.files) files.target) 0
+room_of files = vec_capacity files.draft - vec_len files.draft
+
+-- how many more drafts fit in the memory that those that wait have
+abbrev pub places_of : MemFiles → ℕ
+places_of files = vec_capacity files.waiting - vec_len files.waiting
 
 -- the most bytes that one call moves
 abbrev pub chunk_of : MemFiles → ℕ
@@ -74,6 +86,8 @@ state_of files = record {
   write_blame = write_blame_of files;
   target = target_of files;
   writing = is_writing files;
+  draft = Some (drafted files);
+  drafts = drafts_of files;
 }
 
 -- what was not taken yet of the file that is read

@@ -1,7 +1,7 @@
 -- What an output or a file has gained.
-use Rattle.std.specs.Prelude.{◌≡◌, ◌≢◌, ◌⊎◌, ℕ, ◌≤◌, List, [], ◌++◌, length, take, true, Option, Some, None, IfSome, IsSome, option_map}
+use Rattle.std.specs.Prelude.{◌≡◌, ◌≢◌, ℕ, ◌≤◌, List, [], ◌∷◌, ◌++◌, length, take, true, Option, Some, None, IfSome, IsSome, option_map}
 use Rattle.vg_store.specs.Causes.{Rose}
-use Rattle.vg_store.specs.States.{FilesState, file_named}
+use Rattle.vg_store.specs.States.{Draft, FilesState}
 
 -- what contracts see of an output: all that was written, where it is told, and how often writing failed
 pub record OutState : Type 0 where
@@ -21,34 +21,44 @@ Gains old new bytes = Appends old.written new.written bytes
 abbrev pub GainsPrefix : OutState → OutState → List ℕ → Type 0
 GainsPrefix old new bytes = (count : ℕ) × (count ≤ length bytes) × Gains old new (take count bytes)
 
--- the bytes of the file that is written, where its name and they are told
-abbrev pub written_file : FilesState → Option (List ℕ)
-written_file files = file_named files.holds files.target
-
--- writing this file has begun, and it is empty
+-- a draft of this file has begun, and it is empty
 pub record BeginsWriting (name : List ℕ) (files : FilesState) : Type 0 where
   pub open_now : files.writing ≡ true
-  pub empty : IfSome (files.holds name) (λ bytes. bytes ≡ [])
+  pub empty : IfSome files.draft (λ bytes. bytes ≡ [])
   pub named : IfSome files.target (λ told. told ≡ name)
   pub told : IsSome (files.holds name) → IsSome files.target
 
--- these bytes were written at the end of the file that is written, where it is told, and all other files stay
-pub record FileGains (old new : FilesState) (bytes : List ℕ) : Type 0 where
-  pub appended : written_file new ≡ option_map (λ file. file ++ bytes) (written_file old)
-  pub others : (file : List ℕ) → old.target ≢ Some file → new.holds file ≡ old.holds file
+-- all files hold what they held
+abbrev pub FilesStay : FilesState → FilesState → Type 0
+FilesStay old new = (file : List ℕ) → new.holds file ≡ old.holds file
+
+-- these bytes were written at the end of the draft, where its bytes are told, and all files and the drafts that wait
+-- stay
+pub record DraftGains (old new : FilesState) (bytes : List ℕ) : Type 0 where
+  pub appended : new.draft ≡ option_map (λ draft. draft ++ bytes) old.draft
+  pub kept : FilesStay old new
+  pub same_drafts : new.drafts ≡ old.drafts
 
 -- some first bytes of these were written there
-abbrev pub FileGainsPrefix : FilesState → FilesState → List ℕ → Type 0
-FileGainsPrefix old new bytes = (count : ℕ) × (count ≤ length bytes) × FileGains old new (take count bytes)
+abbrev pub DraftGainsPrefix : FilesState → FilesState → List ℕ → Type 0
+DraftGainsPrefix old new bytes = (count : ℕ) × (count ≤ length bytes) × DraftGains old new (take count bytes)
 
--- a file stays, or is empty
-abbrev pub StaysOrEmpty : Option (List ℕ) → Option (List ℕ) → Type 0
-StaysOrEmpty old new = (new ≡ old) ⊎ (new ≡ Some [])
+-- this is a draft of this file with these bytes, as far as it is told; a file whose bytes are told is named by it
+pub record IsDraftOf (files : FilesState) (name bytes : List ℕ) (draft : Draft) : Type 0 where
+  pub named : IfSome draft.name (λ told. told ≡ name)
+  pub told : IsSome (files.holds name) → IsSome draft.name
+  pub whole : IfSome draft.bytes (λ told. told ≡ bytes)
 
--- a file stays, or holds some first bytes of these, where it is told
-abbrev pub StaysOrPrefix : Option (List ℕ) → Option (List ℕ) → List ℕ → Type 0
-StaysOrPrefix old new bytes =
-    (new ≡ old) ⊎ IfSome new (λ file. (count : ℕ) × (count ≤ length bytes) × (file ≡ take count bytes))
+-- one more draft waits, of this file with these bytes
+abbrev pub OneWaits : FilesState → FilesState → (name bytes : List ℕ) → Type 0
+OneWaits old new name bytes =
+    (draft : Draft) × (new.drafts ≡ old.drafts ++ draft ∷ []) × IsDraftOf old name bytes draft
+
+-- this draft was the oldest that waited, and stands in the place of the file of its name; all other files stay
+pub record Publishes (old new : FilesState) (draft : Draft) : Type 0 where
+  pub oldest : old.drafts ≡ draft ∷ new.drafts
+  pub whole : (name : List ℕ) → draft.name ≡ Some name → new.holds name ≡ draft.bytes
+  pub others : (file : List ℕ) → draft.name ≢ Some file → new.holds file ≡ old.holds file
 
 -- writing failed: the count of write faults rose, and this holds of the file that is blamed, where it is told
 abbrev pub WriteFaultAt : FilesState → FilesState → (List ℕ → Type 0) → Type 0

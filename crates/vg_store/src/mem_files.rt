@@ -1,27 +1,30 @@
 //! Files in memory.
-ghost use Rattle.std.specs.Prelude.{◌≡◌, ◌≢◌, ◌↔◌, ◌⊎◌, ℕ, ◌+◌, ◌-◌, ◌^◌, ◌<◌, ◌≤◌, min, List, length, take, [], Bool, true, false, is_some, Option, Some, None, Contains, MatchOption, IfOk, IfSome, IsErr, IsSome, OnOk, OnErr};
+ghost use Rattle.std.specs.Prelude.{◌≡◌, ◌≢◌, ◌↔◌, ◌⊎◌, ℕ, ◌+◌, ◌-◌, ◌^◌, ◌<◌, ◌≤◌, min, List, length, take, [], ◌∷◌, ◌++◌, Bool, true, false, is_some, Option, Some, None, Contains, MatchOption, IfOk, IfSome, IsErr, IsSome, OnOk, OnErr};
+ghost use Rattle.std.specs.List.{All};
 ghost use Rattle.indexmap.specs.IndexMap.{index_map_len};
 ghost use Rattle.vg_store.specs.Causes.{HasCause};
 ghost use Rattle.vg_store.specs.Reading.{Begins, IsNextPiece, read_file};
-ghost use Rattle.vg_store.specs.States.{KeepsReading, KeepsWriting};
-ghost use Rattle.vg_store.specs.Writing.{BeginsWriting, FileGains, FileGainsPrefix, StaysOrEmpty};
+ghost use Rattle.vg_store.specs.States.{Draft, KeepsReading, KeepsWriting, first_name, this_draft};
+ghost use Rattle.vg_store.specs.Writing.{BeginsWriting, DraftGains, DraftGainsPrefix, Publishes};
 
 use crate::calls::{Calls, Faults};
-use crate::contents::{append_at, put_empty};
+use crate::contents::{Told, number_of, replace_at};
 use crate::files::{Failed, Files};
+use crate::waiting::Waiting;
 use indexmap::IndexMap;
 use std::alloc::Global;
+use std::mem;
 use vg_num::Memory;
 
 /// Files in memory, which tell all that they hold. Calls of given numbers fail, and a call moves no more bytes than
 /// a given number.
 ///
-/// The files are numbered in the order in which they were added or created. The files that are read, written and to
-/// blame are kept by their numbers, so that no call but `create` of a new file and `put` takes memory.
+/// The names are numbered in the order in which they were added or created. The files that are read, written and to
+/// blame are kept by their numbers, so that no call but `create` of a new name, `put` and `finish` takes memory.
 #[derive(Drop)]
 pub struct MemFiles {
     alloc: Global,
-    files: IndexMap<String, Vec<u8>>,
+    files: IndexMap<String, Told>,
     chunk: usize,
     calls: Calls,
     source: Option<usize>,
@@ -29,18 +32,21 @@ pub struct MemFiles {
     reading: bool,
     read_faults: Faults,
     target: Option<usize>,
+    draft: Vec<u8>,
     writing: bool,
+    waiting: Vec<Waiting>,
     write_faults: Faults,
     ghost moves_some: { 1 ≤ chunk },
     ghost source_stands: { (n : ℕ) → source ≡ Some n → n < index_map_len files },
     ghost read_blamed_stands: { (n : ℕ) → read_faults.blamed ≡ Some n → n < index_map_len files },
     ghost target_stands: { (n : ℕ) → target ≡ Some n → n < index_map_len files },
     ghost write_blamed_stands: { (n : ℕ) → write_faults.blamed ≡ Some n → n < index_map_len files },
+    ghost waiting_stand: { All (λ w. w.file < index_map_len files) waiting.items },
     ghost writes_one: { writing ≡ true → is_some target ≡ true },
 }
 
 impl MemFiles {
-    ghost use Rattle.vg_store.specs.MemFiles.{state_of, held, left_of, is_reading, is_writing, chunk_of, calls_of, fails_of, read_faults_of, write_faults_of};
+    ghost use Rattle.vg_store.specs.MemFiles.{state_of, held, left_of, is_reading, is_writing, drafts_of, chunk_of, calls_of, fails_of, read_faults_of, write_faults_of};
 
     /// No files. A call of `next` or `put` moves at most `chunk` bytes. Each call of `Files` has a number, from 0 on,
     /// and those whose number stands in `fails` fail. The count of calls stands still at `u64::MAX`, and so do the
@@ -51,6 +57,7 @@ impl MemFiles {
         requires { 1 ≤ chunk }
         ensures empty { IfOk result (λ files. (name : List ℕ) → held files name ≡ None) }
         ensures shut { IfOk result (λ files. (is_reading files ≡ false) × (is_writing files ≡ false)) }
+        ensures none_waits { IfOk result (λ files. drafts_of files ≡ []) }
         ensures chunk { IfOk result (λ files. chunk_of files ≡ chunk) }
         ensures fails { IfOk result (λ files. fails_of files ≡ fails.now) }
         ensures calls { IfOk result (λ files. calls_of files ≡ 0) }
@@ -67,7 +74,9 @@ impl MemFiles {
             reading: false,
             read_faults: Faults::new(),
             target: None,
+            draft: Vec::new(alloc),
             writing: false,
+            waiting: Vec::new(alloc),
             write_faults: Faults::new(),
         })
     }
@@ -87,7 +96,7 @@ impl MemFiles {
     {
         let bytes = bytes.to_vec(self.alloc)?;
         let name = String::from_str(self.alloc, name)?;
-        self.files.insert(name, bytes)?;
+        self.files.insert(name, Some(bytes))?;
         Ok(())
     }
 
@@ -97,8 +106,8 @@ impl MemFiles {
             held self.now name.now ≡ Some bytes.now) }
     {
         match self.files.get(name) {
-            Some(file) => Some(file.as_slice()),
-            None => None,
+            Some(Some(file)) => Some(file.as_slice()),
+            _ => None,
         }
     }
 
@@ -112,18 +121,21 @@ impl MemFiles {
         let Some((_, file)) = self.files.get_index(source) else {
             return &[];
         };
-        let bytes = file.as_slice();
+        let Some(bytes) = file else {
+            return &[];
+        };
+        let bytes = bytes.as_slice();
         &bytes[self.place.min(bytes.len())..]
     }
 }
 
 impl Files for MemFiles {
-    ghost use Rattle.vg_store.specs.MemFiles.{state_of, held, left_of, taken_of, is_reading, source_of, read_blame_of, target_of, is_writing, write_blame_of, room_of, chunk_of, calls_of, fails_of, read_faults_of, write_faults_of};
+    ghost use Rattle.vg_store.specs.MemFiles.{state_of, held, left_of, taken_of, is_reading, source_of, read_blame_of, target_of, is_writing, write_blame_of, drafted, drafts_of, room_of, places_of, chunk_of, calls_of, fails_of, read_faults_of, write_faults_of};
 
     ghost state = { λ files. state_of files };
 
     /// Begins to read a file at its first byte. It fails exactly where the call's number stands in the list or there is
-    /// no such file. A name that no file has is not told as the one to blame. It takes no memory.
+    /// no such file. A name that is new is not told as the one to blame. It takes no memory.
     fn open(&mut self, name: &str) -> Result<(), Failed>
         ensures begun { OnOk result (Begins name.now (state_of self.new)) }
         ensures shut { OnErr result (is_reading self.new ≡ false) }
@@ -145,7 +157,8 @@ impl Files for MemFiles {
     {
         self.reading = false;
         let number = self.files.get_index_of(name);
-        if self.calls.count_call() || number.is_none() {
+        let is_there = self.get(name).is_some();
+        if self.calls.count_call() || !is_there {
             self.read_faults.add(number);
             return Err(Failed);
         }
@@ -195,22 +208,20 @@ impl Files for MemFiles {
         Ok(count)
     }
 
-    /// Puts an empty file there, in place of one of that name, and begins to write it. It fails where the call's number
-    /// stands in the list, and when there is no memory for a new file. Then the files are as before, and a name that no
-    /// file has is not told as the one to blame.
+    /// Begins an empty draft of the file of this name. It fails where the call's number stands in the list, and when
+    /// there is no memory for a new name. A name that is new is not told as the one to blame.
     fn create(&mut self, name: &str) -> Result<(), Failed>
         ensures begun { OnOk result (BeginsWriting name.now (state_of self.new)) }
         ensures shut { OnErr result (is_writing self.new ≡ false) }
-        ensures stays { OnErr result (StaysOrEmpty (held self.old name.now) (held self.new name.now)) }
-        ensures others { (other : List ℕ) → other ≢ name.now → held self.new other ≡ held self.old other }
+        ensures kept { (file : List ℕ) → held self.new file ≡ held self.old file }
+        ensures same_drafts { drafts_of self.new ≡ drafts_of self.old }
         ensures cause { HasCause (write_faults_of self.old) (write_faults_of self.new) result }
         ensures blamed { OnErr result (IfSome (write_blame_of self.new) (λ blamed. blamed ≡ name.now)) }
         ensures same_blame { OnOk result (write_blame_of self.new ≡ write_blame_of self.old) }
         ensures reading { KeepsReading (state_of self.old) (state_of self.new) }
 
-        ensures empty { OnOk result (held self.new name.now ≡ Some []) }
+        ensures empty { OnOk result (drafted self.new ≡ []) }
         ensures told { OnOk result (target_of self.new ≡ Some name.now) }
-        ensures kept { OnErr result ((file : List ℕ) → held self.new file ≡ held self.old file) }
         ensures same_target { OnErr result (target_of self.new ≡ target_of self.old) }
         ensures listed { Contains (fails_of self.old) (calls_of self.old) → IsErr result }
         ensures failed { OnErr result (Contains (fails_of self.old) (calls_of self.old)
@@ -228,11 +239,12 @@ impl Files for MemFiles {
             self.write_faults.add(number);
             return Err(Failed);
         }
-        let Ok(target) = put_empty(self.alloc, &mut self.files, name) else {
+        let Ok(target) = number_of(self.alloc, &mut self.files, name) else {
             self.write_faults.add(number);
             return Err(Failed);
         };
         self.target = Some(target);
+        self.draft.clear();
         self.writing = true;
         Ok(())
     }
@@ -243,8 +255,8 @@ impl Files for MemFiles {
         requires is_created { is_writing self.old ≡ true }
         ensures bound { IfOk result (λ count. (count ≤ length bytes.now) × (0 < length bytes.now → 0 < count)) }
         ensures gained { IfOk result (λ count.
-            FileGains (state_of self.old) (state_of self.new) (take count bytes.now)) }
-        ensures prefix { OnErr result (FileGainsPrefix (state_of self.old) (state_of self.new) bytes.now) }
+            DraftGains (state_of self.old) (state_of self.new) (take count bytes.now)) }
+        ensures prefix { OnErr result (DraftGainsPrefix (state_of self.old) (state_of self.new) bytes.now) }
         ensures still_writing { is_writing self.new ≡ true }
         ensures same_target { target_of self.new ≡ target_of self.old }
         ensures cause { HasCause (write_faults_of self.old) (write_faults_of self.new) result }
@@ -253,7 +265,7 @@ impl Files for MemFiles {
         ensures reading { KeepsReading (state_of self.old) (state_of self.new) }
 
         ensures moved { IfOk result (λ count. count ≡ min (chunk_of self.old) (length bytes.now)) }
-        ensures kept { OnErr result ((file : List ℕ) → held self.new file ≡ held self.old file) }
+        ensures unchanged { OnErr result (drafted self.new ≡ drafted self.old) }
         ensures listed { Contains (fails_of self.old) (calls_of self.old) → IsErr result }
         ensures failed { OnErr result (Contains (fails_of self.old) (calls_of self.old)
             ⊎ (room_of self.old < min (chunk_of self.old) (length bytes.now))) }
@@ -264,33 +276,30 @@ impl Files for MemFiles {
         ensures same_fails { fails_of self.new ≡ fails_of self.old }
         ensures same_chunk { chunk_of self.new ≡ chunk_of self.old }
     {
-        let Some(target) = self.target else {
-            unreachable!();
-        };
         let count = self.chunk.min(bytes.len());
-        if self.calls.count_call() {
+        if self.calls.count_call() || self.draft.extend_from_slice(&bytes[..count]).is_err() {
             self.write_faults.add(self.target);
             return Err(Failed);
         }
-        let Ok(()) = append_at(&mut self.files, target, &bytes[..count]) else {
-            self.write_faults.add(self.target);
-            return Err(Failed);
-        };
         Ok(count)
     }
 
-    /// Ends the writing. It fails exactly where the call's number stands in the list.
+    /// Ends the writing of the draft. It fails where the call's number stands in the list, and when there is no memory
+    /// for one more draft that waits.
     fn finish(&mut self) -> Result<(), Failed>
         requires is_created { is_writing self.old ≡ true }
         ensures ended { is_writing self.new ≡ false }
-        ensures same_target { target_of self.new ≡ target_of self.old }
+        ensures drafted { OnOk result (drafts_of self.new ≡ drafts_of self.old ++ this_draft (state_of self.old) ∷ []) }
+        ensures dropped { OnErr result (drafts_of self.new ≡ drafts_of self.old) }
         ensures kept { (file : List ℕ) → held self.new file ≡ held self.old file }
         ensures cause { HasCause (write_faults_of self.old) (write_faults_of self.new) result }
         ensures blamed { OnErr result (IfSome (write_blame_of self.new) (λ blamed. target_of self.old ≡ Some blamed)) }
         ensures same_blame { OnOk result (write_blame_of self.new ≡ write_blame_of self.old) }
         ensures reading { KeepsReading (state_of self.old) (state_of self.new) }
 
-        ensures listed { IsErr result ↔ Contains (fails_of self.old) (calls_of self.old) }
+        ensures same_target { target_of self.new ≡ target_of self.old }
+        ensures listed { Contains (fails_of self.old) (calls_of self.old) → IsErr result }
+        ensures failed { OnErr result (Contains (fails_of self.old) (calls_of self.old) ⊎ (places_of self.old < 1)) }
         ensures told_blame { OnErr result (write_blame_of self.new ≡ target_of self.old) }
         ensures counted { calls_of self.new ≡ min (calls_of self.old + 1) (2 ^ 64 - 1) }
         ensures ok_faults { OnOk result (write_faults_of self.new ≡ write_faults_of self.old) }
@@ -298,11 +307,69 @@ impl Files for MemFiles {
         ensures same_fails { fails_of self.new ≡ fails_of self.old }
         ensures same_chunk { chunk_of self.new ≡ chunk_of self.old }
     {
+        let Some(file) = self.target else {
+            unreachable!();
+        };
         self.writing = false;
         if self.calls.count_call() {
             self.write_faults.add(self.target);
             return Err(Failed);
         }
+        let bytes = mem::replace(&mut self.draft, Vec::new(self.alloc));
+        let Ok(()) = self.waiting.push(Waiting { file, bytes }) else {
+            self.write_faults.add(self.target);
+            return Err(Failed);
+        };
         Ok(())
+    }
+
+    /// Puts the oldest draft in the place of its file. It fails exactly where the call's number stands in the list, and
+    /// takes no memory.
+    fn publish(&mut self) -> Result<(), Failed>
+        requires is_shut { is_writing self.old ≡ false }
+        requires one_waits { 0 < length (drafts_of self.old) }
+        ensures still_shut { is_writing self.new ≡ false }
+        ensures published { OnOk result ((draft : Draft) × Publishes (state_of self.old) (state_of self.new) draft) }
+        ensures kept { OnErr result ((file : List ℕ) → held self.new file ≡ held self.old file) }
+        ensures none_left { OnErr result (drafts_of self.new ≡ []) }
+        ensures cause { HasCause (write_faults_of self.old) (write_faults_of self.new) result }
+        ensures blamed { OnErr result
+            (IfSome (write_blame_of self.new) (λ blamed. first_name (drafts_of self.old) ≡ Some blamed)) }
+        ensures same_blame { OnOk result (write_blame_of self.new ≡ write_blame_of self.old) }
+        ensures reading { KeepsReading (state_of self.old) (state_of self.new) }
+
+        ensures listed { IsErr result ↔ Contains (fails_of self.old) (calls_of self.old) }
+        ensures told_blame { OnErr result (write_blame_of self.new ≡ first_name (drafts_of self.old)) }
+        ensures counted { calls_of self.new ≡ min (calls_of self.old + 1) (2 ^ 64 - 1) }
+        ensures ok_faults { OnOk result (write_faults_of self.new ≡ write_faults_of self.old) }
+        ensures err_faults { OnErr result (write_faults_of self.new ≡ min (write_faults_of self.old + 1) (2 ^ 64 - 1)) }
+        ensures same_fails { fails_of self.new ≡ fails_of self.old }
+        ensures same_chunk { chunk_of self.new ≡ chunk_of self.old }
+    {
+        let draft = self.waiting.remove(0);
+        if self.calls.count_call() {
+            self.write_faults.add(Some(draft.file));
+            self.waiting.clear();
+            return Err(Failed);
+        }
+        replace_at(&mut self.files, draft.file, Some(draft.bytes));
+        Ok(())
+    }
+
+    /// Drops all drafts. It is no call that is counted, and takes no memory.
+    fn discard(&mut self)
+        ensures shut { is_writing self.new ≡ false }
+        ensures none_left { drafts_of self.new ≡ [] }
+        ensures kept { (file : List ℕ) → held self.new file ≡ held self.old file }
+        ensures same_faults { write_faults_of self.new ≡ write_faults_of self.old }
+        ensures same_blame { write_blame_of self.new ≡ write_blame_of self.old }
+        ensures reading { KeepsReading (state_of self.old) (state_of self.new) }
+
+        ensures same_calls { calls_of self.new ≡ calls_of self.old }
+        ensures same_fails { fails_of self.new ≡ fails_of self.old }
+        ensures same_chunk { chunk_of self.new ≡ chunk_of self.old }
+    {
+        self.writing = false;
+        self.waiting.clear();
     }
 }

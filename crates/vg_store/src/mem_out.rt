@@ -1,5 +1,5 @@
 //! An output in memory.
-ghost use Rattle.std.specs.Prelude.{◌≡◌, ◌⊎◌, ◌+◌, ◌-◌, ◌^◌, ◌<◌, ◌≤◌, ◌++◌, min, List, length, take, [], Some, Contains, IfOk, IsErr, OnOk, OnErr};
+ghost use Rattle.std.specs.Prelude.{◌≡◌, ◌↔◌, ◌⊎◌, ◌+◌, ◌-◌, ◌^◌, ◌<◌, ◌≤◌, ◌++◌, min, List, length, take, [], Some, Contains, IfOk, IsErr, OnOk, OnErr};
 ghost use Rattle.vg_store.specs.Causes.{HasCause};
 ghost use Rattle.vg_store.specs.Writing.{Gains, GainsPrefix};
 
@@ -23,9 +23,9 @@ pub struct MemOut {
 impl MemOut {
     ghost use Rattle.vg_store.specs.MemOut.{written_to, room_of, chunk_of, calls_of, fails_of, faults_of};
 
-    /// Nothing was written. A call of `put` takes at most `chunk` bytes. Each call has a number, from 0 on, and those
-    /// whose number stands in `fails` fail. The count of calls stands still at `u64::MAX`, and so does the count of
-    /// faults.
+    /// Nothing was written. A call of `put` takes at most `chunk` bytes. Each call of `Out` has a number, from 0 on,
+    /// and those whose number stands in `fails` fail. The count of calls stands still at `u64::MAX`, and so does the
+    /// count of faults.
     ///
     /// `Memory`: there was no room for the numbers.
     pub fn new(alloc: Global, chunk: usize, fails: &[u64]) -> Result<MemOut, Memory>
@@ -83,5 +83,24 @@ impl Out for MemOut {
             return Err(Failed);
         }
         Ok(count)
+    }
+
+    /// Ends the writing for now. It fails exactly where the call's number stands in the list.
+    fn finish(&mut self) -> Result<(), Failed>
+        ensures kept { (state_of self.new).written ≡ (state_of self.old).written }
+        ensures cause { HasCause (faults_of self.old) (faults_of self.new) result }
+
+        ensures listed { IsErr result ↔ Contains (fails_of self.old) (calls_of self.old) }
+        ensures counted { calls_of self.new ≡ min (calls_of self.old + 1) (2 ^ 64 - 1) }
+        ensures ok_faults { OnOk result (faults_of self.new ≡ faults_of self.old) }
+        ensures err_faults { OnErr result (faults_of self.new ≡ min (faults_of self.old + 1) (2 ^ 64 - 1)) }
+        ensures same_fails { fails_of self.new ≡ fails_of self.old }
+        ensures same_chunk { chunk_of self.new ≡ chunk_of self.old }
+    {
+        if self.calls.count_call() {
+            self.faults = self.faults.saturating_add(1);
+            return Err(Failed);
+        }
+        Ok(())
     }
 }

@@ -17,6 +17,11 @@ pub trait Out {
         ensures gained { IfOk result (λ count. Gains (state self.old) (state self.new) (take count bytes.now)) }
         ensures prefix { OnErr result (GainsPrefix (state self.old) (state self.new) bytes.now) }
         ensures cause { HasCause (state self.old).faults (state self.new).faults result };
+
+    /// Hands on to the system, for good, all that was written. After `Failed` it may be lost. What was written stays.
+    fn finish(&mut self) -> Result<(), Failed>
+        ensures kept { (state self.new).written ≡ (state self.old).written }
+        ensures cause { HasCause (state self.old).faults (state self.new).faults result };
 }
 
 /// Writes all of the bytes, in as many calls of `put` as it takes. At the first `Failed` it stops and answers it:

@@ -1,53 +1,84 @@
 //! The files of the system.
-ghost use Rattle.std.specs.Prelude.{◌≡◌, ◌+◌, ◌^◌, ◌<◌, ◌≤◌, ℕ, List, length, take, true, Option, None, IsNone, is_some, IfOk, IfSome, OnOk, OnErr};
+ghost use Rattle.std.specs.Prelude.{◌≡◌, ◌+◌, ◌^◌, ◌<◌, ◌≤◌, ℕ, List, [], length, take, true, false, Option, None, IsNone, is_some, IfOk, IfSome, OnOk, OnErr};
 ghost use Rattle.std.specs.Io.KnownBytes.{ReadConsumes, WriteAppends};
 ghost use Rattle.vg_store.specs.Causes.{HasCause};
 ghost use Rattle.vg_store.specs.RealFiles.{state_of};
 ghost use Rattle.vg_store.specs.States.{KeepsReading, KeepsWriting};
-ghost use Rattle.vg_store.specs.Writing.{FileGains, FileGainsPrefix};
+ghost use Rattle.vg_store.specs.Writing.{DraftGains, DraftGainsPrefix};
 
 use crate::files::{Failed, Files};
+use crate::pieces::{read_piece, write_piece};
+use crate::places::{Draft, hand_on, open_draft, publish_draft, remove_draft, remove_drafts};
+use std::alloc::Global;
 use std::fs;
-use std::io::{Read, Write};
 
 /// The files of the system, by their paths. They tell no content and no name. Each error that the system gives is
-/// counted as a fault, and so is a write that takes nothing of a piece that is not empty.
+/// counted as a fault, and so is a write that takes nothing of a piece that is not empty. A call that a signal
+/// interrupts is made again.
+///
+/// A draft is a file beside the one that it replaces, named `.vginsert-N`. It is removed once it is dropped; only a run
+/// that is killed leaves it.
 pub struct RealFiles<'a, R: std::rt::Files> {
     rt: &'a R,
+    alloc: Global,
     reader: Option<R::File>,
     taken: u64,
     read_faults: u64,
     writer: Option<R::File>,
+    // The draft that is being written: none where a file is written in place.
+    draft: Option<Draft>,
+    waiting: Vec<Option<Draft>>,
     write_faults: u64,
 }
 
 impl<R: std::rt::Files> Drop for RealFiles<'_, R> {
     fn drop(self) {
         let RealFiles {
-            rt: _,
+            rt,
+            alloc: _,
             reader: _,
             taken: _,
             read_faults: _,
             writer: _,
+            draft,
+            waiting,
             write_faults: _,
         } = self;
+        remove_draft(rt, draft.as_ref());
+        remove_drafts(rt, &waiting);
     }
 }
 
 impl<'a, R: std::rt::Files> RealFiles<'a, R> {
     /// The files that this runtime reaches. None is open or created. It takes no memory.
-    pub fn new(rt: &'a R) -> RealFiles<'a, R>
+    pub fn new(rt: &'a R, alloc: Global) -> RealFiles<'a, R>
         ensures shut { IsNone result.reader × IsNone result.writer }
+        ensures none_waits { (state_of result).drafts ≡ [] }
         ensures faults { (result.read_faults ≡ 0) × (result.write_faults ≡ 0) }
     {
         RealFiles {
             rt,
+            alloc,
             reader: None,
             taken: 0,
             read_faults: 0,
             writer: None,
+            draft: None,
+            waiting: Vec::new(alloc),
             write_faults: 0,
         }
+    }
+
+    // Drops the draft that is being written, and removes its file.
+    fn drop_draft(&mut self)
+        ensures shut { is_some self.new.writer ≡ false }
+        ensures same_waiting { self.new.waiting.items ≡ self.old.waiting.items }
+        ensures same_faults { self.new.write_faults ≡ self.old.write_faults }
+        ensures reading { KeepsReading (state_of self.old) (state_of self.new) }
+    {
+        self.writer = None;
+        let draft = self.draft.take();
+        remove_draft(self.rt, draft.as_ref());
     }
 }
 
@@ -93,7 +124,7 @@ impl<R: std::rt::Files> Files for RealFiles<'_, R> {
         let Some(file) = &mut self.reader else {
             unreachable!();
         };
-        match file.read(buf) {
+        match read_piece(file, buf) {
             Ok(count) => {
                 self.taken += count as u64;
                 Ok(count)
@@ -105,17 +136,21 @@ impl<R: std::rt::Files> Files for RealFiles<'_, R> {
         }
     }
 
-    /// Creates the file of this path, or empties it. After `Failed` no file is being written.
+    /// Begins a draft beside the file of this path: a new file of the same folder, with the permissions of the file
+    /// that it replaces. Symbolic links are followed, and stay. What is no regular file, as a device or a pipe, is
+    /// opened and written in place. After `Failed` no draft is being written. It fails also where the file may not be
+    /// written, where its folder may not, where a draft that waits is of the same file, and when out of memory.
     fn create(&mut self, name: &str) -> Result<(), Failed> {
-        self.writer = None;
-        match fs::create(self.rt, name) {
-            Ok(file) => {
+        self.drop_draft();
+        match open_draft(self.rt, self.alloc, &self.waiting, name) {
+            Ok((file, draft)) => {
                 self.writer = Some(file);
+                self.draft = draft;
                 Ok(())
             }
-            Err(_) => {
+            Err(failed) => {
                 self.write_faults = self.write_faults.saturating_add(1);
-                Err(Failed)
+                Err(failed)
             }
         }
     }
@@ -130,8 +165,8 @@ impl<R: std::rt::Files> Files for RealFiles<'_, R> {
 
         // Neither bytes nor names are told, so these clauses of the trait claim nothing.
         ensures gained { IfOk result (λ count.
-            FileGains (state_of self.old) (state_of self.new) (take count bytes.now)) }
-        ensures prefix { OnErr result (FileGainsPrefix (state_of self.old) (state_of self.new) bytes.now) }
+            DraftGains (state_of self.old) (state_of self.new) (take count bytes.now)) }
+        ensures prefix { OnErr result (DraftGainsPrefix (state_of self.old) (state_of self.new) bytes.now) }
         ensures blamed { OnErr result (Unit {0}) }
         ensures same_blame { OnOk result (◌≡◌ {A = Option (List ℕ)} None None) }
 
@@ -145,7 +180,7 @@ impl<R: std::rt::Files> Files for RealFiles<'_, R> {
         let Some(file) = &mut self.writer else {
             unreachable!();
         };
-        match file.write(bytes) {
+        match write_piece(file, bytes) {
             Ok(count) if 0 < count => Ok(count),
             _ => {
                 self.write_faults = self.write_faults.saturating_add(1);
@@ -154,17 +189,44 @@ impl<R: std::rt::Files> Files for RealFiles<'_, R> {
         }
     }
 
-    /// Hands on what was written, and closes the file.
+    /// Hands on to the system what was written, for good, and closes the file. After `Failed` the draft's file is
+    /// removed.
     fn finish(&mut self) -> Result<(), Failed> {
-        let Some(mut file) = self.writer.take() else {
+        let Some(file) = self.writer.take() else {
             unreachable!();
         };
-        match file.flush() {
-            Ok(()) => Ok(()),
-            Err(_) => {
-                self.write_faults = self.write_faults.saturating_add(1);
-                Err(Failed)
-            }
+        let draft = self.draft.take();
+        if hand_on(file).is_err() {
+            remove_draft(self.rt, draft.as_ref());
+            self.write_faults = self.write_faults.saturating_add(1);
+            return Err(Failed);
         }
+        if let Err(failed) = self.waiting.push(draft) {
+            remove_draft(self.rt, failed.value.as_ref());
+            self.write_faults = self.write_faults.saturating_add(1);
+            return Err(Failed);
+        }
+        Ok(())
+    }
+
+    /// Renames the oldest draft to the name of its file, which it replaces at once. After `Failed` the files of all
+    /// drafts are removed.
+    fn publish(&mut self) -> Result<(), Failed> {
+        let draft = self.waiting.remove(0);
+        if publish_draft(self.rt, draft.as_ref()).is_err() {
+            remove_draft(self.rt, draft.as_ref());
+            remove_drafts(self.rt, &self.waiting);
+            self.waiting.clear();
+            self.write_faults = self.write_faults.saturating_add(1);
+            return Err(Failed);
+        }
+        Ok(())
+    }
+
+    /// Removes the files of all drafts.
+    fn discard(&mut self) {
+        self.drop_draft();
+        remove_drafts(self.rt, &self.waiting);
+        self.waiting.clear();
     }
 }

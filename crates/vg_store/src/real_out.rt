@@ -1,11 +1,12 @@
 //! An output of the system.
-ghost use Rattle.std.specs.Prelude.{◌≡◌, ◌<◌, ◌≤◌, length, take, None, IfOk, OnErr, ℕ};
-ghost use Rattle.std.specs.Io.KnownBytes.{WriteAppends};
+ghost use Rattle.std.specs.Prelude.{◌≡◌, ℕ, ◌<◌, ◌≤◌, List, length, take, Option, None, IfOk, OnErr};
+ghost use Rattle.std.specs.Io.KnownBytes.{Keeps, WriteAppends};
 ghost use Rattle.vg_store.specs.Causes.{HasCause};
 ghost use Rattle.vg_store.specs.Writing.{Gains, GainsPrefix};
 
 use crate::files::Failed;
 use crate::output::Out;
+use crate::pieces::write_piece;
 use std::io::Write;
 
 /// An output over a writer of std, as a file. It does not tell what was written. Each error of the writer is counted
@@ -29,7 +30,7 @@ impl<W: Write + Drop> RealOut<W> {
 impl<W: Write + Drop> Out for RealOut<W> {
     ghost state = { λ out. record { written = None; faults = out.faults } };
 
-    /// One write of a piece that is not empty.
+    /// One write of a piece that is not empty. One that a signal interrupts is made again.
     fn put(&mut self, bytes: &[u8]) -> Result<usize, Failed>
         ensures bound { IfOk result (λ count. (count ≤ length bytes.now) × (0 < length bytes.now → 0 < count)) }
         // What was written is not told, so the trait's clauses on it claim nothing.
@@ -43,9 +44,26 @@ impl<W: Write + Drop> Out for RealOut<W> {
         if bytes.is_empty() {
             return Ok(0);
         }
-        match self.to.write(bytes) {
+        match write_piece(&mut self.to, bytes) {
             Ok(count) if 0 < count => Ok(count),
             _ => {
+                self.faults = self.faults.saturating_add(1);
+                Err(Failed)
+            }
+        }
+    }
+
+    /// Flushes the writer.
+    fn finish(&mut self) -> Result<(), Failed>
+        ensures kept { ◌≡◌ {A = Option (List ℕ)} None None }
+        ensures cause { HasCause self.old.faults self.new.faults result }
+
+        // What the writer is known to hold stays.
+        ensures reached { Keeps (W.contents self.old.to) (W.contents self.new.to) }
+    {
+        match self.to.flush() {
+            Ok(()) => Ok(()),
+            Err(_) => {
                 self.faults = self.faults.saturating_add(1);
                 Err(Failed)
             }

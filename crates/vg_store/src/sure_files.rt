@@ -1,19 +1,26 @@
 //! Files that never fail.
-ghost use Rattle.std.specs.Prelude.{◌≡◌, ◌≢◌, ℕ, ◌+◌, ◌^◌, ◌<◌, ◌≤◌, min, List, length, take, Bool, true, false, Option, Some, None, IfOk, IfSome, IsOk, OnOk, OnErr};
+ghost use Rattle.std.specs.Prelude.{◌≡◌, ◌≢◌, ◌↔◌, ℕ, ◌+◌, ◌^◌, ◌<◌, ◌≤◌, min, List, length, take, [], ◌∷◌, ◌++◌, Bool, true, false, Option, Some, None, IfOk, IfSome, IsOk, OnOk, OnErr};
+ghost use Rattle.std.specs.List.{All};
+ghost use Rattle.arrayvec.specs.ArrayVec.{array_vec_len};
 ghost use Rattle.indexmap.specs.IndexMap.{index_map_len};
 ghost use Rattle.vg_store.specs.Causes.{HasCause};
 ghost use Rattle.vg_store.specs.Reading.{Begins, IsNextPiece, read_file};
-ghost use Rattle.vg_store.specs.States.{KeepsReading, KeepsWriting};
-ghost use Rattle.vg_store.specs.Writing.{BeginsWriting, FileGains, FileGainsPrefix, StaysOrEmpty};
+ghost use Rattle.vg_store.specs.States.{Draft, KeepsReading, KeepsWriting, first_name, this_draft};
+ghost use Rattle.vg_store.specs.Writing.{BeginsWriting, DraftGains, DraftGainsPrefix, Publishes};
 
-use crate::contents::{Told, forget};
+use crate::contents::{Told, replace_at};
 use crate::files::{Failed, Files};
+use arrayvec::ArrayVec;
 use indexmap::IndexMap;
 use std::alloc::Global;
 use vg_num::Memory;
 
-/// Files to read, in memory, whose calls never fail: the counts of faults are 0 for ever. What is written is dropped,
-/// and a file that was added is told no longer once it is created. Each file that is not told reads as an empty one.
+/// How many drafts can wait.
+const MOST_DRAFTS: usize = 8;
+
+/// Files to read, in memory, whose calls never fail, but for `create` where `MOST_DRAFTS` drafts wait. What is written
+/// is dropped, and a file that was added is told no longer once a draft of it is published. Each file that is not told
+/// reads as an empty one.
 ///
 /// No call of `Files` takes memory.
 #[derive(Drop)]
@@ -23,8 +30,14 @@ pub struct SureFiles {
     source: Option<usize>,
     place: usize,
     reading: bool,
+    target: Option<usize>,
     writing: bool,
+    waiting: ArrayVec<Option<usize>, MOST_DRAFTS>,
+    write_faults: u64,
     ghost source_stands: { (n : ℕ) → source ≡ Some n → n < index_map_len files },
+    ghost target_stands: { (n : ℕ) → target ≡ Some n → n < index_map_len files },
+    ghost waiting_stand: { All (λ w. (n : ℕ) → w ≡ Some n → n < index_map_len files) waiting.items },
+    ghost has_room: { writing ≡ true → array_vec_len waiting < 8 },
 }
 
 impl SureFiles {
@@ -34,6 +47,8 @@ impl SureFiles {
     pub fn new(alloc: Global) -> SureFiles
         ensures empty { (name : List ℕ) → told_in result name ≡ None }
         ensures shut { ((state_of result).reading ≡ false) × ((state_of result).writing ≡ false) }
+        ensures none_waits { (state_of result).drafts ≡ [] }
+        ensures faults { (state_of result).write_faults ≡ 0 }
     {
         SureFiles {
             alloc,
@@ -41,7 +56,10 @@ impl SureFiles {
             source: None,
             place: 0,
             reading: false,
+            target: None,
             writing: false,
+            waiting: ArrayVec::new(),
+            write_faults: 0,
         }
     }
 
@@ -133,22 +151,26 @@ impl Files for SureFiles {
         Ok(count)
     }
 
-    /// Begins to write a file. One of that name is told no longer.
+    /// Begins a draft. It fails exactly where `MOST_DRAFTS` drafts wait.
     fn create(&mut self, name: &str) -> Result<(), Failed>
         ensures begun { OnOk result (BeginsWriting name.now (state_of self.new)) }
         ensures shut { OnErr result ((state_of self.new).writing ≡ false) }
-        ensures stays { OnErr result (StaysOrEmpty (told_in self.old name.now) (told_in self.new name.now)) }
-        ensures others { (other : List ℕ) → other ≢ name.now
-            → told_in self.new other ≡ told_in self.old other }
+        ensures kept { (file : List ℕ) → told_in self.new file ≡ told_in self.old file }
+        ensures same_drafts { (state_of self.new).drafts ≡ (state_of self.old).drafts }
         ensures cause { HasCause (state_of self.old).write_faults (state_of self.new).write_faults result }
         ensures blamed { OnErr result (IfSome (state_of self.new).write_blame (λ blamed. blamed ≡ name.now)) }
         ensures same_blame { OnOk result ((state_of self.new).write_blame ≡ (state_of self.old).write_blame) }
         ensures reading { KeepsReading (state_of self.old) (state_of self.new) }
 
-        ensures sure { IsOk result }
-        ensures untold { told_in self.new name.now ≡ None }
+        ensures sure { IsOk result ↔ (length (state_of self.old).drafts < 8) }
+        ensures same_faults { OnOk result ((state_of self.new).write_faults ≡ (state_of self.old).write_faults) }
     {
-        forget(&mut self.files, name);
+        self.writing = false;
+        if self.waiting.is_full() {
+            self.write_faults = self.write_faults.saturating_add(1);
+            return Err(Failed);
+        }
+        self.target = self.files.get_index_of(name);
         self.writing = true;
         Ok(())
     }
@@ -158,8 +180,8 @@ impl Files for SureFiles {
         requires is_created { (state_of self.old).writing ≡ true }
         ensures bound { IfOk result (λ count. (count ≤ length bytes.now) × (0 < length bytes.now → 0 < count)) }
         ensures gained { IfOk result (λ count.
-            FileGains (state_of self.old) (state_of self.new) (take count bytes.now)) }
-        ensures prefix { OnErr result (FileGainsPrefix (state_of self.old) (state_of self.new) bytes.now) }
+            DraftGains (state_of self.old) (state_of self.new) (take count bytes.now)) }
+        ensures prefix { OnErr result (DraftGainsPrefix (state_of self.old) (state_of self.new) bytes.now) }
         ensures still_writing { (state_of self.new).writing ≡ true }
         ensures same_target { (state_of self.new).target ≡ (state_of self.old).target }
         ensures cause { HasCause (state_of self.old).write_faults (state_of self.new).write_faults result }
@@ -170,16 +192,18 @@ impl Files for SureFiles {
 
         ensures sure { IsOk result }
         ensures whole { IfOk result (λ count. count ≡ length bytes.now) }
-        ensures kept { (file : List ℕ) → told_in self.new file ≡ told_in self.old file }
+        ensures same_faults { (state_of self.new).write_faults ≡ (state_of self.old).write_faults }
     {
         Ok(bytes.len())
     }
 
-    /// Ends the writing.
+    /// Ends the writing of the draft.
     fn finish(&mut self) -> Result<(), Failed>
         requires is_created { (state_of self.old).writing ≡ true }
         ensures ended { (state_of self.new).writing ≡ false }
-        ensures same_target { (state_of self.new).target ≡ (state_of self.old).target }
+        ensures drafted { OnOk result
+            ((state_of self.new).drafts ≡ (state_of self.old).drafts ++ this_draft (state_of self.old) ∷ []) }
+        ensures dropped { OnErr result ((state_of self.new).drafts ≡ (state_of self.old).drafts) }
         ensures kept { (file : List ℕ) → told_in self.new file ≡ told_in self.old file }
         ensures cause { HasCause (state_of self.old).write_faults (state_of self.new).write_faults result }
         ensures blamed { OnErr result
@@ -188,8 +212,47 @@ impl Files for SureFiles {
         ensures reading { KeepsReading (state_of self.old) (state_of self.new) }
 
         ensures sure { IsOk result }
+        ensures same_faults { (state_of self.new).write_faults ≡ (state_of self.old).write_faults }
     {
         self.writing = false;
+        self.waiting.push(self.target);
         Ok(())
+    }
+
+    /// Publishes the oldest draft: the file of its name is told no longer.
+    fn publish(&mut self) -> Result<(), Failed>
+        requires is_shut { (state_of self.old).writing ≡ false }
+        requires one_waits { 0 < length (state_of self.old).drafts }
+        ensures still_shut { (state_of self.new).writing ≡ false }
+        ensures published { OnOk result ((draft : Draft) × Publishes (state_of self.old) (state_of self.new) draft) }
+        ensures kept { OnErr result ((file : List ℕ) → told_in self.new file ≡ told_in self.old file) }
+        ensures none_left { OnErr result ((state_of self.new).drafts ≡ []) }
+        ensures cause { HasCause (state_of self.old).write_faults (state_of self.new).write_faults result }
+        ensures blamed { OnErr result
+            (IfSome (state_of self.new).write_blame (λ blamed. first_name (state_of self.old).drafts ≡ Some blamed)) }
+        ensures same_blame { OnOk result ((state_of self.new).write_blame ≡ (state_of self.old).write_blame) }
+        ensures reading { KeepsReading (state_of self.old) (state_of self.new) }
+
+        ensures sure { IsOk result }
+        ensures same_faults { (state_of self.new).write_faults ≡ (state_of self.old).write_faults }
+    {
+        let first = self.waiting.remove(0);
+        if let Some(number) = first {
+            replace_at(&mut self.files, number, None);
+        }
+        Ok(())
+    }
+
+    /// Drops all drafts.
+    fn discard(&mut self)
+        ensures shut { (state_of self.new).writing ≡ false }
+        ensures none_left { (state_of self.new).drafts ≡ [] }
+        ensures kept { (file : List ℕ) → told_in self.new file ≡ told_in self.old file }
+        ensures same_faults { (state_of self.new).write_faults ≡ (state_of self.old).write_faults }
+        ensures same_blame { (state_of self.new).write_blame ≡ (state_of self.old).write_blame }
+        ensures reading { KeepsReading (state_of self.old) (state_of self.new) }
+    {
+        self.writing = false;
+        self.waiting.clear();
     }
 }

@@ -1,6 +1,9 @@
 //! The program: the top call over the real files and streams.
 #![tactic(auto)]
 
+mod streams;
+
+use crate::streams::{Synced, hold_streams};
 use std::alloc::AllocError;
 use std::env;
 use std::io::ErrorKind;
@@ -8,8 +11,8 @@ use std::process::ExitCode;
 use vg_store::{Out, RealFiles, RealOut, put_all};
 use vginsert_top::run;
 
-/// The status where the system does not give the words.
-const NO_WORDS: u8 = 9;
+/// The status where the system gives no words, or no standard streams.
+const NO_SYSTEM: u8 = 9;
 
 /// The status when out of memory.
 const NO_MEMORY: u8 = 7;
@@ -31,16 +34,25 @@ fn out_of_memory<E: Out>(err: &mut E) -> ExitCode {
     ExitCode::from(NO_MEMORY)
 }
 
+/// Tells that the words are no text.
+fn not_a_text<E: Out>(err: &mut E) -> ExitCode {
+    let _ = put_all(err, b"vginsert: a word is not UTF-8\n");
+    ExitCode::from(NO_SYSTEM)
+}
+
 fn main(rt: HostRuntime) -> ExitCode {
+    let Ok(_held) = hold_streams(&rt) else {
+        return ExitCode::from(NO_SYSTEM);
+    };
     let mut err = RealOut::new(rt.stderr());
     let args = match env::args(&rt) {
         Ok(args) => args,
         Err(error) if error.kind() == ErrorKind::OutOfMemory => return out_of_memory(&mut err),
-        Err(_) => return ExitCode::from(NO_WORDS),
+        Err(_) => return not_a_text(&mut err),
     };
     let _ = warm_up(&rt);
-    let mut files = RealFiles::new(&rt);
-    let mut out = RealOut::new(rt.stdout());
+    let mut files = RealFiles::new(&rt, rt.alloc());
+    let mut out = RealOut::new(Synced::new(&rt, rt.stdout()));
     // The first word is the program's own name.
     let words: Result<Vec<String>, AllocError> = args.skip(1).collect(rt.alloc());
     let Ok(words) = words else {

@@ -19,7 +19,7 @@ piece-preserved g c =
         done ++ more,
         moved_on done more c.piece.waiting.items c.in-Some.piece.now c.append_gathered.new.waiting.items (concat c.next.new.self) waits
             ∙ ap (λ (rest : List ℕ). done ++ (c.piece.waiting.items ++ rest)) (sym (ap concat c.in-Some.ensures.steps)) ∙ all,
-        gains_both old mid new done more before.same_target gained gains,
+        gains_both old mid new done more gained gains,
       );
       later = omega (arith, before.later, after.never_falls);
       still_writing = after.still_writing;
@@ -37,7 +37,6 @@ returns-in_err-append_gathered-clause-prefix g c =
     let left = concat c.next.new.self in
     rw p.1
     (gains_front (g.F.Files.state c.args.files.now) (g.F.Files.state c.piece.files) (g.F.Files.state c.append_gathered.new.files) done (waiting ++ piece) left c.args.text.now
-    c.piece.invariant.same_target
     (ap (λ (rest : List ℕ). done ++ rest) (append_assoc waiting piece left) ∙ ap (λ (rest : List ℕ). done ++ (waiting ++ rest)) (sym (ap concat c.in-Some.ensures.steps)) ∙ all
     ∙ ap concat c.into_iter-piece-iterator.ensures.into_iter_gives ∙ c.pieces-piece-items.ensures)
     gained c.in_err-append_gathered.ensures.prefix)
@@ -48,7 +47,6 @@ returns-in_err-append-clause-prefix g c =
     let (done, all, gained) = c.piece.invariant.gained in
     rw p.1
     (gains_front (g.F.Files.state c.args.files.now) (g.F.Files.state c.piece.files) (g.F.Files.state c.append.new.files) done c.as_slice-last.result.now [] c.args.text.now
-    c.piece.invariant.same_target
     (ap (λ (last : List ℕ). done ++ (last ++ [])) c.as_slice-last.ensures.value ∙ ap (λ (rest : List ℕ). done ++ (c.piece.waiting.items ++ rest)) (sym (ap concat c.in-None.ensures.steps.0)) ∙ all
     ∙ ap concat c.into_iter-piece-iterator.ensures.into_iter_gives ∙ c.pieces-piece-items.ensures)
     gained c.in_err-append.ensures.prefix)

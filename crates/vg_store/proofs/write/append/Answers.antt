@@ -8,7 +8,7 @@ pub returns-in_err-done-clause-prefix : goal.returns-in_err-done-clause-prefix
 returns-in_err-done-clause-prefix g c =
     let p = err_from_is_err_and c.from_residual.result c.from_residual.ensures.1 in
     rw p.1 (gains_then_prefix (g.F.Files.state c.args.files.now) (g.F.Files.state c.pieces.files) (g.F.Files.state c.put.new.self) c.pieces.done c.args.bytes.now c.pieces.invariant.within
-    c.pieces.invariant.same_target c.pieces.invariant.gained c.in_err-done.ensures.prefix)
+    c.pieces.invariant.gained c.in_err-done.ensures.prefix)
 
 pub pieces-preserved : goal.pieces-preserved
 pieces-preserved g c =
@@ -17,7 +17,7 @@ pieces-preserved g c =
     record {
       within = omega (arith, c.in_ok-done.ensures.bound.0);
       gained = gains_next (g.F.Files.state c.args.files.now) (g.F.Files.state c.pieces.files) (g.F.Files.state c.put.new.self) c.pieces.done c.in_ok-done.field-0 c.args.bytes.now
-          c.pieces.invariant.same_target c.pieces.invariant.gained c.in_ok-done.ensures.gained;
+          c.pieces.invariant.gained c.in_ok-done.ensures.gained;
       later = omega (arith, c.in_ok-done.ensures.cause.later);
       still_writing = c.in_ok-done.ensures.still_writing;
       same_target = c.in_ok-done.ensures.same_target ∙ c.pieces.invariant.same_target;

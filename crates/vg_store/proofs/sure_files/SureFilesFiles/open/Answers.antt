@@ -1,7 +1,7 @@
 use Rattle.std.proofs.Common.{refl}
 use Rattle.vg_store.specs.SureFiles.{told_in}
 use Rattle.vg_store.proofs.NumberLemmas.{name_if}
-use Rattle.vg_store.proofs.SureLemmas.{named_there, told_there}
+use Rattle.vg_store.proofs.ToldLemmas.{named_there, told_there}
 use Rattle.vg_store.proofs.sure_files.SureFilesFiles.open.Goals as goal
 
 pub returns-clause-named : goal.returns-clause-named
