@@ -24,7 +24,7 @@ use vg_design::Design;
 use vg_num::Memory;
 use vg_patch::take_comments;
 use vg_place::{Judged, Judging};
-use vg_scan::{Comments, Name};
+use vg_scan::Comments;
 use vg_slack::Room;
 
 /// What is said in mode `best`, what is replaced in the texts of the design, and the certificate, where there is one.
@@ -85,7 +85,7 @@ fn judge(
                 cert: all.cert,
             })
         }
-        Err(taken) => Err(NoAnswer::Taken(Name::from_bytes(alloc, taken)?)),
+        Err(taken) => Err(NoAnswer::Taken(taken.to_name(alloc)?)),
     }
 }
 

@@ -24,7 +24,7 @@ use vg_design::Design;
 use vg_num::Memory;
 use vg_patch::take_comments;
 use vg_place::{Judged, Judging};
-use vg_scan::{Comments, Name};
+use vg_scan::Comments;
 
 /// The repairs of the nets of a design that are asked for, where nothing has changed yet.
 fn repair_nets<'a>(
@@ -67,7 +67,7 @@ fn repair(
             totals.print(&mut judged.text)?;
             Ok(judged)
         }
-        Err(taken) => Err(NoAnswer::Taken(Name::from_bytes(alloc, taken)?)),
+        Err(taken) => Err(NoAnswer::Taken(taken.to_name(alloc)?)),
     }
 }
 

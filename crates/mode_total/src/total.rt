@@ -22,7 +22,7 @@ use vg_design::Design;
 use vg_num::Memory;
 use vg_patch::take_comments;
 use vg_place::{Judged, patches_of};
-use vg_scan::{Comments, Name};
+use vg_scan::Comments;
 
 /// What is to be replaced in the texts of a design, so that the nets have the cells of the last point.
 fn put_last(
@@ -68,7 +68,7 @@ fn judge(
                 patches,
             })
         }
-        Err(taken) => Err(NoAnswer::Taken(Name::from_bytes(alloc, taken)?)),
+        Err(taken) => Err(NoAnswer::Taken(taken.to_name(alloc)?)),
     }
 }
 

@@ -3,7 +3,7 @@
 use std::alloc::Global;
 use std::test::Fail;
 use ver_file::read_module;
-use ver_module::{Instance, LinkRef, Module, Net, PortDir};
+use ver_module::{Instance, LinkRef, Module, Net, PortDir, Range, Runs};
 
 /// The module of a text.
 fn module_of(alloc: Global, text: &str) -> Result<Module, Fail> {
@@ -46,7 +46,7 @@ static WIRES: [Wire; 8] = [
 
 fn is_wire(net: &Net<'_>, wire: &Wire) -> bool {
     let (name, base, bit, escaped, port, supply) = *wire;
-    net.name == name.as_bytes()
+    net.is_named(name.as_bytes())
         && net.base == base.as_bytes()
         && net.bit == bit
         && net.escaped == escaped
@@ -61,6 +61,31 @@ fn has_net(module: &Module, id: u32, wire: &Wire) -> bool {
         && module.find_net(wire.0.as_bytes()) == Some(id)
 }
 
+/// These nets without the first of them, which are to be those of a run.
+fn behind(run: Range, nets: &[u32]) -> Option<&[u32]> {
+    let mut left = nets;
+    'net: for at in 0..run.count() {
+        let (first, rest) = left.split_first()?;
+        if run.bit(at) != *first {
+            return None;
+        }
+        left = rest;
+    }
+    Some(left)
+}
+
+/// Whether runs have exactly these nets, in order.
+fn have_nets(runs: &Runs, nets: &[u32]) -> bool {
+    let mut left = nets;
+    'run: for run in runs.as_slice() {
+        let Some(rest) = behind(*run, left) else {
+            return false;
+        };
+        left = rest;
+    }
+    left.is_empty()
+}
+
 #[test]
 fn nets(rt: HostRuntime) -> Result<(), Fail> {
     let module = module_of(rt.alloc(), MODULE)?;
@@ -70,7 +95,7 @@ fn nets(rt: HostRuntime) -> Result<(), Fail> {
         assert!(rt; has_net(&module, id as u32, wire), "{}", wire.0);
     }
     assert!(rt; module.find_net(b"a") == None);
-    assert!(rt; module.assigned() == [5, 2, 3, 7, 6].as_slice());
+    assert!(rt; have_nets(module.assigned(), &[5, 2, 3, 7, 6]));
     Ok(())
 }
 
@@ -88,7 +113,7 @@ fn is_link(link: LinkRef<'_>, connection: &str, one: Option<u32>, nets: &[u32]) 
     match link {
         LinkRef::Open => connection.is_empty(),
         LinkRef::One(net) => one == Some(net),
-        LinkRef::Many(many) => one.is_none() && many == nets,
+        LinkRef::Many(many) => one.is_none() && have_nets(many, nets),
     }
 }
 

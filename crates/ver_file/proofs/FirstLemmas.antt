@@ -1,5 +1,5 @@
 -- The first places of flaws, one part of a text after another.
-use Rattle.std.proofs.Common.{Bool, true, false, not, ◌≡◌, ℕ, suc, ◌+◌, ◌<◌, ◌≤◌, List, [], ◌∷◌, ◌++◌, length, map, filter, flat_map, drop, fold, get_or, Option, Some, refl, sym, ap, ◌∙◌, arith, append_assoc}
+use Rattle.std.proofs.Common.{true, not, ◌≡◌, ℕ, suc, ◌+◌, ◌<◌, ◌≤◌, List, [], ◌∷◌, ◌++◌, length, map, filter, flat_map, drop, fold, get_or, Option, Some, refl, sym, ap, ◌∙◌, arith, append_assoc}
 use Rattle.std.proofs.lemmas.List.{append-nil, drop_all, map-append}
 use Rattle.std.proofs.lemmas.List.Elements.{filter-append}
 use Rattle.std.proofs.Math.Seq.{drop-cons}
@@ -14,7 +14,7 @@ use Rattle.ver_syntax.specs.declared.row.Place.TheVariants.{Ports}
 use Rattle.ver_items.specs.Sections.{Section, instances_in, is_name_in, is_net_name, name_at}
 use Rattle.ver_items.specs.SectionSteps.{section_in}
 use Rattle.ver_file.proofs.SectionInLemmas.{declared_item}
-use Rattle.ver_file.specs.Tables.{names_of, with_net}
+use Rattle.ver_file.specs.Tables.{names_of}
 use Rattle.std.specs.List.{list_any}
 use Rattle.std.specs.Str.{bytes_eq}
 use Rattle.ver_file.proofs.FlawLemmas.{first_append, next_repeated, none_repeated}
@@ -119,39 +119,9 @@ next_names text first names xs ys =
 
 -- ---- nets
 
-pub names_with : (nets : List Net) (net : Net) → names_of (with_net nets net) ≡ with_name (names_of nets) net.name
-names_with nets net = by_test (list_any (bytes_eq net.name) (names_of nets)) refl
-  where
-    by_test : (b : Bool) → list_any (bytes_eq net.name) (names_of nets) ≡ b → names_of (with_net nets net) ≡ with_name (names_of nets) net.name
-    by_test true t = rw t refl
-    by_test false t = rw t (map-append (λ n. n.name) nets (net ∷ []))
-
-pub names_fold : (nets more : List Net) → names_of (fold with_net nets more) ≡ fold with_name (names_of nets) (names_of more)
-names_fold nets [] = refl
-names_fold nets (n ∷ ns) = names_fold (with_net nets n) ns ∙ ap (λ names. fold with_name names (names_of ns)) (names_with nets n)
-
--- one net more
-pub next_net : (place : ℕ) (first : Option ℕ) (nets : List Net) (n : Net) (ns : List Net)
-    → first_of first (repeated (names_of nets) (map (given place) (n ∷ ns)))
-    ≡ first_of (first_of first (repeated (names_of nets) (map (given place) (n ∷ [])))) (repeated (names_of (with_net nets n)) (map (given place) ns))
-next_net place first nets n ns =
-    ap (first_of first) (repeated-append (names_of nets) (given place n ∷ []) (map (given place) ns))
-    ∙ first_append first (repeated (names_of nets) (given place n ∷ [])) (repeated (with_name (names_of nets) n.name) (map (given place) ns))
-    ∙ ap (λ names. first_of (first_of first (repeated (names_of nets) (given place n ∷ []))) (repeated names (map (given place) ns))) (sym (names_with nets n))
-
 pub given_names : (place : ℕ) (ns : List Net) → map (λ n. n.name) (map (given place) ns) ≡ names_of ns
 given_names place [] = refl
 given_names place (n ∷ ns) = ap (λ xs. n.name ∷ xs) (given_names place ns)
-
--- the nets of one identifier more
-pub next_nets : (place : ℕ) (first : Option ℕ) (nets xs : List Net) (ys : List Named)
-    → first_of first (repeated (names_of nets) (map (given place) xs ++ ys))
-    ≡ first_of (first_of first (repeated (names_of nets) (map (given place) xs))) (repeated (names_of (fold with_net nets xs)) ys)
-next_nets place first nets xs ys =
-    ap (first_of first) (repeated-append (names_of nets) (map (given place) xs) ys)
-    ∙ first_append first (repeated (names_of nets) (map (given place) xs)) (repeated (fold with_name (names_of nets) (map (λ n. n.name) (map (given place) xs))) ys)
-    ∙ ap (λ names. first_of (first_of first (repeated (names_of nets) (map (given place) xs))) (repeated names ys))
-    (ap (fold with_name (names_of nets)) (given_names place xs) ∙ sym (names_fold nets xs))
 
 -- ---- steps of loops
 
@@ -188,9 +158,6 @@ next_bit f bits i b l e =
 
 pub no_bit : {X : Type 0} (f : Option ℕ → X) (bits : List ℕ) (i : ℕ) → length bits ≤ i → map f (map Some (drop i bits)) ≡ []
 no_bit f bits i l = ap (λ bs. map f (map Some bs)) (drop_all i bits l)
-
-pub none_given : (names : List (List ℕ)) (first : Option ℕ) (ns : List Named) → ns ≡ [] → first_of first (repeated names ns) ≡ first
-none_given names first ns e = ap (λ ms. first_of first (repeated names ms)) e ∙ ap (first_of first) (none_repeated names)
 
 -- one identifier's nets more
 pub next_token : {X : Type 0} (f : Row → List X) (tokens its : List Row) (i : ℕ) (d : Row) → i < length tokens → tokens ≡ its

@@ -17,7 +17,7 @@ use Rattle.ver_syntax.specs.Syntax.{line_at}
 use Rattle.ver_syntax.proofs.LawLemmas.{faults_once, modules_are_faultless}
 use Rattle.ver_module.specs.Netlists.{AreWithin, IsNamed, Netlist}
 use Rattle.ver_module.proofs.NameLemmas.{is_there}
-use Rattle.ver_items.specs.Bits.{bits_of}
+use Rattle.ver_module.specs.Ranges.{bits_of}
 use Rattle.ver_items.specs.Declarations.{declared_of, range_in}
 use Rattle.ver_items.specs.Sections.{name_at}
 use Rattle.ver_file.specs.declared.first.Flaw.{Flaw}

@@ -16,3 +16,5 @@ pub mod LinkLemmas
 pub mod LawLemmas
 pub mod OtherLemmas
 pub mod PinLemmas
+pub mod RunLemmas
+pub mod ClashLemmas

@@ -13,10 +13,11 @@ use Rattle.ver_syntax.specs.declared.row.Place.TheVariants.{Assignment, Connecti
 use Rattle.ver_syntax.specs.declared.fault.VerKind.TheVariants.{Grammar, NameClash, InstanceTwice}
 use Rattle.ver_module.specs.declared.link.Link.TheVariants.{One, Many}
 use Rattle.ver_module.specs.Netlists.{Instance, IsWithin, AreWithin, Net, Pin, net_name}
-use Rattle.ver_items.specs.declared.bits.Range.{Range}
+use Rattle.ver_module.specs.declared.range.Range.{Range}
 use Rattle.ver_items.specs.declared.bits.Select.{Select}
 use Rattle.ver_items.specs.declared.bits.Select.TheVariants.{Whole, Bit, Part}
-use Rattle.ver_items.specs.Bits.{bits_from, bits_of, fits, is_single, is_within, select_before, selected}
+use Rattle.ver_module.specs.Ranges.{bits_from, bits_of, is_within}
+use Rattle.ver_items.specs.Bits.{fits, is_single, select_before, selected}
 use Rattle.ver_items.specs.Declarations.{declared_by, declared_of, range_in}
 use Rattle.ver_file.specs.Flaws.{assignment_flaws, clashes, connection_flaws, direction_flaws, flaws_at, flaws_of, grammar_flaws, instance_flaws, link_flaws, pin_flaws, port_flaws, ports_in, select_flaws, syntax_flaws}
 use Rattle.ver_items.specs.Connections.{connection_of, expression_of}
@@ -25,7 +26,7 @@ use Rattle.ver_file.specs.Nets.{net, net_names, nets_at, nets_of, tokens_of_nets
 use Rattle.ver_file.specs.Said.{identifiers_of}
 use Rattle.ver_items.specs.Sections.{Section, instances_in, is_identifier, is_name_in, is_net_name, is_net_place, is_place, items, name_at, pins_in, section_before, sections, stands_in}
 use Rattle.ver_file.specs.Tables.{names_of}
-use Rattle.ver_items.proofs.BitLemmas.{falling, falling_bit, rising, rising_bit}
+use Rattle.ver_module.proofs.RangeLemmas.{falling, falling_bit, rising, rising_bit}
 use Rattle.ver_file.proofs.KnownLemmas.{Each, IsKnown, each_item, each_section, known_rows}
 use Rattle.ver_file.proofs.ListLemmas.{All-flat_map, All-take_while, bytes_are, bytes_same, flat_map-flat_map, passes_while}
 use Rattle.ver_file.proofs.NetLemmas.{no_left, no_mapped, no_right, passes}
@@ -78,7 +79,7 @@ within_yes : (range : Range) (k : ℕ) → min range.left range.right ≤ k → 
 within_yes range k low high = rw (le_yes (min range.left range.right) k low) (le_yes k (max range.left range.right) high)
 
 -- the bits of a part that lies in a range lie in it
-all_within : (range part : Range) → is_within range part.left ≡ true → is_within range part.right ≡ true → All (λ k. is_within range k ≡ true) (bits_from part)
+pub all_within : (range part : Range) → is_within range part.left ≡ true → is_within range part.right ≡ true → All (λ k. is_within range k ≡ true) (bits_from part)
 all_within range part a b = All-from_get_or (λ k. is_within range k ≡ true) (bits_from part) 0 (by_test (nat_le part.left part.right) refl)
   where
     low-left : min range.left range.right ≤ part.left

@@ -1,19 +1,21 @@
--- The nets of a text without a flaw.
-use Rattle.std.proofs.Common.{◌≡◌, ℕ, Bool, true, false, not, List, [], ◌∷◌, ◌++◌, map, flat_map, fold, Option, Some, None, refl, sym, ap, ◌∙◌, append_assoc}
-use Rattle.std.specs.List.{list_any}
-use Rattle.std.specs.Str.{bytes_eq}
-use Rattle.std.proofs.lemmas.List.{append-nil, map-append}
-use Rattle.name_tables.specs.Distinct.{with_name}
+-- The nets of a text.
+use Rattle.std.proofs.Common.{◌≡◌, ℕ, suc, ◌+◌, ◌<◌, ◌≤◌, Bool, true, false, not, List, [], ◌∷◌, ◌++◌, length, map, flat_map, take, Option, Some, None, refl, sym, ap, ◌∙◌, arith, append_assoc}
+use Rattle.std.specs.Prelude.{slice_get}
+use Rattle.std.proofs.Math.Seq.{take-suc}
+use Rattle.std.proofs.lemmas.Grind.{flat_map-append}
+use Rattle.std.proofs.lemmas.List.{append-nil, length-map, length-take-le, map-append, take_all}
+use Rattle.std.proofs.lemmas.Option.{get_or_from_slice_get}
 use Rattle.ver_syntax.specs.declared.fault.VerKind.TheVariants.{NameClash}
 use Rattle.ver_syntax.specs.declared.row.Row.{Row}
-use Rattle.ver_module.specs.Netlists.{Net}
+use Rattle.ver_module.specs.Netlists.{nets_by, nets_with}
+use Rattle.ver_module.specs.declared.net.Identifier.{Identifier}
 use Rattle.ver_items.specs.Declarations.{declared_of}
+use Rattle.ver_items.specs.Sections.{name_at}
 use Rattle.ver_file.specs.Firsts.{earlier, first_of}
-use Rattle.ver_file.specs.Flaws.{Named, clashes, flaws_of, name_flaws, named_nets, range_flaws, repeated, unless}
+use Rattle.ver_file.specs.Flaws.{clashes, flaws_of, name_flaws, named_nets, range_flaws, unless}
 use Rattle.ver_file.specs.Nets.{nets_at, nets_of, tokens_of_nets}
-use Rattle.ver_file.specs.Tables.{names_of, with_net}
-use Rattle.ver_file.proofs.FirstLemmas.{given_names, names_with}
-use Rattle.ver_file.proofs.FlawLemmas.{next_repeated}
+use Rattle.ver_file.specs.Tables.{names_of}
+use Rattle.ver_file.proofs.FirstLemmas.{given_names}
 
 pub no_left : {X : Type 0} (xs ys : List X) → xs ++ ys ≡ [] → xs ≡ []
 no_left [] ys e = refl
@@ -47,33 +49,6 @@ pub not_any : (b : Bool) → not b ≡ true → b ≡ false
 not_any true t = absurd (cc)
 not_any false t = refl
 
-pub with_new_net : (nets : List Net) (n : Net) → list_any (bytes_eq n.name) (names_of nets) ≡ false → with_net nets n ≡ nets ++ n ∷ []
-with_new_net nets n t = rw t refl
-
--- where no name is given again, each net is put last
-all_new : (nets : List Net) (more : List Net) (named : List Named) → map (λ n. n.name) named ≡ names_of more → repeated (names_of nets) named ≡ []
-    → fold with_net nets more ≡ nets ++ more
-all_new nets [] named e none = sym (append-nil nets)
-all_new nets (n ∷ ns) [] e none = absurd (cc)
-all_new nets (n ∷ ns) (g ∷ gs) e none =
-    let head : g.name ≡ n.name = cc in
-    let tail : map (λ m. m.name) gs ≡ names_of ns = cc in
-    let both = sym (next_repeated (names_of nets) g gs) ∙ none in
-    let any : list_any (bytes_eq g.name) (names_of nets) ≡ false =
-    not_any (list_any (bytes_eq g.name) (names_of nets)) (passes (not (list_any (bytes_eq g.name) (names_of nets))) g.place (no_left (unless (not (list_any (bytes_eq g.name) (names_of nets))) g.place) (repeated (with_name (names_of nets) g.name) gs) both)) in
-    let new : list_any (bytes_eq n.name) (names_of nets) ≡ false = ap (λ name. list_any (bytes_eq name) (names_of nets)) (sym head) ∙ any in
-    let rest : repeated (with_name (names_of nets) g.name) gs ≡ [] =
-    no_right (unless (not (list_any (bytes_eq g.name) (names_of nets))) g.place) (repeated (with_name (names_of nets) g.name) gs) both in
-    let put = with_new_net nets n new in
-    let names : with_name (names_of nets) g.name ≡ names_of (nets ++ n ∷ []) =
-    ap (with_name (names_of nets)) head ∙ sym (names_with nets n) ∙ ap names_of put in
-    ap (λ ms. fold with_net ms ns) put
-    ∙ all_new (nets ++ n ∷ []) ns gs tail (ap (λ ms. repeated ms gs) (sym names) ∙ rest)
-    ∙ append_assoc nets (n ∷ []) ns
-
-pub all_put : (text : List ℕ) → name_flaws text ≡ [] → fold with_net [] (nets_of text) ≡ nets_of text
-all_put text e = all_new [] (nets_of text) (flat_map (named_nets text) (tokens_of_nets text)) (names_given text (tokens_of_nets text)) e
-
 -- without a first place there is none
 pub not_first : (first : Option ℕ) (places : List ℕ) → first_of first places ≡ None → (first ≡ None) × (places ≡ [])
 not_first first [] e = (e, refl)
@@ -85,3 +60,56 @@ not_first first (p ∷ ps) e = absurd (some_earlier first p (not_first (earlier 
 
 pub none_first : (text : List ℕ) → first_of None (name_flaws text) ≡ None → name_flaws text ≡ []
 none_first text e = (not_first None (name_flaws text) e).1
+
+-- ---- identifiers one after another
+
+-- the nets of one identifier more
+with_last : (names : List (List ℕ)) (all : List Identifier) (name : List ℕ) (identifier : Identifier) → length all ≡ length names
+    → nets_with (names ++ name ∷ []) (all ++ identifier ∷ []) ≡ nets_with names all ++ nets_by name identifier
+unfolding nets_with
+with_last [] [] name identifier e = append-nil (nets_by name identifier)
+with_last [] (i ∷ all) name identifier e = absurd (omega (arith, e))
+with_last (n ∷ names) [] name identifier e = absurd (omega (arith, e))
+with_last (n ∷ names) (i ∷ all) name identifier e =
+    ap (λ ns. nets_by n i ++ ns) (with_last names all name identifier (omega (arith, e)))
+    ∙ sym (append_assoc (nets_by n i) (nets_with names all) (nets_by name identifier))
+
+pub one_more : (text : List ℕ) (tokens : List Row) (all : List Identifier) (token : Row) (identifier : Identifier) → length all ≡ length tokens
+    → nets_by (name_at text token) identifier ≡ nets_at text (declared_of text) token
+    → nets_with (map (name_at text) tokens) all ≡ flat_map (nets_at text (declared_of text)) tokens
+    → nets_with (map (name_at text) (tokens ++ token ∷ [])) (all ++ identifier ∷ []) ≡ flat_map (nets_at text (declared_of text)) (tokens ++ token ∷ [])
+one_more text tokens all token identifier n e h =
+    ap (λ names. nets_with names (all ++ identifier ∷ [])) (map-append (name_at text) tokens (token ∷ []))
+    ∙ with_last (map (name_at text) tokens) all (name_at text token) identifier (n ∙ sym (length-map tokens (name_at text)))
+    ∙ (λ i. h i ++ e i)
+    ∙ ap (λ ns. flat_map (nets_at text (declared_of text)) tokens ++ ns) (sym (append-nil (nets_at text (declared_of text) token)))
+    ∙ sym (flat_map-append (nets_at text (declared_of text)) tokens (token ∷ []))
+
+-- the same, at the place of a token
+pub next_identifier : (text : List ℕ) (tokens : List Row) (at : ℕ) (all more : List Identifier) (token : Row) (identifier : Identifier) → at < length tokens
+    → slice_get tokens at ≡ Some token → length all ≡ at → more ≡ all ++ identifier ∷ []
+    → nets_by (name_at text token) identifier ≡ nets_at text (declared_of text) token
+    → nets_with (map (name_at text) (take at tokens)) all ≡ flat_map (nets_at text (declared_of text)) (take at tokens)
+    → nets_with (map (name_at text) (take (at + 1) tokens)) more ≡ flat_map (nets_at text (declared_of text)) (take (at + 1) tokens)
+next_identifier text tokens at all more token identifier l e n f g h =
+    ap (λ ts. nets_with (map (name_at text) ts) more) cut ∙ ap (nets_with (map (name_at text) (take at tokens ++ token ∷ []))) f
+    ∙ one_more text (take at tokens) all token identifier (n ∙ sym (length-take-le at tokens (omega (arith, l)))) g h
+    ∙ ap (flat_map (nets_at text (declared_of text))) (sym cut)
+  where
+    cut : take (at + 1) tokens ≡ take at tokens ++ token ∷ []
+    cut =
+        ap (λ k. take k tokens) (let k : at + 1 ≡ suc at = omega arith in k) ∙ take-suc tokens at token l
+        ∙ ap (λ t. take at tokens ++ t ∷ []) (get_or_from_slice_get tokens at token token e)
+
+pub no_identifier : (text : List ℕ) (tokens : List Row) (all : List Identifier) → all ≡ []
+    → nets_with (map (name_at text) (take 0 tokens)) all ≡ flat_map (nets_at text (declared_of text)) (take 0 tokens)
+unfolding nets_with
+no_identifier text tokens all e = ap (nets_with []) e
+
+-- behind the last token they are all
+pub all_identifiers : (text : List ℕ) (at : ℕ) (all : List Identifier) → length (tokens_of_nets text) ≤ at
+    → nets_with (map (name_at text) (take at (tokens_of_nets text))) all ≡ flat_map (nets_at text (declared_of text)) (take at (tokens_of_nets text))
+    → nets_with (map (name_at text) (tokens_of_nets text)) all ≡ nets_of text
+all_identifiers text at all l h =
+    let cut = take_all at (tokens_of_nets text) l in
+    ap (λ ts. nets_with (map (name_at text) ts) all) (sym cut) ∙ h ∙ ap (flat_map (nets_at text (declared_of text))) cut

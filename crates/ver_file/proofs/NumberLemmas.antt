@@ -11,9 +11,9 @@ use Rattle.ver_text.specs.declared.kind.Kind.TheVariants.{Module}
 use Rattle.ver_syntax.specs.declared.row.Place.TheVariants.{Start}
 use Rattle.ver_syntax.specs.declared.row.Row.{Row}
 use Rattle.ver_syntax.specs.Rows.{rows_of}
-use Rattle.ver_items.specs.Bits.{bits_of}
+use Rattle.ver_module.specs.Ranges.{bits_of}
 use Rattle.ver_items.specs.Declarations.{declared_of, range_in}
-use Rattle.ver_items.specs.declared.bits.Range.{Range}
+use Rattle.ver_module.specs.declared.range.Range.{Range}
 use Rattle.ver_items.specs.declared.heading.Heading.{Heading}
 use Rattle.ver_items.specs.Sections.{name_at}
 use Rattle.vg_scan.specs.Lines.{part}
@@ -55,7 +55,7 @@ some_is x y e = cc
 -- ---- identifiers
 
 -- each identifier has the number of its first token
-first_numbered : (text : List ℕ) (names : List (List ℕ)) (rows : List Row) (at : ℕ) (token : Row) → slice_get (first_tokens text names rows) at ≡ Some token
+pub first_numbered : (text : List ℕ) (names : List (List ℕ)) (rows : List Row) (at : ℕ) (token : Row) → slice_get (first_tokens text names rows) at ≡ Some token
     → number_in (names ++ map (name_at text) (first_tokens text names rows)) (name_at text token) ≡ length names + at
 first_numbered text names [] at token e =
     let none : None ≡ Some token = sym (ap (λ ts. slice_get ts at) (no_token text names)) ∙ e in absurd (cc)
@@ -172,7 +172,7 @@ behind [] ys i = ap (slice_get ys) (let e : 0 + i ≡ i = omega arith in e)
 behind (x ∷ xs) ys i = ap (slice_get (x ∷ xs ++ ys)) (let e : suc (length xs) + i ≡ suc (length xs + i) = omega arith in e) ∙ behind xs ys i
 
 -- a part of a list that is made part by part
-in_parts : {X : Type 0} (f : Row → List X) (tokens : List Row) (id : ℕ) (token : Row) (at : ℕ) (x : X) → slice_get tokens id ≡ Some token
+pub in_parts : {X : Type 0} (f : Row → List X) (tokens : List Row) (id : ℕ) (token : Row) (at : ℕ) (x : X) → slice_get tokens id ≡ Some token
     → slice_get (f token) at ≡ Some x → slice_get (flat_map f tokens) (length (flat_map f (take id tokens)) + at) ≡ Some x
 in_parts f [] id token at x t e = absurd (cc)
 in_parts f (u ∷ us) zero token at x t e =

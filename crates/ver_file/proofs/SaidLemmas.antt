@@ -8,7 +8,7 @@ use Rattle.name_tables.specs.Distinct.{number_in, number_of, with_name}
 use Rattle.name_tables.proofs.NameTableLemmas.{absent_of, no_place, number_known}
 use Rattle.ver_module.specs.declared.direction.PortDir.{PortDir}
 use Rattle.ver_module.proofs.NameLemmas.{one_before, there, with_new, with_old}
-use Rattle.ver_items.specs.declared.bits.Range.{Range}
+use Rattle.ver_module.specs.declared.range.Range.{Range}
 use Rattle.ver_items.specs.declared.heading.Heading.{Heading}
 use Rattle.ver_items.specs.Declarations.{Declared, declared_of, direction_in, is_supply_in, range_in}
 use Rattle.ver_file.specs.declared.identifier.Identifiers.{Identifiers}

@@ -17,5 +17,5 @@ end_in rows = option_map (λ r. r.from) (find (λ r. is EndModule r.kind) rows)
 pub record IsBody (text : List ℕ) (body : Body) : Type 0 where
   pub firsts : AreFirsts text body.firsts
   pub instances : flaws_of text ≡ [] → body.instances ≡ instances_of text
-  pub assigned : flaws_of text ≡ [] → body.assigned.items ≡ assigned_of text
+  pub assigned : flaws_of text ≡ [] → body.assigned ≡ assigned_of text
   pub end : body.end ≡ end_in (rows_of text)

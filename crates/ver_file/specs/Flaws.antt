@@ -9,7 +9,7 @@ use Rattle.ver_syntax.specs.declared.fault.VerKind.TheVariants.{Grammar, NameCla
 use Rattle.ver_syntax.specs.declared.row.Place.TheVariants.{Ports, Assignment}
 use Rattle.ver_syntax.specs.declared.row.Row.{Row}
 use Rattle.ver_syntax.specs.Syntax.{line_at}
-use Rattle.ver_items.specs.declared.bits.Range.{Range}
+use Rattle.ver_module.specs.declared.range.Range.{Range}
 use Rattle.ver_file.specs.declared.first.Flaw.{Flaw}
 use Rattle.ver_module.specs.declared.direction.PortDir.{PortDir}
 use Rattle.ver_module.specs.declared.direction.PortDir.TheVariants.{Input, Output, Inout}

@@ -10,3 +10,4 @@ pub mod FirstFlaws
 pub mod Laws
 pub mod Bodies
 pub mod Lookups
+pub mod Clashes

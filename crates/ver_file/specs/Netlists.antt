@@ -8,7 +8,7 @@ use Rattle.ver_syntax.specs.declared.row.Place.TheVariants.{Head, Assignment}
 use Rattle.ver_syntax.specs.declared.row.Row.{Row}
 use Rattle.ver_syntax.specs.Grammar.{is}
 use Rattle.ver_syntax.specs.Rows.{rows_of}
-use Rattle.ver_items.specs.declared.bits.Range.{Range}
+use Rattle.ver_module.specs.declared.range.Range.{Range}
 use Rattle.ver_items.specs.declared.bits.Select.{Select}
 use Rattle.ver_items.specs.declared.bits.Select.TheVariants.{Bit}
 use Rattle.ver_module.specs.declared.link.Link.{Link}

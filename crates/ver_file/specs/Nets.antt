@@ -9,7 +9,7 @@ use Rattle.ver_syntax.specs.Rows.{rows_of}
 use Rattle.ver_items.specs.Sections.{is_net_name, bytes_at, name_at}
 use Rattle.ver_items.specs.Declarations.{Declared, declared_of, direction_in, is_supply_in, range_in}
 use Rattle.ver_module.specs.Netlists.{Net, net_name}
-use Rattle.ver_items.specs.Bits.{bits_of}
+use Rattle.ver_module.specs.Ranges.{bits_of}
 
 -- a token is an identifier of nets that is none of these
 abbrev pub is_first : List ℕ → List (List ℕ) → Row → Bool

@@ -3,7 +3,7 @@ use Rattle.std.specs.Prelude.{ℕ, List, map, Bool, ◌||◌, Option, Some, None
 use Rattle.std.specs.Str.{bytes_eq}
 use Rattle.ver_items.specs.declared.heading.Heading.{Heading}
 use Rattle.ver_module.specs.declared.direction.PortDir.{PortDir}
-use Rattle.ver_items.specs.declared.bits.Range.{Range}
+use Rattle.ver_module.specs.declared.range.Range.{Range}
 use Rattle.ver_items.specs.Declarations.{Declared}
 use Rattle.ver_file.specs.Nets.{tokens_of_nets}
 use Rattle.ver_items.specs.Sections.{name_at}

@@ -1,20 +1,16 @@
 -- The tables of a text's identifiers and nets: for the functions between.
-use Rattle.std.specs.Prelude.{◌≡◌, ℕ, ◌+◌, ◌<◌, ◌++◌, List, [], ◌∷◌, length, map, slice_index_or, Option, None, Some, if◌then◌else◌}
-use Rattle.std.specs.List.{All, list_any}
-use Rattle.std.specs.Str.{bytes_eq}
+use Rattle.std.specs.Prelude.{◌≡◌, ℕ, ◌+◌, ◌<◌, ◌++◌, List, [], ◌∷◌, length, map, slice_index_or, Option, None}
+use Rattle.std.specs.List.{All}
 use Rattle.name_tables.specs.Distinct.{number_in}
-use Rattle.ver_module.specs.Netlists.{Net, net_name}
+use Rattle.ver_module.specs.Netlists.{Net}
 use Rattle.ver_items.specs.declared.heading.Heading.{Heading}
 use Rattle.vg_scan.specs.Lines.{part}
 use Rattle.ver_text.specs.Names.{name_of}
 use Rattle.ver_file.specs.declared.identifier.Identifiers.{Identifiers}
 use Rattle.ver_file.specs.declared.identifier.Use.{Use}
 use Rattle.ver_syntax.specs.declared.row.Row.{Row}
-use Rattle.ver_items.specs.Bits.{bits_of}
-use Rattle.ver_items.specs.declared.bits.Range.{Range}
 use Rattle.ver_items.specs.Declarations.{Declared, declared_of}
 use Rattle.ver_items.specs.Sections.{name_at}
-use Rattle.ver_file.specs.Flaws.{Named, given}
 use Rattle.ver_file.specs.Nets.{first_tokens, nets_at, tokens_of_nets}
 use Rattle.ver_file.specs.Said.{identifiers_of, said_of}
 
@@ -54,27 +50,8 @@ pub record AreIdentifiers (text : List ℕ) (found : Identifiers) : Type 0 where
 
 -- ---- nets
 
--- a bit of an identifier, or its one net
-abbrev pub bit_of : Net → Option ℕ → Net
-bit_of net bit = record {
-  name = net_name net.base bit;
-  base = net.base;
-  bit = bit;
-  escaped = net.escaped;
-  port = net.port;
-  supply = net.supply;
-}
-
 abbrev pub names_of : List Net → List (List ℕ)
 names_of nets = map (λ net. net.name) nets
-
--- the nets, with this one last where its name is new
-abbrev pub with_net : List Net → Net → List Net
-with_net nets net = if list_any (bytes_eq net.name) (names_of nets) then nets else nets ++ net ∷ []
-
--- the bits of a vector, each given at a place
-abbrev pub given_bits : ℕ → Net → Range → List Named
-given_bits place scalar range = map (given place) (map (bit_of scalar) (bits_of (Some range)))
 
 -- the number of the first net of each of these identifiers, where so many nets stand before them
 unfoldable pub first_numbers : List ℕ → ℕ → List Row → List ℕ

@@ -18,7 +18,7 @@ use ver_items::{
     Begin, ItemsAgain, KeptItems, Section, Sections, after_first, connection_of, expression_in, is,
     is_name_in, name_at, others_in, span_of,
 };
-use ver_module::Instances;
+use ver_module::{Instances, Runs};
 use ver_syntax::{Place, Row, Rows};
 use ver_text::Kind;
 use vg_num::Memory;
@@ -96,10 +96,10 @@ fn push_assigned(
     alloc: Global,
     scope: &Scope<'_>,
     rows: &[Row],
-    to: &mut Vec<u32>,
+    to: &mut Runs,
 ) -> Result<(), Memory>
     requires { IsScope scope.now }
-    ensures { OnOk result (to.new.items ≡ to.old.items
+    ensures { OnOk result (to.new ≡ to.old
         ++ flat_map (nets_named scope.now.text.now) (sections (is_name_in Assignment) rows.now)) }
 {
     'name: for name in Sections::new(Begin::Assigned, rows) {
@@ -126,7 +126,7 @@ pub(crate) struct Body {
     pub firsts: Firsts,
     pub instances: Instances,
     /// The nets in assignments.
-    pub assigned: Vec<u32>,
+    pub assigned: Runs,
     /// Where `endmodule` begins.
     pub end: Option<usize>,
 }
@@ -150,7 +150,7 @@ pub(crate) fn read_body(
     };
     let mut seen = Seen::new(alloc, scope.text.len())?;
     let mut instances = Instances::new(alloc);
-    let mut assigned = Vec::new(alloc);
+    let mut assigned = Runs::new(alloc);
     let mut end = None;
     let mut items = ItemsAgain::new(scope.text, kept);
     let mut item = Vec::new(alloc);

@@ -22,10 +22,10 @@ use crate::scope::Scope;
 use name_tables::Names;
 use std::alloc::Global;
 use ver_items::{
-    Begin, Heading, Range, Section, Sections, Select, after_first, connection_of, expression_in,
+    Begin, Heading, Section, Sections, Select, after_first, connection_of, expression_in,
     is_name_in, is_net_name, name_at, select_before,
 };
-use ver_module::{PortDir, name_number};
+use ver_module::{PortDir, Range, name_number};
 use ver_syntax::{Place, Row};
 use vg_num::Memory;
 

@@ -15,9 +15,9 @@ ghost use Rattle.ver_file.specs.Tables.{AreIdentifiers, AreRead, Reads, ReadsOne
 use name_tables::Names;
 use std::alloc::Global;
 use ver_items::{
-    Begin, Found, Heading, Items, KeptItems, Range, begins_declaration, is_net_name, name_at,
+    Begin, Found, Heading, Items, KeptItems, begins_declaration, is_net_name, name_at,
 };
-use ver_module::{PortDir, name_number};
+use ver_module::{PortDir, Range, name_number};
 use ver_syntax::{Machine, Row};
 use vg_num::Memory;
 

@@ -12,14 +12,14 @@ ghost use Rattle.ver_file.specs.Tables.{AreIdentifiers};
 
 use crate::build::{Body, head_end, module_name, read_body};
 use crate::identifier::Identifiers;
-use crate::nets::{nets_of, numbers_of};
+use crate::nets::{first_clash, first_numbers, nets_of};
 use crate::scope::Scope;
 use std::alloc::Global;
 use std::cell::Cell;
 use ver_items::KeptItems;
 use ver_module::{Module, Nets};
 use ver_syntax::{VerFault, VerKind, check_module};
-use vg_num::{Memory, Row};
+use vg_num::Memory;
 
 /// Out of memory, which is told at line 1.
 const OUT_OF_MEMORY: VerFault = VerFault {
@@ -41,8 +41,9 @@ fn build(
     ensures module { IfOk result (λ built. IfOk built (λ found. found ≡ netlist_of text.now)) }
     ensures fault { IfOk result (λ built. IfErr built (IsFirst text.now (flaws_of text.now))) }
 {
-    let (nets, clash) = nets_of(alloc, text, identifiers)?;
-    let numbers = numbers_of(alloc, text, identifiers, &nets, clash)?;
+    let nets = nets_of(alloc, text, identifiers)?;
+    let clash = first_clash(text, identifiers, &nets);
+    let numbers = first_numbers(alloc, text, identifiers, &nets)?;
     let scope = Scope {
         text,
         identifiers,
@@ -72,7 +73,7 @@ fn assemble(alloc: Global, text: &[u8], nets: Nets, body: Body) -> Result<Module
         name,
         nets,
         body.instances,
-        Row::from_vec(body.assigned),
+        body.assigned,
         head_end(text),
         body.end.unwrap_or(0),
     ))

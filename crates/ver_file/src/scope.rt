@@ -1,7 +1,9 @@
 //! The nets that expressions name, and the links of pins.
 
 ghost use Rattle.std.specs.Prelude.{◌≡◌, ℕ, List, ◌++◌, ◌∷◌, [], Some, is_some, map, slice_get, IfOk, IfSome, MatchOption, OnOk};
-ghost use Rattle.ver_items.specs.Bits.{bits_of, selected};
+ghost use Rattle.ver_module.specs.Netlists.{net_name};
+ghost use Rattle.ver_module.specs.Ranges.{bits_from, bits_of};
+ghost use Rattle.ver_items.specs.Bits.{selected};
 ghost use Rattle.ver_file.specs.Netlists.{bit_in, is_one, link_of, number_of_bit, one_named, nets_in, nets_named};
 ghost use Rattle.name_tables.specs.Distinct.{number_of};
 ghost use Rattle.ver_file.specs.Lookups.{IsLookedUp};
@@ -13,13 +15,10 @@ ghost use Rattle.ver_items.specs.Sections.{name_at};
 use crate::identifier::{Identifiers, range_said};
 use std::alloc::Global;
 use std::cell::Cell;
-use ver_items::{
-    Begin, Heading, Range, Section, Sections, Select, is_identifier, name_at, push_net_name,
-    select_before,
-};
-use ver_module::{Link, Nets};
+use ver_items::{Begin, Heading, Section, Sections, Select, is_identifier, name_at, select_before};
+use ver_module::{Link, Net, Nets, Range, Runs};
 use ver_syntax::Row;
-use vg_num::{Memory, Row as List};
+use vg_num::Memory;
 
 /// A text with its identifiers and its nets.
 #[derive(Drop)]
@@ -62,6 +61,19 @@ fn place_in(range: Option<Range>, bit: Option<u32>) -> Option<u32>
         (None, None) => Some(0),
         (Some(range), Some(bit)) => range.place(bit),
         _ => None,
+    }
+}
+
+/// A net of an identifier of this name, by its name alone.
+fn net_of(base: &[u8], bit: Option<u32>) -> Net<'_>
+    ensures { result.name ≡ net_name base.now bit }
+{
+    Net {
+        base,
+        bit,
+        escaped: false,
+        port: None,
+        supply: false,
     }
 }
 
@@ -148,8 +160,26 @@ impl<'a> Scope<'a> {
         }
         // No bit of its range: then another identifier may have this name.
         let mut name = Vec::with_capacity(alloc, found.name.len())?;
-        push_net_name(found.name, bit, &mut name)?;
+        net_of(found.name, bit).push_name(&mut name)?;
         Ok(self.nets.number(&name))
+    }
+
+    /// The numbers of the bits of a range, from the first to the last, if all of them are its identifier's own.
+    fn own_run(&self, found: &Found<'_>, range: Range) -> Option<Range>
+        requires scope { IsScope self.now }
+        requires found { IsLookedUp self.now found.now }
+        ensures { IfSome result (λ run.
+            bits_from run ≡ map (number_of_bit self.now.text.now found.now.name.now) (bits_of (Some range))) }
+    {
+        let id = found.id? as usize;
+        let whole = found.range?;
+        let left = whole.place(range.left)?;
+        let right = whole.place(range.right)?;
+        let first = self.numbers[id];
+        Some(Range {
+            left: first.checked_add(left)?,
+            right: first.checked_add(right)?,
+        })
     }
 
     /// Puts the bits of a range last.
@@ -158,13 +188,17 @@ impl<'a> Scope<'a> {
         alloc: Global,
         found: &Found<'_>,
         range: Range,
-        to: &mut Vec<u32>,
+        to: &mut Runs,
     ) -> Result<(), Memory>
         requires scope { IsScope self.now }
         requires found { IsLookedUp self.now found.now }
-        ensures { OnOk result (to.new.items ≡ to.old.items
+        ensures { OnOk result (to.new ≡ to.old
             ++ map (number_of_bit self.now.text.now found.now.name.now) (bits_of (Some range))) }
     {
+        if let Some(run) = self.own_run(found, range) {
+            to.push_run(run)?;
+            return Ok(());
+        }
         'turn: for at in 0..range.count() {
             let number = self.number(alloc, found, Some(range.bit(at)))?;
             to.push(number)?;
@@ -178,10 +212,10 @@ impl<'a> Scope<'a> {
         &self,
         alloc: Global,
         section: &Section<'_>,
-        to: &mut Vec<u32>,
+        to: &mut Runs,
     ) -> Result<(), Memory>
         requires { IsScope self.now }
-        ensures { OnOk result (to.new.items ≡ to.old.items ++ nets_named self.now.text.now section.now) }
+        ensures { OnOk result (to.new ≡ to.old ++ nets_named self.now.text.now section.now) }
     {
         let found = self.look_up(section.head);
         let select = select_before(self.text, section.body);
@@ -199,11 +233,11 @@ impl<'a> Scope<'a> {
     }
 
     /// The nets in an expression.
-    fn nets_in(&self, alloc: Global, expression: &[Row]) -> Result<Vec<u32>, Memory>
+    fn nets_in(&self, alloc: Global, expression: &[Row]) -> Result<Runs, Memory>
         requires { IsScope self.now }
-        ensures { IfOk result (λ nets. nets.items ≡ nets_in self.now.text.now expression.now) }
+        ensures { IfOk result (λ nets. nets ≡ nets_in self.now.text.now expression.now) }
     {
-        let mut nets = Vec::new(alloc);
+        let mut nets = Runs::new(alloc);
         'name: for name in Sections::new(Begin::Identifier, expression) {
             self.push_named(alloc, &name, &mut nets)?;
         }
@@ -242,6 +276,6 @@ impl<'a> Scope<'a> {
             return Ok(Link::One(number));
         }
         let nets = self.nets_in(alloc, expression)?;
-        Ok(Link::Many(List::from_vec(nets)))
+        Ok(Link::Many(nets))
     }
 }

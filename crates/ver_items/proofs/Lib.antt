@@ -1,5 +1,4 @@
 pub mod SectionLemmas
-pub mod BitLemmas
 pub mod ItemLemmas
 pub mod SpanLemmas
 pub mod CutLemmas

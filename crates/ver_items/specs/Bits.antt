@@ -1,25 +1,13 @@
 -- The bits of vectors, and what expressions select of them. Source: IEEE Std 1364-2005, clauses 3.3, 4.3 and 5.2.1.
-use Rattle.std.specs.Prelude.{ℕ, ◌+◌, ◌-◌, min, max, nat_le, Bool, true, false, ◌&&◌, List, [], ◌∷◌, map, reverse, Option, Some, None, if◌then◌else◌}
-use Rattle.std.specs.List.{range_with_len}
+use Rattle.std.specs.Prelude.{ℕ, Bool, true, false, ◌&&◌, List, [], ◌∷◌, map, Option, Some, None, if◌then◌else◌}
 use Rattle.ver_text.specs.declared.kind.Kind.TheVariants.{OpenSquare, Colon}
 use Rattle.ver_syntax.specs.declared.row.Row.{Row}
 use Rattle.ver_syntax.specs.Grammar.{is}
-use Rattle.ver_items.specs.declared.bits.Range.{Range}
+use Rattle.ver_module.specs.declared.range.Range.{Range}
+use Rattle.ver_module.specs.Ranges.{bits_from, bits_of, is_within}
 use Rattle.ver_items.specs.declared.bits.Select.{Select}
 use Rattle.ver_items.specs.declared.bits.Select.TheVariants.{Whole, Bit, Part}
 use Rattle.ver_items.specs.Sections.{number_at}
-
--- the bits from the left bound to the right one
-abbrev pub bits_from : Range → List ℕ
-bits_from range =
-    if nat_le range.left range.right
-    then range_with_len range.left (range.right - range.left + 1)
-    else reverse (range_with_len range.right (range.left - range.right + 1))
-
--- the bits of an identifier with this range, or the one net of a scalar
-abbrev pub bits_of : Option Range → List (Option ℕ)
-bits_of None = None ∷ []
-bits_of (Some range) = map Some (bits_from range)
 
 -- ---- selects
 
@@ -51,10 +39,6 @@ abbrev pub is_single : Select → Option Range → Bool
 is_single Whole None = true
 is_single (Bit k) range = true
 is_single _ _ = false
-
--- a bit lies in a range
-abbrev pub is_within : Range → ℕ → Bool
-is_within range k = nat_le (min range.left range.right) k && nat_le k (max range.left range.right)
 
 -- what is selected lies in the range of its identifier: a scalar has no bits
 abbrev pub fits : Select → Option Range → Bool

@@ -11,7 +11,7 @@ use Rattle.ver_syntax.specs.Grammar.{is, is_digits, is_net}
 use Rattle.ver_items.specs.declared.heading.Heading.{Heading}
 use Rattle.ver_module.specs.declared.direction.PortDir.{PortDir}
 use Rattle.ver_module.specs.declared.direction.PortDir.TheVariants.{Input, Output, Inout}
-use Rattle.ver_items.specs.declared.bits.Range.{Range}
+use Rattle.ver_module.specs.declared.range.Range.{Range}
 use Rattle.ver_items.specs.Sections.{Section, sections, stands_in, is_net_name, bytes_at, name_at, number_at, items}
 
 -- an identifier that is declared at a place, and what is said of it there

@@ -1,20 +1,12 @@
 //! The bits of vectors, and what expressions select of them.
 
-ghost use Rattle.std.specs.Prelude.{◌≡◌, ◌<◌, ◌++◌, false, IfNone, IfSome, OnOk, length, slice_index};
-ghost use Rattle.ver_items.specs.Bits.{bits_from, first_number, fits, is_single, is_within, select_before, select_in};
-ghost use Rattle.ver_module.specs.Netlists.{net_name};
+ghost use Rattle.std.specs.Prelude.{◌≡◌};
+ghost use Rattle.ver_items.specs.Bits.{first_number, fits, is_single, select_before, select_in};
 
 use crate::token::{is, number_at};
+use ver_module::Range;
 use ver_syntax::Row;
 use ver_text::Kind;
-use vg_num::{Memory, print_signed};
-
-/// The bounds of a vector or of a part of one, as they are written.
-#[derive(Clone, Copy, Debug, PartialEq, Eq, Drop)]
-pub struct Range {
-    pub left: u32,
-    pub right: u32,
-}
 
 /// What an expression selects of an identifier.
 #[derive(Clone, Copy, Debug, PartialEq, Eq, Drop)]
@@ -25,46 +17,6 @@ pub enum Select {
     Bit(u32),
     /// The bits from one bound to the other.
     Part(Range),
-}
-
-impl Range {
-    /// How many bits it has.
-    pub fn count(self) -> usize
-        ensures { result ≡ length (bits_from self) }
-    {
-        self.left.abs_diff(self.right) as usize + 1
-    }
-
-    /// The bit of this number, counted from the left bound.
-    pub fn bit(self, at: usize) -> u32
-        requires { at < length (bits_from self) }
-        ensures { result ≡ slice_index (bits_from self) at }
-    {
-        if self.left <= self.right {
-            self.left + at as u32
-        } else {
-            self.left - at as u32
-        }
-    }
-
-    /// How many bits stand before this one, counted from the left bound. `None`: it does not lie in the range.
-    pub fn place(self, bit: u32) -> Option<u32>
-        ensures within { IfSome result (λ at. at < length (bits_from self)) }
-        ensures bit { IfSome result (λ at. slice_index (bits_from self) at ≡ bit) }
-        ensures none { IfNone result (is_within self bit ≡ false) }
-    {
-        if !self.has(bit) {
-            return None;
-        }
-        Some(self.left.abs_diff(bit))
-    }
-
-    /// Whether a bit lies in the range.
-    fn has(self, bit: u32) -> bool
-        ensures { result ≡ is_within self bit }
-    {
-        self.left.min(self.right) <= bit && bit <= self.left.max(self.right)
-    }
 }
 
 fn first_number(text: &[u8], rows: &[Row]) -> u32
@@ -128,18 +80,4 @@ impl Select {
             (Select::Part(part), Some(range)) => range.has(part.left) && range.has(part.right),
         }
     }
-}
-
-/// Appends the name of a bit of an identifier, or of the identifier itself. Answers `Memory` where there is no room.
-pub fn push_net_name(base: &[u8], bit: Option<u32>, to: &mut Vec<u8>) -> Result<(), Memory>
-    ensures { OnOk result (to.new.items ≡ to.old.items ++ net_name base.now bit) }
-{
-    to.extend_from_slice(base)?;
-    let Some(bit) = bit else {
-        return Ok(());
-    };
-    to.push(b'[')?;
-    print_signed(bit as i128, to)?;
-    to.push(b']')?;
-    Ok(())
 }

@@ -5,10 +5,9 @@ ghost use Rattle.std.specs.Str.{bytes_eq};
 ghost use Rattle.ver_syntax.specs.Grammar.{is_digits};
 ghost use Rattle.ver_items.specs.Declarations.{direction_named, heading_of, is_supply, numbers_in, range_of};
 
-use crate::bits::Range;
 use crate::section::Section;
 use crate::token::{bytes_at, is_digits, number_at};
-use ver_module::PortDir;
+use ver_module::{PortDir, Range};
 
 /// What a declaration says of each of its identifiers.
 #[derive(Clone, Copy, Debug, PartialEq, Eq, Drop)]

@@ -10,7 +10,7 @@ mod others;
 mod section;
 mod token;
 
-pub use bits::{Range, Select, push_net_name, select_before};
+pub use bits::{Select, select_before};
 pub use connection::{connection_of, expression_in, span_of};
 pub use heading::Heading;
 pub use item::{Found, Items};

@@ -1,141 +1,266 @@
--- Nets, as a module keeps them.
-use Rattle.std.proofs.Common.{◌≡◌, ◌≢◌, ◌==◌, ℕ, suc, zero, ◌-◌, ◌<◌, ◌≤◌, inl, inr, not, is_some, List, [], ◌∷◌, ◌++◌, length, map, take, get_or, Option, Some, None, refl, sym, ap, ◌∙◌, subst, arith, append_assoc, min}
-use Rattle.std.specs.Fmt.{decimal}
-use Rattle.std.specs.List.{list_any}
+-- Nets, by their identifiers.
+use Rattle.std.proofs.Common.{◌≡◌, ◌⊎◌, ℕ, zero, suc, ◌+◌, ◌-◌, ◌<◌, ◌≤◌, nat_lt, inl, inr, false, List, [], ◌∷◌, ◌++◌, length, take, drop, get_or, Option, Some, None, refl, sym, ap, ◌∙◌, subst, arith, length-append, append_assoc, append-nil}
 use Rattle.std.specs.Prelude.{option_map, slice_get}
-use Rattle.std.specs.Option.{SomeIff}
-use Rattle.std.specs.Str.{bytes_eq}
-use Rattle.std.proofs.Math.Dec.{eqb-suc-zero}
-use Rattle.std.proofs.Math.Seq.{take-append_seam, take-length}
-use Rattle.std.proofs.lemmas.List.{get_or-map, length-map, take_min}
-use Rattle.std.proofs.lemmas.Option.{get_or_from_slice_get, slice_get-get_or, slice_get-map, slice_get_within}
-use Rattle.name_tables.specs.Distinct.{number_of}
-use Rattle.name_tables.specs.NameTables.{AreDistinct}
+use Rattle.std.proofs.Math.ListN.{drop_of_length-le}
+use Rattle.std.proofs.Math.Seq.{drop-cons, take-length}
+use Rattle.std.specs.List.{All}
+use Rattle.std.proofs.lemmas.Bool.Decides.{nat_tests}
+use Rattle.std.proofs.lemmas.List.{length-map, take_all}
+use Rattle.std.proofs.lemmas.Option.{slice_get-map, slice_get_within}
 use Rattle.name_tables.proofs.ChainLemmas.{lt_or_le}
-use Rattle.name_tables.proofs.NameTableLemmas.{is_number, no_number}
-use Rattle.ver_module.specs.declared.nets.NetRow.{NetRow}
-use Rattle.ver_module.specs.Netlists.{net_name}
-use Rattle.ver_module.specs.Flat.{AreNets, net_with, nets_with}
-use Rattle.ver_module.proofs.NameLemmas.{is_there}
+use Rattle.ver_module.specs.declared.net.Identifier.{Identifier}
+use Rattle.ver_module.specs.Netlists.{Net, net_of, nets_by, nets_with}
+use Rattle.ver_module.specs.declared.range.Range.{Range}
+use Rattle.ver_module.specs.Ranges.{bits_from, bits_of}
+use Rattle.ver_module.proofs.RangeLemmas.{bits_count}
+use Rattle.ver_module.specs.Flat.{AreNets, IsBounded, IsPlace, count_in, firsts_of}
+use Rattle.ver_module.specs.Runs.{IsRun}
 
--- the numbers of the names of rows
-abbrev ids_of : List NetRow → List ℕ
-ids_of rows = map (λ row. row.name) rows
+-- ---- lists
 
-id_at : (rows : List NetRow) (at : ℕ) (d : NetRow) → at < length rows → slice_get (ids_of rows) at ≡ Some (get_or rows at d).name
-id_at rows at d l = slice_get-map (λ row. row.name) rows at ∙ ap (option_map (λ row. row.name)) (slice_get-get_or rows at d l)
+pub in_front : {X : Type 0} (xs ys : List X) (i : ℕ) → i < length xs → slice_get (xs ++ ys) i ≡ slice_get xs i
+in_front [] ys i l = absurd (omega (arith, l))
+in_front (x ∷ xs) ys zero l = refl
+in_front (x ∷ xs) ys (suc i) l = in_front xs ys i (omega (arith, l))
 
--- each row's name is one of the names
-pub id_within : (names : List (List ℕ)) (rows : List NetRow) (numbers : List ℕ) → AreNets names rows numbers
-    → (at id : ℕ) → slice_get (ids_of rows) at ≡ Some id → id < length names
-id_within names rows numbers h at id e = omega (arith, slice_get_within numbers id (suc at) ((h.leads id at).1 e), h.count)
+pub behind : {X : Type 0} (xs ys : List X) (at i : ℕ) → at ≡ length xs + i → slice_get (xs ++ ys) at ≡ slice_get ys i
+behind [] ys at i e = ap (slice_get ys) (let f : at ≡ i = omega (arith, e) in f)
+behind (x ∷ xs) ys zero i e = absurd (omega (arith, e))
+behind (x ∷ xs) ys (suc at) i e = behind xs ys at i (omega (arith, e))
 
-pub name_within : (names : List (List ℕ)) (rows : List NetRow) (numbers : List ℕ) (at : ℕ) (d : NetRow) → AreNets names rows numbers → at < length rows
-    → (get_or rows at d).name < length names
-name_within names rows numbers at d h l = id_within names rows numbers h at _ (id_at rows at d l)
+pub get_or_same : (xs : List ℕ) (i d e : ℕ) → i < length xs → d ≡ get_or xs i d → d ≡ get_or xs i e
+get_or_same [] i d e l h = absurd (omega (arith, l))
+get_or_same (x ∷ xs) zero d e l h = h
+get_or_same (x ∷ xs) (suc i) d e l h = get_or_same xs i d e (omega (arith, l)) h
 
-pub count_nets : (names : List (List ℕ)) (rows : List NetRow) → length (nets_with names rows) ≡ length rows
-count_nets names rows = length-map rows (λ row. net_with (get_or names row.name []) row)
+pub not_below : (a b : ℕ) → nat_lt a b ≡ false → b ≤ a
+not_below a b e = grind (arith, nat_tests, e)
 
-pub get_net : (names : List (List ℕ)) (rows : List NetRow) (at : ℕ) (d : NetRow) → at < length rows
-    → slice_get (nets_with names rows) at ≡ Some (net_with (get_or names (get_or rows at d).name []) (get_or rows at d))
-get_net names rows at d l =
-    slice_get-map (λ row. net_with (get_or names row.name []) row) rows at
-    ∙ ap (option_map (λ row. net_with (get_or names row.name []) row)) (slice_get-get_or rows at d l)
+-- ---- counts
 
--- ---- nets by their names
+count_by : (base : List ℕ) (identifier : Identifier) → length (nets_by base identifier) ≡ length (bits_of identifier.range)
+count_by base identifier = length-map (bits_of identifier.range) (net_of base identifier)
 
--- the names of nets, by the numbers of the names
-names_by : (names : List (List ℕ)) (rows : List NetRow) → map (λ net. net.name) (nets_with names rows) ≡ map (λ id. get_or names id []) (ids_of rows)
-names_by names [] = refl
-names_by names (row ∷ rows) = ap (λ ns. get_or names row.name [] ∷ ns) (names_by names rows)
+pub count_nets : (names : List (List ℕ)) (identifiers : List Identifier) → length identifiers ≡ length names
+    → length (nets_with names identifiers) ≡ count_in identifiers
+unfolding count_in nets_with
+count_nets [] [] e = refl
+count_nets [] (i ∷ more) e = absurd (omega (arith, e))
+count_nets (n ∷ names) [] e = absurd (omega (arith, e))
+count_nets (n ∷ names) (i ∷ more) e =
+    omega (arith, length-append (nets_by n i) (nets_with names more), count_by n i, count_nets names more (omega (arith, e)))
 
--- distinct names have numbers of their own
-own_number : (names : List (List ℕ)) (i j : ℕ) → AreDistinct names → i < length names → j < length names → get_or names i [] ≡ get_or names j [] → i ≡ j
-own_number names i j distinct li lj e =
-    elim (lt_or_le i j) as (λ _. i ≡ j) [
-      | inl less ↦ absurd (distinct i j less lj e)
-      | inr ge ↦ elim (lt_or_le j i) as (λ _. i ≡ j) [ inl more ↦ absurd (distinct j i more li (sym e)) | inr le ↦ omega arith ]
+pub count_firsts : (n : ℕ) (identifiers : List Identifier) → length (firsts_of n identifiers) ≡ length identifiers
+unfolding firsts_of
+count_firsts n [] = refl
+count_firsts n (i ∷ more) = ap suc (count_firsts (n + length (bits_of i.range)) more)
+
+-- the number of the first net of an identifier
+pub first_at : (n : ℕ) (identifiers : List Identifier) (at : ℕ) → at < length identifiers
+    → get_or (firsts_of n identifiers) at 0 ≡ n + count_in (take at identifiers)
+unfolding count_in firsts_of
+first_at n [] at l = absurd (omega (arith, l))
+first_at n (i ∷ more) zero l = omega arith
+first_at n (i ∷ more) (suc at) l = first_at (n + length (bits_of i.range)) more at (omega (arith, l)) ∙ omega arith
+
+pub take_more : (identifiers : List Identifier) (at : ℕ) (identifier : Identifier) → slice_get identifiers at ≡ Some identifier
+    → count_in (take (suc at) identifiers) ≡ count_in (take at identifiers) + length (bits_of identifier.range)
+unfolding count_in
+take_more [] at identifier e = absurd (cc)
+take_more (i ∷ more) zero identifier e =
+    let same : i ≡ identifier = cc in ap (λ (j : Identifier). length (bits_of j.range) + 0) same ∙ omega arith
+take_more (i ∷ more) (suc at) identifier e = ap (λ n. length (bits_of i.range) + n) (take_more more at identifier e) ∙ omega arith
+
+some_identifier : (identifiers : List Identifier) (id : ℕ) → id < count_in identifiers → 0 < length identifiers
+unfolding count_in
+some_identifier [] id l = absurd (omega (arith, l))
+some_identifier (i ∷ more) id l = omega arith
+
+none_before : (identifiers : List Identifier) → count_in (take 0 identifiers) ≡ 0
+unfolding count_in
+none_before identifiers = refl
+
+-- ---- places
+
+-- a net of an identifier at a place
+pub net_at : (names : List (List ℕ)) (identifiers : List Identifier) (id at place : ℕ) (identifier : Identifier) → length identifiers ≡ length names
+    → IsPlace identifiers id at place identifier
+    → slice_get (nets_with names identifiers) id ≡ slice_get (nets_by (get_or names at []) identifier) place
+unfolding count_in nets_with
+net_at [] [] id at place identifier e h = absurd (let x : Option.None ≡ Some identifier = h.is in cc)
+net_at [] (i ∷ more) id at place identifier e h = absurd (omega (arith, e))
+net_at (n ∷ names) [] id at place identifier e h = absurd (omega (arith, e))
+net_at (n ∷ names) (i ∷ more) id zero place identifier e h =
+    let same : i ≡ identifier = let f : Some i ≡ Some identifier = h.is in cc in
+    let low : place < length (nets_by n i) = omega (arith, count_by n i, h.within, ap (λ (j : Identifier). length (bits_of j.range)) same) in
+    let is : id ≡ place = omega (arith, h.number) in
+    ap (slice_get (nets_by n i ++ nets_with names more)) is ∙ in_front (nets_by n i) (nets_with names more) place low
+    ∙ ap (λ j. slice_get (nets_by n j) place) same
+net_at (n ∷ names) (i ∷ more) id (suc at) place identifier e h =
+    let rest : ℕ = count_in (take at more) + place in
+    let is : id ≡ length (nets_by n i) + rest = omega (arith, h.number, count_by n i) in
+    behind (nets_by n i) (nets_with names more) id rest is
+    ∙ net_at names more rest at place identifier (omega (arith, e)) (record { is = h.is; within = h.within; number = refl })
+
+-- where a net stands
+pub record Stands (identifiers : List Identifier) (id : ℕ) : Type 0 where
+  pub at : ℕ
+  pub place : ℕ
+  pub identifier : Identifier
+  pub is : IsPlace identifiers id at place identifier
+
+pub stands : (identifiers : List Identifier) (id : ℕ) → id < count_in identifiers → Stands identifiers id
+unfolding count_in
+stands [] id l = absurd (omega (arith, l))
+stands (i ∷ more) id l =
+    elim (lt_or_le id (length (bits_of i.range))) as (λ _. Stands (i ∷ more) id) [
+      | inl less ↦ record { at = 0; place = id; identifier = i; is = record { is = refl; within = less; number = omega arith } }
+      | inr ge ↦
+          let rest = stands more (id - length (bits_of i.range)) (omega (arith, l, ge)) in
+          record {
+            at = suc rest.at;
+            place = rest.place;
+            identifier = rest.identifier;
+            is = record { is = rest.is.is; within = rest.is.within; number = omega (arith, rest.is.number, ge) };
+          }
     ]
 
--- the number of a net, by what is kept for its name
-abbrev pub net_by : ℕ → Option ℕ
-net_by zero = None
-net_by (suc net) = Some net
+-- the identifier whose first net is the last one up to a net
+pub owned : (identifiers : List Identifier) (id at : ℕ) (identifier : Identifier) → id < count_in identifiers → slice_get identifiers at ≡ Some identifier
+    → count_in (take at identifiers) ≤ id → (at + 1 < length identifiers → id < count_in (take (at + 1) identifiers))
+    → IsPlace identifiers id at (id - count_in (take at identifiers)) identifier
+owned identifiers id at identifier l is low next = record { is = is; within = below (lt_or_le (at + 1) (length identifiers)); number = omega (arith, low) }
+  where
+    within : at < length identifiers
+    within = slice_get_within identifiers at identifier is
 
-pub before : (found : Option ℕ) (number : ℕ) → SomeIff found (1 ≤ number) (number - 1) → found ≡ net_by number
-before None zero e = refl
-before None (suc net) e = absurd (e (omega arith))
-before (Some found) zero e = absurd (omega (arith, e.0))
-before (Some found) (suc net) e = ap Some (omega (arith, e.1))
+    more : count_in (take (at + 1) identifiers) ≡ count_in (take at identifiers) + length (bits_of identifier.range)
+    more = let e : at + 1 ≡ suc at = omega arith in ap (λ n. count_in (take n identifiers)) e ∙ take_more identifiers at identifier is
 
-module _ (names : List (List ℕ)) (rows : List NetRow) (numbers : List ℕ) (h : AreNets names rows numbers) where
-  abbrev ids : List ℕ
-  ids = map (λ row. row.name) rows
+    all : length identifiers ≤ at + 1 → take (at + 1) identifiers ≡ identifiers
+    all h = ap (λ n. take n identifiers) (let e : at + 1 ≡ length identifiers = omega (arith, h, within) in e) ∙ take-length identifiers
 
-  -- the name of a net is the name of its number
-  name_of_net : (net : ℕ) → net < length ids → get_or (map (λ id. get_or names id []) ids) net [] ≡ get_or names (get_or ids net 0) []
-  name_of_net net l = get_or-map (λ id. get_or names id []) ids net 0 [] l
+    below : (at + 1 < length identifiers) ⊎ (length identifiers ≤ at + 1) → id - count_in (take at identifiers) < length (bits_of identifier.range)
+    below (inl less) = let h = next less in omega (arith, h, more, low)
+    below (inr ge) = let e : count_in (take (at + 1) identifiers) ≡ count_in identifiers = ap count_in (all ge) in omega (arith, e, more, low, l)
 
-  leads_back : (net : ℕ) → net < length ids → slice_get numbers (get_or ids net 0) ≡ Some (suc net)
-  leads_back net l = (h.leads (get_or ids net 0) net).1 (slice_get-get_or ids net 0 l)
+-- ---- one identifier after another
 
-  within : (net : ℕ) → net < length ids → get_or ids net 0 < length names
-  within net l = id_within names rows numbers h net (get_or ids net 0) (slice_get-get_or ids net 0 l)
+-- with the next of these identifiers the numbers of first nets go on
+pub next_first : (identifiers : List Identifier) (at count next : ℕ) (firsts more : List ℕ) (d : Identifier) → at < length identifiers
+    → next ≡ count + length (bits_of (get_or identifiers at d).range) → more ≡ firsts ++ count ∷ []
+    → (firsts_of 0 identifiers ≡ firsts ++ firsts_of count (drop at identifiers)) × (count_in identifiers ≡ count + count_in (drop at identifiers))
+    → (firsts_of 0 identifiers ≡ more ++ firsts_of next (drop (at + 1) identifiers)) × (count_in identifiers ≡ next + count_in (drop (at + 1) identifiers))
+unfolding count_in firsts_of
+next_first identifiers at count next firsts more d l e f h = (
+  h.0 ∙ ap (λ is. firsts ++ firsts_of count is) rest
+      ∙ ap (λ n. firsts ++ count ∷ firsts_of n (drop (at + 1) identifiers)) (sym e)
+      ∙ sym (append_assoc firsts (count ∷ []) (firsts_of next (drop (at + 1) identifiers)))
+      ∙ ap (λ ns. ns ++ firsts_of next (drop (at + 1) identifiers)) (sym f),
+  omega (arith, h.1, ap count_in rest, e),
+)
+  where
+    rest : drop at identifiers ≡ get_or identifiers at d ∷ drop (at + 1) identifiers
+    rest = drop-cons identifiers at d l ∙ ap (λ n. get_or identifiers at d ∷ drop n identifiers) (let g : suc at ≡ at + 1 = omega arith in g)
 
-  distinct_nets : AreDistinct (map (λ id. get_or names id []) ids)
-  distinct_nets i j less l e =
-      let lj : j < length ids = omega (arith, l, length-map ids (λ id. get_or names id [])) in
-      let li : i < length ids = omega (arith, less, lj) in
-      let same = own_number names (get_or ids i 0) (get_or ids j 0) h.distinct (within i li) (within j lj) (sym (name_of_net i li) ∙ e ∙ name_of_net j lj) in
-      let clash : Some (suc i) ≡ Some (suc j) = sym (leads_back i li) ∙ ap (slice_get numbers) same ∙ leads_back j lj in
-      let i_is_j : i ≡ j = cc in
-      omega (arith, less, i_is_j)
+-- behind the last one they are all
+pub no_more : (identifiers : List Identifier) (at count : ℕ) (firsts : List ℕ) → length identifiers ≤ at
+    → (firsts_of 0 identifiers ≡ firsts ++ firsts_of count (drop at identifiers)) × (count_in identifiers ≡ count + count_in (drop at identifiers))
+    → (firsts ≡ firsts_of 0 identifiers) × (count ≡ count_in identifiers)
+unfolding count_in firsts_of
+no_more identifiers at count firsts l h =
+    let none : drop at identifiers ≡ [] = drop_of_length-le identifiers l in
+    (sym (h.0 ∙ ap (λ is. firsts ++ firsts_of count is) none ∙ append-nil firsts), omega (arith, h.1, ap count_in none))
 
-  -- a name that is none of the names is that of no net
-  pub none_named : (name : List ℕ) → ((row : ℕ) → row < length names → get_or names row [] ≢ name) → None ≡ number_of (map (λ net. net.name) (nets_with names rows)) name
-  none_named name absent =
-      subst (λ (ns : List (List ℕ)). None ≡ number_of ns name) (sym (names_by names rows))
-      (no_number (map (λ id. get_or names id []) ids) name
-      (λ net l e. let l' : net < length ids = omega (arith, l, length-map ids (λ id. get_or names id [])) in absent (get_or ids net 0) (within net l') (sym (name_of_net net l') ∙ e)))
+pub all_bounded : (identifiers : List Identifier) (at : ℕ) → length identifiers ≤ at → All IsBounded (take at identifiers) → All IsBounded identifiers
+all_bounded identifiers at l h = subst (All IsBounded) (take_all at identifiers l) h
 
-  pub number_is : (name : List ℕ) (id number : ℕ) → slice_get names id ≡ Some name → slice_get numbers id ≡ Some number
-      → net_by number ≡ number_of (map (λ net. net.name) (nets_with names rows)) name
-  number_is name id zero e kept =
-      subst (λ (ns : List (List ℕ)). None ≡ number_of ns name) (sym (names_by names rows))
-      (no_number (map (λ id. get_or names id []) ids) name (λ net l f.
-      let l' : net < length ids = omega (arith, l, length-map ids (λ id. get_or names id [])) in
-      let same = own_number names (get_or ids net 0) id h.distinct (within net l') (slice_get_within names id name e) (sym (name_of_net net l') ∙ f ∙ sym (get_or_from_slice_get names id name [] e)) in
-      let clash : Some (suc net) ≡ Some 0 = sym (leads_back net l') ∙ ap (slice_get numbers) same ∙ kept in
-      cc))
-  number_is name id (suc net) e kept =
-      let there = (h.leads id net).0 kept in
-      let l = slice_get_within ids net id there in
-      subst (λ (ns : List (List ℕ)). Some net ≡ number_of ns name) (sym (names_by names rows))
-      (is_number (map (λ id. get_or names id []) ids) name net distinct_nets (omega (arith, l, length-map ids (λ id. get_or names id [])))
-      (name_of_net net l ∙ ap (λ k. get_or names k []) (get_or_from_slice_get ids net id 0 there) ∙ get_or_from_slice_get names id name [] e))
+-- ---- the identifier of a net
 
-  -- whether no net has this name
-  pub is_free : (name : List ℕ) (id number : ℕ) → slice_get names id ≡ Some name → slice_get numbers id ≡ Some number
-      → (number == 0) ≡ not (list_any (bytes_eq name) (map (λ net. net.name) (nets_with names rows)))
-  is_free name id number e kept =
-      by_number number ∙ ap (λ o. not (is_some o)) (number_is name id number e kept) ∙ ap not (is_there (map (λ net. net.name) (nets_with names rows)) name)
+some_bit : (range : Option Range) → 1 ≤ length (bits_of range)
+some_bit None = omega arith
+some_bit (Some r) = omega (arith, bits_count r, length-map (bits_from r) Some)
+
+pub fewer : (identifiers : List Identifier) → length identifiers ≤ count_in identifiers
+unfolding count_in
+fewer [] = omega arith
+fewer (i ∷ more) = omega (arith, fewer more, some_bit i.range)
+
+pub take_within : (identifiers : List Identifier) (n : ℕ) → count_in (take n identifiers) ≤ count_in identifiers
+unfolding count_in
+take_within [] zero = omega arith
+take_within [] (suc n) = omega arith
+take_within (i ∷ more) zero = omega arith
+take_within (i ∷ more) (suc n) = omega (arith, take_within more n)
+
+pub of_one : (base : List ℕ) (identifier : Identifier) (place : ℕ) (net : Net) → slice_get (nets_by base identifier) place ≡ Some net
+    → (net.base ≡ base) × (net.supply ≡ identifier.supply)
+of_one base identifier place net e =
+    by_bit (slice_get (bits_of identifier.range) place) (sym (slice_get-map (net_of base identifier) (bits_of identifier.range) place) ∙ e)
+  where
+    by_bit : (bit : Option (Option ℕ)) → option_map (net_of base identifier) bit ≡ Some net → (net.base ≡ base) × (net.supply ≡ identifier.supply)
+    by_bit None f = absurd (cc)
+    by_bit (Some bit) f = let same : net_of base identifier bit ≡ net = cc in (ap (λ (n : Net). n.base) (sym same), ap (λ (n : Net). n.supply) (sym same))
+
+module _ (names : List (List ℕ)) (identifiers : List Identifier) (firsts : List ℕ) (count : ℕ) (h : AreNets names identifiers firsts count) (id : ℕ)
+    (low : id < length (nets_with names identifiers)) where
+  pub low_count : id < count_in identifiers
+  low_count = omega (arith, low, count_nets names identifiers h.named)
+
+  pub firsts_as_many : length firsts ≡ length identifiers
+  firsts_as_many = ap length h.numbers ∙ count_firsts 0 identifiers
+
+  pub some_first : 0 < length firsts
+  some_first = omega (arith, firsts_as_many, some_identifier identifiers id low_count)
+
+  pub first_low : get_or firsts 0 0 ≤ id
+  first_low = omega (arith, ap (λ ns. get_or ns 0 0) h.numbers, first_at 0 identifiers 0 (some_identifier identifiers id low_count), none_before identifiers)
+
+  first_number : (at : ℕ) → at < length identifiers → get_or firsts at 0 ≡ count_in (take at identifiers)
+  first_number at l = ap (λ ns. get_or ns at 0) h.numbers ∙ first_at 0 identifiers at l ∙ omega arith
+
+  -- the last identifier whose first net is not behind a net has it
+  pub owner : (at : ℕ) (identifier : Identifier) → slice_get identifiers at ≡ Some identifier → get_or firsts at 0 ≤ id
+      → (at + 1 < length firsts → id < get_or firsts (at + 1) 0) → IsPlace identifiers id at (id - get_or firsts at 0) identifier
+  owner at identifier is from next =
+      let within = slice_get_within identifiers at identifier is in
+      subst (λ (n : ℕ). IsPlace identifiers id at (id - n) identifier) (sym (first_number at within))
+      (owned identifiers id at identifier low_count is (omega (arith, from, first_number at within))
+      (λ l. omega (arith, next (omega (arith, l, firsts_as_many)), first_number (at + 1) l)))
+
+  -- the nets up to the next first one are of this identifier
+  pub run_to : (at : ℕ) (identifier : Identifier) (end : ℕ) → IsPlace identifiers id at (id - get_or firsts at 0) identifier → get_or firsts at 0 ≤ id
+      → end ≡ get_or firsts at 0 + length (bits_of identifier.range) → IsRun (nets_with names identifiers) id end
+  run_to at identifier end place from e = record {
+    some = omega (arith, place.within, from, e);
+    within =
+        omega (arith, e, first_number at within, take_more identifiers at identifier place.is, take_within identifiers (suc at), count_nets names identifiers h.named);
+    same = λ n first net low high a b.
+        let one = of_one (get_or names at []) identifier (n - get_or firsts at 0) net (sym (there n low high) ∙ b) in
+        let other = of_one (get_or names at []) identifier (id - get_or firsts at 0) first (sym (net_at names identifiers id at (id - get_or firsts at 0) identifier h.named place) ∙ a) in
+        (one.0 ∙ sym other.0, one.1 ∙ sym other.1);
+  }
     where
-      by_number : (n : ℕ) → (n == 0) ≡ not (is_some (net_by n))
-      by_number zero = refl
-      by_number (suc n) = eqb-suc-zero n
+      within : at < length identifiers
+      within = slice_get_within identifiers at identifier place.is
 
--- ---- a net
+      there : (n : ℕ) → id ≤ n → n < end
+          → slice_get (nets_with names identifiers) n ≡ slice_get (nets_by (get_or names at []) identifier) (n - get_or firsts at 0)
+      there n low high =
+          net_at names identifiers n at (n - get_or firsts at 0) identifier h.named
+          (record { is = place.is; within = omega (arith, low, high, from, e); number = omega (arith, low, from, first_number at within) })
 
--- an identifier is the front of the names of its nets
-pub front : (base : List ℕ) (bit : Option ℕ) → take (length base) (net_name base bit) ≡ base
-front base None = take-length base
-front base (Some bit) = ap (take (length base)) (append_assoc base (91 ∷ decimal bit) (93 ∷ [])) ∙ take-append_seam base ((91 ∷ decimal bit) ++ 93 ∷ [])
+  -- where the nets of an identifier end that another one follows, and where those of the last one do
+  pub next_end : (at : ℕ) (identifier : Identifier) → slice_get identifiers at ≡ Some identifier → at + 1 < length identifiers
+      → get_or firsts (at + 1) 0 ≡ get_or firsts at 0 + length (bits_of identifier.range)
+  next_end at identifier is l =
+      let within = slice_get_within identifiers at identifier is in
+      let e : count_in (take (at + 1) identifiers) ≡ count_in (take (suc at) identifiers) = ap (λ n. count_in (take n identifiers)) (let f : at + 1 ≡ suc at = omega arith in f) in
+      omega (arith, first_number (at + 1) l, first_number at within, e, take_more identifiers at identifier is)
 
--- a net as it is found
-pub net_seen : (name own : List ℕ) (row its : NetRow) (m : ℕ) → name ≡ own → row ≡ its → m ≡ min row.base (length name)
-    → Some (net_with own its) ≡ Some (record { name = name; base = take m name; bit = row.bit; escaped = row.escaped; port = row.port; supply = row.supply })
-net_seen name own row its m e f g =
-    (λ i. Some (net_with (sym e i) (sym f i)))
-    ∙ ap (λ base. Some (record { name = name; base = base; bit = row.bit; escaped = row.escaped; port = row.port; supply = row.supply }))
-    (sym (take_min row.base name) ∙ ap (λ n. take n name) (sym g))
+  pub last_end : (at : ℕ) (identifier : Identifier) → slice_get identifiers at ≡ Some identifier → length identifiers ≤ at + 1
+      → count ≡ get_or firsts at 0 + length (bits_of identifier.range)
+  last_end at identifier is l =
+      let within = slice_get_within identifiers at identifier is in
+      let e : count_in (take (suc at) identifiers) ≡ count_in identifiers = ap count_in (take_all (suc at) identifiers (omega (arith, l))) in
+      omega (arith, first_number at within, e, take_more identifiers at identifier is, h.counts)

@@ -1,39 +1,55 @@
 -- Nets and instances, as a module keeps them: for the functions between.
-use Rattle.std.specs.Prelude.{◌≡◌, ◌↔◌, ℕ, suc, ◌<◌, ◌≤◌, ◌^◌, List, [], ◌∷◌, Some, map, length, slice_get, slice_index_or, take, ⊤}
+use Rattle.std.specs.Prelude.{◌≡◌, ℕ, min, ◌+◌, ◌<◌, ◌≤◌, ◌^◌, List, [], ◌∷◌, Option, None, Some, map, length, slice_get, slice_index_or, take, IfSome, ⊤}
 use Rattle.std.specs.List.{All, between}
 use Rattle.name_tables.specs.NameTables.{AreDistinct}
-use Rattle.ver_module.specs.declared.nets.NetRow.{NetRow}
+use Rattle.ver_module.specs.declared.net.Identifier.{Identifier}
 use Rattle.ver_module.specs.declared.instances.InstanceRow.{InstanceRow}
 use Rattle.ver_module.specs.declared.instances.PinRow.{PinRow}
 use Rattle.ver_module.specs.declared.link.Link.{Link}
 use Rattle.ver_module.specs.declared.link.Link.TheVariants.{Open, One, Many}
 use Rattle.ver_module.specs.declared.link.LinkRow.{LinkRow}
 use Rattle.ver_module.specs.declared.link.LinkRow.TheVariants.{Open as OpenRow, One as OneRow, Many as ManyRow}
-use Rattle.ver_module.specs.Netlists.{Net, Instance, Pin}
+use Rattle.ver_module.specs.Netlists.{Instance, Pin}
+use Rattle.ver_module.specs.Ranges.{bits_of}
 
--- a net of this name: its identifier is the front of the name
-abbrev pub net_with : List ℕ → NetRow → Net
-net_with name row = record {
-  name = name;
-  base = take row.base name;
-  bit = row.bit;
-  escaped = row.escaped;
-  port = row.port;
-  supply = row.supply;
-}
+-- ---- nets, by their identifiers
 
--- nets, by the numbers of their names
-abbrev pub nets_with : List (List ℕ) → List NetRow → List Net
-nets_with names rows = map (λ row. net_with (slice_index_or names row.name []) row) rows
+-- how many nets identifiers have
+unfoldable pub count_in : List Identifier → ℕ
+count_in [] = 0
+count_in (identifier ∷ more) = length (bits_of identifier.range) + count_in more
 
--- these rows are nets, no two of which have one name: for the number of each name there is one more than the number of
--- its net, or 0 where no net has it
-pub record AreNets (names : List (List ℕ)) (rows : List NetRow) (numbers : List ℕ) : Type 0 where
+-- the number of the first net of each of these identifiers, where so many nets stand before them
+unfoldable pub firsts_of : ℕ → List Identifier → List ℕ
+firsts_of n [] = []
+firsts_of n (identifier ∷ more) = n ∷ firsts_of (n + length (bits_of identifier.range)) more
+
+-- the bounds of an identifier, if it is a vector, are below 2^32
+abbrev pub IsBounded : Identifier → Type 0
+IsBounded identifier = IfSome identifier.range (λ range. (range.left < 2 ^ 32) × (range.right < 2 ^ 32))
+
+-- these are identifiers of distinct names, with the numbers of their first nets and how many nets they have
+pub record AreNets (names : List (List ℕ)) (identifiers : List Identifier) (firsts : List ℕ) (count : ℕ) : Type 0 where
   pub distinct : AreDistinct names
-  pub count : length numbers ≡ length names
-  pub leads : (id net : ℕ) → (slice_get numbers id ≡ Some (suc net))
-      ↔ (slice_get (map (λ row. row.name) rows) net ≡ Some id)
-  pub few : length rows < 2 ^ 32
+  pub named : length identifiers ≡ length names
+  pub bounded : All IsBounded identifiers
+  pub numbers : firsts ≡ firsts_of 0 identifiers
+  pub counts : count ≡ count_in identifiers
+  pub few : count < 2 ^ 32
+
+-- the net of this number is this one of the identifier at a place
+pub record IsPlace (identifiers : List Identifier) (id at place : ℕ) (identifier : Identifier) : Type 0 where
+  pub is : slice_get identifiers at ≡ Some identifier
+  pub within : place < length (bits_of identifier.range)
+  pub number : id ≡ count_in (take at identifiers) + place
+
+-- the earlier of two nets, where they are there
+abbrev pub earlier : Option ℕ → Option ℕ → Option ℕ
+earlier None other = other
+earlier (Some one) None = Some one
+earlier (Some one) (Some other) = Some (min one other)
+
+-- ---- instances
 
 -- a link, by the place of its nets among those of links to several
 abbrev pub link_with : List (List ℕ) → LinkRow → Link

@@ -1,12 +1,14 @@
 -- The netlist that a module is: its nets, and its instances with their connections. Source: IEEE Std 1364-2005, clauses
 -- 3.3 and 4.3 (nets and vectors), 6.1 (continuous assignments), 12.1.2 (instances) and 12.3.6 (connections by name).
-use Rattle.std.specs.Prelude.{◌≡◌, ℕ, ◌<◌, ◌^◌, Bool, List, [], ◌∷◌, ◌++◌, length, Option, Some, None, ⊤}
+use Rattle.std.specs.Prelude.{◌≡◌, ℕ, ◌<◌, ◌^◌, Bool, List, [], ◌∷◌, ◌++◌, length, map, Option, Some, None, ⊤}
 use Rattle.std.specs.Fmt.{decimal}
 use Rattle.std.specs.List.{All}
 use Rattle.vg_scan.specs.declared.lines.Span.{Span}
 use Rattle.ver_module.specs.declared.direction.PortDir.{PortDir}
+use Rattle.ver_module.specs.declared.net.Identifier.{Identifier}
 use Rattle.ver_module.specs.declared.link.Link.{Link}
 use Rattle.ver_module.specs.declared.link.Link.TheVariants.{Open, One, Many}
+use Rattle.ver_module.specs.Ranges.{bits_of}
 
 -- ---- nets
 
@@ -27,6 +29,27 @@ net_name base (Some bit) = base ++ 91 ∷ decimal bit ++ 93 ∷ []
 -- a net has the name of its identifier, a bit with its number
 abbrev pub IsNamed : Net → Type 0
 IsNamed net = net.name ≡ net_name net.base net.bit
+
+-- the net of an identifier of this name that a bit is, or its one net
+abbrev pub net_of : List ℕ → Identifier → Option ℕ → Net
+net_of base identifier bit = record {
+  name = net_name base bit;
+  base = base;
+  bit = bit;
+  escaped = identifier.escaped;
+  port = identifier.port;
+  supply = identifier.supply;
+}
+
+-- the nets of an identifier: a vector gives its bits from its left bound
+abbrev pub nets_by : List ℕ → Identifier → List Net
+nets_by base identifier = map (net_of base identifier) (bits_of identifier.range)
+
+-- the nets of identifiers of these names
+unfoldable pub nets_with : List (List ℕ) → List Identifier → List Net
+nets_with [] identifiers = []
+nets_with (name ∷ names) [] = []
+nets_with (name ∷ names) (identifier ∷ more) = nets_by name identifier ++ nets_with names more
 
 -- ---- instances
 

@@ -9,10 +9,11 @@ ghost use Rattle.ver_module.specs.Netlists.{with_pin};
 use crate::link::{Link, LinkRef, LinkRow, keep};
 use crate::name::{MOST, number_by_guess};
 use crate::place::place;
+use crate::runs::Runs;
 use name_tables::{Names, Texts};
 use std::alloc::Global;
 use std::marker::Model;
-use vg_num::{Memory, Row};
+use vg_num::Memory;
 use vg_scan::Span;
 
 /// A pin of an instance.
@@ -52,7 +53,7 @@ pub struct Instance<'a> {
     /// The name of its module or gate.
     pub cell: &'a [u8],
     pin_names: &'a Names,
-    many: &'a [Row<u32>],
+    many: &'a [Runs],
     pins: &'a [PinRow],
 }
 
@@ -118,7 +119,7 @@ pub struct Instances {
     pin_names: Names,
     rows: Vec<InstanceRow>,
     /// The nets of each link to several.
-    many: Vec<Row<u32>>,
+    many: Vec<Runs>,
     pins: Vec<PinRow>,
 }
 

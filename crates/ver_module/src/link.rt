@@ -5,7 +5,8 @@ ghost use Rattle.ver_module.specs.Flat.{IsKept, link_with, several};
 ghost use Rattle.ver_module.specs.Links.{lent_link};
 
 use crate::place::place;
-use vg_num::{Memory, Row};
+use crate::runs::Runs;
+use vg_num::Memory;
 
 /// What a pin is linked to. A net is named by its number in the module.
 #[derive(Drop)]
@@ -15,7 +16,7 @@ pub enum Link {
     /// One net: a scalar, or a bit by its number alone.
     One(u32),
     /// The nets in any other expression; none where it has numbers alone.
-    Many(Row<u32>),
+    Many(Runs),
 }
 
 /// What a pin is linked to, lent by its module.
@@ -26,7 +27,7 @@ pub enum LinkRef<'a> {
     /// One net: a scalar, or a bit by its number alone.
     One(u32),
     /// The nets in any other expression; none where it has numbers alone.
-    Many(&'a [u32]),
+    Many(&'a Runs),
 }
 
 /// What a pin is linked to, where the nets of links to several stand aside.
@@ -40,21 +41,21 @@ pub(crate) enum LinkRow {
 
 impl LinkRow {
     /// The link, where these are the nets of links to several.
-    pub(crate) fn lend<'a>(self, many: &'a [Row<u32>]) -> LinkRef<'a>
+    pub(crate) fn lend<'a>(self, many: &'a [Runs]) -> LinkRef<'a>
         requires { IsKept many.now self }
         ensures { lent_link result ≡ link_with many.now self }
     {
         match self {
             LinkRow::Open => LinkRef::Open,
             LinkRow::One(net) => LinkRef::One(net),
-            LinkRow::Many(at) => LinkRef::Many(many[at as usize].as_slice()),
+            LinkRow::Many(at) => LinkRef::Many(&many[at as usize]),
         }
     }
 }
 
 /// What is kept of a link. The nets of one to several are put last among those of all such links. Answers `Memory`
 /// where there is no room; nothing changes then.
-pub(crate) fn keep(many: &mut Vec<Row<u32>>, link: Link) -> Result<LinkRow, Memory>
+pub(crate) fn keep(many: &mut Vec<Runs>, link: Link) -> Result<LinkRow, Memory>
     ensures kept { IfOk result (IsKept many.new.items) }
     ensures link { IfOk result (λ row. link_with many.new.items row ≡ link) }
     ensures nets { OnOk result (many.new.items ≡ many.old.items ++ several link) }

@@ -4,11 +4,13 @@ ghost use Rattle.std.specs.Prelude.{◌≡◌, ◌<◌, Some, length, map, slice
 ghost use Rattle.std.specs.List.{All};
 ghost use Rattle.name_tables.specs.Distinct.{number_of};
 ghost use Rattle.ver_module.specs.Netlists.{AreWithin, IsSound};
+ghost use Rattle.ver_module.specs.Runs.{IsRun};
 
 use crate::instances::{Instance, Instances};
-use crate::nets::{Net, Nets};
+use crate::net::Net;
+use crate::nets::Nets;
+use crate::runs::Runs;
 use std::marker::Model;
-use vg_num::Row;
 use vg_scan::Name;
 
 /// The module of a structural netlist. Contracts see its nets and its instances as lists.
@@ -20,7 +22,7 @@ pub struct Module {
     name: Name,
     nets: Nets,
     instances: Instances,
-    assigned: Row<u32>,
+    assigned: Runs,
     head_end: usize,
     end_at: usize,
 }
@@ -43,7 +45,7 @@ impl Module {
         name: Name,
         nets: Nets,
         instances: Instances,
-        assigned: Row<u32>,
+        assigned: Runs,
         head_end: usize,
         end_at: usize,
     ) -> Module
@@ -94,6 +96,15 @@ impl Module {
         self.nets.get(id)
     }
 
+    /// Where the nets of one identifier end, of which this is one: all up to there are of its name, and a supply where
+    /// it is.
+    pub fn run_end(&self, id: u32) -> u32
+        requires { id < length self.now.nets }
+        ensures { IsRun self.now.nets id result }
+    {
+        self.nets.run_end(id)
+    }
+
     /// The number of the net of this name. `None`: there is no such net. It takes no memory.
     pub fn find_net(&self, name: &[u8]) -> Option<u32>
         ensures { result ≡ number_of (map (λ net. net.name) self.now.nets) name.now }
@@ -117,10 +128,10 @@ impl Module {
     }
 
     /// The nets that stand in assignments, on either side, as often as they stand there.
-    pub fn assigned(&self) -> &[u32]
+    pub fn assigned(&self) -> &Runs
         ensures { result.now ≡ self.now.assigned }
     {
-        self.assigned.as_slice()
+        &self.assigned
     }
 
     /// Where the head of the module ends: just after its `;`.

@@ -1,173 +1,154 @@
 //! The nets of a module.
 
-ghost use Rattle.std.specs.Prelude.{◌≡◌, ◌==◌, ℕ, ◌<◌, ◌^◌, List, ◌++◌, ◌∷◌, [], Some, if◌then◌else◌, length, map, not, slice_get, slice_index, IfOk, OnErr};
-ghost use Rattle.std.specs.List.{list_any};
-ghost use Rattle.std.specs.Str.{bytes_eq};
+ghost use Rattle.std.specs.Prelude.{◌≡◌, ℕ, ◌<◌, ◌≤◌, ◌+◌, ◌^◌, Some, length, map, slice_get, slice_index, IfOk, IfSome};
+ghost use Rattle.ver_module.specs.Ranges.{bits_of};
+ghost use Rattle.std.specs.List.{All};
 ghost use Rattle.name_tables.specs.Distinct.{number_in, number_of};
-ghost use Rattle.ver_module.specs.Flat.{AreNets, nets_with};
-ghost use Rattle.ver_module.specs.Netlists.{IsNamed};
+ghost use Rattle.ver_module.specs.Names.{AreApart, IsOnly, is_bit, is_scalar};
+ghost use Rattle.ver_module.specs.Flat.{AreNets, IsBounded, count_in, earlier, firsts_of};
+ghost use Rattle.ver_module.specs.Netlists.{nets_with};
+ghost use Rattle.ver_module.specs.Runs.{IsRun};
 
-use crate::direction::PortDir;
-use crate::name::{MOST, number_by_guess};
+use crate::net::{Identifier, Net, bit_of};
 use name_tables::Names;
 use std::alloc::Global;
 use std::marker::Model;
 use vg_num::Memory;
 
-/// The number of no name: there are at most so many.
-const NO_NAME: u32 = 0xFFFF_FFFF;
-
-/// A net: a scalar, or one bit of a vector.
-#[derive(Debug, Drop)]
-pub struct Net<'a> {
-    /// Its name: that of its identifier, for a bit with its number in `[` and `]` after it.
-    pub name: &'a [u8],
-    /// The name of its identifier.
-    pub base: &'a [u8],
-    /// The number of the bit. `None`: it is a scalar.
-    pub bit: Option<u32>,
-    /// Whether its identifier is an escaped one where it comes first.
-    pub escaped: bool,
-    /// The direction of the port that it is, or is a bit of.
-    pub port: Option<PortDir>,
-    /// Whether it is declared by `supply0` or `supply1`.
-    pub supply: bool,
-}
-
-impl<'a> Model for Net<'a> {
-    ghost use Rattle.ver_module.specs.Netlists.{Net as NetSpec};
-
-    ghost Value = { NetSpec };
-
-    ghost view = { λ net.
-        record { name = net.name.now; base = net.base.now; bit = net.bit; escaped = net.escaped; port = net.port; supply = net.supply } };
-}
-
-/// A net without its name.
-#[derive(Clone, Copy, Debug, PartialEq, Eq, Drop)]
-pub(crate) struct NetRow {
-    pub bit: Option<u32>,
-    /// The number of its name.
-    pub name: u32,
-    /// How many bytes its identifier's name has, with which its own begins.
-    pub base: u32,
-    pub escaped: bool,
-    pub port: Option<PortDir>,
-    pub supply: bool,
-}
-
-/// The nets of a module, found by their names, each of which is there once. Contracts see the list of nets.
+/// The nets of a module. Contracts see the list of them.
+///
+/// They are kept by their identifiers: all bits of a vector take the room of one net.
 #[derive(Drop)]
 pub struct Nets {
-    /// The names that nets have or may have.
+    /// The names of the identifiers.
     names: Names,
-    rows: Vec<NetRow>,
-    /// For each name one more than the number of its net, or 0 where no net has it.
-    numbers: Vec<u32>,
+    identifiers: Vec<Identifier>,
+    /// The number of the first net of each identifier.
+    firsts: Vec<u32>,
+    count: u32,
 }
 
 impl Model for Nets {
     ghost use Rattle.std.specs.Prelude.{List};
-    ghost use Rattle.ver_module.specs.Netlists.{Net as NetSpec};
-    ghost use Rattle.ver_module.specs.Flat.{AreNets, nets_with};
+    ghost use Rattle.ver_module.specs.Netlists.{Net as NetSpec, nets_with};
+    ghost use Rattle.ver_module.specs.Flat.{AreNets};
 
     ghost Value = { List NetSpec };
 
-    ghost view = { λ nets. nets_with nets.names nets.rows.items };
+    ghost view = { λ nets. nets_with nets.names nets.identifiers.items };
 
-    ghost invariant = { λ nets. AreNets nets.names nets.rows.items nets.numbers.items };
+    ghost invariant = { λ nets. AreNets nets.names nets.identifiers.items nets.firsts.items nets.count };
 }
 
-/// What is kept of a net whose name has this number. Answers `Memory` where its identifier's name has 2^32 bytes or
-/// more.
-fn row_of(net: &Net<'_>, name: u32) -> Result<NetRow, Memory>
-    ensures name { IfOk result (λ row. row.name ≡ name) }
-    ensures base { IfOk result (λ row. row.base ≡ length net.now.base) }
-    ensures bit { IfOk result (λ row. row.bit ≡ net.now.bit) }
-    ensures escaped { IfOk result (λ row. row.escaped ≡ net.now.escaped) }
-    ensures port { IfOk result (λ row. row.port ≡ net.now.port) }
-    ensures supply { IfOk result (λ row. row.supply ≡ net.now.supply) }
+/// The earlier of two nets, where they are there.
+fn earlier(one: Option<u32>, other: Option<u32>) -> Option<u32>
+    ensures { result ≡ earlier one other }
 {
-    let Ok(base) = u32::try_from(net.base.len()) else {
-        return Err(Memory);
-    };
-    Ok(NetRow {
-        bit: net.bit,
-        name,
-        base,
-        escaped: net.escaped,
-        port: net.port,
-        supply: net.supply,
-    })
+    match (one, other) {
+        (Some(one), Some(other)) => Some(one.min(other)),
+        (found, None) | (None, found) => found,
+    }
 }
 
-/// The number of a name, by a guess of it. A new name is put last, and no net has it yet. Answers `Memory` where there
-/// is no room. The nets stay as they are.
-fn name_by_guess(
-    names: &mut Names,
-    numbers: &mut Vec<u32>,
-    guess: u32,
+/// The number behind those of an identifier's nets, the first of which has this one, if it is below 2^32.
+fn next_number(first: u32, identifier: Identifier) -> Option<u32>
+    ensures { IfSome result (λ next. next ≡ first + length (bits_of identifier.range)) }
+{
+    let count = u32::try_from(identifier.count()).ok()?;
+    first.checked_add(count)
+}
+
+/// A law: the bounds of a vector are below 2^32.
+fn is_bounded(identifier: Identifier)
+    ensures { IsBounded identifier }
+{
+    let _ = identifier;
+}
+
+/// The number of the first net of each identifier, and how many nets there are. Answers `Memory` where there is no
+/// room, as where there are 2^32 nets or more.
+fn numbered(alloc: Global, identifiers: &[Identifier]) -> Result<(Vec<u32>, u32), Memory>
+    ensures firsts { IfOk result (λ found. found.0.items ≡ firsts_of 0 identifiers.now) }
+    ensures count { IfOk result (λ found. found.1 ≡ count_in identifiers.now) }
+    ensures bounded { IfOk result (λ _. All IsBounded identifiers.now) }
+{
+    let mut firsts = Vec::with_capacity(alloc, identifiers.len())?;
+    let mut count = 0u32;
+    'identifier: for identifier in identifiers {
+        is_bounded(*identifier);
+        firsts.push(count)?;
+        let Some(next) = next_number(count, *identifier) else {
+            return Err(Memory);
+        };
+        count = next;
+    }
+    Ok((firsts, count))
+}
+
+/// Which of these numbers, the first of which is not over another one and which rise, is the last that is not over it.
+fn last_up_to(firsts: &[u32], id: u32) -> usize
+    requires some { 0 < length firsts.now }
+    requires first { slice_index firsts.now 0 ≤ id }
+    ensures within { result < length firsts.now }
+    ensures from { slice_index firsts.now result ≤ id }
+    ensures next { result + 1 < length firsts.now → id < slice_index firsts.now (result + 1) }
+{
+    let mut low = 0;
+    let mut high = firsts.len();
+    'halve: while low + 1 < high {
+        let middle = low + (high - low) / 2;
+        if firsts[middle] <= id {
+            low = middle;
+        } else {
+            high = middle;
+        }
+    }
+    low
+}
+
+/// The number of the scalar of this name among the nets of identifiers, whose first nets have these numbers.
+fn find_scalar(
+    names: &Names,
+    identifiers: &[Identifier],
+    firsts: &[u32],
     name: &[u8],
-) -> Result<u32, Memory>
-    ensures number { IfOk result (λ id. slice_get names.new id ≡ Some name.now) }
-    ensures nets { (rows : List NetRow) → AreNets names.old rows numbers.old.items
-        → AreNets names.new rows numbers.new.items }
-    ensures same { (rows : List NetRow) → AreNets names.old rows numbers.old.items
-        → nets_with names.new rows ≡ nets_with names.old rows }
+) -> Option<u32>
+    requires { (count : ℕ) × AreNets names.now identifiers.now firsts.now count }
+    ensures { IsOnly is_scalar (nets_with names.now identifiers.now) name.now result }
 {
-    let count = names.len();
-    numbers.reserve(1)?;
-    let id = number_by_guess(names, &[guess], name)?;
-    names.are_distinct();
-    if id as usize == count {
-        numbers.push(0)?;
+    let id = names.find(name)? as usize;
+    match identifiers[id].range {
+        None => Some(firsts[id]),
+        Some(_) => None,
     }
-    Ok(id)
 }
 
-/// Puts a net last, where no net has its name. Whether none has it. Answers `Memory` where there is no room; nothing
-/// changes then.
-fn push_row(rows: &mut Vec<NetRow>, numbers: &mut Vec<u32>, row: NetRow) -> Result<bool, Memory>
-    requires { row.name < length numbers.old.items }
-    ensures new { IfOk result (λ new. new ≡ (slice_index numbers.old.items row.name == 0)) }
-    ensures last { IfOk result (λ new. rows.new.items ≡ (if new then rows.old.items ++ row ∷ [] else rows.old.items)) }
-    ensures unchanged { OnErr result (rows.new.items ≡ rows.old.items) }
-    ensures nets { (names : List (List ℕ)) → AreNets names rows.old.items numbers.old.items
-        → AreNets names rows.new.items numbers.new.items }
+/// The same of the bit of this name.
+fn find_bit(names: &Names, identifiers: &[Identifier], firsts: &[u32], name: &[u8]) -> Option<u32>
+    requires { (count : ℕ) × AreNets names.now identifiers.now firsts.now count }
+    ensures { IsOnly is_bit (nets_with names.now identifiers.now) name.now result }
 {
-    if numbers[row.name as usize] != 0 {
-        return Ok(false);
-    }
-    if MOST <= rows.len() {
-        return Err(Memory);
-    }
-    rows.push(row)?;
-    numbers[row.name as usize] = rows.len() as u32;
-    Ok(true)
+    let (base, bit) = bit_of(name)?;
+    let id = names.find(base)? as usize;
+    let range = identifiers[id].range?;
+    let place = range.place(bit)?;
+    Some(firsts[id] + place)
 }
 
 impl Nets {
-    /// No nets.
-    pub fn new(alloc: Global) -> Nets
-        ensures { result ≡ [] }
+    /// The nets of these identifiers, whose names these are. Answers `Memory` where there is no room, as where there
+    /// are 2^32 nets or more.
+    pub fn new(alloc: Global, names: Names, identifiers: Vec<Identifier>) -> Result<Nets, Memory>
+        requires { length identifiers.items ≡ length names }
+        ensures { IfOk result (λ nets. nets ≡ nets_with names identifiers.items) }
     {
-        Nets {
-            names: Names::new(alloc),
-            rows: Vec::new(alloc),
-            numbers: Vec::new(alloc),
-        }
-    }
-
-    /// No nets, where these are names that nets may have. Answers `Memory` where there is no room.
-    pub fn of_names(alloc: Global, names: Names) -> Result<Nets, Memory>
-        ensures { IfOk result (λ nets. nets ≡ []) }
-    {
-        let numbers = vec![in alloc; 0; names.len()]?;
+        let (firsts, count) = numbered(alloc, &identifiers)?;
         names.are_distinct();
         Ok(Nets {
             names,
-            rows: Vec::new(alloc),
-            numbers,
+            identifiers,
+            firsts,
+            count,
         })
     }
 
@@ -176,14 +157,14 @@ impl Nets {
         ensures count { result ≡ length self.now }
         ensures few { result < 2 ^ 32 }
     {
-        self.rows.len()
+        self.count as usize
     }
 
     /// A law: there are fewer than 2^32 nets.
     pub(crate) fn are_few(&self)
         ensures { length self.now < 2 ^ 32 }
     {
-        let _ = &self.rows;
+        let _ = &self.count;
     }
 
     /// The net of this number.
@@ -191,57 +172,53 @@ impl Nets {
         requires { id < length self.now }
         ensures { slice_get self.now id ≡ Some result }
     {
-        let row = self.rows[id as usize];
-        let name = self.names.name(row.name);
-        Net {
-            name,
-            base: &name[..(row.base as usize).min(name.len())],
-            bit: row.bit,
-            escaped: row.escaped,
-            port: row.port,
-            supply: row.supply,
+        let at = last_up_to(&self.firsts, id);
+        let place = id - self.firsts[at];
+        self.identifiers[at].net(self.names.name(at as u32), place as usize)
+    }
+
+    /// Where the nets of one identifier end, of which this is one.
+    pub fn run_end(&self, id: u32) -> u32
+        requires { id < length self.now }
+        ensures { IsRun self.now id result }
+    {
+        let next = last_up_to(&self.firsts, id) + 1;
+        match self.firsts.get(next) {
+            Some(first) => *first,
+            None => self.count,
         }
     }
 
-    /// The number of the net of this name. `None`: there is no such net. It takes no memory.
+    /// A law: no two scalars have one name, and no two bits.
+    pub fn are_apart(&self)
+        ensures { AreApart self.now }
+    {
+        let _ = &self.names;
+    }
+
+    /// The number of the bit of this name, which a scalar may have too. `None`: there is no such bit. It takes no
+    /// memory.
+    pub fn bit_named(&self, name: &[u8]) -> Option<u32>
+        ensures { IsOnly is_bit self.now name.now result }
+    {
+        find_bit(&self.names, &self.identifiers, &self.firsts, name)
+    }
+
+    /// The number of the first net of this name. `None`: there is no such net. It takes no memory.
     pub fn find(&self, name: &[u8]) -> Option<u32>
         ensures { result ≡ number_of (map (λ net. net.name) self.now) name.now }
     {
-        let id = self.names.find(name)?;
-        self.numbers[id as usize].checked_sub(1)
+        let scalar = find_scalar(&self.names, &self.identifiers, &self.firsts, name);
+        earlier(scalar, self.bit_named(name))
     }
 
-    /// The number of the net of this name, or how many nets there are.
+    /// The number of the first net of this name, or how many nets there are.
     pub fn number(&self, name: &[u8]) -> u32
         ensures { result ≡ number_in (map (λ net. net.name) self.now) name.now }
     {
         match self.find(name) {
             Some(id) => id,
-            None => self.rows.len() as u32,
+            None => self.count,
         }
-    }
-
-    /// Puts a net last, where its name is new. Whether it is. Answers `Memory` where there is no room, as where there
-    /// are 2^32 - 1 nets; nothing changes then.
-    pub fn push(&mut self, net: &Net<'_>) -> Result<bool, Memory>
-        requires { IsNamed net.now }
-        ensures new { IfOk result (λ new. new ≡ not (list_any (bytes_eq net.now.name) (map (λ n. n.name) self.old))) }
-        ensures last { IfOk result (λ new. self.new ≡ (if new then self.old ++ net.now ∷ [] else self.old)) }
-        ensures unchanged { OnErr result (self.new ≡ self.old) }
-    {
-        self.push_by(net, NO_NAME)
-    }
-
-    /// The same, where the net's name is compared with the name of this number first: a good guess spares its hash.
-    pub fn push_by(&mut self, net: &Net<'_>, guess: u32) -> Result<bool, Memory>
-        requires { IsNamed net.now }
-        ensures new { IfOk result (λ new. new ≡ not (list_any (bytes_eq net.now.name) (map (λ n. n.name) self.old))) }
-        ensures last { IfOk result (λ new. self.new ≡ (if new then self.old ++ net.now ∷ [] else self.old)) }
-        ensures unchanged { OnErr result (self.new ≡ self.old) }
-    {
-        let name = name_by_guess(&mut self.names, &mut self.numbers, guess, net.name)?;
-        let row = row_of(net, name)?;
-        let is_new = push_row(&mut self.rows, &mut self.numbers, row)?;
-        Ok(is_new)
     }
 }

@@ -4,5 +4,6 @@ pub mod PlaceLemmas
 pub mod StepLemmas
 pub mod LawLemmas
 pub mod TiedLemmas
+pub mod StretchLemmas
 pub mod TextLemmas
 pub mod ConnectionLemmas

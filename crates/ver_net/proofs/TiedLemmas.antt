@@ -14,12 +14,12 @@ use Rattle.ver_net.proofs.TerminalLemmas.{pin_at}
 
 -- ---- one of a list
 
-contains_from : (nets : List ℕ) (net : ℕ) → has nets net ≡ true → Contains nets net
+pub contains_from : (nets : List ℕ) (net : ℕ) → has nets net ≡ true → Contains nets net
 contains_from nets net h =
     let (k, x, within, at, same) = Any-from_list_any (λ n. n == net) nets h in
     subst (λ n. Contains nets n) (eqb-true x net same) (k, within, at)
 
-has_from : (nets : List ℕ) (net : ℕ) → Contains nets net → has nets net ≡ true
+pub has_from : (nets : List ℕ) (net : ℕ) → Contains nets net → has nets net ≡ true
 has_from nets net found = list_any_at (λ n. n == net) nets found.0 net found.1 (ap (λ n. n == net) found.2 ∙ eq-eqb net net refl)
 
 -- an element whose list has one that passes

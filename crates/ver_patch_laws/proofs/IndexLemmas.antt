@@ -23,8 +23,8 @@ use Rattle.ver_syntax.specs.Rows.{item_after, place_after, rows_of}
 use Rattle.ver_syntax.specs.Syntax.{IsModule}
 use Rattle.ver_syntax.proofs.TableLemmas.{each_kind, each_state}
 use Rattle.ver_syntax.proofs.PlaceLemmas.{place_at, start}
-use Rattle.ver_items.specs.declared.bits.Range.{Range}
-use Rattle.ver_items.specs.Bits.{bits_from, bits_of}
+use Rattle.ver_module.specs.declared.range.Range.{Range}
+use Rattle.ver_module.specs.Ranges.{bits_from, bits_of}
 use Rattle.ver_items.specs.Declarations.{Declared, begins_declaration, declarations_in, declare, declared_by, declared_in, declared_of, heading_of, numbers_in, range_in, range_of}
 use Rattle.ver_items.specs.Sections.{Section, bytes_at, is_net_name, is_place, items, number_at, stands_in}
 use Rattle.ver_patch.proofs.FrameLemmas.{Follow}

@@ -5,8 +5,8 @@ use Rattle.std.proofs.lemmas.Int.{clamps}
 use Rattle.name_tables.specs.Distinct.{AreNew}
 use Rattle.ver_syntax.specs.declared.row.Row.{Row}
 use Rattle.ver_syntax.specs.Rows.{rows_of}
-use Rattle.ver_items.specs.declared.bits.Range.{Range}
-use Rattle.ver_items.specs.Bits.{bits_from, bits_of}
+use Rattle.ver_module.specs.declared.range.Range.{Range}
+use Rattle.ver_module.specs.Ranges.{bits_from, bits_of}
 use Rattle.ver_items.specs.Declarations.{declared_of, range_in}
 use Rattle.ver_items.specs.Sections.{name_at}
 use Rattle.ver_module.specs.Netlists.{Net, net_name}

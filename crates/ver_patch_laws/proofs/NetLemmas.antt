@@ -6,7 +6,7 @@ use Rattle.std.proofs.lemmas.Option.{get_or_from_slice_get, same_Some, slice_get
 use Rattle.name_tables.specs.Distinct.{number_in, number_of}
 use Rattle.name_tables.proofs.NameTableLemmas.{is_number, number_known}
 use Rattle.ver_syntax.specs.declared.row.Row.{Row}
-use Rattle.ver_items.specs.Bits.{bits_of}
+use Rattle.ver_module.specs.Ranges.{bits_of}
 use Rattle.ver_items.specs.Declarations.{declared_of, direction_in, is_supply_in, range_in}
 use Rattle.ver_items.specs.Sections.{name_at}
 use Rattle.ver_module.specs.Netlists.{Net, net_name}

@@ -4,7 +4,7 @@ use Rattle.std.specs.Prelude.{find, option_and_then}
 use Rattle.std.specs.List.{list_any}
 use Rattle.std.specs.Str.{bytes_eq}
 use Rattle.std.proofs.lemmas.List.{map-append}
-use Rattle.ver_items.specs.declared.bits.Range.{Range}
+use Rattle.ver_module.specs.declared.range.Range.{Range}
 use Rattle.ver_items.specs.Declarations.{Declared, declared_of, range_in}
 use Rattle.ver_file.proofs.ListLemmas.{bytes_are}
 use Rattle.ver_patch_text_laws.proofs.TextLemmas.{Each}

@@ -4,7 +4,7 @@ use Rattle.std.specs.Prelude.{option_and_then, slice_get}
 use Rattle.std.specs.List.{All}
 use Rattle.std.proofs.lemmas.List.Elements.{All-contains}
 use Rattle.std.proofs.lemmas.Option.{same_Some}
-use Rattle.ver_items.specs.Bits.{bits_of}
+use Rattle.ver_module.specs.Ranges.{bits_of}
 use Rattle.ver_items.specs.Declarations.{declared_of, direction_in, is_supply_in}
 use Rattle.ver_module.specs.declared.direction.PortDir.{PortDir}
 use Rattle.ver_module.specs.declared.link.Link.{Link}

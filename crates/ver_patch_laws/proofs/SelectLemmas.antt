@@ -5,11 +5,12 @@ use Rattle.std.proofs.lemmas.Bool.Decides.{nat_tests}
 use Rattle.std.proofs.lemmas.Int.{clamps}
 use Rattle.std.proofs.lemmas.List.{get_or_default}
 use Rattle.std.proofs.lemmas.Option.{same_Some}
-use Rattle.ver_items.specs.declared.bits.Range.{Range}
+use Rattle.ver_module.specs.declared.range.Range.{Range}
 use Rattle.ver_items.specs.declared.bits.Select.{Select}
 use Rattle.ver_items.specs.declared.bits.Select.TheVariants.{Whole, Bit, Part}
-use Rattle.ver_items.specs.Bits.{bits_from, bits_of, fits, is_within, selected}
-use Rattle.ver_items.proofs.BitLemmas.{bit_place, falling, falling_bit, rising, rising_bit}
+use Rattle.ver_module.specs.Ranges.{bits_from, bits_of, is_within}
+use Rattle.ver_items.specs.Bits.{fits, selected}
+use Rattle.ver_module.proofs.RangeLemmas.{bit_place, falling, falling_bit, rising, rising_bit}
 use Rattle.ver_patch_text_laws.proofs.TextLemmas.{Each}
 use Rattle.ver_patch_laws.proofs.RelinkedLemmas.{In}
 use Rattle.ver_patch_laws.proofs.ApartLemmas.{Apart, apart_map, apart_places}

@@ -5,10 +5,11 @@ use Rattle.std.proofs.lemmas.Bool.{and_parts}
 use Rattle.std.proofs.lemmas.List.{map-append}
 use Rattle.std.proofs.lemmas.Option.{get_or_from_slice_get}
 use Rattle.ver_syntax.specs.declared.row.Row.{Row}
-use Rattle.ver_items.specs.declared.bits.Range.{Range}
+use Rattle.ver_module.specs.declared.range.Range.{Range}
 use Rattle.ver_items.specs.declared.bits.Select.{Select}
 use Rattle.ver_items.specs.declared.bits.Select.TheVariants.{Whole, Bit, Part}
-use Rattle.ver_items.specs.Bits.{bits_of, fits, is_single, select_before, selected}
+use Rattle.ver_module.specs.Ranges.{bits_of}
+use Rattle.ver_items.specs.Bits.{fits, is_single, select_before, selected}
 use Rattle.ver_items.specs.Sections.{Section, is_identifier, name_at, section_before, sections}
 use Rattle.ver_module.specs.declared.link.Link.TheVariants.{One, Many}
 use Rattle.ver_file.specs.Modules.{Denotes}

@@ -10,7 +10,7 @@ use Rattle.ver_text.specs.Names.{is_escaped, is_identifier as is_identifier_kind
 use Rattle.ver_syntax.specs.declared.row.Row.{Row}
 use Rattle.ver_syntax.specs.Rows.{rows_of}
 use Rattle.ver_syntax.specs.Syntax.{IsModule}
-use Rattle.ver_items.specs.Bits.{bits_of}
+use Rattle.ver_module.specs.Ranges.{bits_of}
 use Rattle.ver_items.specs.Declarations.{declared_of, range_in}
 use Rattle.ver_items.specs.Sections.{bytes_at, is_identifier, is_net_place, name_at}
 use Rattle.ver_module.specs.Netlists.{Net, Netlist}

@@ -7,10 +7,11 @@ use Rattle.std.proofs.lemmas.List.Sorted.{All-permutation}
 use Rattle.ver_text.specs.declared.kind.Kind.TheVariants.{Identifier}
 use Rattle.ver_syntax.specs.declared.row.Row.{Row}
 use Rattle.ver_syntax.specs.Grammar.{is}
-use Rattle.ver_items.specs.declared.bits.Range.{Range}
+use Rattle.ver_module.specs.declared.range.Range.{Range}
 use Rattle.ver_items.specs.declared.bits.Select.{Select}
 use Rattle.ver_items.specs.declared.bits.Select.TheVariants.{Whole, Bit, Part}
-use Rattle.ver_items.specs.Bits.{bits_of, fits, is_single, select_before}
+use Rattle.ver_module.specs.Ranges.{bits_of}
+use Rattle.ver_items.specs.Bits.{fits, is_single, select_before}
 use Rattle.ver_items.specs.Declarations.{declared_of, range_in}
 use Rattle.ver_items.specs.Sections.{is_identifier, section_before, sections}
 use Rattle.ver_file.specs.Flaws.{select_flaws}

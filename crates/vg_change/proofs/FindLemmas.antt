@@ -1,5 +1,5 @@
 -- The first of a list that passes a test, sought from the front.
-use Rattle.std.proofs.Common.{◌≡◌, ℕ, zero, suc, ◌+◌, Bool, true, false, cond, List, [], ◌∷◌, ◌++◌, take, find, refl, sym, ap, ◌∙◌, arith, Some, None}
+use Rattle.std.proofs.Common.{◌≡◌, ℕ, zero, suc, ◌+◌, ◌-◌, ◌<◌, ◌≤◌, Bool, true, false, cond, List, [], ◌∷◌, ◌++◌, take, find, refl, sym, ap, ◌∙◌, arith, Some, None}
 use Rattle.std.specs.List.{slice_get}
 
 module _ {X : Type 0} (test : X → Bool) where
@@ -29,6 +29,33 @@ module _ {X : Type 0} (test : X → Bool) where
       either : (t : Bool) → test y ≡ t → (find test (take i ys) ≡ None → find test ys ≡ Some x) → cond t (Some y) (find test ys) ≡ Some x
       either true e more = absurd (let h : Some y ≡ None = sym (ap (λ b. cond b (Some y) (find test (take i ys))) e) ∙ none in cc)
       either false e more = more (sym (ap (λ b. cond b (Some y) (find test (take i ys))) e) ∙ none)
+
+  -- nor does the next one, if there is one
+  none_next : (xs : List X) (i : ℕ) → ((x : X) → slice_get xs i ≡ Some x → test x ≡ false) → find test (take i xs) ≡ None → find test (take (i + 1) xs) ≡ None
+  none_next [] i misses none = ap (λ k. find test (take {A = X} k [])) (let e : i + 1 ≡ suc i = omega arith in e)
+  none_next (y ∷ ys) zero misses none = none_more (y ∷ ys) zero y refl (misses y refl) none
+  none_next (y ∷ ys) (suc i) misses none =
+      ap (λ k. find test (take k (y ∷ ys))) (let e : suc i + 1 ≡ suc (i + 1) = omega arith in e) ∙ either (test y) refl (none_next ys i misses)
+    where
+      either : (t : Bool) → test y ≡ t → (find test (take i ys) ≡ None → find test (take (i + 1) ys) ≡ None) → cond t (Some y) (find test (take (i + 1) ys)) ≡ None
+      either true e more = absurd (let h : Some y ≡ None = sym (ap (λ b. cond b (Some y) (find test (take i ys))) e) ∙ none in cc)
+      either false e more = more (sym (ap (λ b. cond b (Some y) (find test (take i ys))) e) ∙ none)
+
+  none_by : (xs : List X) (from k : ℕ) → ((n : ℕ) (x : X) → from ≤ n → n < from + k → slice_get xs n ≡ Some x → test x ≡ false) → find test (take from xs) ≡ None
+      → find test (take (from + k) xs) ≡ None
+  none_by xs from zero misses none = ap (λ m. find test (take m xs)) (let e : from + 0 ≡ from = omega arith in e) ∙ none
+  none_by xs from (suc k) misses none =
+      ap (λ m. find test (take m xs)) (let e : from + suc k ≡ from + k + 1 = omega arith in e)
+      ∙ none_next xs (from + k) (λ x at. misses (from + k) x (omega arith) (omega arith) at)
+      (none_by xs from k (λ n x low high at. misses n x low (omega (arith, high)) at) none)
+
+  -- none of the first ones passes, where none does up to one number nor from there on
+  pub none_up_to : (xs : List X) (from to : ℕ) → from ≤ to → ((n : ℕ) (x : X) → from ≤ n → n < to → slice_get xs n ≡ Some x → test x ≡ false) → find test (take from xs) ≡ None
+      → find test (take to xs) ≡ None
+  none_up_to xs from to some misses none =
+      let is : from + (to - from) ≡ to = omega (arith, some) in
+      ap (λ m. find test (take m xs)) (sym is)
+      ∙ none_by xs from (to - from) (λ n x low high at. misses n x low (omega (arith, high, some)) at) none
 
   -- what is found in the front is found in all
   pub found_front : (xs ys : List X) (x : X) → find test xs ≡ Some x → find test (xs ++ ys) ≡ Some x

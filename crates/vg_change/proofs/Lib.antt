@@ -1,4 +1,5 @@
 pub mod FindLemmas
+pub mod BeginLemmas
 pub mod SectionLemmas
 pub mod ChargeLemmas
 pub mod PosedLemmas

@@ -1,4 +1,5 @@
 pub mod Taken
+pub mod Named
 pub mod Placed
 pub mod Changes
 pub mod Patches

@@ -22,6 +22,7 @@ use crate::keeper::port_or_root;
 use crate::prefix::taken;
 use crate::rewires::push_rewires;
 use crate::sections::sections_text;
+use crate::taken_name::TakenName;
 use elmore::Placement;
 use name_tables::Texts;
 use spef_file::SpefIndex;
@@ -110,12 +111,16 @@ impl<'a> Changes<'a> {
     /// A name of the design that begins with the prefix is the error, since a new one could be the same: the first one
     /// of the instances of the netlist, its nets, the names that the SPEF file maps, and its nets, each in the order of
     /// its file.
-    pub fn new(alloc: Global, design: &'a Design, prefix: &'a [u8]) -> Result<Changes<'a>, &'a [u8]>
+    pub fn new(
+        alloc: Global,
+        design: &'a Design,
+        prefix: &'a [u8],
+    ) -> Result<Changes<'a>, TakenName<'a>>
         requires prefix { AllPass is_solid prefix.now }
         requires repeaters { All IsNamed design.now.library.repeaters }
         ensures made { IfOk result (λ changes. changes ≡ nothing design.now prefix.now) }
         ensures free { IfOk result (λ _. taken design.now prefix.now ≡ None) }
-        ensures taken { IfErr result (λ name. taken design.now prefix.now ≡ Some name.now) }
+        ensures taken { IfErr result (λ name. taken design.now prefix.now ≡ Some name) }
     {
         if let Some(name) = taken(design, prefix) {
             return Err(name);

@@ -80,9 +80,9 @@ module _ (port : Net) where
 
   port_end_is : (at : NodeName) → is_port_end port at ≡ true → ((direction : PortDir) × (port.port ≡ Some direction)) × (at ≡ port_name)
   port_end_is at e =
-      let parts = and_parts (is_some port.port) (bytes_eq at.owner port.name && is_port at) e in
-      let rest = and_parts (bytes_eq at.owner port.name) (is_port at) parts.1 in
-      let owner = (bytes_eq-Decides at.owner port.name).0 rest.0 in
+      let parts = and_parts (is_some port.port) (bytes_eq port.name at.owner && is_port at) e in
+      let rest = and_parts (bytes_eq port.name at.owner) (is_port at) parts.1 in
+      let owner = sym ((bytes_eq-Decides port.name at.owner).0 rest.0) in
       let leaf = no_leaf at.leaf rest.1 in
       (is_some_at port.port parts.0, λ i. record { owner = owner i; leaf = leaf i })
 

@@ -106,7 +106,7 @@ FindsPins d n None = (at : NodeName) × (has_node (pin_names d n) at ≡ true) �
 
 -- a name is that of the port that a net of the netlist is
 abbrev pub is_port_end : ModuleNet → NodeName → Bool
-is_port_end net at = is_some net.port && (bytes_eq at.owner net.name && is_port at)
+is_port_end net at = is_some net.port && (bytes_eq net.name at.owner && is_port at)
 
 -- each connection has a pin, or is the port
 pub record AreEnds (port : ModuleNet) (net : ParNet) (pins : List (Option PinRef)) : Type 0 where

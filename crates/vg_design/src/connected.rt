@@ -47,7 +47,7 @@ fn is_port_end(module_net: &Net<'_>, net: &ParNet, conn: &ParConn) -> bool
 {
     let at = conn.node as usize;
     module_net.port.is_some()
-        && net.nodes.owner(at) == module_net.name
+        && module_net.is_named(net.nodes.owner(at))
         && net.nodes.leaf(at).is_empty()
 }
 

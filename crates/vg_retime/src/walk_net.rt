@@ -191,8 +191,9 @@ fn name_of_net(alloc: Global, design: &Design, id: u32) -> Result<Name, Memory>
     requires { id < length design.now.netlist.nets }
     ensures { IfOk result (λ name. name ≡ net_name design.now id) }
 {
-    let net = design.netlist().net(id);
-    let name = Name::from_bytes(alloc, net.name)?;
+    let mut bytes = Vec::new(alloc);
+    design.netlist().net(id).push_name(&mut bytes)?;
+    let name = Name::from_bytes(alloc, &bytes)?;
     Ok(name)
 }
 

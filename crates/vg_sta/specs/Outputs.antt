@@ -1,16 +1,12 @@
 -- The outputs of instances: for the functions between.
-use Rattle.std.specs.Prelude.{ℕ, List, [], ◌∷◌, length, map, slice_index_or, Option, Some, None}
-use Rattle.std.specs.List.{filter_map, range_with_len}
+use Rattle.std.specs.Prelude.{ℕ, List, [], ◌∷◌, map, slice_index_or, Option, Some, None}
+use Rattle.std.specs.List.{filter_map}
 use Rattle.lib_linear.specs.Libraries.{related_to}
 use Rattle.ver_module.specs.Netlists.{Instance, Pin}
 use Rattle.ver_module.specs.declared.link.Link.{Link}
 use Rattle.ver_module.specs.declared.link.Link.TheVariants.{Open, One, Many}
 use Rattle.vg_design.specs.Designs.{Design, NO_INSTANCE}
 use Rattle.vg_sta.specs.Graphs.{section_of}
-
--- for each net of the netlist its section
-abbrev pub sections_in : Design → List (Option ℕ)
-sections_in d = map (section_of d) (range_with_len 0 (length d.netlist.nets))
 
 -- An output that is linked to one net, which has a section, and the pins that it names as related, at least one.
 pub record Onward : Type 0 where

@@ -1,12 +1,15 @@
 //! The outputs of instances, and where these lead.
 
-ghost use Rattle.std.specs.Prelude.{◌≡◌, ◌<◌, ◌++◌, [], length, slice_index_or, IfOk, OnOk};
+ghost use Rattle.std.specs.Prelude.{◌≡◌, ◌<◌, ◌≤◌, ◌^◌, ◌++◌, [], length, slice_index_or, IfOk, MatchOption, OnOk};
 ghost use Rattle.std.specs.List.{All, filter_map};
+ghost use Rattle.lib_linear.specs.Libraries.{related_to};
 ghost use Rattle.ver_module.specs.Links.{lent_link};
 ghost use Rattle.ver_module.specs.Netlists.{IsWithin};
+ghost use Rattle.vg_design.specs.Designs.{net_names};
 ghost use Rattle.vg_sta.specs.Spans.{IsPut};
-ghost use Rattle.vg_sta.specs.Outputs.{onward_at, onward_by, onward_of, outputs_in, section_by, sections_in};
+ghost use Rattle.vg_sta.specs.Outputs.{onward_at, onward_by, onward_of, outputs_in, section_by};
 
+use crate::sections::section_of;
 use name_tables::Names;
 use std::alloc::Global;
 use std::marker::Model;
@@ -57,67 +60,86 @@ impl<'a> Model for Outputs<'a> {
     ghost invariant = { λ all. AreSpans all.spans.items all.outputs.items };
 }
 
-/// The section of the one net of a link, if it is linked to one that has one.
-fn section_by(design: &Design, sections: &[Option<u32>], link: LinkRef<'_>) -> Option<u32>
-    requires sections { sections.now ≡ sections_in design.now }
+/// The section of the one net of a link, if it is linked to one that has one. What stands in `name` before does not
+/// matter.
+fn section_by(design: &Design, link: LinkRef<'_>, name: &mut Vec<u8>) -> Result<Option<u32>, Memory>
+    requires sections { length (net_names design.now.spef) ≤ 2 ^ 30 }
     requires within { IsWithin (length design.now.netlist.nets) (lent_link link) }
-    ensures { result ≡ section_by design.now (lent_link link.entry) }
+    ensures { IfOk result (λ section. section ≡ section_by design.now (lent_link link.entry)) }
 {
-    let _ = design;
     match link {
-        LinkRef::One(net) => sections[net as usize],
-        _ => None,
+        LinkRef::One(net) => {
+            let section = section_of(design, net, name)?;
+            Ok(section)
+        }
+        _ => Ok(None),
     }
 }
 
-/// The output that a pin of a cell is, if it names related pins and is linked to one net that has a section.
-fn output_by<'a>(
-    design: &'a Design,
-    sections: &[Option<u32>],
-    cell: &[u8],
-    pin: &Pin<'_>,
-) -> Option<Output<'a>>
-    requires sections { sections.now ≡ sections_in design.now }
-    requires within { IsWithin (length design.now.netlist.nets) pin.now.link }
-    ensures { result ≡ onward_by design.now cell.now pin.now }
+/// The pins that a pin of a cell names as related, if it names some.
+fn some_related<'a>(design: &'a Design, cell: &[u8], pin: &[u8]) -> Option<&'a Names>
+    ensures { MatchOption result (related_to design.now.library cell.now pin.now ≡ []) (λ related.
+        (related.now ≡ related_to design.now.library cell.now pin.now) × (0 < length related.now)) }
 {
-    let section = section_by(design, sections, pin.link)?;
-    let related = design.related(cell, pin.name)?;
+    let related = design.related(cell, pin)?;
     if related.is_empty() {
         None
     } else {
-        Some(Output { section, related })
+        Some(related)
     }
 }
 
-/// Puts the outputs of an instance last.
+/// The output that a pin of a cell is, if it names related pins and is linked to one net that has a section. What
+/// stands in `name` before does not matter.
+fn output_by<'a>(
+    design: &'a Design,
+    cell: &[u8],
+    pin: &Pin<'_>,
+    name: &mut Vec<u8>,
+) -> Result<Option<Output<'a>>, Memory>
+    requires sections { length (net_names design.now.spef) ≤ 2 ^ 30 }
+    requires within { IsWithin (length design.now.netlist.nets) pin.now.link }
+    ensures { IfOk result (λ output. output ≡ onward_by design.now cell.now pin.now) }
+{
+    let Some(related) = some_related(design, cell, pin.name) else {
+        return Ok(None);
+    };
+    match section_by(design, pin.link, name)? {
+        Some(section) => Ok(Some(Output { section, related })),
+        None => Ok(None),
+    }
+}
+
+/// Puts the outputs of an instance last. What stands in `name` before does not matter.
 fn push_outputs<'a>(
     design: &'a Design,
-    sections: &[Option<u32>],
     instance: &Instance<'_>,
+    name: &mut Vec<u8>,
     outputs: &mut Vec<Output<'a>>,
 ) -> Result<(), Memory>
-    requires sections { sections.now ≡ sections_in design.now }
+    requires sections { length (net_names design.now.spef) ≤ 2 ^ 30 }
     requires within { All (λ pin. IsWithin (length design.now.netlist.nets) pin.link) instance.now.pins }
     ensures { OnOk result (outputs.new.items ≡ outputs.old.items ++ onward_of design.now instance.now) }
 {
     'pin: for at in 0..instance.len() {
         let pin = instance.pin(at);
-        if let Some(output) = output_by(design, sections, instance.cell, &pin) {
+        let found = output_by(design, instance.cell, &pin, name)?;
+        if let Some(output) = found {
             outputs.push(output)?;
         }
     }
     Ok(())
 }
 
-/// Puts the outputs of the instance of this number last, and answers where they stand.
+/// Puts the outputs of the instance of this number last, and answers where they stand. What stands in `name` before
+/// does not matter.
 fn push_instance<'a>(
     design: &'a Design,
-    sections: &[Option<u32>],
     at: usize,
+    name: &mut Vec<u8>,
     outputs: &mut Vec<Output<'a>>,
 ) -> Result<OutputSpan, Memory>
-    requires sections { sections.now ≡ sections_in design.now }
+    requires sections { length (net_names design.now.spef) ≤ 2 ^ 30 }
     requires instance { at < length design.now.netlist.instances }
     ensures { IfOk result (IsPut (onward_at design.now at) outputs.old.items outputs.new.items) }
 {
@@ -126,7 +148,7 @@ fn push_instance<'a>(
     let Ok(from) = u32::try_from(outputs.len()) else {
         return Err(Memory);
     };
-    push_outputs(design, sections, &netlist.instance(at), outputs)?;
+    push_outputs(design, &netlist.instance(at), name, outputs)?;
     let Ok(to) = u32::try_from(outputs.len()) else {
         return Err(Memory);
     };
@@ -135,19 +157,16 @@ fn push_instance<'a>(
 
 impl<'a> Outputs<'a> {
     /// The outputs of all instances of a design.
-    pub fn of(
-        alloc: Global,
-        design: &'a Design,
-        sections: &[Option<u32>],
-    ) -> Result<Outputs<'a>, Memory>
-        requires { sections.now ≡ sections_in design.now }
+    pub fn of(alloc: Global, design: &'a Design) -> Result<Outputs<'a>, Memory>
+        requires { length (net_names design.now.spef) ≤ 2 ^ 30 }
         ensures { IfOk result (λ outputs. outputs ≡ outputs_in design.now) }
     {
         let count = design.netlist().instance_count();
         let mut spans = Vec::with_capacity(alloc, count)?;
         let mut outputs = Vec::with_capacity(alloc, count)?;
+        let mut name = Vec::new(alloc);
         'instance: for at in 0..count {
-            spans.push(push_instance(design, sections, at, &mut outputs)?)?;
+            spans.push(push_instance(design, at, &mut name, &mut outputs)?)?;
         }
         Ok(Outputs { spans, outputs })
     }

@@ -1,36 +1,41 @@
 //! Which net of the netlist has a section in the SPEF file.
 
-ghost use Rattle.std.specs.Prelude.{◌≡◌, ◌<◌, ◌≤◌, ◌^◌, length, IfOk};
+ghost use Rattle.std.specs.Prelude.{◌≡◌, ◌<◌, ◌≤◌, ◌^◌, length, IfOk, IfSome};
+ghost use Rattle.name_tables.specs.Distinct.{number_of};
 ghost use Rattle.vg_design.specs.Designs.{net_names};
 ghost use Rattle.vg_sta.specs.Graphs.{section_of};
-ghost use Rattle.vg_sta.specs.Outputs.{sections_in};
 
-use std::alloc::Global;
+use ver_module::Net;
 use vg_design::Design;
 use vg_num::Memory;
 
-/// The section of the net of this number in the netlist, if it has one.
-fn section_of(design: &Design, id: u32) -> Option<u32>
-    requires sections { length (net_names design.now.spef) ≤ 2 ^ 30 }
-    requires net { id < length design.now.netlist.nets }
-    ensures { result ≡ section_of design.now id }
+/// The place of the section of a net, if it has one. What stands in `name` before does not matter.
+fn place_of(design: &Design, net: &Net<'_>, name: &mut Vec<u8>) -> Result<Option<usize>, Memory>
+    ensures place { IfOk result (λ place. place ≡ number_of (net_names design.now.spef) net.now.name) }
+    ensures within { IfOk result (λ place. IfSome place (λ at. at < length (net_names design.now.spef))) }
 {
-    match design.find_section(design.netlist().net(id).name) {
-        Some(at) => Some(at as u32),
-        None => None,
+    if net.bit.is_none() {
+        return Ok(design.find_section(net.base));
     }
+    name.clear();
+    net.push_name(name)?;
+    Ok(design.find_section(name))
 }
 
-/// For each net of the netlist its section, if it has one.
-pub(crate) fn sections_of(alloc: Global, design: &Design) -> Result<Vec<Option<u32>>, Memory>
-    requires { length (net_names design.now.spef) ≤ 2 ^ 30 }
-    ensures { IfOk result (λ sections. sections.items ≡ sections_in design.now) }
+/// The section of the net of this number in the netlist, if it has one. The name of a bit is made in `name`: what
+/// stands there before does not matter.
+pub(crate) fn section_of(
+    design: &Design,
+    id: u32,
+    name: &mut Vec<u8>,
+) -> Result<Option<u32>, Memory>
+    requires sections { length (net_names design.now.spef) ≤ 2 ^ 30 }
+    requires net { id < length design.now.netlist.nets }
+    ensures { IfOk result (λ section. section ≡ section_of design.now id) }
 {
-    let netlist = design.netlist();
-    netlist.is_sound();
-    let mut sections = Vec::with_capacity(alloc, netlist.net_count())?;
-    'net: for id in 0..netlist.net_count() {
-        sections.push(section_of(design, id as u32))?;
+    let net = design.netlist().net(id);
+    match place_of(design, &net, name)? {
+        Some(at) => Ok(Some(at as u32)),
+        None => Ok(None),
     }
-    Ok(sections)
 }

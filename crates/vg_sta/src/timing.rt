@@ -10,7 +10,6 @@ use crate::answer::{Sta, StaFault, StaNet};
 use crate::build::{Lists, lists_of};
 use crate::leads::MOST;
 use crate::outputs::Outputs;
-use crate::sections::sections_of;
 use spef_wire::Refused;
 use sta_graph::{Graph, SlackFault, Slacks, time_graph};
 use std::alloc::Global;
@@ -31,8 +30,7 @@ fn graph_of(alloc: Global, design: &Design) -> Result<Listed, StaFault>
     ensures graph { IfOk result (IsListedGraph design.now) }
     ensures fault { IfErr result (IsFault design.now) }
 {
-    let sections = sections_of(alloc, design)?;
-    let outputs = Outputs::of(alloc, design, &sections)?;
+    let outputs = Outputs::of(alloc, design)?;
     let Lists {
         arrivals,
         sinks,

@@ -5,6 +5,6 @@ use Rattle.ver_file.proofs.build.push_assigned.Given as goal
 abbrev pub invariant-name : goal.invariant-name
 invariant-name l = record {
   left :
-      l.to.items ++ flat_map (nets_named l.scope.text.now) l.name-iterator
-      ≡ l.initial.to.items ++ flat_map (nets_named l.scope.text.now) l.initial.name-iterator;
+      l.to ++ flat_map (nets_named l.scope.text.now) l.name-iterator
+      ≡ l.initial.to ++ flat_map (nets_named l.scope.text.now) l.initial.name-iterator;
 }

@@ -28,7 +28,7 @@ item-init c =
       grammar = ap (λ ss. first_of None (flat_map (syntax_flaws text) ss)) c.new-items.ensures;
       first = λ none. none;
       instances = λ none. sym (λ i. c.new-instances.ensures i ++ flat_map (instances_by text) (c.new-items.ensures i));
-      assigned = λ none. sym (λ i. c.new-assigned.ensures.items i ++ flat_map (assigned_by text) (c.new-items.ensures i));
+      assigned = λ none. sym (λ i. c.new-assigned.ensures i ++ flat_map (assigned_by text) (c.new-items.ensures i));
       end = ap end_in (sym (ap rows_in c.new-items.ensures ∙ items_hold text));
     }
 
@@ -73,10 +73,10 @@ item-preserved-in-Continue-branch-5 c =
           built_more (instances_by text) c.item.instances c.push_instances.new.to (instances_of text) c.item.items left rows c.deref-rows.result.now c.of.result
           (c.item.invariant.instances (before none)) c.in_ok-read.ensures.next c.deref-rows.ensures.value c.of.ensures c.in_ok-push_instances.ensures;
       assigned = λ none.
-          built_more (assigned_by text) c.item.assigned.items c.push_assigned.new.to.items (assigned_of text) c.item.items left rows c.deref-rows.result.now c.of.result
+          built_more (assigned_by text) c.item.assigned c.push_assigned.new.to (assigned_of text) c.item.items left rows c.deref-rows.result.now c.of.result
           (c.item.invariant.assigned (before none)) c.in_ok-read.ensures.next c.deref-rows.ensures.value c.of.ensures
           (c.in_ok-push_assigned.ensures
-          ∙ ap (λ ss. c.item.assigned.items ++ flat_map (nets_named text) ss) (other_assigned text c.deref-rows.result.now c.others_in-others.result.now c.after_first.result.now c.of.result c.others_in-others.ensures c.after_first.ensures c.of.ensures));
+          ∙ ap (λ ss. c.item.assigned ++ flat_map (nets_named text) ss) (other_assigned text c.deref-rows.result.now c.others_in-others.result.now c.after_first.result.now c.of.result c.others_in-others.ensures c.after_first.ensures c.of.ensures));
       end =
           next_end c.item.end c.or-end.result (end_in (rows_of text)) c.item.items left rows c.deref-rows.result.now c.in_ok-read.ensures.next c.deref-rows.ensures.value
           (c.or-end.ensures ∙ ap (option_or c.item.end) (c.end_in.ensures ∙ other_end c.deref-rows.result.now c.others_in-others.result.now c.others_in-others.ensures)) c.item.invariant.end;
@@ -120,6 +120,6 @@ returns c =
     record {
       firsts = firsts;
       instances = λ e. items_done (instances_by text) c.item.instances (instances_of text) c.item.items (c.item.invariant.instances (flawless text c.item.firsts firsts e)) none;
-      assigned = λ e. items_done (assigned_by text) c.item.assigned.items (assigned_of text) c.item.items (c.item.invariant.assigned (flawless text c.item.firsts firsts e)) none;
+      assigned = λ e. items_done (assigned_by text) c.item.assigned (assigned_of text) c.item.items (c.item.invariant.assigned (flawless text c.item.firsts firsts e)) none;
       end = last_end c.item.end (end_in (rows_of text)) c.item.items none c.item.invariant.end;
     }

@@ -16,7 +16,7 @@ invariant-item l = record {
   grammar : first_of l.firsts.grammar (flat_map (syntax_flaws l.scope.text.now) l.items) ≡ first_of None (grammar_flaws l.scope.text.now);
   first : l.firsts.clash ≡ None → l.initial.firsts.clash ≡ None;
   instances : IsFlawless l.firsts → instances_of l.scope.text.now ≡ l.instances ++ flat_map (instances_by l.scope.text.now) l.items;
-  assigned : IsFlawless l.firsts → assigned_of l.scope.text.now ≡ l.assigned.items ++ flat_map (assigned_by l.scope.text.now) l.items;
+  assigned : IsFlawless l.firsts → assigned_of l.scope.text.now ≡ l.assigned ++ flat_map (assigned_by l.scope.text.now) l.items;
   end : end_in (rows_of l.scope.text.now) ≡ option_or l.end (end_in (rows_in l.items));
 }
 

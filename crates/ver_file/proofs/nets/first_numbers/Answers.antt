@@ -1,6 +1,6 @@
 use Rattle.std.proofs.Common.{◌≡◌, ◌++◌, [], drop, length, sym, ap, ◌∙◌, arith}
 use Rattle.std.proofs.lemmas.List.{append-nil, drop_all}
-use Rattle.ver_items.specs.Bits.{bits_of}
+use Rattle.ver_module.specs.Ranges.{bits_of}
 use Rattle.ver_file.specs.Nets.{tokens_of_nets}
 use Rattle.ver_file.proofs.NumberLemmas.{counted_next, next_count, no_numbers, numbered_next}
 use Rattle.ver_file.proofs.nets.first_numbers.Goals as goal

@@ -1,4 +1,4 @@
-use Rattle.std.proofs.Common.{◌<◌, ℕ, List, length, sym, ◌∙◌, subst}
+use Rattle.std.proofs.Common.{◌<◌, ℕ, List, length, sym, subst}
 use Rattle.std.specs.List.{All}
 use Rattle.ver_module.specs.Netlists.{AreWithin, Instance, Net}
 use Rattle.ver_file.specs.Netlists.{assigned_of, instances_of}
@@ -12,5 +12,5 @@ new-requires-clause-links c =
 
 pub new-requires-clause-assigned : goal.new-requires-clause-assigned
 new-requires-clause-assigned c =
-    subst (λ (ns : List ℕ). All (λ n. n < length c.args.nets) ns) (sym (c.from_vec.ensures ∙ c.requires.body.assigned c.requires.flawless))
+    subst (λ (ns : List ℕ). All (λ n. n < length c.args.nets) ns) (sym (c.requires.body.assigned c.requires.flawless))
     (subst (λ (nets : List Net). All (λ n. n < length nets) (assigned_of c.args.text.now)) (sym c.requires.nets) (assigned_within c.args.text.now c.requires.flawless))

@@ -5,6 +5,6 @@ use Rattle.ver_file.proofs.scope.Scope.nets_in.Given as goal
 abbrev pub invariant-name : goal.invariant-name
 invariant-name l = record {
   left :
-      l.nets.items ++ flat_map (nets_named l.self.text.now) l.name-iterator
-      ≡ l.initial.nets.items ++ flat_map (nets_named l.self.text.now) l.initial.name-iterator;
+      l.nets ++ flat_map (nets_named l.self.text.now) l.name-iterator
+      ≡ l.initial.nets ++ flat_map (nets_named l.self.text.now) l.initial.name-iterator;
 }

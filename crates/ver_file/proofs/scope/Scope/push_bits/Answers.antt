@@ -1,5 +1,5 @@
 use Rattle.std.proofs.Common.{◌<◌, ◌+◌, ◌++◌, ◌∷◌, [], Some, drop, map, length, sym, ap, ◌∙◌, arith, append_assoc}
-use Rattle.ver_items.specs.Bits.{bits_from}
+use Rattle.ver_module.specs.Ranges.{bits_from}
 use Rattle.ver_file.specs.Netlists.{number_of_bit}
 use Rattle.ver_file.proofs.FirstLemmas.{next_bit}
 use Rattle.ver_file.proofs.scope.Scope.push_bits.Goals as goal
@@ -13,8 +13,8 @@ turn-preserved c =
     let rest = map f (map Some (drop (c.turn.at + 1) bits)) in
     record {
       left =
-          ap (λ items. items ++ rest) (c.in_ok-push.ensures.items ∙ ap (λ n. c.turn.to.items ++ n ∷ []) c.in_ok-number.ensures)
-          ∙ append_assoc c.turn.to.items (f (Some c.bit.result) ∷ []) rest
-          ∙ ap (λ ns. c.turn.to.items ++ ns) (sym e)
+          ap (λ items. items ++ rest) (c.in_ok-push.ensures.last ∙ ap (λ n. c.turn.to ++ n ∷ []) c.in_ok-number.ensures)
+          ∙ append_assoc c.turn.to (f (Some c.bit.result) ∷ []) rest
+          ∙ ap (λ ns. c.turn.to ++ ns) (sym e)
           ∙ c.turn.invariant.left;
     }

@@ -3,4 +3,5 @@ use Rattle.ver_module.proofs.NetLemmas.{count_nets}
 use Rattle.ver_module.proofs.nets.Nets.are_few.Goals as goal
 
 pub returns : goal.returns
-returns c = omega (arith, c.self.invariant.few, count_nets c.self.inside.names c.self.inside.rows.items, ap length c.self.view_is)
+returns c =
+    omega (arith, c.self.invariant.few, c.self.invariant.counts, count_nets c.self.inside.names c.self.inside.identifiers.items c.self.invariant.named, ap length c.self.view_is)

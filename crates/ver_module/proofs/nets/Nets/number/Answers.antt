@@ -1,4 +1,4 @@
-use Rattle.std.proofs.Common.{◌≡◌, length, map, sym, ap, ◌∙◌, rules}
+use Rattle.std.proofs.Common.{length, map, sym, ap, ◌∙◌}
 use Rattle.std.proofs.lemmas.List.{length-map}
 use Rattle.name_tables.proofs.NameTableLemmas.{absent_of, no_place}
 use Rattle.ver_module.proofs.NetLemmas.{count_nets}
@@ -6,7 +6,6 @@ use Rattle.ver_module.proofs.nets.Nets.number.Goals as goal
 
 pub returns-in-None : goal.returns-in-None
 returns-in-None c =
-    let e : c.len.result ≡ length c.self.inside.rows.items = search rules in
-    e ∙ sym (count_nets c.self.inside.names c.self.inside.rows.items) ∙ ap length c.self.view_is
+    c.self.invariant.counts ∙ sym (count_nets c.self.inside.names c.self.inside.identifiers.items c.self.invariant.named) ∙ ap length c.self.view_is
     ∙ sym (length-map c.args.self.now (λ net. net.name))
     ∙ sym (no_place (map (λ net. net.name) c.args.self.now) c.args.name.now (absent_of (map (λ net. net.name) c.args.self.now) c.args.name.now (sym c.in-None.is ∙ c.find.ensures)))
