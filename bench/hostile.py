@@ -4,9 +4,10 @@
     hostile.py PROGRAM [--count N]
 
 PROGRAM is the proved program, crates/vginsert/out/vginsert, which `make` builds. Each row is two runs of mode `time` on
-one net, or of the mode that the row names: the hostile one has names that the program's hashes put into one chain, or
-few words that stand for much, N times over (12,000 if it is not given); the plain one has as many names or words without that. Seconds are the
-least of three runs of the whole process; memory is the peak, and its factor is that over the bytes of all files.
+one net, or of mode `best` where cells may not stand everywhere: the hostile one has names that the program's hashes put
+into one chain, or few words that stand for much, N times over (12,000 if it is not given); the plain one has as many
+names or words without that. Seconds are the least of three runs of the whole process; memory is the peak that GNU time
+tells, and its factor is that over the bytes of all files.
 """
 import argparse
 import os
@@ -77,7 +78,7 @@ def leaves(count, step):
     found, at = [], 0
     while len(found) < count:
         value, digits = at * step, []
-        for _ in range(9):
+        for _ in range(12):
             digits.append(value % 11)
             value //= 11
         if value == 0 and max(digits) < 10:
@@ -122,7 +123,7 @@ def on_one_cell(count, cell_pins):
     verilog += ", ".join(f".{pin}(n1)" for pin in pins) + ");\nendmodule\n"
     rows = "".join(f"pin (q{at}) {{ direction : input; capacitance : 2; }}\n" for at in range(cell_pins))
     rows += f"pin ({', '.join(pins)}) {{ direction : input; capacitance : 2; }}\n"
-    return {"spef": spef, "v": verilog, "lib": library(f"cell (BIG) {{ {rows} }}\n"), "cons": "vgcons 1\ndefault 400\n"}
+    return {"spef": spef, "v": verilog, "lib": library(f"cell (BIG) {{ {rows} }}\n"), "cons": "vgcons 1\ndefault required 400\n"}
 
 
 def boxes(count, overlapping):
@@ -143,11 +144,11 @@ def rows(count):
     hostile, plain = colliding_names(count), plain_names(count)
     many = min(count, 60000)
     bits = 2**16
-    best = ["best"]
+    best = ["best", "--out-spef", "out.spef", "--out-verilog", "out.v"]
     return [
         ("names of sections", {"spef": sections(hostile)}, {"spef": sections(plain)}),
         ("indices of a name map", {"spef": name_map(hostile)}, {"spef": name_map(plain)}),
-        ("nodes of a net", {"spef": chain(leaves(many, 2**17))}, {"spef": chain([str(10**9 + at) for at in range(many)])}),
+        ("nodes of a net", {"spef": chain(leaves(many, 2**17))}, {"spef": chain([str(10**12 + at) for at in range(many)])}),
         ("wires", {"v": module("".join(f"wire {name};\n" for name in hostile))},
          {"v": module("".join(f"wire {name};\n" for name in plain))}),
         ("instances", {"v": module("".join(f"BUF {name} ();\n" for name in hostile))},
@@ -195,16 +196,16 @@ def run(program, folder, files, words):
     best, peak, status = None, 0, 0
     for _ in range(3):
         start = time.perf_counter()
-        process = subprocess.Popen([program, "--mode", *words, *options, "--net", "n1"], cwd=folder,
-                                   stdout=subprocess.DEVNULL, stderr=subprocess.DEVNULL)
-        _, status, usage = os.wait4(process.pid, 0)
+        # Not the usage that Python tells of a child: that counts what the child was before it became the program.
+        status = subprocess.run(["/usr/bin/time", "-q", "-o", "peak", "-f", "%M", program, "--mode", *words, *options, "--net", "n1"],
+                                cwd=folder, stdout=subprocess.DEVNULL, stderr=subprocess.DEVNULL).returncode
         seconds = time.perf_counter() - start
-        process.returncode = status
         best = seconds if best is None else min(best, seconds)
-        peak = usage.ru_maxrss * 1024
+        with open(os.path.join(folder, "peak")) as told:
+            peak = int(told.read()) * 1024
         if seconds > 10:
             break
-    return total, best, peak, os.waitstatus_to_exitcode(status)
+    return total, best, peak, status
 
 
 def main():
