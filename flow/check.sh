@@ -3,7 +3,7 @@
 #
 #     flow/check.sh [FOLDER]
 #
-# FOLDER (a new one under /tmp without the word) gets all files. It takes two to three minutes and needs OpenSTA, yosys
+# FOLDER (a new one under /tmp without the word) gets all files. It takes about a minute and needs OpenSTA, yosys
 # and the osu035 library of qflow, a library of tables for a 0.35 µm process: where they are missing, they are installed
 # with apt-get, as root. The program is $VGINSERT, else ./vginsert of the repository, which is built first where it is
 # not.
