@@ -9,7 +9,6 @@ use Rattle.std.specs.Prelude.{option_map, slice_get}
 use Rattle.std.proofs.lemmas.List.{length-map}
 use Rattle.std.proofs.lemmas.Option.{get_or_from_slice_get, slice_get-get_or, slice_get-map, slice_get_within}
 use Rattle.name_tables.specs.Distinct.{number_of}
-use Rattle.name_tables.specs.NameTables.{AreDistinct}
 use Rattle.name_tables.proofs.ChainLemmas.{lt_or_le}
 use Rattle.name_tables.proofs.NameTableLemmas.{absent_of, eq_no, known_of, no_number}
 use Rattle.ver_module.specs.declared.net.Identifier.{Identifier}
@@ -20,16 +19,8 @@ use Rattle.ver_module.specs.Names.{AreApart, IsBitName, IsNoBitName}
 use Rattle.ver_module.specs.Names.{IsOf, IsOnly, is_bit, is_scalar}
 use Rattle.ver_module.specs.Flat.{AreNets, IsBounded, IsPlace, count_in, earlier}
 use Rattle.ver_module.proofs.BitNameLemmas.{one_bit}
-use Rattle.ver_module.proofs.NetLemmas.{count_firsts, count_nets, first_at, net_at, stands}
+use Rattle.ver_module.proofs.NetLemmas.{count_firsts, count_nets, first_at, net_at, own_number, stands}
 use Rattle.ver_module.proofs.RangeLemmas.{bit_below, bit_inside_range, place_of_bit}
-
--- distinct names have numbers of their own
-own_number : (names : List (List ℕ)) (i j : ℕ) → AreDistinct names → i < length names → j < length names → get_or names i [] ≡ get_or names j [] → i ≡ j
-own_number names i j distinct li lj e =
-    elim (lt_or_le i j) as (λ _. i ≡ j) [
-      | inl less ↦ absurd (distinct i j less lj e)
-      | inr ge ↦ elim (lt_or_le j i) as (λ _. i ≡ j) [ inl more ↦ absurd (distinct j i more li (sym e)) | inr le ↦ omega arith ]
-    ]
 
 -- a net of a kind, as it stands among those of its identifier
 pub record Found (names : List (List ℕ)) (identifiers : List Identifier) (id : ℕ) (net : Net) : Type 0 where

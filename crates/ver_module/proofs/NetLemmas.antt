@@ -7,9 +7,10 @@ use Rattle.std.specs.List.{All}
 use Rattle.std.proofs.lemmas.Bool.Decides.{nat_tests}
 use Rattle.std.proofs.lemmas.List.{length-map, take_all}
 use Rattle.std.proofs.lemmas.Option.{slice_get-map, slice_get_within}
+use Rattle.name_tables.specs.NameTables.{AreDistinct}
 use Rattle.name_tables.proofs.ChainLemmas.{lt_or_le}
 use Rattle.ver_module.specs.declared.net.Identifier.{Identifier}
-use Rattle.ver_module.specs.Netlists.{Net, net_of, nets_by, nets_with}
+use Rattle.ver_module.specs.Netlists.{IsNamed, Net, net_of, nets_by, nets_with}
 use Rattle.ver_module.specs.declared.range.Range.{Range}
 use Rattle.ver_module.specs.Ranges.{bits_from, bits_of}
 use Rattle.ver_module.proofs.RangeLemmas.{bits_count}
@@ -177,6 +178,14 @@ all_bounded identifiers at l h = subst (All IsBounded) (take_all at identifiers 
 
 -- ---- the identifier of a net
 
+-- distinct names have numbers of their own
+pub own_number : (names : List (List ℕ)) (i j : ℕ) → AreDistinct names → i < length names → j < length names → get_or names i [] ≡ get_or names j [] → i ≡ j
+own_number names i j distinct li lj e =
+    elim (lt_or_le i j) as (λ _. i ≡ j) [
+      | inl less ↦ absurd (distinct i j less lj e)
+      | inr ge ↦ elim (lt_or_le j i) as (λ _. i ≡ j) [ inl more ↦ absurd (distinct j i more li (sym e)) | inr le ↦ omega arith ]
+    ]
+
 some_bit : (range : Option Range) → 1 ≤ length (bits_of range)
 some_bit None = omega arith
 some_bit (Some r) = omega (arith, bits_count r, length-map (bits_from r) Some)
@@ -193,14 +202,22 @@ take_within [] (suc n) = omega arith
 take_within (i ∷ more) zero = omega arith
 take_within (i ∷ more) (suc n) = omega (arith, take_within more n)
 
-pub of_one : (base : List ℕ) (identifier : Identifier) (place : ℕ) (net : Net) → slice_get (nets_by base identifier) place ≡ Some net
-    → (net.base ≡ base) × (net.supply ≡ identifier.supply)
+-- what a net is that an identifier of this name has
+record IsOne (name : List ℕ) (identifier : Identifier) (net : Net) : Type 0 where
+  base : net.base ≡ name
+  supply : net.supply ≡ identifier.supply
+  named : IsNamed net
+
+of_one : (base : List ℕ) (identifier : Identifier) (place : ℕ) (net : Net) → slice_get (nets_by base identifier) place ≡ Some net
+    → IsOne base identifier net
 of_one base identifier place net e =
     by_bit (slice_get (bits_of identifier.range) place) (sym (slice_get-map (net_of base identifier) (bits_of identifier.range) place) ∙ e)
   where
-    by_bit : (bit : Option (Option ℕ)) → option_map (net_of base identifier) bit ≡ Some net → (net.base ≡ base) × (net.supply ≡ identifier.supply)
+    by_bit : (bit : Option (Option ℕ)) → option_map (net_of base identifier) bit ≡ Some net → IsOne base identifier net
     by_bit None f = absurd (cc)
-    by_bit (Some bit) f = let same : net_of base identifier bit ≡ net = cc in (ap (λ (n : Net). n.base) (sym same), ap (λ (n : Net). n.supply) (sym same))
+    by_bit (Some bit) f =
+        let same : net_of base identifier bit ≡ net = cc in
+        subst (IsOne base identifier) same (record { base = refl; supply = refl; named = refl })
 
 module _ (names : List (List ℕ)) (identifiers : List Identifier) (firsts : List ℕ) (count : ℕ) (h : AreNets names identifiers firsts count) (id : ℕ)
     (low : id < length (nets_with names identifiers)) where
@@ -236,9 +253,15 @@ module _ (names : List (List ℕ)) (identifiers : List Identifier) (firsts : Lis
     within =
         omega (arith, e, first_number at within, take_more identifiers at identifier place.is, take_within identifiers (suc at), count_nets names identifiers h.named);
     same = λ n first net low high a b.
-        let one = of_one (get_or names at []) identifier (n - get_or firsts at 0) net (sym (there n low high) ∙ b) in
-        let other = of_one (get_or names at []) identifier (id - get_or firsts at 0) first (sym (net_at names identifiers id at (id - get_or firsts at 0) identifier h.named place) ∙ a) in
-        (one.0 ∙ sym other.0, one.1 ∙ sym other.1);
+        let one = member n net low high b in
+        let other = first_one first a in
+        (one.base ∙ sym other.base, one.supply ∙ sym other.supply);
+    named = λ n net low high b. (member n net low high b).named;
+    ends = λ first next a b same.
+        let other = stands identifiers end (omega (arith, slice_get_within (nets_with names identifiers) end next b, count_nets names identifiers h.named)) in
+        let of = of_one (get_or names other.at []) other.identifier other.place next (sym (net_at names identifiers end other.at other.place other.identifier h.named other.is) ∙ b) in
+        not_here other (own_number names other.at at h.distinct (omega (arith, slice_get_within identifiers other.at other.identifier other.is.is, h.named)) (omega (arith, within, h.named))
+        (sym of.base ∙ same ∙ (first_one first a).base));
   }
     where
       within : at < length identifiers
@@ -249,6 +272,18 @@ module _ (names : List (List ℕ)) (identifiers : List Identifier) (firsts : Lis
       there n low high =
           net_at names identifiers n at (n - get_or firsts at 0) identifier h.named
           (record { is = place.is; within = omega (arith, low, high, from, e); number = omega (arith, low, from, first_number at within) })
+
+      member : (n : ℕ) (net : Net) → id ≤ n → n < end → slice_get (nets_with names identifiers) n ≡ Some net → IsOne (get_or names at []) identifier net
+      member n net low high b = of_one (get_or names at []) identifier (n - get_or firsts at 0) net (sym (there n low high) ∙ b)
+
+      first_one : (first : Net) → slice_get (nets_with names identifiers) id ≡ Some first → IsOne (get_or names at []) identifier first
+      first_one first a = member id first (omega arith) (omega (arith, place.within, from, e)) a
+
+      -- the net behind them is not of this identifier, all of whose nets stand before
+      not_here : (other : Stands identifiers end) → other.at ≡ at → ⊥
+      not_here other same =
+          let one : other.identifier ≡ identifier = let f : Some other.identifier ≡ Some identifier = sym other.is.is ∙ ap (slice_get identifiers) same ∙ place.is in cc in
+          omega (arith, other.is.within, other.is.number, ap (λ (i : Identifier). length (bits_of i.range)) one, ap (λ n. count_in (take n identifiers)) same, e, first_number at within)
 
   -- where the nets of an identifier end that another one follows, and where those of the last one do
   pub next_end : (at : ℕ) (identifier : Identifier) → slice_get identifiers at ≡ Some identifier → at + 1 < length identifiers

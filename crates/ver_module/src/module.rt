@@ -96,8 +96,8 @@ impl Module {
         self.nets.get(id)
     }
 
-    /// Where the nets of one identifier end, of which this is one: all up to there are of its name, and a supply where
-    /// it is.
+    /// Where the nets of one identifier end, of which this is one: the number behind the last of them. From this net up
+    /// to there all have its name, a bit with its number, and are supplies where it is. The next is of another one.
     pub fn run_end(&self, id: u32) -> u32
         requires { id < length self.now.nets }
         ensures { IsRun self.now.nets id result }

@@ -177,7 +177,7 @@ impl Nets {
         self.identifiers[at].net(self.names.name(at as u32), place as usize)
     }
 
-    /// Where the nets of one identifier end, of which this is one.
+    /// Where the nets of one identifier end, of which this is one: the number behind the last of them.
     pub fn run_end(&self, id: u32) -> u32
         requires { id < length self.now }
         ensures { IsRun self.now id result }
