@@ -125,8 +125,14 @@ fn names(rt: HostRuntime) -> Result<(), Fail> {
     Ok(())
 }
 
-/// Whether the rows of a text are these.
-fn has_rows(text: &[u8], expected: &[(Place, Kind, usize, usize)]) -> bool {
+/// The most bytes of a text whose rows are tried.
+const MOST: usize = 100;
+
+/// Whether the rows of a text are these, and it is short.
+fn has_rows(text: &[u8], expected: &[(Place, Kind, u32, u32)]) -> bool {
+    if text.len() > MOST {
+        return false;
+    }
     let mut rows = Rows::new(text);
     for (place, kind, from, to) in expected {
         let row = Row {
@@ -143,7 +149,7 @@ fn has_rows(text: &[u8], expected: &[(Place, Kind, usize, usize)]) -> bool {
 }
 
 /// Texts, and the place, the kind and the ends of each token.
-static ROWS: [(&[u8], &[(Place, Kind, usize, usize)]); 3] = [
+static ROWS: [(&[u8], &[(Place, Kind, u32, u32)]); 3] = [
     (
         b"module m(a);endmodule",
         &[

@@ -1,6 +1,6 @@
 //! The instances and the assignments of a module without a flaw.
 
-ghost use Rattle.std.specs.Prelude.{◌≡◌, ◌++◌, ◌∷◌, [], flat_map, fold, map, find, IfOk, IfSome, OnOk};
+ghost use Rattle.std.specs.Prelude.{◌≡◌, ◌<◌, ◌^◌, ◌++◌, ◌∷◌, [], flat_map, fold, length, map, find, IfOk, IfSome, OnOk};
 ghost use Rattle.ver_module.specs.Netlists.{with_pin};
 ghost use Rattle.ver_syntax.specs.declared.row.Place.TheVariants.{Assignment, Head};
 ghost use Rattle.ver_syntax.specs.Grammar.{is};
@@ -114,7 +114,7 @@ fn end_in(rows: &[Row]) -> Option<usize>
 {
     'row: for row in rows {
         if is(Kind::EndModule, row.kind) {
-            return Some(row.from);
+            return Some(row.from as usize);
         }
     }
     None
@@ -139,6 +139,7 @@ pub(crate) fn read_body(
     kept: Option<&KeptItems>,
     clash: Option<usize>,
 ) -> Result<Body, Memory>
+    requires few { length scope.now.text.now < 2 ^ 32 }
     requires clash { HasClash scope.now clash }
     requires kept { IfSome kept (λ k. k.now ≡ items scope.now.text.now) }
     ensures { IfOk result (IsBody scope.now.text.now) }
@@ -174,6 +175,7 @@ pub(crate) fn read_body(
 
 /// The first token of a text that is this kind.
 fn first_of_kind(text: &[u8], kind: Kind) -> Option<Row>
+    requires { length text.now < 2 ^ 32 }
     ensures { result ≡ find (λ r. is kind r.kind) (rows_of text.now) }
 {
     let mut rows = Rows::new(text);
@@ -187,16 +189,18 @@ fn first_of_kind(text: &[u8], kind: Kind) -> Option<Row>
 
 /// Where the head of a module ends: after its first `;`.
 pub(crate) fn head_end(text: &[u8]) -> usize
+    requires { length text.now < 2 ^ 32 }
     ensures { result ≡ head_end text.now }
 {
     match first_of_kind(text, Kind::Semicolon) {
-        Some(row) => row.to,
+        Some(row) => row.to as usize,
         None => 0,
     }
 }
 
 /// The token that names a module.
 fn name_token(text: &[u8]) -> Option<Row>
+    requires { length text.now < 2 ^ 32 }
     ensures { result ≡ find (is_name_in Head) (rows_of text.now) }
 {
     let mut rows = Rows::new(text);
@@ -210,6 +214,7 @@ fn name_token(text: &[u8]) -> Option<Row>
 
 /// The name of a module.
 pub(crate) fn module_name(alloc: Global, text: &[u8]) -> Result<Name, Memory>
+    requires { length text.now < 2 ^ 32 }
     ensures { IfOk result (λ name. name ≡ module_name text.now) }
 {
     let name: &[u8] = match name_token(text) {

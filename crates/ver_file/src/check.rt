@@ -63,9 +63,9 @@ fn check_declared(scope: &Scope<'_>, heading: Heading, row: Row, firsts: Firsts)
     let is_range = is_range(range_said(said), heading.range);
     let agrees = agrees(direction_said(said), heading.direction);
     Firsts {
-        clash: unless(is_range, row.from, firsts.clash),
+        clash: unless(is_range, row.from as usize, firsts.clash),
         twice: firsts.twice,
-        grammar: unless(agrees, row.from, firsts.grammar),
+        grammar: unless(agrees, row.from as usize, firsts.grammar),
     }
 }
 
@@ -136,7 +136,7 @@ fn select_flaws(
 {
     let mut first = first;
     'name: for name in Sections::new(begin, rows) {
-        first = unless(fits(scope, &name), name.head.from, first);
+        first = unless(fits(scope, &name), name.head.from as usize, first);
     }
     first
 }
@@ -153,7 +153,7 @@ fn repeated(
 {
     let count = names.len();
     let id = name_number(names, name_at(text, token))?;
-    Ok(unless(id as usize == count, token.from, first))
+    Ok(unless(id as usize == count, token.from as usize, first))
 }
 
 /// Whether a token gives none of the names of these.
@@ -183,7 +183,7 @@ fn repeated_among(
         ≡ first_of first (repeated (map (name_at text.now) pins.old.items) (named_at text.now pin ∷ []))) }
 {
     if !is_other(text, pin, pins) {
-        return Ok(unless(false, pin.from, first));
+        return Ok(unless(false, pin.from as usize, first));
     }
     pins.push(pin)?;
     Ok(first)

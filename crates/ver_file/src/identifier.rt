@@ -46,8 +46,8 @@ const MOST_KEPT: usize = 1 << 21;
 /// How many bytes a token has, or more: what room is taken for.
 const BYTES_A_TOKEN: usize = 2;
 
-/// The greatest place that is kept.
-const MOST: usize = 0xFFFF_FFFF;
+/// The most tokens of an item, where items are kept. A longer one takes room enough while it is read.
+const MOST_TOKENS: usize = 1 << 12;
 
 fn or_else(first: Option<PortDir>, other: Option<PortDir>) -> Option<PortDir>
     ensures { result ≡ or_else first other }
@@ -111,25 +111,11 @@ pub(crate) struct Use {
 }
 
 impl Use {
-    /// That of a token. Answers `Memory` where it stands 2^32 bytes or more behind the text's beginning.
-    fn of(row: Row, id: u32) -> Result<Use, Memory>
-        ensures { IfOk result (λ found. (found.from ≡ row.from) × (found.to ≡ row.to) × (found.id ≡ id)) }
-    {
-        if row.from > MOST || row.to > MOST {
-            return Err(Memory);
-        }
-        Ok(Use {
-            from: row.from as u32,
-            to: row.to as u32,
-            id,
-        })
-    }
-
     /// Whether it is that of a token.
     fn is(self, row: Row) -> bool
         ensures { IsTrue result ↔ ((self.from ≡ row.from) × (self.to ≡ row.to)) }
     {
-        self.from as usize == row.from && self.to as usize == row.to
+        self.from == row.from && self.to == row.to
     }
 }
 
@@ -144,18 +130,18 @@ fn room_for_items(alloc: Global, text_len: usize) -> Result<Option<KeptItems>, M
     Ok(Some(kept))
 }
 
-/// With an item last, where items are kept.
+/// With an item last, where items are kept and it is short.
 fn with_item(kept: Option<KeptItems>, item: &[Row]) -> Result<Option<KeptItems>, Memory>
     requires { 0 < length item.now }
     ensures { (all left : List Section) → IfSome kept (λ k. all ≡ k ++ (section_in item.now ++ left))
         → IfOk result (λ new. IfSome new (λ k. all ≡ k ++ left)) }
 {
     match kept {
-        None => Ok(None),
-        Some(mut kept) => {
+        Some(mut kept) if item.len() <= MOST_TOKENS => {
             kept.push(item)?;
             Ok(Some(kept))
         }
+        _ => Ok(None),
     }
 }
 
@@ -197,7 +183,11 @@ impl Identifiers {
     {
         let count = self.names.len();
         let id = name_number(&mut self.names, name_at(text, row))?;
-        self.uses.push(Use::of(row, id)?)?;
+        self.uses.push(Use {
+            from: row.from,
+            to: row.to,
+            id,
+        })?;
         let at = id as usize;
         if at == count {
             self.tokens.push(row)?;
@@ -248,6 +238,7 @@ impl Identifiers {
         alloc: Global,
         text: &[u8],
     ) -> Result<Option<(Identifiers, Option<KeptItems>)>, Memory>
+        requires few { length text.now < 2 ^ 32 }
         ensures module { IfOk result (λ found.
             IfSome found (λ all. HasTokens text.now × IsModule text.now × AreIdentifiers text.now all.0)) }
         ensures kept { IfOk result (λ found. IfSome found (λ all. IfSome all.1 (λ kept. kept ≡ items text.now))) }
@@ -309,10 +300,10 @@ impl Identifiers {
             → IfSome result.1 (λ id. Some id ≡ number_of self.now.names (name_at text row)) }
     {
         let mut at = start.min(self.uses.len());
-        'back: while at > 0 && row.from <= self.uses[at - 1].from as usize {
+        'back: while at > 0 && row.from <= self.uses[at - 1].from {
             at -= 1;
         }
-        'place: while at < self.uses.len() && (self.uses[at].from as usize) < row.from {
+        'place: while at < self.uses.len() && self.uses[at].from < row.from {
             at += 1;
         }
         match self.uses.get(at) {

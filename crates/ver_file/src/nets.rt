@@ -64,10 +64,10 @@ fn clash_at(text: &[u8], identifiers: &Identifiers, nets: &Nets, at: usize) -> O
     let name = name_at(text, token);
     let bit = nets.bit_named(name)?;
     if nets.number(name) == bit {
-        return Some(token.from);
+        return Some(token.from as usize);
     }
     let vector = identifiers.find(nets.get(bit).base)?;
-    Some(identifiers.token(vector as usize).from)
+    Some(identifiers.token(vector as usize).from as usize)
 }
 
 /// The earlier of two places, where they are there.

@@ -1,6 +1,6 @@
 //! From the text of a netlist to the module that it denotes.
 
-ghost use Rattle.std.specs.Prelude.{◌≡◌, ◌⊎◌, ◌≤◌, ◌^◌, [], length, IfOk, IfErr, IfSome, OnOk};
+ghost use Rattle.std.specs.Prelude.{◌≡◌, ◌⊎◌, ◌<◌, ◌≤◌, ◌^◌, [], length, IfOk, IfErr, IfSome, OnOk};
 ghost use Rattle.ver_syntax.specs.Syntax.{IsFirstFault as IsFirstSyntaxFault, IsModule, IsOutOfMemory};
 ghost use Rattle.ver_items.specs.Sections.{items};
 ghost use Rattle.ver_file.specs.Flaws.{IsFirst, flaws_of};
@@ -35,6 +35,7 @@ fn build(
     identifiers: &Identifiers,
     kept: Option<&KeptItems>,
 ) -> Result<Result<Module, VerFault>, Memory>
+    requires few { length text.now < 2 ^ 32 }
     requires table { AreIdentifiers text.now identifiers.now }
     requires kept { IfSome kept (λ k. k.now ≡ items text.now) }
     ensures flawless { IfOk result (λ built. OnOk built (flaws_of text.now ≡ [])) }
@@ -63,6 +64,7 @@ fn build(
 
 /// The module of a text without a flaw.
 fn assemble(alloc: Global, text: &[u8], nets: Nets, body: Body) -> Result<Module, Memory>
+    requires few { length text.now < 2 ^ 32 }
     requires nets { nets ≡ nets_of text.now }
     requires body { IsBody text.now body }
     requires flawless { flaws_of text.now ≡ [] }

@@ -1,13 +1,8 @@
 -- Items that are kept by their tokens: for the functions between.
 use Rattle.std.specs.Prelude.{◌≡◌, ◌<◌, ◌≤◌, ◌++◌, ℕ, List, [], ◌∷◌, length, take, drop}
 use Rattle.ver_syntax.specs.declared.row.Row.{Row}
-use Rattle.ver_items.specs.declared.kept.KeptRow.{KeptRow}
 use Rattle.ver_items.specs.Sections.{Section}
 use Rattle.ver_items.specs.SectionSteps.{section_in}
-
--- the token that is kept so
-abbrev pub row_of : KeptRow → Row
-row_of kept = record { place = kept.place; kind = kept.kind; from = kept.from; to = kept.to }
 
 -- the items of some tokens, by how many each of them has
 unfoldable pub items_by : List ℕ → List Row → List Section

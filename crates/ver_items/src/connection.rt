@@ -41,7 +41,7 @@ fn start_of(connection: &[Row]) -> usize
 {
     match connection {
         [] => 0,
-        [first, ..] => first.from,
+        [first, ..] => first.from as usize,
     }
 }
 
@@ -51,7 +51,7 @@ pub fn span_of(connection: &[Row]) -> Span
 {
     let from = start_of(connection);
     let to = match connection {
-        [.., last, _] => last.to,
+        [.., last, _] => last.to as usize,
         _ => from,
     };
     Span { from, to }

@@ -1,7 +1,7 @@
 //! The items of a module, one after another.
 
 ghost use Rattle.std.specs.List.{list_any};
-ghost use Rattle.std.specs.Prelude.{◌≡◌, ◌<◌, ◌++◌, [], List, nat_lt, length, take, true, false, IfOk, OnOk};
+ghost use Rattle.std.specs.Prelude.{◌≡◌, ◌<◌, ◌^◌, ◌++◌, [], List, nat_lt, length, take, true, false, IfOk, OnOk};
 ghost use Rattle.ver_syntax.specs.Grammar.{is};
 ghost use Rattle.ver_text.specs.declared.kind.Kind.TheVariants.{Semicolon};
 ghost use Rattle.ver_text.specs.declared.kind.Kind.{Kind as KindSpec};
@@ -118,6 +118,7 @@ impl<'a> Model for Items<'a> {
 impl<'a> Items<'a> {
     /// The items of a text.
     pub fn new(text: &'a [u8]) -> Items<'a>
+        requires { length text.now < 2 ^ 32 }
         ensures { result ≡ items text.now }
     {
         Items {

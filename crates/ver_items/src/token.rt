@@ -74,8 +74,8 @@ pub fn bytes_at(text: &[u8], row: Row) -> &[u8]
     text_at(
         text,
         Span {
-            from: row.from,
-            to: row.to,
+            from: row.from as usize,
+            to: row.to as usize,
         },
     )
 }

@@ -1,6 +1,7 @@
 -- The tokens of a text with what each stands in: of any text, be it a module or not. Source: IEEE Std 1364-2005, annex
 -- A.
-use Rattle.std.specs.Prelude.{ℕ, List, [], ◌∷◌, map}
+use Rattle.std.specs.Prelude.{ℕ, ◌<◌, ◌^◌, List, [], ◌∷◌, map}
+use Rattle.std.specs.List.{All}
 use Rattle.ver_text.specs.declared.kind.Kind.{Kind}
 use Rattle.ver_text.specs.declared.kind.Kind.TheVariants.{Module, Direction, Wire, NetType, Assign, Open, Close, Semicolon}
 use Rattle.ver_syntax.specs.declared.row.Place.{Place}
@@ -45,6 +46,10 @@ rows_from text place (t ∷ ts) = row text place t ∷ rows_from text (place_aft
 -- the rows of a text
 abbrev pub rows_of : List ℕ → List Row
 rows_of text = rows_from text Start (tokens_of text)
+
+-- these tokens stand before the place 2^32
+abbrev pub AreLow : List Token → Type 0
+AreLow tokens = All (λ t. (t.from < 2 ^ 32) × (t.to < 2 ^ 32)) tokens
 
 -- the kinds of tokens
 abbrev pub kinds_in : List Row → List Kind

@@ -24,11 +24,12 @@ pub enum Place {
     Connection,
 }
 
-/// A token of a module, from one place of its text to another, with what it stands in.
+/// A token of a module, from one place of its text to another, with what it stands in. Places have 32 bits, so that a
+/// token takes twelve bytes.
 #[derive(Clone, Copy, Debug, PartialEq, Eq, Drop)]
 pub struct Row {
     pub place: Place,
     pub kind: Kind,
-    pub from: usize,
-    pub to: usize,
+    pub from: u32,
+    pub to: u32,
 }

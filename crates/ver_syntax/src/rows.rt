@@ -1,11 +1,11 @@
 //! The tokens of a module with what each stands in, one after another.
 
-ghost use Rattle.std.specs.Prelude.{◌≡◌};
+ghost use Rattle.std.specs.Prelude.{◌≡◌, ◌<◌, ◌^◌, length};
 ghost use Rattle.ver_syntax.specs.Rows.{item_after, place_after};
 
 use crate::row::{Place, Row};
 use std::marker::Model;
-use ver_text::{Kind, Tokens, kind_in};
+use ver_text::{Kind, Tokens, kind_in, tokens_stand_in_order};
 
 fn item_after(kind: Kind) -> Place
     ensures { result ≡ item_after kind }
@@ -69,11 +69,13 @@ pub struct Rows<'a> {
 impl<'a> Model for Rows<'a> {
     ghost use Rattle.std.specs.Prelude.{List};
     ghost use Rattle.ver_syntax.specs.declared.row.Row.{Row as RowSpec};
-    ghost use Rattle.ver_syntax.specs.Rows.{rows_from};
+    ghost use Rattle.ver_syntax.specs.Rows.{AreLow, rows_from};
 
     ghost Value = { List RowSpec };
 
     ghost view = { λ left. rows_from left.text.now left.place left.tokens };
+
+    ghost invariant = { λ left. AreLow left.tokens };
 }
 
 impl<'a> Rows<'a> {
@@ -81,8 +83,10 @@ impl<'a> Rows<'a> {
 
     /// All tokens of a text.
     pub fn new(text: &'a [u8]) -> Rows<'a>
+        requires { length text.now < 2 ^ 32 }
         ensures { result ≡ rows_of text.now }
     {
+        tokens_stand_in_order();
         Rows {
             text,
             tokens: Tokens::new(text),
@@ -111,8 +115,8 @@ impl<'a> Iterator for Rows<'a> {
         Some(Row {
             place,
             kind,
-            from: token.from,
-            to: token.to,
+            from: token.from as u32,
+            to: token.to as u32,
         })
     }
 }

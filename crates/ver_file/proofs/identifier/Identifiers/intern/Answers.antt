@@ -40,8 +40,8 @@ returns-in_ok-push-3-clause-read c = λ left ds h.
     (record { names = c.name_number.new.names; tokens = c.push-then-at-count.new.self; said = c.push-then-at-count-2.new.self; uses = c.push.new.self }) h
     c.requires.name c.requires.count (ap (λ n. list_any (bytes_eq n) c.args.self.now.names) (sym c.name_at.ensures) ∙ none)
     (c.in_ok-id.ensures.names ∙ ap (with_name c.args.self.now.names) c.name_at.ensures) c.in_ok-push-2.ensures.items c.in_ok-push-3.ensures.items
-    c.in_ok-of.field-0 c.in_ok-push.ensures.items c.in_ok-of.ensures.0 c.in_ok-of.ensures.1
-    (c.in_ok-of.ensures.2 ∙ c.in_ok-id.ensures.number ∙ ap (number_in c.args.self.now.names) c.name_at.ensures)
+    (record { from = c.args.row.from; to = c.args.row.to; id = c.in_ok-id.id }) c.in_ok-push.ensures.items refl refl
+    (c.in_ok-id.ensures.number ∙ ap (number_in c.args.self.now.names) c.name_at.ensures)
 
 pub returns-else-at-count-clause-within : goal.returns-else-at-count-clause-within
 returns-else-at-count-clause-within c =
@@ -68,5 +68,5 @@ returns-else-at-count-clause-read c = λ left ds h.
     (record { names = c.name_number.new.names; tokens = c.args.self.now.tokens; said = c.args.self.now.said; uses = c.push.new.self }) h
     c.requires.name (ap (λ n. list_any (bytes_eq n) c.args.self.now.names) (sym c.name_at.ensures) ∙ some)
     (c.in_ok-id.ensures.names ∙ ap (with_name c.args.self.now.names) c.name_at.ensures) refl refl
-    c.in_ok-of.field-0 c.in_ok-push.ensures.items c.in_ok-of.ensures.0 c.in_ok-of.ensures.1
-    (c.in_ok-of.ensures.2 ∙ c.in_ok-id.ensures.number ∙ ap (number_in c.args.self.now.names) c.name_at.ensures)
+    (record { from = c.args.row.from; to = c.args.row.to; id = c.in_ok-id.id }) c.in_ok-push.ensures.items refl refl
+    (c.in_ok-id.ensures.number ∙ ap (number_in c.args.self.now.names) c.name_at.ensures)

@@ -1,48 +1,40 @@
-use Rattle.std.proofs.Common.{◌≡◌, ◌<◌, ◌∷◌, arith, ap, drop, length, map, sym, subst, take, ◌∙◌, rules}
-use Rattle.std.proofs.lemmas.List.{drop-map, length-map, take-map}
-use Rattle.ver_items.specs.Kept.{AreCounts, row_of}
+use Rattle.std.proofs.Common.{◌≡◌, ◌<◌, ◌∷◌, length, sym, subst, take, ◌∙◌, rules}
+use Rattle.ver_items.specs.Kept.{AreCounts}
 use Rattle.ver_items.proofs.KeptLemmas.{first_kept, next_kept, next_left, others_left, some_kept}
 use Rattle.ver_items.proofs.kept.ItemsAgain.read.Goals as goal
 
 pub returns-in_default-clause-next : goal.returns-in_default-clause-next
 returns-in_default-clause-next c =
-    next_left c.self.inside.counts.now (map row_of c.self.inside.rows.now) c.read.new.item.items c.self.inside.others c.read.new.self c.args.self.now
+    next_left c.self.inside.counts.now c.self.inside.rows.now c.read.new.item.items c.self.inside.others c.read.new.self c.args.self.now
     c.in_default.ensures.cases c.self.view_is c.in_ok-more.ensures.next
 
 pub returns-in_default-clause-end : goal.returns-in_default-clause-end
 returns-in_default-clause-end c = λ more.
-    others_left c.self.inside.counts.now (map row_of c.self.inside.rows.now) c.self.inside.others c.args.self.now c.in_default.ensures.cases c.self.view_is
+    others_left c.self.inside.counts.now c.self.inside.rows.now c.self.inside.others c.args.self.now c.in_default.ensures.cases c.self.view_is
     ∙ c.in_ok-more.ensures.end more
 
 pub split_at-requires : goal.split_at-requires
 split_at-requires c =
     let e : c.self.inside.counts.now ≡ c.in-Some.count.now ∷ c.in-Some.counts.now = search rules in
-    let within = (first_kept c.self.inside.counts.now c.in-Some.counts.now c.in-Some.count.now (map row_of c.self.inside.rows.now) e c.self.invariant).1 in
-    omega (arith, within, length-map c.self.inside.rows.now row_of)
+    (first_kept c.self.inside.counts.now c.in-Some.counts.now c.in-Some.count.now c.self.inside.rows.now e c.self.invariant).1
 
 pub invariant_of-self-2 : goal.invariant_of-self-2
 invariant_of-self-2 c =
     let e : c.self.inside.counts.now ≡ c.in-Some.count.now ∷ c.in-Some.counts.now = search rules in
-    let l : map row_of c.split_at.result.1.now ≡ drop c.in-Some.count.now (map row_of c.self.inside.rows.now) =
-    ap (map row_of) c.split_at.ensures.back ∙ sym (drop-map row_of c.in-Some.count.now c.self.inside.rows.now) in
-    subst (λ rows. AreCounts c.in-Some.counts.now rows) (sym l)
-    (first_kept c.self.inside.counts.now c.in-Some.counts.now c.in-Some.count.now (map row_of c.self.inside.rows.now) e c.self.invariant).2
+    subst (λ rows. AreCounts c.in-Some.counts.now rows) (sym c.split_at.ensures.back)
+    (first_kept c.self.inside.counts.now c.in-Some.counts.now c.in-Some.count.now c.self.inside.rows.now e c.self.invariant).2
 
 pub returns-clause-next : goal.returns-clause-next
 returns-clause-next c =
     let e : c.self.inside.counts.now ≡ c.in-Some.count.now ∷ c.in-Some.counts.now = search rules in
-    let i : c.read_kept.new.item.items ≡ take c.in-Some.count.now (map row_of c.self.inside.rows.now) =
-    c.in_ok-read_kept.ensures ∙ ap (map row_of) c.split_at.ensures.front ∙ sym (take-map row_of c.in-Some.count.now c.self.inside.rows.now) in
-    let l : map row_of c.split_at.result.1.now ≡ drop c.in-Some.count.now (map row_of c.self.inside.rows.now) =
-    ap (map row_of) c.split_at.ensures.back ∙ sym (drop-map row_of c.in-Some.count.now c.self.inside.rows.now) in
-    next_kept c.self.inside.counts.now c.in-Some.counts.now c.in-Some.count.now (map row_of c.self.inside.rows.now) c.read_kept.new.item.items (map row_of c.split_at.result.1.now)
-    c.self.inside.others c.args.self.now e c.self.view_is i l
+    let i : c.extend_from_slice.new.self.items ≡ take c.in-Some.count.now c.self.inside.rows.now = search rules in
+    next_kept c.self.inside.counts.now c.in-Some.counts.now c.in-Some.count.now c.self.inside.rows.now c.extend_from_slice.new.self.items c.split_at.result.1.now
+    c.self.inside.others c.args.self.now e c.self.view_is i c.split_at.ensures.back
 
 pub returns-clause-more : goal.returns-clause-more
 returns-clause-more c =
     let e : c.self.inside.counts.now ≡ c.in-Some.count.now ∷ c.in-Some.counts.now = search rules in
-    let i : c.read_kept.new.item.items ≡ take c.in-Some.count.now (map row_of c.self.inside.rows.now) =
-    c.in_ok-read_kept.ensures ∙ ap (map row_of) c.split_at.ensures.front ∙ sym (take-map row_of c.in-Some.count.now c.self.inside.rows.now) in
-    let f = first_kept c.self.inside.counts.now c.in-Some.counts.now c.in-Some.count.now (map row_of c.self.inside.rows.now) e c.self.invariant in
-    let some : 0 < length c.read_kept.new.item.items = some_kept c.in-Some.count.now (map row_of c.self.inside.rows.now) c.read_kept.new.item.items i f.0 f.1 in
+    let i : c.extend_from_slice.new.self.items ≡ take c.in-Some.count.now c.self.inside.rows.now = search rules in
+    let f = first_kept c.self.inside.counts.now c.in-Some.counts.now c.in-Some.count.now c.self.inside.rows.now e c.self.invariant in
+    let some : 0 < length c.extend_from_slice.new.self.items = some_kept c.in-Some.count.now c.self.inside.rows.now c.extend_from_slice.new.self.items i f.0 f.1 in
     search rules

@@ -1,10 +1,8 @@
-use Rattle.std.proofs.Common.{ap, map}
-use Rattle.ver_items.specs.Kept.{row_of}
 use Rattle.ver_items.proofs.KeptLemmas.{no_items_kept, nothing_kept}
 use Rattle.ver_items.proofs.kept.KeptItems.with_room.Goals as goal
 
 pub invariant_of-result : goal.invariant_of-result
-invariant_of-result c = nothing_kept c.new.result.items (map row_of c.in_ok-rows.rows.items) c.new.ensures.items (ap (map row_of) c.in_ok-rows.ensures.items)
+invariant_of-result c = nothing_kept c.new.result.items c.in_ok-rows.rows.items c.new.ensures.items c.in_ok-rows.ensures.items
 
 pub returns : goal.returns
-returns c = no_items_kept c.new.result.items (map row_of c.in_ok-rows.rows.items) c.new.ensures.items
+returns c = no_items_kept c.new.result.items c.in_ok-rows.rows.items c.new.ensures.items

@@ -1,6 +1,9 @@
 use Rattle.std.proofs.Common.{rules, length, sym, ap, ◌∙◌, arith}
-use Rattle.ver_syntax.proofs.RowLemmas.{no_row, next_row}
+use Rattle.ver_syntax.proofs.RowLemmas.{next_low, next_row, no_row}
 use Rattle.ver_syntax.proofs.rows.RowsIterator.next.Goals as goal
+
+pub invariant_of-self-2 : goal.invariant_of-self-2
+invariant_of-self-2 c = (next_low c.self.inside.tokens c.next.new.self c.in-Some.token c.in-Some.ensures.steps c.self.invariant).2
 
 pub returns-in_default-clause-steps : goal.returns-in_default-clause-steps
 returns-in_default-clause-steps c = (
