@@ -6,9 +6,11 @@ use Rattle.std.specs.Str.{bytes_eq}
 use Rattle.std.proofs.lemmas.Bool.{cases_lt, eq-eqb, ne_eqb, true≢false}
 use Rattle.std.proofs.lemmas.Bool.Decides.{nat_tests}
 use Rattle.std.proofs.lemmas.Fmt.{decimal_digit, decimal_step}
-use Rattle.std.proofs.lemmas.List.{append_assoc, append-nil, same_from_push, take-append-drop}
+use Rattle.std.proofs.lemmas.List.{append_assoc, same_from_push, take-append-drop}
 use Rattle.std.proofs.lemmas.Slice.Eq.{bytes_eq-Decides}
-use Rattle.ver_module.specs.Netlists.{net_name}
+use Rattle.std.specs.List.{slice_get}
+use Rattle.ver_module.specs.Netlists.{Net, net_name}
+use Rattle.ver_module.specs.Runs.{IsRun}
 use Rattle.vg_change.specs.Named.{begins}
 
 -- a name and one more byte begin with what the name begins with, and with the whole
@@ -164,17 +166,66 @@ name_never base None prefix apart other = apart
 name_never base (Some bit) prefix apart other =
     ap (λ name. begins name prefix) (append_assoc base (91 ∷ decimal bit) (93 ∷ [])) ∙ begins_never base (91 ∷ decimal bit ++ 93 ∷ []) prefix apart other
 
--- where the prefix goes on as no name of a bit does
-pub name_other : (base : List ℕ) (bit : Option ℕ) (prefix rest : List ℕ) → prefix ≡ base ++ rest → begins rest (91 ∷ []) ≡ false → begins base prefix ≡ false → begins (net_name base bit) prefix ≡ false
-name_other base None prefix rest is never apart = apart
-name_other base (Some bit) prefix [] is never apart = absurd (true≢false (sym (begins_whole base prefix ((bytes_eq-Decides prefix base).1 (is ∙ append-nil base))) ∙ apart))
-name_other base (Some bit) prefix (first ∷ rest) is never apart =
-    ap (λ name. begins name prefix) (append_assoc base (91 ∷ decimal bit) (93 ∷ []))
-    ∙ ap (begins (base ++ (91 ∷ decimal bit ++ 93 ∷ []))) is
-    ∙ begins_behind base (91 ∷ decimal bit ++ 93 ∷ []) (first ∷ rest)
-    ∙ ap (λ b. b && begins (decimal bit ++ 93 ∷ []) rest) (ne_eqb first 91 (λ e. true≢false (sym (ap (λ f. begins (f ∷ rest) (91 ∷ [])) e) ∙ never)))
-
 -- what is behind the base
 pub cut_is : (prefix base rest : List ℕ) → pointwise ◌==◌ (take (length base) prefix) base ≡ true → rest ≡ drop (length base) prefix → prefix ≡ base ++ rest
 cut_is prefix base rest same is =
     sym (take-append-drop (length base) prefix) ∙ (λ i. (bytes_eq-Decides (take (length base) prefix) base).0 same i ++ sym is i)
+
+-- ---- names of one identifier
+
+turned : (a b : ℕ) → (a == b) ≡ true → (b == a) ≡ true
+turned a b t = grind (arith, nat_tests, t)
+
+-- where the prefix does not begin with the identifier's name
+pub goes_on_never : (base prefix : List ℕ) → pointwise ◌==◌ (take (length base) prefix) base ≡ false → begins prefix (base ++ 91 ∷ []) ≡ false
+goes_on_never [] prefix other = absurd (cc)
+goes_on_never (x ∷ base) [] other = refl
+goes_on_never (x ∷ base) (c ∷ prefix) other = both (c == x) (x == c) (turned x c) (goes_on_never base prefix) other
+  where
+    both : (a b : Bool) → (b ≡ true → a ≡ true) → (pointwise ◌==◌ (take (length base) prefix) base ≡ false → begins prefix (base ++ 91 ∷ []) ≡ false)
+        → (a && pointwise ◌==◌ (take (length base) prefix) base) ≡ false → (b && begins prefix (base ++ 91 ∷ [])) ≡ false
+    both true true same f e = f e
+    both false true same f e = absurd (let h : false ≡ true = same refl in cc)
+    both a false same f e = refl
+
+-- where it does
+pub goes_on_behind : (base prefix rest : List ℕ) → prefix ≡ base ++ rest → begins rest (91 ∷ []) ≡ begins prefix (base ++ 91 ∷ [])
+goes_on_behind base prefix rest is = sym (ap (λ p. begins p (base ++ 91 ∷ [])) is ∙ begins_behind base rest (91 ∷ []))
+
+-- where it goes on, if at all, as no name of a bit does
+never_behind : (base more prefix : List ℕ) → begins base prefix ≡ false → begins prefix (base ++ 91 ∷ []) ≡ false → begins (base ++ 91 ∷ more) prefix ≡ false
+never_behind [] more [] apart never = absurd (cc)
+never_behind [] more (c ∷ prefix) apart never =
+    ap (λ b. b && begins more prefix) (ne_eqb c 91 (λ e. true≢false (sym (ap (λ f. begins (f ∷ prefix) (91 ∷ [])) e) ∙ never)))
+never_behind (x ∷ base) more [] apart never = absurd (cc)
+never_behind (x ∷ base) more (c ∷ prefix) apart never = both (c == x) (x == c) (turned c x) (never_behind base more prefix) apart never
+  where
+    both : (a b : Bool) → (a ≡ true → b ≡ true)
+        → (begins base prefix ≡ false → begins prefix (base ++ 91 ∷ []) ≡ false → begins (base ++ 91 ∷ more) prefix ≡ false)
+        → (a && begins base prefix) ≡ false → (b && begins prefix (base ++ 91 ∷ [])) ≡ false → (a && begins (base ++ 91 ∷ more) prefix) ≡ false
+    both true true same f p q = f p q
+    both true false same f p q = absurd (let h : false ≡ true = same refl in cc)
+    both false b same f p q = refl
+
+-- then no net of the identifier begins with it where one does not
+name_alike : (base : List ℕ) (bit other : Option ℕ) (prefix : List ℕ) → begins (net_name base bit) prefix ≡ false → begins prefix (base ++ 91 ∷ []) ≡ false
+    → begins (net_name base other) prefix ≡ false
+name_alike base bit other prefix apart never = by_bit other
+  where
+    base_apart : begins base prefix ≡ false
+    base_apart = same_answer (begins base prefix) false (λ t. sym apart ∙ name_more base bit prefix t) (λ t. absurd (cc))
+
+    by_bit : (other : Option ℕ) → begins (net_name base other) prefix ≡ false
+    by_bit None = base_apart
+    by_bit (Some b) =
+        ap (λ name. begins name prefix) (append_assoc base (91 ∷ decimal b) (93 ∷ [])) ∙ never_behind base (decimal b ++ 93 ∷ []) prefix base_apart never
+
+-- so of a run of nets none does where the first does not
+pub run_apart : (nets : List Net) (from to : ℕ) (first : Net) (prefix : List ℕ) → IsRun nets from to → slice_get nets from ≡ Some first
+    → begins first.name prefix ≡ false → begins prefix (first.base ++ 91 ∷ []) ≡ false
+    → (n : ℕ) (net : Net) → from ≤ n → n < to → slice_get nets n ≡ Some net → begins net.name prefix ≡ false
+run_apart nets from to first prefix run at apart never n net low high is =
+    let base : net.base ≡ first.base = (run.same n first net low high at is).0 in
+    ap (λ name. begins name prefix) (run.named n net low high is ∙ ap (λ b. net_name b net.bit) base)
+    ∙ name_alike first.base first.bit net.bit prefix
+    (sym (ap (λ name. begins name prefix) (run.named from first (omega arith) run.some at)) ∙ apart) never

@@ -1,6 +1,8 @@
 -- The first of a list that passes a test, sought from the front.
-use Rattle.std.proofs.Common.{◌≡◌, ℕ, zero, suc, ◌+◌, ◌-◌, ◌<◌, ◌≤◌, Bool, true, false, cond, List, [], ◌∷◌, ◌++◌, take, find, refl, sym, ap, ◌∙◌, arith, Some, None}
+use Rattle.std.proofs.Common.{◌≡◌, ℕ, zero, suc, ◌+◌, ◌-◌, ◌<◌, ◌≤◌, Bool, true, false, cond, List, [], ◌∷◌, ◌++◌, map, take, find, refl, sym, ap, ◌∙◌, arith, Option, Some, None}
+use Rattle.std.specs.Prelude.{option_map}
 use Rattle.std.specs.List.{slice_get}
+use Rattle.std.proofs.lemmas.Option.{slice_get-map}
 
 module _ {X : Type 0} (test : X → Bool) where
   -- none of the first i passes
@@ -74,3 +76,13 @@ module _ {X : Type 0} (test : X → Bool) where
       either : (t : Bool) → test z ≡ t → (find test xs ≡ None → find test (xs ++ ys) ≡ find test ys) → cond t (Some z) (find test (xs ++ ys)) ≡ find test ys
       either true e more = absurd (let h : Some z ≡ None = sym (ap (λ b. cond b (Some z) (find test xs)) e) ∙ none in cc)
       either false e more = more (sym (ap (λ b. cond b (Some z) (find test xs)) e) ∙ none)
+
+-- of what a function makes of a list's elements from one number up to another none passes, where none does of any of them
+pub none_mapped : {X Y : Type 0} (f : X → Y) (test : Y → Bool) (xs : List X) (from to : ℕ)
+    → ((n : ℕ) (x : X) → from ≤ n → n < to → slice_get xs n ≡ Some x → test (f x) ≡ false)
+    → (n : ℕ) (y : Y) → from ≤ n → n < to → slice_get (map f xs) n ≡ Some y → test y ≡ false
+none_mapped {X} {Y} f test xs from to misses n y low high at = by_element (slice_get xs n) refl (sym (slice_get-map f xs n) ∙ at)
+  where
+    by_element : (found : Option X) → slice_get xs n ≡ found → option_map f found ≡ Some y → test y ≡ false
+    by_element None e is = absurd (cc)
+    by_element (Some x) e is = let same : f x ≡ y = cc in ap test (sym same) ∙ misses n x low high e

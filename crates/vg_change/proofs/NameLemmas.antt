@@ -1,6 +1,6 @@
 -- No name of a design begins with the prefix where none is taken.
-use Rattle.std.proofs.Common.{◌≡◌, ℕ, zero, suc, ◌<◌, ◌==◌, ◌&&◌, Bool, true, false, cond, List, [], ◌∷◌, ◌++◌, length, map, get_or, find, refl, sym, ap, ◌∙◌, subst, arith, inl, inr, Some, None}
-use Rattle.std.specs.List.{All, Contains, slice_get, starts_with}
+use Rattle.std.proofs.Common.{◌≡◌, ℕ, zero, suc, ◌<◌, ◌&&◌, Bool, true, false, cond, List, [], ◌∷◌, ◌++◌, length, map, get_or, find, refl, sym, ap, ◌∙◌, subst, arith, inl, inr, Some, None}
+use Rattle.std.specs.List.{All, Contains, slice_get}
 use Rattle.std.specs.Str.{bytes_eq}
 use Rattle.std.proofs.lemmas.Bool.{cases_lt, false≢true}
 use Rattle.std.proofs.lemmas.List.{get_or-map, get_or_default, length-map}
@@ -20,6 +20,7 @@ use Rattle.vg_num.specs.Number.{are_digits}
 use Rattle.vg_split.specs.Conditions.{IsOld}
 use Rattle.spef_wire.specs.Nets.{IsNetNamed}
 use Rattle.spef_wire.specs.declared.refusal.Refusal.TheVariants.{Mismatch}
+use Rattle.vg_change.specs.Named.{begins}
 use Rattle.vg_change.specs.Taken.{names_of, taken}
 
 -- where none passes, none of the list does
@@ -65,7 +66,7 @@ module _ (d : Design) (prefix : List ℕ) (free : taken d prefix ≡ None) where
   mapped = map (λ (row : List ℕ × List ℕ). row.1) (said_by (file_lines d.spef)).names
 
   old : (x : List ℕ) → Contains (names_of d) x → IsOld prefix x
-  old x there = none_passes (λ name. starts_with ◌==◌ name prefix) (names_of d) x free there
+  old x there = none_passes (λ name. begins name prefix) (names_of d) x free there
 
   instance_old : (i : Instance) → Contains d.netlist.instances i → IsOld prefix i.name
   instance_old i there = old i.name (Contains-append_left instances (nets ++ (mapped ++ net_names d.spef)) i.name (mapped_in (λ (i : Instance). i.name) d.netlist.instances i there))

@@ -1,4 +1,4 @@
--- The names of a design, by where they are kept, and whether one begins with a prefix: for the functions between.
+-- The names of a design, by where they are kept, and whether one begins with a prefix.
 use Rattle.std.specs.Prelude.{◌==◌, ℕ, Bool, List}
 use Rattle.std.specs.List.{starts_with}
 use Rattle.vg_change.specs.declared.taken_name.Named.{Named}

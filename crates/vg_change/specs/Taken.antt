@@ -1,8 +1,8 @@
 -- The names of a design that a new name could meet, and the first of them that begins with a prefix.
-use Rattle.std.specs.Prelude.{ℕ, ◌==◌, List, ◌++◌, map, find, Option}
-use Rattle.std.specs.List.{starts_with}
+use Rattle.std.specs.Prelude.{ℕ, List, ◌++◌, map, find, Option}
 use Rattle.spef_file.specs.Files.{file_lines, said_by}
 use Rattle.vg_design.specs.Designs.{Design, net_names}
+use Rattle.vg_change.specs.Named.{begins}
 
 -- the instances and the nets of the netlist, the names that the SPEF file maps, and its nets, each in the order of its
 -- file
@@ -14,4 +14,4 @@ names_of d =
 
 -- the first that begins with the prefix
 abbrev pub taken : Design → List ℕ → Option (List ℕ)
-taken d prefix = find (λ name. starts_with ◌==◌ name prefix) (names_of d)
+taken d prefix = find (λ name. begins name prefix) (names_of d)

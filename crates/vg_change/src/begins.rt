@@ -1,9 +1,10 @@
 //! Whether the name of a net begins with a prefix.
 
-ghost use Rattle.std.specs.Prelude.{◌≡◌, ◌==◌, ◌∷◌};
+ghost use Rattle.std.specs.Prelude.{◌≡◌, ◌==◌, ◌++◌, [], ◌∷◌};
 ghost use Rattle.std.specs.Fmt.{decimal};
 ghost use Rattle.std.specs.List.{starts_with};
 ghost use Rattle.std.specs.Str.{bytes_eq};
+ghost use Rattle.vg_change.specs.Named.{begins};
 
 use ver_module::Net;
 
@@ -52,7 +53,7 @@ fn bit_begins_with(bit: u32, rest: &[u8]) -> bool
 
 /// Whether the name of a net begins with a prefix. It takes no memory.
 pub(crate) fn begins_with(net: &Net<'_>, prefix: &[u8]) -> bool
-    ensures { result ≡ starts_with ◌==◌ net.now.name prefix.now }
+    ensures { result ≡ begins net.now.name prefix.now }
 {
     if net.base.starts_with(prefix) || net.is_named(prefix) {
         return true;
@@ -62,6 +63,16 @@ pub(crate) fn begins_with(net: &Net<'_>, prefix: &[u8]) -> bool
     };
     match prefix.strip_prefix(net.base) {
         Some(rest) => bit_begins_with(bit, rest),
+        None => false,
+    }
+}
+
+/// Whether a prefix goes on behind the name of an identifier with a `[`, as the names of bits do.
+pub(crate) fn goes_on_as_bit(base: &[u8], prefix: &[u8]) -> bool
+    ensures { result ≡ begins prefix.now (base.now ++ 91 ∷ []) }
+{
+    match prefix.strip_prefix(base) {
+        Some(rest) => rest.starts_with(b"["),
         None => false,
     }
 }

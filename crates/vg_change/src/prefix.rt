@@ -1,20 +1,21 @@
 //! Names that begin with a prefix.
 
-ghost use Rattle.std.specs.Prelude.{◌≡◌, ◌==◌, find, map, option_map};
-ghost use Rattle.std.specs.List.{starts_with};
+ghost use Rattle.std.specs.Prelude.{◌≡◌, ℕ, ◌<◌, ◌≤◌, Some, false, find, length, map, option_map, slice_get};
 ghost use Rattle.spef_file.specs.Files.{file_lines, said_by};
+ghost use Rattle.ver_module.specs.Netlists.{Net as NetSpec};
 ghost use Rattle.vg_design.specs.Designs.{net_names};
+ghost use Rattle.vg_change.specs.Named.{begins};
 ghost use Rattle.vg_change.specs.Taken.{taken};
 
-use crate::begins::begins_with;
+use crate::begins::{begins_with, goes_on_as_bit};
 use crate::taken_name::TakenName;
-use ver_module::Module;
+use ver_module::{Module, Net};
 use vg_design::Design;
 
 /// The first name of an instance that begins with a prefix.
 fn instance_with<'a>(netlist: &'a Module, prefix: &[u8]) -> Option<&'a [u8]>
     ensures { option_map (λ name. name.now) result
-        ≡ find (λ name. starts_with ◌==◌ name prefix.now) (map (λ instance. instance.name) netlist.now.instances) }
+        ≡ find (λ name. begins name prefix.now) (map (λ instance. instance.name) netlist.now.instances) }
 {
     'instance: for at in 0..netlist.instance_count() {
         let name = netlist.instance(at).name;
@@ -25,16 +26,36 @@ fn instance_with<'a>(netlist: &'a Module, prefix: &[u8]) -> Option<&'a [u8]>
     None
 }
 
-/// The first name of a net of the netlist that begins with a prefix.
-fn net_with<'a>(netlist: &'a Module, prefix: &[u8]) -> Option<TakenName<'a>>
-    ensures { result ≡ find (λ name. starts_with ◌==◌ name prefix.now) (map (λ net. net.name) netlist.now.nets) }
+/// Where the search goes on behind this net, whose name does not begin with the prefix: behind all bits of its vector,
+/// unless the prefix goes on with a `[` behind the vector's name, so that other bits may begin with it.
+fn next_net(netlist: &Module, at: u32, net: &Net<'_>, prefix: &[u8]) -> u32
+    requires there { slice_get netlist.now.nets at ≡ Some net.now }
+    requires other { begins net.now.name prefix.now ≡ false }
+    ensures on { at < result }
+    ensures within { result ≤ length netlist.now.nets }
+    ensures others { (n : ℕ) (one : NetSpec) → at ≤ n → n < result → slice_get netlist.now.nets n ≡ Some one
+        → begins one.name prefix.now ≡ false }
 {
     netlist.is_sound();
-    'net: for at in 0..netlist.net_count() {
-        let net = netlist.net(at as u32);
+    if net.bit.is_none() || goes_on_as_bit(net.base, prefix) {
+        at + 1
+    } else {
+        netlist.run_end(at)
+    }
+}
+
+/// The first name of a net of the netlist that begins with a prefix. The search passes vectors as a whole, unless the
+/// prefix goes on with a `[` behind the name of one.
+fn net_with<'a>(netlist: &'a Module, prefix: &[u8]) -> Option<TakenName<'a>>
+    ensures { result ≡ find (λ name. begins name prefix.now) (map (λ net. net.name) netlist.now.nets) }
+{
+    let mut at = 0u32;
+    'net: while (at as usize) < netlist.net_count() {
+        let net = netlist.net(at);
         if begins_with(&net, prefix) {
             return Some(TakenName::of_net(net));
         }
+        at = next_net(netlist, at, &net, prefix);
     }
     None
 }
@@ -42,7 +63,7 @@ fn net_with<'a>(netlist: &'a Module, prefix: &[u8]) -> Option<TakenName<'a>>
 /// The first mapped name of the SPEF file that begins with a prefix.
 fn mapped_with<'a>(design: &'a Design, prefix: &[u8]) -> Option<&'a [u8]>
     ensures { option_map (λ name. name.now) result
-        ≡ find (λ name. starts_with ◌==◌ name prefix.now)
+        ≡ find (λ name. begins name prefix.now)
         (map (λ row. row.1) (said_by (file_lines design.now.spef)).names) }
 {
     let map = &design.index().map;
@@ -58,7 +79,7 @@ fn mapped_with<'a>(design: &'a Design, prefix: &[u8]) -> Option<&'a [u8]>
 /// The first name of a net of the SPEF file that begins with a prefix.
 fn section_with<'a>(design: &'a Design, prefix: &[u8]) -> Option<&'a [u8]>
     ensures { option_map (λ name. name.now) result
-        ≡ find (λ name. starts_with ◌==◌ name prefix.now) (net_names design.now.spef) }
+        ≡ find (λ name. begins name prefix.now) (net_names design.now.spef) }
 {
     'net: for at in 0..design.net_count() {
         let name = design.net_name(at);

@@ -1,9 +1,9 @@
-use Rattle.std.proofs.Common.{◌≡◌, ◌==◌, ℕ, Bool, List, ◌++◌, map, Bor, Option, None, Some, find, refl, sym, ap, ◌∙◌}
+use Rattle.std.proofs.Common.{◌≡◌, ℕ, Bool, List, ◌++◌, map, Bor, Option, None, Some, find, refl, sym, ap, ◌∙◌}
 use Rattle.std.specs.Prelude.{option_map}
-use Rattle.std.specs.List.{starts_with}
 use Rattle.spef_file.specs.Files.{file_lines, said_by}
 use Rattle.ver_module.specs.Netlists.{Instance, Net}
 use Rattle.vg_design.specs.Designs.{Design, net_names}
+use Rattle.vg_change.specs.Named.{begins}
 use Rattle.vg_change.specs.Taken.{taken}
 use Rattle.vg_change.proofs.FindLemmas.{found_behind, found_front}
 use Rattle.vg_change.proofs.prefix.taken.Goals as goal
@@ -17,7 +17,7 @@ none_left o never = ap (option_map (λ (name : Bor (List ℕ)). name.now)) (none
 
 module _ (d : Design) (prefix : List ℕ) where
   abbrev test : List ℕ → Bool
-  test name = starts_with ◌==◌ name prefix
+  test name = begins name prefix
 
   abbrev instances : List (List ℕ)
   instances = map (λ (i : Instance). i.name) d.netlist.instances
