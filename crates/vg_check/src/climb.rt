@@ -4,10 +4,13 @@ ghost use Rattle.std.specs.Prelude.{◌≡◌, ◌↔◌, ℕ, ◌+◌, ◌<◌,
 ghost use Rattle.elmore.specs.Trees.{parent_of};
 ghost use Rattle.cand_pairs.specs.Candidates.{NodeLists as NodeListsSpec, IsLive, IsCover, IsCoveredAt, of_lists};
 ghost use Rattle.vg_cert.specs.Fits.{lists_in};
+ghost use Rattle.vg_check.specs.Orders.{IsOrder};
 ghost use Rattle.vg_check.specs.Parts.{AreLists, AreParts, IsPart};
 ghost use Rattle.vg_check.specs.Verdicts.{IsLastUncovered};
 
 use crate::cover::covers_owns;
+use crate::hull::Hull;
+use crate::order::{Rank, by_limit};
 use crate::part::Part;
 use elmore::Problem;
 use std::alloc::Global;
@@ -29,17 +32,30 @@ fn start(alloc: Global, p: &Problem) -> Result<Vec<Part>, Memory>
     Ok(parts)
 }
 
-/// Whether the lists of a node to which all its children came in cover what comes up to it.
-fn is_covered(p: &Problem, node: usize, part: &Part, lists: &[NodeLists]) -> bool
+/// Whether the lists of a node to which all its children came in cover what comes up to it. Answers `Memory` where there
+/// is no room.
+fn is_covered(
+    p: &Problem,
+    node: usize,
+    order: &[Rank],
+    part: &Part,
+    lists: &[NodeLists],
+    hull: &mut Hull,
+) -> Result<bool, Memory>
+    requires order { IsOrder p.now.reps order.now }
     requires node { node < length p.now.tree.nodes }
     requires one_each { length lists.now ≡ length p.now.tree.nodes }
     requires lists { AreLists (lists_in lists.now) }
     requires whole { IsPart p.now (lists_in lists.now) (node + 1) node part.now }
-    ensures { IsTrue result ↔ (IsLive p.now node → IsCoveredAt p.now (of_lists (lists_in lists.now)) node) }
+    ensures { IfOk result (λ covered. IsTrue covered
+        ↔ (IsLive p.now node → IsCoveredAt p.now (of_lists (lists_in lists.now)) node)) }
 {
     match part {
-        Part::Dead(_) => true,
-        Part::Live(joins) => covers_owns(p, node, &lists[node], joins),
+        Part::Dead(_) => Ok(true),
+        Part::Live(joins) => {
+            let covered = covers_owns(p, node, order, &lists[node], joins, hull)?;
+            Ok(covered)
+        }
     }
 }
 
@@ -83,9 +99,11 @@ pub(crate) fn last_uncovered(
         (IsLastUncovered p.now (lists_in lists.now))) }
 {
     let mut parts = start(alloc, p)?;
+    let order = by_limit(alloc, p)?;
+    let mut hull = Hull::new(alloc);
     'nodes: while let Some(part) = parts.pop() {
         let node = parts.len();
-        if !is_covered(p, node, &part, lists) {
+        if !is_covered(p, node, &order, &part, lists, &mut hull)? {
             return Ok(Some(node as u32));
         }
         come_in(alloc, p, part, lists, &mut parts)?;

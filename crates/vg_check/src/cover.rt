@@ -1,20 +1,29 @@
 //! Whether the lists of a node cover what comes up to it.
 
-ghost use Rattle.std.specs.Prelude.{◌≡◌, ◌↔◌, ◌<◌, Bool, not, true, false, length, slice_index_or, Some, IsTrue};
+ghost use Rattle.std.specs.Prelude.{◌≡◌, ◌↔◌, ◌<◌, Bool, not, true, false, List, length, slice_index_or, ◌≤ℤ◌, Some, IfOk, OnOk, IsTrue};
 ghost use Rattle.std.specs.List.{All, AllPairs, Contains};
 ghost use Rattle.elmore.specs.Allowances.{allowed_at, Allows};
 ghost use Rattle.elmore.specs.Cells.{rep_at};
 ghost use Rattle.elmore.specs.Pairs.{IsBelow};
-ghost use Rattle.elmore.specs.Problems.{IsRepWithin};
-ghost use Rattle.cand_pairs.specs.Candidates.{past_cell};
-ghost use Rattle.cand_pairs.specs.Merging.{AreCoveredBy, Greatest, IsChoiceAt, IsGreatestBy, IsModest, Owns};
+ghost use Rattle.elmore.specs.declared.pair.Pair.{Pair as PairSpec};
+ghost use Rattle.elmore.specs.declared.rep.Rep.{Rep as RepSpec};
+ghost use Rattle.cand_pairs.specs.Candidates.{IsCoveredBy, past_cell};
+ghost use Rattle.cand_pairs.specs.Merging.{AreCoveredBy, IsChoiceAt, IsGreatestBy, IsGreatestOf};
 ghost use Rattle.cand_pairs.specs.Parts.{list_of};
 ghost use Rattle.vg_cert.specs.Fits.{list_of as entries_of};
-ghost use Rattle.vg_check.specs.Covers.{AreWorked, CoversCell, CoversCells, CoversJoins, CoversOwns};
+ghost use Rattle.vg_check.specs.Covers.{AreWorked, CoversCells, CoversFrom, CoversJoins, CoversOwns, IsCountWithin, IsWorked};
+ghost use Rattle.vg_check.specs.Hulls.{AreWithin, IsHull};
+ghost use Rattle.vg_check.specs.Orders.{IsOrder};
 
-use cand_pairs::{Classes, greatest};
+use crate::hull::{Hull, find_greatest};
+use crate::order::Rank;
+use cand_pairs::Classes;
 use elmore::{Pair, Problem, Rep};
 use vg_cert::NodeLists;
+use vg_num::Memory;
+
+/// From how many repeaters on a hull is worth its making: fewer are tried on each pair in less time.
+const HULL_FROM: usize = 8;
 
 /// Whether each of the pairs is dominated by an entry. Both lists rise.
 fn covers(entries: &[Pair], pairs: &[Pair]) -> bool
@@ -41,39 +50,65 @@ fn covers(entries: &[Pair], pairs: &[Pair]) -> bool
     true
 }
 
-/// Whether the pairs that a repeater makes of those of a list are dominated by an entry: the greatest is enough.
-fn covers_greatest(entries: &[Pair], rep: &Rep, pairs: &[Pair]) -> bool
-    requires entries { AllPairs IsBelow entries.now }
-    requires rep { IsRepWithin rep.now }
-    requires modest { All IsModest pairs.now }
-    ensures { IsTrue result ↔ AreCoveredBy (IsGreatestBy rep.now pairs.now) entries.now }
+/// How many entries have no more than a load (aF), found by halves.
+fn count_within(entries: &[Pair], load: u64) -> usize
+    requires { AllPairs IsBelow entries.now }
+    ensures { IsCountWithin entries.now load result }
 {
-    match greatest(rep, pairs) {
-        Some(pair) => covers(entries, &[pair]),
+    let mut low = 0;
+    let mut high = entries.len();
+    'search: while low < high {
+        let middle = low + (high - low) / 2;
+        if entries[middle].c <= load {
+            low = middle + 1;
+        } else {
+            high = middle;
+        }
+    }
+    low
+}
+
+/// Whether a pair has no more time than another.
+fn is_no_later(a: Pair, b: Pair) -> bool
+    ensures { IsTrue result ↔ a.q ≤ℤ b.q }
+{
+    a.q <= b.q
+}
+
+/// Whether a pair is dominated by an entry: of those with no more load the last has the most time.
+fn is_dominated(entries: &[Pair], pair: Pair) -> bool
+    requires { AllPairs IsBelow entries.now }
+    ensures { IsTrue result ↔ IsCoveredBy (Contains entries.now) pair }
+{
+    let count = count_within(entries, pair.c);
+    if count == 0 {
+        return false;
+    }
+    is_no_later(pair, entries[count - 1])
+}
+
+/// Whether the pairs that a repeater makes of those of a list are dominated by an entry: the greatest of them, if there
+/// is one, is enough.
+fn covers_greatest(entries: &[Pair], found: Option<Pair>) -> bool
+    requires entries { AllPairs IsBelow entries.now }
+    ensures { (rep : RepSpec) (pairs : List PairSpec) → IsGreatestOf rep pairs found
+        → IsTrue result ↔ AreCoveredBy (IsGreatestBy rep pairs) entries.now }
+{
+    match found {
+        Some(pair) => is_dominated(entries, pair),
         None => true,
     }
 }
 
-/// The pairs of the class that a repeater makes of a signal of the class.
-fn behind<'a>(rep: &Rep, odd: bool, joins: &'a Classes) -> &'a [Pair]
-    ensures { result.now ≡ list_of joins.now (past_cell (Some rep.now) odd) }
+/// The entries of the class that a repeater makes of a signal of the class.
+fn above<'a>(rep: &Rep, odd: bool, lists: &'a NodeLists) -> &'a [Pair]
+    ensures { result.now ≡ entries_of lists.now (past_cell (Some rep.now) odd) }
 {
     if rep.inverts != odd {
-        &joins.odds
+        &lists.odd
     } else {
-        &joins.evens
+        &lists.even
     }
-}
-
-/// Whether the lists cover what a repeater makes of the pairs of a node.
-fn covers_cell(lists: &NodeLists, rep: &Rep, joins: &Classes) -> bool
-    requires lists { (odd : Bool) → AllPairs IsBelow (entries_of lists.now odd) }
-    requires rep { IsRepWithin rep.now }
-    requires joins { AreWorked (list_of joins.now) }
-    ensures { IsTrue result ↔ CoversCell rep.now (list_of joins.now) (entries_of lists.now) }
-{
-    covers_greatest(&lists.even, rep, behind(rep, false, joins))
-        && covers_greatest(&lists.odd, rep, behind(rep, true, joins))
 }
 
 /// Whether a node allows a repeater.
@@ -93,34 +128,90 @@ fn is_place(p: &Problem, node: usize) -> bool
     p.places.as_slice()[node]
 }
 
-/// Whether the lists of a node cover what a repeater makes of its pairs, if it allows that one.
-fn covers_rep(p: &Problem, node: usize, rep: usize, lists: &NodeLists, joins: &Classes) -> bool
+/// Whether the lists of a node cover what a repeater makes of the pairs of one class, if the node allows that one. The
+/// hull may go on to its limit. Answers `Memory` where there is no room.
+fn covers_rep(
+    p: &Problem,
+    node: usize,
+    rep: usize,
+    odd: bool,
+    pairs: &[Pair],
+    lists: &NodeLists,
+    hull: &mut Hull,
+) -> Result<bool, Memory>
     requires node { node < length p.now.tree.nodes }
     requires rep { rep < length p.now.reps }
-    requires lists { (odd : Bool) → AllPairs IsBelow (entries_of lists.now odd) }
-    requires joins { AreWorked (list_of joins.now) }
-    ensures { IsTrue result ↔ (Allows (allowed_at p.now.allowed node) rep
-        → CoversCell (rep_at p.now.reps rep) (list_of joins.now) (entries_of lists.now)) }
+    requires pairs { IsWorked pairs.now }
+    requires lists { (class : Bool) → AllPairs IsBelow (entries_of lists.now class) }
+    requires hull { IsHull pairs.now hull.old.next hull.old.points.items }
+    requires within { AreWithin (rep_at p.now.reps rep).limit pairs.now hull.old.next }
+    ensures hull { OnOk result (IsHull pairs.now hull.new.next hull.new.points.items) }
+    ensures within { OnOk result (AreWithin (rep_at p.now.reps rep).limit pairs.now hull.new.next) }
+    ensures covers { IfOk result (λ covers. IsTrue covers ↔ (Allows (allowed_at p.now.allowed node) rep
+        → AreCoveredBy (IsGreatestBy (rep_at p.now.reps rep) pairs.now)
+        (entries_of lists.now (past_cell (Some (rep_at p.now.reps rep)) odd)))) }
 {
-    !allows(p, node, rep) || covers_cell(lists, &p.reps.as_slice()[rep], joins)
+    if !allows(p, node, rep) {
+        return Ok(true);
+    }
+    let rep = &p.reps.as_slice()[rep];
+    let few = p.reps.len() < HULL_FROM;
+    let found = find_greatest(rep, pairs, few, hull)?;
+    Ok(covers_greatest(above(rep, odd, lists), found))
 }
 
-/// Whether the lists of a node cover what the repeaters that may stand there make of its pairs.
-fn covers_cells(p: &Problem, node: usize, lists: &NodeLists, joins: &Classes) -> bool
+/// Whether the lists of a place cover what the repeaters that may stand there make of the pairs of one class. Answers
+/// `Memory` where there is no room.
+fn covers_from(
+    p: &Problem,
+    node: usize,
+    order: &[Rank],
+    odd: bool,
+    pairs: &[Pair],
+    lists: &NodeLists,
+    hull: &mut Hull,
+) -> Result<bool, Memory>
     requires node { node < length p.now.tree.nodes }
-    requires lists { (odd : Bool) → AllPairs IsBelow (entries_of lists.now odd) }
-    requires joins { AreWorked (list_of joins.now) }
-    ensures { IsTrue result ↔ CoversCells p.now node (list_of joins.now) (entries_of lists.now) }
+    requires place { slice_index_or p.now.places node false ≡ true }
+    requires order { IsOrder p.now.reps order.now }
+    requires pairs { IsWorked pairs.now }
+    requires lists { (class : Bool) → AllPairs IsBelow (entries_of lists.now class) }
+    ensures { IfOk result (λ covers. IsTrue covers ↔ CoversFrom p.now node odd pairs.now (entries_of lists.now)) }
 {
-    if !is_place(p, node) {
-        return true;
-    }
-    'reps: for rep in 0..p.reps.len() {
-        if !covers_rep(p, node, rep, lists, joins) {
-            return false;
+    hull.clear();
+    'reps: for at in 0..order.len() {
+        if !covers_rep(p, node, order[at].rep as usize, odd, pairs, lists, hull)? {
+            return Ok(false);
         }
     }
-    true
+    Ok(true)
+}
+
+/// Whether the lists of a node cover what the repeaters that may stand there make of its pairs. Answers `Memory` where
+/// there is no room.
+fn covers_cells(
+    p: &Problem,
+    node: usize,
+    order: &[Rank],
+    lists: &NodeLists,
+    joins: &Classes,
+    hull: &mut Hull,
+) -> Result<bool, Memory>
+    requires node { node < length p.now.tree.nodes }
+    requires order { IsOrder p.now.reps order.now }
+    requires lists { (odd : Bool) → AllPairs IsBelow (entries_of lists.now odd) }
+    requires joins { AreWorked (list_of joins.now) }
+    ensures { IfOk result (λ covers. IsTrue covers
+        ↔ CoversCells p.now node (list_of joins.now) (entries_of lists.now)) }
+{
+    if !is_place(p, node) {
+        return Ok(true);
+    }
+    if !covers_from(p, node, order, false, &joins.evens, lists, hull)? {
+        return Ok(false);
+    }
+    let covers = covers_from(p, node, order, true, &joins.odds, lists, hull)?;
+    Ok(covers)
 }
 
 /// Whether the lists of a node cover the pairs that come up to it.
@@ -132,12 +223,26 @@ fn covers_joins(lists: &NodeLists, joins: &Classes) -> bool
     covers(&lists.even, &joins.evens) && covers(&lists.odd, &joins.odds)
 }
 
-/// Whether the lists of a node cover all that it comes to, with and without a cell, by the pairs that come up to it.
-pub(crate) fn covers_owns(p: &Problem, node: usize, lists: &NodeLists, joins: &Classes) -> bool
+/// Whether the lists of a node cover all that it comes to, with and without a cell, by the pairs that come up to it. The
+/// repeaters stand by their limits. Answers `Memory` where there is no room.
+pub(crate) fn covers_owns(
+    p: &Problem,
+    node: usize,
+    order: &[Rank],
+    lists: &NodeLists,
+    joins: &Classes,
+    hull: &mut Hull,
+) -> Result<bool, Memory>
     requires node { node < length p.now.tree.nodes }
+    requires order { IsOrder p.now.reps order.now }
     requires lists { (odd : Bool) → AllPairs IsBelow (entries_of lists.now odd) }
     requires joins { AreWorked (list_of joins.now) }
-    ensures { IsTrue result ↔ CoversOwns p.now node (list_of joins.now) (entries_of lists.now) }
+    ensures { IfOk result (λ covers. IsTrue covers
+        ↔ CoversOwns p.now node (list_of joins.now) (entries_of lists.now)) }
 {
-    covers_joins(lists, joins) && covers_cells(p, node, lists, joins)
+    if !covers_joins(lists, joins) {
+        return Ok(false);
+    }
+    let covers = covers_cells(p, node, order, lists, joins, hull)?;
+    Ok(covers)
 }

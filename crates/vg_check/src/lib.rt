@@ -4,8 +4,10 @@
 mod bound;
 mod climb;
 mod cover;
+mod hull;
 mod judge;
 mod laws;
+mod order;
 mod part;
 mod placed;
 mod verdict;

@@ -27,10 +27,10 @@ covers_owns-requires-clause-joins c =
     part_worked c.args.p.now (lists_in c.args.lists.now) c.requires.lists c.args.node (c.args.node + 1) c.requires.node (list_of c.in-Live.joins)
     (subst (IsPart c.args.p.now (lists_in c.args.lists.now) (c.args.node + 1) c.args.node) c.in-Live.is c.requires.whole)
 
-pub returns-in-Live : goal.returns-in-Live
-returns-in-Live c =
+pub returns-in_ok-covered-in-Live : goal.returns-in_ok-covered-in-Live
+returns-in_ok-covered-in-Live c =
     live_covered c.args.p.now (lists_in c.args.lists.now) c.args.node (list_of c.in-Live.joins) (entries_of c.index-lists-node.result)
-    c.covers_owns.result c.requires.node
+    c.in_ok-covered-in-Live.covered c.requires.node
     (subst (IsPart c.args.p.now (lists_in c.args.lists.now) (c.args.node + 1) c.args.node) c.in-Live.is c.requires.whole)
     (lists_here c.args.lists.now c.args.node c.index-lists-node.result (omega (arith, c.requires.node, c.requires.one_each)) c.index-lists-node.is)
-    c.covers_owns.ensures
+    c.in_ok-covered-in-Live.ensures
