@@ -1,9 +1,9 @@
 -- How delivering an answer ends for a request.
-use Rattle.std.proofs.Common.{◌≡◌, inl, inr, ℕ, List, sym, ◌∙◌, subst}
+use Rattle.std.proofs.Common.{inl, inr, ℕ, List, sym, subst}
 use Rattle.vg_store.specs.Causes.{Rose}
 use Rattle.vg_store.specs.Reading.{FilesState}
 use Rattle.vg_store.specs.States.{KeepsWriting}
-use Rattle.vg_store.specs.Writing.{OutState, WriteFaultAt}
+use Rattle.vg_store.specs.Writing.{FilesStay, OutState, WriteFaultAt}
 use Rattle.vg_words.specs.declared.ask.Ask.{Ask}
 use Rattle.vg_run.specs.Modes.{IsAnswerFor}
 use Rattle.vg_answer.specs.Answers.{said_by, Written}
@@ -17,7 +17,7 @@ use Rattle.vg_answer.specs.declared.input.Input.{Input}
 use Rattle.vg_run.specs.declared.outcome.Outcome.{Outcome}
 
 -- reading the inputs changed no file, and nothing that is told of writing
-module _ (old mid new : FilesState) (kept : (file : List ℕ) → mid.holds file ≡ old.holds file) (writing : KeepsWriting old mid) where
+module _ (old mid new : FilesState) (kept : FilesStay old mid) (writing : KeepsWriting old mid) where
   written_since : (ask : Ask) (said : List Written) → AreWritten (mid, new) ask said → AreWritten (old, new) ask said
   written_since ask said written = record {
     whole = written.whole;

@@ -12,6 +12,7 @@ use Rattle.std.specs.declared.alloc.Global.{Global}
 use Rattle.vg_words.specs.declared.ask.Ask.{Ask}
 use Rattle.vg_store.specs.Reading.{FilesState, ReadFaultAt}
 use Rattle.vg_store.specs.States.{KeepsWriting}
+use Rattle.vg_store.specs.Writing.{FilesStay}
 use Rattle.vg_store.specs.declared.read.ReadAll.{ReadAll}
 use Rattle.vg_store.specs.declared.read.ReadAll.TheVariants.{Failed, TooLong, Memory}
 use Rattle.vg_run.specs.Inputs.{inputs, name_of, told, IsLong, IsRead}
@@ -86,7 +87,7 @@ read_as held before text same is short = record { is_file = subst (λ (o : Optio
 
 -- the first input that was not read
 pub unread_is : (ask : Ask) (before mid after : FilesState) (texts : Input → List ℕ) (order : List Input) (i : ℕ) (d : Input) (cause : ReadAll) (name : List ℕ) → order ≡ inputs ask.mode → i < length order
-    → All (λ x. IsRead (told before ask x) (texts x)) (take i order) → ((file : List ℕ) → mid.holds file ≡ before.holds file) → before.read_faults ≤ mid.read_faults → name ≡ name_of ask (get_or order i d)
+    → All (λ x. IsRead (told before ask x) (texts x)) (take i order) → FilesStay before mid → before.read_faults ≤ mid.read_faults → name ≡ name_of ask (get_or order i d)
     → (IsErrOf {T = Vec ℕ Global} (Err cause) Failed → ReadFaultAt mid after (λ blamed. blamed ≡ name))
     → (IsErrOf {T = Vec ℕ Global} (Err cause) TooLong → IsLong (mid.holds name))
     → IsUnread ask (before, after) (get_or order i d, cause)

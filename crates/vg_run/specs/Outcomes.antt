@@ -1,8 +1,8 @@
 -- How a request ends, and what there is to tell of it.
-use Rattle.std.specs.Prelude.{◌≡◌, ◌⊎◌, ℕ, List, [], ◌++◌, codes, Some, unwrap_or}
+use Rattle.std.specs.Prelude.{◌≡◌, ◌⊎◌, ℕ, List, [], ◌++◌, codes, unwrap_or}
 use Rattle.vg_store.specs.Causes.{Rose}
 use Rattle.vg_store.specs.Reading.{FilesState}
-use Rattle.vg_store.specs.Writing.{OutState, Gains, GainsPrefix, WriteFaultAt}
+use Rattle.vg_store.specs.Writing.{OutState, Gains, GainsPrefix}
 use Rattle.vg_store.specs.declared.read.ReadAll.{ReadAll}
 use Rattle.vg_store.specs.declared.read.ReadAll.TheVariants.{Failed as ReadFailed, TooLong as ReadTooLong, Memory as ReadMemory}
 use Rattle.vg_words.specs.declared.ask.Ask.{Ask}
@@ -11,7 +11,7 @@ use Rattle.vg_words.specs.declared.ask.WordFault.TheVariants.{Unread, Missing, E
 use Rattle.vg_answer.specs.Answers.{said_by}
 use Rattle.vg_run.specs.Inputs.{Change, name_of}
 use Rattle.vg_run.specs.Flaws.{IsFlawed}
-use Rattle.vg_run.specs.Run.{AreUntouched, AreWritten, FailsToWrite, HoldAfter, Prints, PrintsSome, Says, TakesName, flaw_line, flaw_status, output_name, taken_line, write_failed_line}
+use Rattle.vg_run.specs.Run.{AreUntouched, AreWritten, FailsAt, FailsToWrite, HoldAfter, Prints, PrintsSome, Says, TakesName, flaw_line, flaw_status, output_name, taken_line, write_failed_line}
 use Rattle.vg_answer.specs.Verdicts.{status_for}
 use Rattle.vg_answer.specs.declared.answer.Answer.{Answer}
 use Rattle.vg_answer.specs.declared.input.Input.{Input}
@@ -23,7 +23,7 @@ use Rattle.vg_run.specs.declared.outcome.Outcome.TheVariants.{Printed, Flawed, T
 -- writing this file of an answer failed
 pub record IsUnwritten (ask : Ask) (files : Change FilesState) (answer : Answer) (output : Output) : Type 0 where
   pub hold : HoldAfter files ask (said_by answer).files output
-  pub fault : WriteFaultAt files.0 files.1 (λ blamed. output_name ask output ≡ Some blamed)
+  pub fault : FailsAt files ask output
 
 -- how printing ends
 abbrev pub IsPrinted : Change OutState → List ℕ → Outcome → Outcome → Type 0

@@ -4,7 +4,7 @@ use Rattle.std.specs.List.{All, AllPairs, list_any}
 use Rattle.vg_store.specs.Causes.{Rose}
 use Rattle.vg_store.specs.Reading.{FilesState}
 use Rattle.vg_store.specs.States.{KeepsWriting}
-use Rattle.vg_store.specs.Writing.{OutState, Gains, GainsPrefix, WriteFaultAt}
+use Rattle.vg_store.specs.Writing.{OutState, FilesStay, Gains, GainsPrefix, WriteFaultAt}
 use Rattle.vg_words.specs.Options.{name_of as option_name}
 use Rattle.vg_words.specs.Request.{parts_of, size_of, IsRequest, IsRefused}
 use Rattle.vg_words.specs.declared.ask.Mode.TheVariants.{Gen, Segment}
@@ -125,6 +125,10 @@ abbrev pub PrintsSome : Change FilesState → (List ℕ → Type 0) → Ask → 
 PrintsSome files Gained ask = (kind : AnswerKind) × Prints kind files Gained ask
 
 -- ---- faults of writing
+-- writing failed, and the file that is blamed, where it is told, is the one of this output
+abbrev pub FailsAt : Change FilesState → Ask → Output → Type 0
+FailsAt files ask output = WriteFaultAt files.0 files.1 (λ blamed. output_name ask output ≡ Some blamed)
+
 -- Of a list of files writing the one of this output failed: some first ones hold their texts; it and the others of the
 -- list, and all files that are none of them, are as they were.
 pub record HoldAfter (files : Change FilesState) (ask : Ask) (said : List Written) (output : Output) : Type 0 where
@@ -144,11 +148,11 @@ pub record FailsToWrite (ask : Ask) (files : Change FilesState) (output : Output
   pub said : Said
   pub is : IsAnswerFor ask texts kind said
   pub hold : HoldAfter files ask said.files output
-  pub fault : WriteFaultAt files.0 files.1 (λ blamed. output_name ask output ≡ Some blamed)
+  pub fault : FailsAt files ask output
 
 -- all files hold what they held, and none was created
 pub record AreUntouched (files : Change FilesState) : Type 0 where
-  pub stay : (file : List ℕ) → files.1.holds file ≡ files.0.holds file
+  pub stay : FilesStay files.0 files.1
   pub none_created : KeepsWriting files.0 files.1
 
 -- `vginsert: write failed: FILE`

@@ -1,10 +1,11 @@
 //! The inputs of a request, read in order.
 
-ghost use Rattle.std.specs.Prelude.{◌≡◌, ◌⊎◌, ◌≤◌, ℕ, List, [], IfOk, IfErr};
+ghost use Rattle.std.specs.Prelude.{◌≡◌, ◌⊎◌, ◌≤◌, [], IfOk, IfErr};
 ghost use Rattle.vg_answer.specs.declared.input.Input.{Input as InputSpec};
 ghost use Rattle.vg_run.specs.Inputs.{inputs as inputs_in, name_of, option_of, texts_read, AreRead};
 ghost use Rattle.vg_run.specs.Outcomes.{IsUnread};
 ghost use Rattle.vg_store.specs.States.{KeepsWriting};
+ghost use Rattle.vg_store.specs.Writing.{FilesStay};
 
 use std::alloc::Global;
 use vg_answer::{DesignTexts, Input, InputText};
@@ -137,7 +138,7 @@ pub fn read_inputs<F: Files>(
 ) -> Result<Texts, (Input, ReadAll)>
     ensures read { IfOk result (λ texts. AreRead (F.state files.old) ask.now (texts_read texts)) }
     ensures unread { IfErr result (IsUnread ask.now (F.state files.old, F.state files.new)) }
-    ensures kept { (file : List ℕ) → (F.state files.new).holds file ≡ (F.state files.old).holds file }
+    ensures kept { FilesStay (F.state files.old) (F.state files.new) }
     ensures never_falls { (F.state files.old).read_faults ≤ (F.state files.new).read_faults }
     ensures writing { KeepsWriting (F.state files.old) (F.state files.new) }
 {

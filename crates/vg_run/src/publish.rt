@@ -1,11 +1,11 @@
 //! The files of an answer, which change only once drafts of all of them are whole.
 
-ghost use Rattle.std.specs.Prelude.{◌≡◌, ◌≤◌, ◌<◌, ℕ, List, [], length, false, Contains, Some, map, IfErr, IsSome, OnErr, OnOk};
+ghost use Rattle.std.specs.Prelude.{◌≡◌, ◌≤◌, ◌<◌, [], length, false, Contains, Some, map, IfErr, IsSome, OnErr, OnOk};
 ghost use Rattle.vg_store.specs.States.{first_name};
-ghost use Rattle.vg_store.specs.Writing.{WriteFaultAt};
+ghost use Rattle.vg_store.specs.Writing.{FilesStay, WriteFaultAt};
 ghost use Rattle.vg_answer.specs.Answers.{text_of, written_by};
 ghost use Rattle.vg_run.specs.Drafts.{AreDrafts, PublishesFor, WaitsFor};
-ghost use Rattle.vg_run.specs.Run.{AreApartIn, AreHeld, AreWritten, HoldAfter, OthersStay, output_name};
+ghost use Rattle.vg_run.specs.Run.{AreApartIn, AreHeld, AreWritten, FailsAt, HoldAfter, OthersStay, output_name};
 
 use crate::outputs::output_name;
 use crate::write::draft_text;
@@ -24,9 +24,8 @@ fn draft_output<F: Files>(
     ensures drafted { OnOk result
         (WaitsFor (F.state files.old, F.state files.new) (output_name ask.now output) (text_of text.now)) }
     ensures shut { OnOk result ((F.state files.new).writing ≡ false) }
-    ensures kept { (file : List ℕ) → (F.state files.new).holds file ≡ (F.state files.old).holds file }
-    ensures failed { OnErr result
-        (WriteFaultAt (F.state files.old) (F.state files.new) (λ blamed. output_name ask.now output ≡ Some blamed)) }
+    ensures kept { FilesStay (F.state files.old) (F.state files.new) }
+    ensures failed { OnErr result (FailsAt (F.state files.old, F.state files.new) ask.now output) }
     ensures never_falls { (F.state files.old).write_faults ≤ (F.state files.new).write_faults }
 {
     match output_name(ask, output) {
@@ -42,10 +41,9 @@ fn draft_files<F: Files>(ask: &Ask, written: &[NewFile], files: &mut F) -> Resul
     ensures drafted { OnOk result
         (AreDrafts (F.state files.new) ask.now (map written_by written.now) (F.state files.new).drafts) }
     ensures shut { OnOk result ((F.state files.new).writing ≡ false) }
-    ensures kept { (file : List ℕ) → (F.state files.new).holds file ≡ (F.state files.old).holds file }
+    ensures kept { FilesStay (F.state files.old) (F.state files.new) }
     ensures one_of { IfErr result (Contains (map (λ w. w.output) (map written_by written.now))) }
-    ensures cause { IfErr result (λ output.
-        WriteFaultAt (F.state files.old) (F.state files.new) (λ blamed. output_name ask.now output ≡ Some blamed)) }
+    ensures cause { IfErr result (FailsAt (F.state files.old, F.state files.new) ask.now) }
     ensures never_falls { (F.state files.old).write_faults ≤ (F.state files.new).write_faults }
 {
     'file: for file in written {
@@ -64,7 +62,7 @@ fn publish_output<F: Files>(ask: &Ask, output: Output, files: &mut F) -> Result<
         (PublishesFor (F.state files.old, F.state files.new) (output_name ask.now output)) }
     ensures shut { (F.state files.new).writing ≡ false }
     ensures named { OnErr result (IsSome (output_name ask.now output)) }
-    ensures kept { OnErr result ((file : List ℕ) → (F.state files.new).holds file ≡ (F.state files.old).holds file) }
+    ensures kept { OnErr result (FilesStay (F.state files.old) (F.state files.new)) }
     ensures failed { OnErr result (WriteFaultAt (F.state files.old) (F.state files.new)
         (λ blamed. first_name (F.state files.old).drafts ≡ Some blamed)) }
     ensures never_falls { (F.state files.old).write_faults ≤ (F.state files.new).write_faults }
@@ -84,8 +82,7 @@ fn publish_files<F: Files>(ask: &Ask, written: &[NewFile], files: &mut F) -> Res
         (AreHeld (F.state files.old, F.state files.new) ask.now (map written_by written.now)) }
     ensures failed { IfErr result
         (HoldAfter (F.state files.old, F.state files.new) ask.now (map written_by written.now)) }
-    ensures cause { IfErr result (λ output.
-        WriteFaultAt (F.state files.old) (F.state files.new) (λ blamed. output_name ask.now output ≡ Some blamed)) }
+    ensures cause { IfErr result (FailsAt (F.state files.old, F.state files.new) ask.now) }
     ensures others { OthersStay (F.state files.old, F.state files.new) ask.now (map written_by written.now) }
     ensures never_falls { (F.state files.old).write_faults ≤ (F.state files.new).write_faults }
 {
@@ -110,8 +107,7 @@ pub(crate) fn write_files<F: Files>(
         (AreWritten (F.state files.old, F.state files.new) ask.now (map written_by written.now)) }
     ensures failed { IfErr result
         (HoldAfter (F.state files.old, F.state files.new) ask.now (map written_by written.now)) }
-    ensures cause { IfErr result (λ output.
-        WriteFaultAt (F.state files.old) (F.state files.new) (λ blamed. output_name ask.now output ≡ Some blamed)) }
+    ensures cause { IfErr result (FailsAt (F.state files.old, F.state files.new) ask.now) }
     ensures others { OthersStay (F.state files.old, F.state files.new) ask.now (map written_by written.now) }
 {
     if written.is_empty() {

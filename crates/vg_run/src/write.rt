@@ -3,7 +3,7 @@
 ghost use Rattle.std.specs.Prelude.{◌≡◌, ℕ, ◌≤◌, List, ◌++◌, true, false, Some, OnOk, OnErr};
 ghost use Rattle.vg_answer.specs.Answers.{text_of};
 ghost use Rattle.vg_store.specs.States.{KeepsReading};
-ghost use Rattle.vg_store.specs.Writing.{DraftGains, DraftGainsPrefix, OneWaits, WriteFaultAt};
+ghost use Rattle.vg_store.specs.Writing.{DraftGains, DraftGainsPrefix, FilesStay, OneWaits, WriteFaultAt};
 
 use arrayvec::ArrayVec;
 use vg_answer::NewText;
@@ -75,7 +75,7 @@ fn append_pieces<F: Files>(files: &mut F, text: &Patched) -> Result<(), Failed>
 pub fn draft_patched<F: Files>(files: &mut F, name: &str, text: &Patched) -> Result<(), Failed>
     ensures drafted { OnOk result (OneWaits (F.state files.old) (F.state files.new) name.now text.now) }
     ensures dropped { OnErr result ((F.state files.new).drafts ≡ (F.state files.old).drafts) }
-    ensures kept { (file : List ℕ) → (F.state files.new).holds file ≡ (F.state files.old).holds file }
+    ensures kept { FilesStay (F.state files.old) (F.state files.new) }
     ensures failed { OnErr result (WriteFaultAt (F.state files.old) (F.state files.new) (λ blamed. blamed ≡ name.now)) }
     ensures never_falls { (F.state files.old).write_faults ≤ (F.state files.new).write_faults }
     ensures ended { OnOk result ((F.state files.new).writing ≡ false) }
@@ -93,7 +93,7 @@ pub fn draft_patched<F: Files>(files: &mut F, name: &str, text: &Patched) -> Res
 pub fn draft_text<F: Files>(files: &mut F, name: &str, text: &NewText) -> Result<(), Failed>
     ensures drafted { OnOk result (OneWaits (F.state files.old) (F.state files.new) name.now (text_of text.now)) }
     ensures dropped { OnErr result ((F.state files.new).drafts ≡ (F.state files.old).drafts) }
-    ensures kept { (file : List ℕ) → (F.state files.new).holds file ≡ (F.state files.old).holds file }
+    ensures kept { FilesStay (F.state files.old) (F.state files.new) }
     ensures failed { OnErr result (WriteFaultAt (F.state files.old) (F.state files.new) (λ blamed. blamed ≡ name.now)) }
     ensures never_falls { (F.state files.old).write_faults ≤ (F.state files.new).write_faults }
     ensures ended { OnOk result ((F.state files.new).writing ≡ false) }
