@@ -1,6 +1,6 @@
 -- Files that are written one after another.
-use Rattle.std.proofs.Common.{◌≡◌, ◌≢◌, ℕ, ◌+◌, ◌<◌, ◌≤◌, List, [], length, take, take-append-drop, refl, sym, ◌∙◌, subst, arith, Option, Some, None, IfSome}
-use Rattle.std.specs.Prelude.{Contains, drop, map}
+use Rattle.std.proofs.Common.{◌≡◌, ◌≢◌, ℕ, ◌+◌, ◌<◌, ◌≤◌, List, length, take, take-append-drop, ap, inr, refl, sym, ◌∙◌, subst, arith, Option, Some, None, IfSome}
+use Rattle.std.specs.Prelude.{Contains, drop, map, slice_get}
 use Rattle.std.specs.List.{All}
 use Rattle.std.proofs.Math.ListN.{get_or}
 use Rattle.std.proofs.Math.Seq.{drop-cons}
@@ -108,6 +108,7 @@ module _ (ask : Ask) (said : List Written) (at : ℕ) (d : Written) (low : at < 
       said_are = sym (take-append-drop at said);
       whole = λ k e less. hold_on (mid, new) (output_name ask (get_or (take at said) k e).output) (get_or (take at said) k e).text (λ file _. kept file) (held k e less);
       unwritten = subst (λ (list : List Written). Contains (map (λ w. w.output) list) (get_or said at d).output) (sym (drop-cons said at d low)) (0, omega arith, refl);
+      none_or_up_to_it = inr (ap (λ (list : List Written). slice_get (map (λ w. w.output) list) 0) (drop-cons said at d low));
       later = later_stay (λ file none. kept file ∙ stay file none);
       others = λ file none. kept file ∙ stay file (All-take (λ w. output_name ask w.output ≢ Some file) at said none);
     }
@@ -148,6 +149,7 @@ module _ (old mid new : FilesState) (kept : FilesStay old mid) (ask : Ask) (said
     said_are = hold.said_are;
     whole = hold.whole;
     unwritten = hold.unwritten;
+    none_or_up_to_it = hold.none_or_up_to_it;
     later = λ k d low file named. hold.later k d low file named ∙ kept file;
     others = others_since hold.others;
   }

@@ -1,5 +1,5 @@
 -- What a run of the program promises.
-use Rattle.std.specs.Prelude.{◌≡◌, ◌≢◌, ◌⊎◌, ℕ, ◌≤◌, List, [], ◌∷◌, ◌++◌, ◌==◌, Bool, true, codes, Contains, map, Option, Some, IfSome, unwrap_or}
+use Rattle.std.specs.Prelude.{◌≡◌, ◌≢◌, ◌⊎◌, ℕ, ◌≤◌, List, [], ◌∷◌, ◌++◌, ◌==◌, Bool, true, codes, Contains, map, Option, Some, IfSome, slice_get, unwrap_or}
 use Rattle.std.specs.List.{All, AllPairs, list_any}
 use Rattle.vg_store.specs.Causes.{Rose}
 use Rattle.vg_store.specs.Reading.{FilesState}
@@ -129,14 +129,15 @@ PrintsSome files Gained ask = (kind : AnswerKind) × Prints kind files Gained as
 abbrev pub FailsAt : Change FilesState → Ask → Output → Type 0
 FailsAt files ask output = WriteFaultAt files.0 files.1 (λ blamed. output_name ask output ≡ Some blamed)
 
--- Of a list of files writing the one of this output failed: some first ones hold their texts; it and the others of the
--- list, and all files that are none of them, are as they were.
+-- Of a list of files writing the one of this output failed: no file changed, or those before it hold their texts; it
+-- and those behind it, and all files that are none of them, are as they were.
 pub record HoldAfter (files : Change FilesState) (ask : Ask) (said : List Written) (output : Output) : Type 0 where
   pub before : List Written
   pub behind : List Written
   pub said_are : said ≡ before ++ behind
   pub whole : AreHeld files ask before
   pub unwritten : Contains (map (λ w. w.output) behind) output
+  pub none_or_up_to_it : (before ≡ []) ⊎ (slice_get (map (λ w. w.output) behind) 0 ≡ Some output)
   pub later : All (λ w. StaysAt files (output_name ask w.output)) behind
   pub others : OthersStay files ask said
 

@@ -36,9 +36,9 @@ use vg_words::read_words;
 /// parasitics, then, in mode `best`, the certificate, where it is asked for and the net is not refused, and then the
 /// report is printed. A net without a cell keeps its part of both texts. In mode `segment` the parasitics are written, in
 /// which a refused net keeps its part, and then the report is printed. Drafts of all files are made before the first file
-/// changes. After 3, 4, 5, 7 and 8 no file was created or changed, and after the first four nothing was printed. After 6
-/// some first files are whole, and the one whose writing failed and later ones are as they were. A fault of `err` never
-/// changes the status. Files that the words do not name as outputs stay.
+/// changes. After 3, 4, 5, 7 and 8 no file was created or changed, and after the first four nothing was printed. After
+/// 6 no file changed, or those before the one whose writing failed are whole; it and later ones are as they were. A
+/// fault of `err` never changes the status. Files that the words do not name as outputs stay.
 pub fn run<F: Files, O: Out, E: Out>(
     alloc: Global,
     words: &[String],
