@@ -3,6 +3,7 @@ pub mod InputLemmas
 pub mod PieceLemmas
 pub mod WriteLemmas
 pub mod DraftLemmas
+pub mod PublishLemmas
 pub mod FileLemmas
 pub mod RequestLemmas
 pub mod ApartLemmas
