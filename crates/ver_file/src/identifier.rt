@@ -46,8 +46,9 @@ const MOST_KEPT: usize = 1 << 21;
 /// How many bytes a token has, or more: what room is taken for.
 const BYTES_A_TOKEN: usize = 2;
 
-/// The most tokens of an item, where items are kept. A longer one takes room enough while it is read.
-const MOST_TOKENS: usize = 1 << 12;
+/// How many bytes a text has for each token of an item that is kept, or more: an item of more tokens takes room enough
+/// while it is read.
+const BYTES_A_KEPT_TOKEN: usize = 4;
 
 fn or_else(first: Option<PortDir>, other: Option<PortDir>) -> Option<PortDir>
     ensures { result ≡ or_else first other }
@@ -130,14 +131,18 @@ fn room_for_items(alloc: Global, text_len: usize) -> Result<Option<KeptItems>, M
     Ok(Some(kept))
 }
 
-/// With an item last, where items are kept and it is short.
-fn with_item(kept: Option<KeptItems>, item: &[Row]) -> Result<Option<KeptItems>, Memory>
+/// With an item last, where items are kept and it is short beside a text of this length.
+fn with_item(
+    kept: Option<KeptItems>,
+    text_len: usize,
+    item: &[Row],
+) -> Result<Option<KeptItems>, Memory>
     requires { 0 < length item.now }
     ensures { (all left : List Section) → IfSome kept (λ k. all ≡ k ++ (section_in item.now ++ left))
         → IfOk result (λ new. IfSome new (λ k. all ≡ k ++ left)) }
 {
     match kept {
-        Some(mut kept) if item.len() <= MOST_TOKENS => {
+        Some(mut kept) if item.len() <= text_len / BYTES_A_KEPT_TOKEN => {
             kept.push(item)?;
             Ok(Some(kept))
         }
@@ -253,7 +258,7 @@ impl Identifiers {
             match items.read_by(&mut machine, &mut item)? {
                 Found::Item => {
                     found.read_item(text, &item)?;
-                    kept = with_item(kept, &item)?;
+                    kept = with_item(kept, text.len(), &item)?;
                 }
                 Found::End if machine.is_module() => return Ok(Some((found, kept))),
                 Found::End | Found::Refused => return Ok(None),
