@@ -235,6 +235,25 @@ module _ (d : Design) (prefix : List ℕ) (at : ℕ) (old : Walk) (s : Signal) (
 
 -- ---- the beginning and the end
 
+-- the first signal is the one with which the walk begins
+first_signal : (d : Design) (prefix : List ℕ) (walk : Walk) → IsUnderWay d prefix 0 walk → signals_of walk ≡ begins walk.first ∷ []
+unfolding reached
+first_signal d prefix walk way = way.come
+
+pub some_signal : (d : Design) (prefix : List ℕ) (walk : Walk) → IsUnderWay d prefix 0 walk → 0 < length walk.signals.items
+some_signal d prefix walk way =
+    let one = ap {B = ℕ} (λ (xs : List Signal). length xs) (first_signal d prefix walk way) in
+    let size = length-map walk.signals.items signal_of in omega (arith, one, size)
+
+-- its net is the first net
+pub first_known : (d : Design) (prefix : List ℕ) (walk : Walk) (first : First) (net : WalkNet) → IsUnderWay d prefix 0 walk → walk.first ≡ first → IsNetIn 17 d prefix first.net net
+    → (s : Signal) → slice_get (signals_of walk) 0 ≡ Some s → IsNetIn 17 d prefix s.net net
+first_known d prefix walk first net way is known s here =
+    subst (λ (id : ℕ). IsNetIn 17 d prefix id net) (ap (λ (f : First). f.net) (sym is) ∙ ap (λ (t : Signal). t.net) (one_is (begins walk.first) s (sym (ap (λ (xs : List Signal). slice_get xs 0) (first_signal d prefix walk way)) ∙ here))) known
+  where
+    one_is : (a b : Signal) → Some a ≡ Some b → a ≡ b
+    one_is a b e = cc
+
 pub begin_down : (d : Design) (prefix : List ℕ) (walk : Walk) → signals_of walk ≡ begins walk.first ∷ [] → IsFirstWithin (length d.netlist.nets) walk.first
     → walk.come ≡ [] → walk.least ≡ None → walk.wrong ≡ None → IsUnderWay d prefix 0 walk
 unfolding reached IsDistinct

@@ -3,7 +3,6 @@ use Rattle.std.specs.Prelude.{◌≡◌, ◌≢◌, ℕ, ◌*◌, ◌^◌, ◌<�
 use Rattle.std.specs.List.{All, AllPairs, IsDistinct}
 use Rattle.elmore.specs.Problems.{IsDriverWithin, IsSmall}
 use Rattle.elmore.specs.Trees.{IsTree, IsWithinLimits}
-use Rattle.elmore.specs.declared.parts.Driver.{Driver}
 use Rattle.cut_laws.specs.Walks.{End, nothing, sink, passes, Signal, TimedNet, late_at, passed, passed_on, reached}
 use Rattle.vg_design.specs.Designs.{Design}
 use Rattle.vg_scan.specs.declared.name.NodeName.{NodeName}
@@ -38,14 +37,6 @@ pub record IsSizedNet (count : ℕ) (net : WalkNet) : Type 0 where
   pub ends : All (IsSizedEnd count) net.ends
   pub driver : IsDriverWithin net.driver
   pub above : IsAboveWithin count net.above
-
--- what is above net number id, which nothing refuses, and what drives it
-pub record IsLookedUp (d : Design) (prefix : List ℕ) (id : ℕ) (above : Above) (driver : Driver) : Type 0 where
-  pub net : WalkNet
-  pub is_net : IsNetIn 17 d prefix id net
-  pub sized : IsSizedNet (length d.netlist.nets) net
-  pub above_is : above ≡ net.above
-  pub driver_is : driver ≡ net.driver
 
 pub record IsFirstWithin (count : ℕ) (first : First) : Type 0 where
   pub net : first.net < count

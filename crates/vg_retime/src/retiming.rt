@@ -26,8 +26,8 @@ pub fn retime(alloc: Global, design: &Design, net: &Name, prefix: &[u8]) -> Resu
     let Some(id) = design.netlist().find_net(net.as_bytes()) else {
         return Err(Refused::Net(Refusal::UnknownNet));
     };
-    let first = climb(alloc, design, prefix, id)?;
-    let walk = go_down(alloc, design, prefix, first)?;
+    let (first, net) = climb(alloc, design, prefix, id)?;
+    let walk = go_down(alloc, design, prefix, first, net)?;
     let Some(left) = walk.least else {
         return Err(Refused::Net(Refusal::NoSink));
     };

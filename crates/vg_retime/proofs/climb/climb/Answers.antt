@@ -9,19 +9,19 @@ use Rattle.vg_retime.proofs.climb.climb.Goals as goal
 pub up-init : goal.up-init
 up-init c = begin_climb c.args.design.now c.args.prefix.now c.args.id _ c.none-come.ensures c.requires
 
-pub returns-in_err-above-clause-refused : goal.returns-in_err-above-clause-refused
-returns-in_err-above-clause-refused c =
-    let p = err_from_is_err_and c.from_residual-in_err-above.result c.from_residual-in_err-above.ensures.1 in
-    rw (p.1, p.2) (climb_refused c.args.design.now c.args.prefix.now c.args.id c.up.at c.up.come c.up.invariant (was_new _ _ c.in_ok-note.ensures.first c.if-branch.true) c.in_err-above.field-0.0 c.in_err-above.ensures.refused)
+pub returns-in_err-net-clause-refused : goal.returns-in_err-net-clause-refused
+returns-in_err-net-clause-refused c =
+    let p = err_from_is_err_and c.from_residual-in_err-net.result c.from_residual-in_err-net.ensures.1 in
+    rw (p.1, p.2) (climb_refused c.args.design.now c.args.prefix.now c.args.id c.up.at c.up.come c.up.invariant (was_new _ _ c.in_ok-note.ensures.first c.if-branch.true) c.in_err-net.field-0.0 c.in_err-net.ensures.refused)
 
 pub returns-in-Open-clause-refused : goal.returns-in-Open-clause-refused
-returns-in-Open-clause-refused c = climb_lost c.args.design.now c.args.prefix.now c.args.id c.up.at c.up.come c.up.invariant (was_new _ _ c.in_ok-note.ensures.first c.if-branch.true) c.in_ok-above.ensures.up.net c.in_ok-above.ensures.up.is_net (sym c.in_ok-above.ensures.up.above_is ∙ c.in-Open.is)
+returns-in-Open-clause-refused c = climb_lost c.args.design.now c.args.prefix.now c.args.id c.up.at c.up.come c.up.invariant (was_new _ _ c.in_ok-note.ensures.first c.if-branch.true) c.in_ok-net.net c.in_ok-net.ensures.net (sym (ap (λ n. n.above) c.net.view_is) ∙ c.in-Open.is)
 
 pub returns-in-First-clause-first : goal.returns-in-First-clause-first
-returns-in-First-clause-first c = climb_first c.args.design.now c.args.prefix.now c.args.id c.up.at c.up.come c.up.invariant (was_new _ _ c.in_ok-note.ensures.first c.if-branch.true) c.in_ok-above.ensures.up.net c.in_ok-above.ensures.up.is_net _ refl c.in_ok-above.ensures.up.driver_is (sym c.in_ok-above.ensures.up.above_is ∙ c.in-First.is)
+returns-in-First-clause-first c = climb_first c.args.design.now c.args.prefix.now c.args.id c.up.at c.up.come c.up.invariant (was_new _ _ c.in_ok-note.ensures.first c.if-branch.true) c.in_ok-net.net c.in_ok-net.ensures.net _ refl (ap (λ n. n.driver) c.net.view_is) (sym (ap (λ n. n.above) c.net.view_is) ∙ c.in-First.is)
 
 pub returns-in-First-clause-within : goal.returns-in-First-clause-within
-returns-in-First-clause-within c = record { net = c.up.invariant.within; driver = subst IsDriverWithin (sym c.in_ok-above.ensures.up.driver_is) c.in_ok-above.ensures.up.sized.driver }
+returns-in-First-clause-within c = record { net = c.up.invariant.within; driver = subst IsDriverWithin (sym (ap (λ n. n.driver) c.net.view_is)) c.in_ok-net.ensures.sized.driver }
 
 pub returns-clause-refused : goal.returns-clause-refused
 returns-clause-refused c = climbs_again c.args.design.now c.args.prefix.now c.args.id c.up.at c.up.come c.up.invariant (was_there _ _ c.in_ok-note.ensures.first c.if-branch.false)
@@ -35,5 +35,5 @@ up-smaller c =
 
 pub up-preserved : goal.up-preserved
 up-preserved c =
-    climb_next c.args.design.now c.args.prefix.now c.args.id c.up.at c.up.come c.up.invariant (was_new _ _ c.in_ok-note.ensures.first c.if-branch.true) c.in_ok-above.ensures.up.net c.in_ok-above.ensures.up.is_net c.in-Net.next c.note.new.self (sym c.in_ok-above.ensures.up.above_is ∙ c.in-Net.is)
-    (subst (IsAboveWithin (length c.args.design.now.netlist.nets)) (sym c.in_ok-above.ensures.up.above_is ∙ c.in-Net.is) c.in_ok-above.ensures.up.sized.above) (c.in_ok-note.ensures.last c.if-branch.true)
+    climb_next c.args.design.now c.args.prefix.now c.args.id c.up.at c.up.come c.up.invariant (was_new _ _ c.in_ok-note.ensures.first c.if-branch.true) c.in_ok-net.net c.in_ok-net.ensures.net c.in-Net.next c.note.new.self (sym (ap (λ n. n.above) c.net.view_is) ∙ c.in-Net.is)
+    (subst (IsAboveWithin (length c.args.design.now.netlist.nets)) (sym (ap (λ n. n.above) c.net.view_is) ∙ c.in-Net.is) c.in_ok-net.ensures.sized.above) (c.in_ok-note.ensures.last c.if-branch.true)

@@ -13,10 +13,14 @@ returns-then-not-branch-clause-refused c =
     (signal_at c.args.walk.now c.args.at c.index.result.now c.requires.at c.index.ensures)
     (was_there _ _ c.in_ok-note.ensures.first c.if-not-branch.true)
 
-pub walk_net-requires : goal.walk_net-requires
-walk_net-requires c =
+pub known_net-requires-clause-id : goal.known_net-requires-clause-id
+known_net-requires-clause-id c =
     let next = next_sized c.args.design.now c.args.prefix.now c.args.at c.args.walk.now (signal_of c.index.result.now) c.requires.walk (signal_at c.args.walk.now c.args.at c.index.result.now c.requires.at c.index.ensures) in
     next.net
+
+pub known_net-requires-clause-known : goal.known_net-requires-clause-known
+known_net-requires-clause-known c =
+    c.requires.known (signal_of c.index.result.now) (signal_at c.args.walk.now c.args.at c.index.result.now c.requires.at c.index.ensures)
 
 pub returns-in_err-net-clause-refused : goal.returns-in_err-net-clause-refused
 returns-in_err-net-clause-refused c =

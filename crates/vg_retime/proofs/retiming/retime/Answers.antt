@@ -27,7 +27,7 @@ returns-in_err-first-clause-refused c =
     c.in_err-first.field-0.0 c.in_err-first.ensures.refused)
 
 pub go_down-requires : goal.go_down-requires
-go_down-requires c = c.in_ok-first.ensures.within
+go_down-requires c = record { first = c.in_ok-first.ensures.within; net = c.in_ok-first.ensures.net; sized = c.in_ok-first.ensures.sized }
 
 pub returns-in_err-walk-clause-refused : goal.returns-in_err-walk-clause-refused
 returns-in_err-walk-clause-refused c =
