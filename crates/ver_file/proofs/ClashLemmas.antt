@@ -14,7 +14,7 @@ use Rattle.name_tables.proofs.ChainLemmas.{lt_or_le}
 use Rattle.ver_syntax.specs.declared.row.Row.{Row}
 use Rattle.ver_syntax.specs.Rows.{rows_of}
 use Rattle.ver_module.specs.Names.{AreApart, IsOf, is_bit, is_scalar}
-use Rattle.ver_module.specs.Netlists.{Net, net_name}
+use Rattle.ver_module.specs.Netlists.{Net, NetTable, net_name}
 use Rattle.ver_module.specs.declared.range.Range.{Range}
 use Rattle.ver_module.specs.Ranges.{bits_from, bits_of}
 use Rattle.ver_module.proofs.NetLemmas.{behind, in_front}
@@ -28,12 +28,10 @@ use Rattle.ver_file.proofs.FaultLemmas.{Least, find_least}
 use Rattle.ver_file.proofs.FlawLemmas.{next_repeated, none_repeated}
 use Rattle.ver_file.proofs.ListLemmas.{bytes_are, bytes_same}
 use Rattle.ver_file.proofs.NetLemmas.{names_given}
-use Rattle.ver_file.proofs.NumberLemmas.{first_numbered, in_parts, said_there}
-use Rattle.ver_file.proofs.SaidLemmas.{range_is}
-use Rattle.ver_file.specs.declared.identifier.Identifiers.{Identifiers}
-use Rattle.ver_file.specs.Said.{range_said}
-use Rattle.ver_file.specs.Tables.{AreIdentifiers}
-use Rattle.ver_items.specs.declared.heading.Heading.{Heading}
+use Rattle.ver_file.proofs.NumberLemmas.{first_numbered, in_parts}
+use Rattle.ver_file.specs.Said.{identifiers_of}
+use Rattle.ver_file.specs.Tables.{IsNetTable, identifier_at}
+use Rattle.ver_module.specs.declared.net.Identifier.{Identifier}
 
 some_inside : {X : Type 0} (a b : X) → Some a ≡ Some b → a ≡ b
 some_inside a b e = cc
@@ -267,28 +265,34 @@ pub no_range : (range : Option Range) → is_some range ≡ false → range ≡ 
 no_range None e = refl
 no_range (Some r) e = absurd (cc)
 
-pub token_there : (text : List ℕ) (found : Identifiers) (at : ℕ) (token : Row) → AreIdentifiers text found → slice_get found.tokens.items at ≡ Some token
+-- ---- identifiers in the table of nets
+
+pub token_there : (text : List ℕ) (tokens : List Row) (at : ℕ) (token : Row) → tokens ≡ tokens_of_nets text → slice_get tokens at ≡ Some token
     → slice_get (tokens_of_nets text) at ≡ Some token
-token_there text found at token are e = ap (λ ts. slice_get ts at) (sym are.tokens) ∙ e
+token_there text tokens at token same e = ap (λ ts. slice_get ts at) (sym same) ∙ e
 
-pub range_there : (text : List ℕ) (found : Identifiers) (at : ℕ) (token : Row) (said : Option Heading) → AreIdentifiers text found
-    → slice_get found.tokens.items at ≡ Some token → slice_get found.said.items at ≡ Some said → range_said said ≡ range_in (declared_of text) (name_at text token)
-range_there text found at token said are e s =
-    ap range_said (said_there text found at token said are e s) ∙ range_is (declared_of text) (name_at text token)
+pub identifier_there : (text : List ℕ) (table : NetTable) (at : ℕ) (token : Row) (found : Identifier) → IsNetTable text table
+    → slice_get (tokens_of_nets text) at ≡ Some token → slice_get table.identifiers at ≡ Some found → found ≡ identifier_at text (declared_of text) token
+identifier_there text table at token found is t f =
+    let there : slice_get table.identifiers at ≡ Some (identifier_at text (declared_of text) token) =
+    ap (λ is. slice_get is at) is.identifiers ∙ slice_get-map (identifier_at text (declared_of text)) (tokens_of_nets text) at
+    ∙ ap (option_map (identifier_at text (declared_of text))) t in
+    cc
 
-pub token_named : (text : List ℕ) (found : Identifiers) (v : ℕ) (token : Row) (base : List ℕ) → AreIdentifiers text found
-    → slice_get found.tokens.items v ≡ Some token → Some v ≡ number_of found.names base → name_at text token ≡ base
-token_named text found v token base are e f =
-    let name : slice_get found.names v ≡ Some (name_at text token) =
-    ap (λ ns. slice_get ns v) are.names ∙ slice_get-map (name_at text) (tokens_of_nets text) v ∙ ap (option_map (name_at text)) (token_there text found v token are e) in
-    sym (get_or_from_slice_get found.names v (name_at text token) [] name) ∙ (known_of found.names base v f).1
+pub token_named : (text : List ℕ) (v : ℕ) (token : Row) (base : List ℕ) → slice_get (tokens_of_nets text) v ≡ Some token
+    → Some v ≡ number_of (identifiers_of text) base → name_at text token ≡ base
+token_named text v token base e f =
+    let names = identifiers_of text in
+    let name : slice_get names v ≡ Some (name_at text token) = slice_get-map (name_at text) (tokens_of_nets text) v ∙ ap (option_map (name_at text)) e in
+    sym (get_or_from_slice_get names v (name_at text token) [] name) ∙ (known_of names base v f).1
 
-pub token_missing : (text : List ℕ) (found : Identifiers) (v : ℕ) (token : Row) (base : List ℕ) → AreIdentifiers text found
-    → slice_get (tokens_of_nets text) v ≡ Some token → name_at text token ≡ base → None ≡ number_of found.names base → ⊥
-token_missing text found v token base are e f none =
-    let name : slice_get found.names v ≡ Some base =
-    ap (λ ns. slice_get ns v) are.names ∙ slice_get-map (name_at text) (tokens_of_nets text) v ∙ ap (option_map (name_at text)) e ∙ ap Some f in
-    absent_of found.names base none v (slice_get_within found.names v base name) (get_or_from_slice_get found.names v base [] name)
+pub token_missing : (text : List ℕ) (v : ℕ) (token : Row) (base : List ℕ) → slice_get (tokens_of_nets text) v ≡ Some token → name_at text token ≡ base
+    → None ≡ number_of (identifiers_of text) base → ⊥
+token_missing text v token base e f none =
+    let names = identifiers_of text in
+    let name : slice_get names v ≡ Some base =
+    slice_get-map (name_at text) (tokens_of_nets text) v ∙ ap (option_map (name_at text)) e ∙ ap Some f in
+    absent_of names base none v (slice_get_within names v base name) (get_or_from_slice_get names v base [] name)
 
 -- ---- a scalar and a bit
 

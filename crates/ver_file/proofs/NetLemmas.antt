@@ -1,20 +1,19 @@
 -- The nets of a text.
-use Rattle.std.proofs.Common.{◌≡◌, ℕ, suc, ◌+◌, ◌<◌, ◌≤◌, Bool, true, false, not, List, [], ◌∷◌, ◌++◌, length, map, flat_map, take, Option, Some, None, refl, sym, ap, ◌∙◌, arith, append_assoc}
+use Rattle.std.proofs.Common.{◌≡◌, ℕ, suc, ◌+◌, ◌<◌, ◌≤◌, Bool, true, false, not, List, [], ◌∷◌, ◌++◌, length, map, flat_map, take, Option, Some, None, refl, sym, ap, ◌∙◌, arith}
 use Rattle.std.specs.Prelude.{slice_get}
 use Rattle.std.proofs.Math.Seq.{take-suc}
-use Rattle.std.proofs.lemmas.Grind.{flat_map-append}
-use Rattle.std.proofs.lemmas.List.{append-nil, length-map, length-take-le, map-append, take_all}
+use Rattle.std.proofs.lemmas.List.{map-append, take_all}
 use Rattle.std.proofs.lemmas.Option.{get_or_from_slice_get}
 use Rattle.ver_syntax.specs.declared.fault.VerKind.TheVariants.{NameClash}
 use Rattle.ver_syntax.specs.declared.row.Row.{Row}
-use Rattle.ver_module.specs.Netlists.{nets_by, nets_with}
+use Rattle.ver_module.specs.Netlists.{NetTable, nets_in, nets_with}
 use Rattle.ver_module.specs.declared.net.Identifier.{Identifier}
 use Rattle.ver_items.specs.Declarations.{declared_of}
 use Rattle.ver_items.specs.Sections.{name_at}
 use Rattle.ver_file.specs.Firsts.{earlier, first_of}
 use Rattle.ver_file.specs.Flaws.{clashes, flaws_of, name_flaws, named_nets, range_flaws, unless}
 use Rattle.ver_file.specs.Nets.{nets_at, nets_of, tokens_of_nets}
-use Rattle.ver_file.specs.Tables.{names_of}
+use Rattle.ver_file.specs.Tables.{IsNetTable, identifier_at, names_of}
 use Rattle.ver_file.proofs.FirstLemmas.{given_names}
 
 pub no_left : {X : Type 0} (xs ys : List X) → xs ++ ys ≡ [] → xs ≡ []
@@ -63,53 +62,30 @@ none_first text e = (not_first None (name_flaws text) e).1
 
 -- ---- identifiers one after another
 
--- the nets of one identifier more
-with_last : (names : List (List ℕ)) (all : List Identifier) (name : List ℕ) (identifier : Identifier) → length all ≡ length names
-    → nets_with (names ++ name ∷ []) (all ++ identifier ∷ []) ≡ nets_with names all ++ nets_by name identifier
+nets_by_tokens : (text : List ℕ) (tokens : List Row)
+    → nets_with (map (name_at text) tokens) (map (identifier_at text (declared_of text)) tokens) ≡ flat_map (nets_at text (declared_of text)) tokens
 unfolding nets_with
-with_last [] [] name identifier e = append-nil (nets_by name identifier)
-with_last [] (i ∷ all) name identifier e = absurd (omega (arith, e))
-with_last (n ∷ names) [] name identifier e = absurd (omega (arith, e))
-with_last (n ∷ names) (i ∷ all) name identifier e =
-    ap (λ ns. nets_by n i ++ ns) (with_last names all name identifier (omega (arith, e)))
-    ∙ sym (append_assoc (nets_by n i) (nets_with names all) (nets_by name identifier))
+nets_by_tokens text [] = refl
+nets_by_tokens text (t ∷ ts) = ap (λ ns. nets_at text (declared_of text) t ++ ns) (nets_by_tokens text ts)
 
-pub one_more : (text : List ℕ) (tokens : List Row) (all : List Identifier) (token : Row) (identifier : Identifier) → length all ≡ length tokens
-    → nets_by (name_at text token) identifier ≡ nets_at text (declared_of text) token
-    → nets_with (map (name_at text) tokens) all ≡ flat_map (nets_at text (declared_of text)) tokens
-    → nets_with (map (name_at text) (tokens ++ token ∷ [])) (all ++ identifier ∷ []) ≡ flat_map (nets_at text (declared_of text)) (tokens ++ token ∷ [])
-one_more text tokens all token identifier n e h =
-    ap (λ names. nets_with names (all ++ identifier ∷ [])) (map-append (name_at text) tokens (token ∷ []))
-    ∙ with_last (map (name_at text) tokens) all (name_at text token) identifier (n ∙ sym (length-map tokens (name_at text)))
-    ∙ (λ i. h i ++ e i)
-    ∙ ap (λ ns. flat_map (nets_at text (declared_of text)) tokens ++ ns) (sym (append-nil (nets_at text (declared_of text) token)))
-    ∙ sym (flat_map-append (nets_at text (declared_of text)) tokens (token ∷ []))
+-- the table has the nets of its text
+pub table_nets : (text : List ℕ) (table : NetTable) → IsNetTable text table → nets_in table ≡ nets_of text
+table_nets text table is = (λ i. nets_with (is.names i) (is.identifiers i)) ∙ nets_by_tokens text (tokens_of_nets text)
 
--- the same, at the place of a token
+-- the next identifier
 pub next_identifier : (text : List ℕ) (tokens : List Row) (at : ℕ) (all more : List Identifier) (token : Row) (identifier : Identifier) → at < length tokens
-    → slice_get tokens at ≡ Some token → length all ≡ at → more ≡ all ++ identifier ∷ []
-    → nets_by (name_at text token) identifier ≡ nets_at text (declared_of text) token
-    → nets_with (map (name_at text) (take at tokens)) all ≡ flat_map (nets_at text (declared_of text)) (take at tokens)
-    → nets_with (map (name_at text) (take (at + 1) tokens)) more ≡ flat_map (nets_at text (declared_of text)) (take (at + 1) tokens)
-next_identifier text tokens at all more token identifier l e n f g h =
-    ap (λ ts. nets_with (map (name_at text) ts) more) cut ∙ ap (nets_with (map (name_at text) (take at tokens ++ token ∷ []))) f
-    ∙ one_more text (take at tokens) all token identifier (n ∙ sym (length-take-le at tokens (omega (arith, l)))) g h
-    ∙ ap (flat_map (nets_at text (declared_of text))) (sym cut)
+    → slice_get tokens at ≡ Some token → more ≡ all ++ identifier ∷ [] → identifier ≡ identifier_at text (declared_of text) token
+    → all ≡ map (identifier_at text (declared_of text)) (take at tokens) → more ≡ map (identifier_at text (declared_of text)) (take (at + 1) tokens)
+next_identifier text tokens at all more token identifier l e f g h =
+    f ∙ (λ i. h i ++ g i ∷ [])
+    ∙ sym (ap (map (identifier_at text (declared_of text))) cut ∙ map-append (identifier_at text (declared_of text)) (take at tokens) (token ∷ []))
   where
     cut : take (at + 1) tokens ≡ take at tokens ++ token ∷ []
     cut =
         ap (λ k. take k tokens) (let k : at + 1 ≡ suc at = omega arith in k) ∙ take-suc tokens at token l
         ∙ ap (λ t. take at tokens ++ t ∷ []) (get_or_from_slice_get tokens at token token e)
 
-pub no_identifier : (text : List ℕ) (tokens : List Row) (all : List Identifier) → all ≡ []
-    → nets_with (map (name_at text) (take 0 tokens)) all ≡ flat_map (nets_at text (declared_of text)) (take 0 tokens)
-unfolding nets_with
-no_identifier text tokens all e = ap (nets_with []) e
-
 -- behind the last token they are all
-pub all_identifiers : (text : List ℕ) (at : ℕ) (all : List Identifier) → length (tokens_of_nets text) ≤ at
-    → nets_with (map (name_at text) (take at (tokens_of_nets text))) all ≡ flat_map (nets_at text (declared_of text)) (take at (tokens_of_nets text))
-    → nets_with (map (name_at text) (tokens_of_nets text)) all ≡ nets_of text
-all_identifiers text at all l h =
-    let cut = take_all at (tokens_of_nets text) l in
-    ap (λ ts. nets_with (map (name_at text) ts) all) (sym cut) ∙ h ∙ ap (flat_map (nets_at text (declared_of text))) cut
+pub all_identifiers : (text : List ℕ) (tokens : List Row) (at : ℕ) (all : List Identifier) → length tokens ≤ at
+    → all ≡ map (identifier_at text (declared_of text)) (take at tokens) → all ≡ map (identifier_at text (declared_of text)) tokens
+all_identifiers text tokens at all l h = h ∙ ap (map (identifier_at text (declared_of text))) (take_all at tokens l)

@@ -1,6 +1,6 @@
 -- The numbers of identifiers and of nets.
-use Rattle.std.proofs.Common.{◌≡◌, ℕ, zero, suc, ◌+◌, ◌<◌, Bool, true, false, not, ◌||◌, List, [], ◌∷◌, ◌++◌, length, map, flat_map, take, drop, get_or, slice_get, option_map, Option, Some, None, refl, sym, ap, ◌∙◌, subst, arith, append_assoc, length-append}
-use Rattle.std.specs.List.{list_any}
+use Rattle.std.proofs.Common.{◌≡◌, ℕ, zero, suc, ◌+◌, ◌<◌, Bool, true, false, not, ◌||◌, List, [], ◌∷◌, ◌++◌, length, map, flat_map, take, get_or, slice_get, option_map, Option, Some, None, refl, sym, ap, ◌∙◌, subst, arith, append_assoc, length-append}
+use Rattle.std.specs.List.{All, list_any}
 use Rattle.std.specs.Str.{bytes_eq}
 use Rattle.std.proofs.lemmas.List.{get_or-map, length-map}
 use Rattle.std.proofs.lemmas.Option.{get_or_from_slice_get, slice_get-get_or, slice_get-map, slice_get_within}
@@ -12,7 +12,7 @@ use Rattle.ver_syntax.specs.declared.row.Place.TheVariants.{Start}
 use Rattle.ver_syntax.specs.declared.row.Row.{Row}
 use Rattle.ver_syntax.specs.Rows.{rows_of}
 use Rattle.ver_module.specs.Ranges.{bits_of}
-use Rattle.ver_items.specs.Declarations.{declared_of, range_in}
+use Rattle.ver_items.specs.Declarations.{declared_of, direction_in, range_in}
 use Rattle.ver_module.specs.declared.range.Range.{Range}
 use Rattle.ver_items.specs.declared.heading.Heading.{Heading}
 use Rattle.ver_items.specs.Sections.{name_at}
@@ -20,17 +20,19 @@ use Rattle.vg_scan.specs.Lines.{part}
 use Rattle.vg_scan.proofs.FirstLemmas.{lt_yes}
 use Rattle.ver_text.specs.Names.{name_of}
 use Rattle.ver_file.specs.declared.identifier.Identifiers.{Identifiers}
-use Rattle.ver_file.specs.declared.identifier.Use.{Use}
+use Rattle.ver_file.specs.declared.uses.Use.{Use}
+use Rattle.ver_module.specs.Flat.{count_in}
+use Rattle.ver_module.specs.Netlists.{NetTable}
 use Rattle.ver_file.specs.Flaws.{Named, given, name_flaws, named_nets, repeated, unless}
 use Rattle.ver_file.specs.Nets.{first_tokens, is_first, net, net_names, nets_at, tokens_of_nets}
 use Rattle.ver_file.specs.Netlists.{number_of_bit}
-use Rattle.ver_file.specs.Said.{range_said, said_of}
-use Rattle.ver_file.specs.Tables.{AreIdentifiers, IsUse, first_numbers}
-use Rattle.ver_file.proofs.FirstLemmas.{drop-next}
+use Rattle.ver_file.specs.Said.{direction_said, identifiers_of, range_said, said_of}
+use Rattle.ver_file.specs.Tables.{AreIdentifiers, IsNetTable, IsUse, identifier_at}
 use Rattle.ver_file.proofs.FlawLemmas.{next_repeated}
 use Rattle.ver_file.proofs.ListLemmas.{bytes_same}
 use Rattle.ver_file.proofs.NetLemmas.{names_given, no_left, no_right, not_any, passes}
-use Rattle.ver_file.proofs.SaidLemmas.{range_is}
+use Rattle.ver_file.proofs.SaidLemmas.{direction_is, range_is}
+use Rattle.ver_module.specs.declared.net.Identifier.{Identifier}
 use Rattle.ver_file.proofs.TableLemmas.{first_is_new, new_token, no_token, old_token}
 
 -- a name that none before it is
@@ -103,34 +105,27 @@ said_there text found at token said are t s =
     sym (get_or_from_slice_get found.said.items at said None s) ∙ ap (λ k. get_or found.said.items k None) (sym number) ∙ are.said.says (name_at text token)
 
 -- where an identifier stands, a token is that identifier
-pub use_numbered : (text : List ℕ) (found : Identifiers) (at : ℕ) (place : Use) (r : Row) → AreIdentifiers text found → slice_get found.uses.items at ≡ Some place
-    → place.from ≡ r.from → place.to ≡ r.to → Some place.id ≡ number_of found.names (name_at text r)
-use_numbered text found at place r are e from to =
-    let same : get_or found.uses.items at place ≡ place = get_or_from_slice_get found.uses.items at place place e in
-    let here : IsUse text found.names place = subst (IsUse text found.names) same (are.uses at place (slice_get_within found.uses.items at place e)) in
+pub use_numbered : (text : List ℕ) (uses : List Use) (at : ℕ) (place : Use) (r : Row) → All (IsUse text (identifiers_of text)) uses → slice_get uses at ≡ Some place
+    → place.from ≡ r.from → place.to ≡ r.to → Some place.id ≡ number_of (identifiers_of text) (name_at text r)
+use_numbered text uses at place r all e from to =
+    let names = identifiers_of text in
+    let same : get_or uses at place ≡ place = get_or_from_slice_get uses at place place e in
+    let here : IsUse text names place = subst (IsUse text names) same (all at place (slice_get_within uses at place e)) in
     let id = place.id in
     let tokens = tokens_of_nets text in
     let other : Row = record { place = Start; kind = Module; from = 0; to = 0 } in
-    let low : id < length tokens = omega (arith, here.within, ap length are.names, length-map tokens (name_at text)) in
-    let its : get_or found.names id [] ≡ name_at text (get_or tokens id other) =
-    ap (λ names. get_or names id []) are.names ∙ get_or-map (name_at text) tokens id other [] low in
+    let low : id < length tokens = omega (arith, here.within, length-map tokens (name_at text)) in
+    let its : get_or names id [] ≡ name_at text (get_or tokens id other) = get_or-map (name_at text) tokens id other [] low in
     let name : name_at text r ≡ name_at text (get_or tokens id other) = sym (here.is ∙ (λ i. name_of (part text (from i) (to i)))) ∙ its in
-    let number : number_in found.names (name_at text r) ≡ id =
-    ap (number_in found.names) name
-    ∙ ap (λ names. number_in names (name_at text (get_or tokens id other))) are.names
+    let number : number_in names (name_at text r) ≡ id =
+    ap (number_in names) name
     ∙ first_numbered text [] (rows_of text) id (get_or tokens id other) (slice_get-get_or tokens id other low)
     ∙ (let n : 0 + id ≡ id = omega arith in n) in
-    rw number (rw (lt_yes id (length found.names) here.within) refl)
+    rw number (rw (lt_yes id (length names) here.within) refl)
 
 -- as many as there are tokens
 pub as_many : (text : List ℕ) (found : Identifiers) → AreIdentifiers text found → length found.said.items ≡ length found.tokens.items
 as_many text found are = are.count ∙ ap length are.names ∙ length-map (tokens_of_nets text) (name_at text) ∙ ap length (sym are.tokens)
-
--- one token more
-pub next_at : {X : Type 0} (xs its : List X) (i : ℕ) (x : X) → slice_get xs i ≡ Some x → xs ≡ its → drop i its ≡ x ∷ drop (i + 1) its
-next_at xs its i x e same =
-    let there : slice_get its i ≡ Some x = ap (λ ys. slice_get ys i) (sym same) ∙ e in
-    drop-next its i x (slice_get_within its i x there) ∙ ap (λ y. y ∷ drop (i + 1) its) (get_or_from_slice_get its i x x there)
 
 -- ---- nets
 
@@ -188,34 +183,26 @@ in_parts f (u ∷ us) (suc id) token at x t e =
 named_count : (text : List ℕ) (r : Row) → length (nets_at text (declared_of text) r) ≡ length (named_nets text r)
 named_count text r = sym (length-map (nets_at text (declared_of text) r) (given r.from))
 
--- the number of an identifier's first net
-first_number : (text : List ℕ) (n : ℕ) (tokens : List Row) (id : ℕ) (token : Row) → slice_get tokens id ≡ Some token
-    → get_or (first_numbers text n tokens) id 0 ≡ n + length (flat_map (named_nets text) (take id tokens))
-unfolding first_numbers
-first_number text n [] id token t = absurd (cc)
-first_number text n (u ∷ us) zero token t = omega arith
-first_number text n (u ∷ us) (suc id) token t =
-    first_number text (n + length (nets_at text (declared_of text) u)) us id token t
-    ∙ omega (arith, named_count text u, length-append (named_nets text u) (flat_map (named_nets text) (take id us)))
-
-pub length-first_numbers : (text : List ℕ) (n : ℕ) (tokens : List Row) → length (first_numbers text n tokens) ≡ length tokens
-unfolding first_numbers
-length-first_numbers text n [] = refl
-length-first_numbers text n (u ∷ us) = ap suc (length-first_numbers text (n + length (nets_at text (declared_of text) u)) us)
-
-pub next_numbers : (text : List ℕ) (n : ℕ) (tokens : List Row) (u : Row) (us : List Row) → tokens ≡ u ∷ us
-    → first_numbers text n tokens ≡ n ∷ first_numbers text (n + length (nets_at text (declared_of text) u)) us
-unfolding first_numbers
-next_numbers text n tokens u us e = ap (first_numbers text n) e
-
-pub no_numbers : (text : List ℕ) (n : ℕ) (tokens : List Row) → tokens ≡ [] → first_numbers text n tokens ≡ []
-unfolding first_numbers
-no_numbers text n tokens e = ap (first_numbers text n) e
+-- how many nets stand before those of an identifier
+counted : (text : List ℕ) (tokens : List Row) (id : ℕ)
+    → count_in (take id (map (identifier_at text (declared_of text)) tokens)) ≡ length (flat_map (named_nets text) (take id tokens))
+unfolding count_in
+counted text [] zero = refl
+counted text [] (suc id) = refl
+counted text (u ∷ us) zero = refl
+counted text (u ∷ us) (suc id) =
+    omega (
+      arith,
+      counted text us id,
+      named_count text u,
+      length-map (bits_of (range_in (declared_of text) (name_at text u))) (net text (declared_of text) u),
+      length-append (named_nets text u) (flat_map (named_nets text) (take id us)),
+    )
 
 -- the number of a net, by that of its identifier's first one
 pub net_numbered : (text : List ℕ) (id at : ℕ) (token : Row) (bit : Option ℕ) → name_flaws text ≡ [] → slice_get (tokens_of_nets text) id ≡ Some token
     → slice_get (bits_of (range_in (declared_of text) (name_at text token))) at ≡ Some bit
-    → number_in (net_names text) (net text (declared_of text) token bit).name ≡ get_or (first_numbers text 0 (tokens_of_nets text)) id 0 + at
+    → number_in (net_names text) (net text (declared_of text) token bit).name ≡ count_in (take id (map (identifier_at text (declared_of text)) (tokens_of_nets text))) + at
 net_numbered text id at token bit none t b =
     let tokens = tokens_of_nets text in
     let n : Named = given token.from (net text (declared_of text) token bit) in
@@ -226,66 +213,60 @@ net_numbered text id at token bit none t b =
     let there = in_parts (named_nets text) tokens id token at n t here in
     ap (λ names. number_in names n.name) (sym (names_given text tokens))
     ∙ given_numbered [] (flat_map (named_nets text) tokens) (length (flat_map (named_nets text) (take id tokens)) + at) n none there
-    ∙ (let e : 0 + (length (flat_map (named_nets text) (take id tokens)) + at) ≡ get_or (first_numbers text 0 tokens) id 0 + at = omega (arith, first_number text 0 tokens id token t) in e)
+    ∙ (let e : 0 + (length (flat_map (named_nets text) (take id tokens)) + at) ≡ count_in (take id (map (identifier_at text (declared_of text)) tokens)) + at = omega (arith, counted text tokens id) in e)
 
--- how many nets the next identifier has
-pub next_count : (text : List ℕ) (found : Identifiers) (at : ℕ) (said : Option Heading) → AreIdentifiers text found → at < length found.tokens.items
-    → slice_get found.said.items at ≡ Some said
-    → (token : Row) × (drop at (tokens_of_nets text) ≡ token ∷ drop (at + 1) (tokens_of_nets text))
-    × (length (bits_of (range_said said)) ≡ length (nets_at text (declared_of text) token))
-next_count text found at said are low s =
-    let token : Row = get_or found.tokens.items at (record { place = Start; kind = Module; from = 0; to = 0 }) in
-    let t : slice_get found.tokens.items at ≡ Some token = slice_get-get_or found.tokens.items at (record { place = Start; kind = Module; from = 0; to = 0 }) low in
-    let name = name_at text token in (
-      token,
-      next_at found.tokens.items (tokens_of_nets text) at token t are.tokens,
-      ap (λ o. length (bits_of (range_said o))) (said_there text found at token said are t s)
-          ∙ ap (λ r. length (bits_of r)) (range_is (declared_of text) name)
-          ∙ sym (length-map (bits_of (range_in (declared_of text) name)) (net text (declared_of text) token)),
+-- an identifier that was looked up is in the table
+pub in_table : (text : List ℕ) (table : NetTable) (base : List ℕ) (id : ℕ) → IsNetTable text table → Some id ≡ number_of (identifiers_of text) base
+    → id < length table.identifiers
+in_table text table base id is e =
+    let k = known_of (identifiers_of text) base id e in
+    omega (
+      arith,
+      k.0,
+      length-map (tokens_of_nets text) (name_at text),
+      ap length is.identifiers,
+      length-map (tokens_of_nets text) (identifier_at text (declared_of text)),
     )
 
--- the number of its first net
-module _ (text : List ℕ) (numbers after : List ℕ) (next count at total : ℕ) (token : Row) (tokens : List Row)
-    (cut : drop at tokens ≡ token ∷ drop (at + 1) tokens) (same : count ≡ length (nets_at text (declared_of text) token)) where
-  pub numbered_next : first_numbers text 0 tokens ≡ numbers ++ first_numbers text next (drop at tokens) → after ≡ numbers ++ next ∷ []
-      → first_numbers text 0 tokens ≡ after ++ first_numbers text (next + count) (drop (at + 1) tokens)
-  numbered_next all e =
-      all ∙ ap (λ ns. numbers ++ ns) (next_numbers text next (drop at tokens) token (drop (at + 1) tokens) cut)
-      ∙ ap (λ n. numbers ++ next ∷ first_numbers text (next + n) (drop (at + 1) tokens)) (sym same)
-      ∙ sym (append_assoc numbers (next ∷ []) (first_numbers text (next + count) (drop (at + 1) tokens)))
-      ∙ ap (λ ns. ns ++ first_numbers text (next + count) (drop (at + 1) tokens)) (sym e)
-
-  pub counted_next : next + length (flat_map (nets_at text (declared_of text)) (drop at tokens)) ≡ total
-      → next + count + length (flat_map (nets_at text (declared_of text)) (drop (at + 1) tokens)) ≡ total
-  counted_next all =
-      let ds = declared_of text in
-      let e : length (flat_map (nets_at text ds) (drop at tokens)) ≡ count + length (flat_map (nets_at text ds) (drop (at + 1) tokens)) =
-      ap (λ ts. length (flat_map (nets_at text ds) ts)) cut
-      ∙ length-append (nets_at text ds token) (flat_map (nets_at text ds) (drop (at + 1) tokens))
-      ∙ ap (λ n. n + length (flat_map (nets_at text ds) (drop (at + 1) tokens))) (sym same) in
-      omega (arith, e, all)
-
 -- the number of a net, where its identifier is looked up
-pub own_numbered : (text : List ℕ) (found : Identifiers) (numbers base : List ℕ) (bit : Option ℕ) (id at : ℕ) (range : Option Range) → AreIdentifiers text found
-    → numbers ≡ first_numbers text 0 (tokens_of_nets text) → name_flaws text ≡ [] → Some id ≡ number_of found.names base → range ≡ range_in (declared_of text) base
-    → slice_get (bits_of range) at ≡ Some bit → get_or numbers id 0 + at ≡ number_of_bit text base bit
-own_numbered text found numbers base bit id at range are same none e r b =
+pub own_numbered : (text : List ℕ) (table : NetTable) (base : List ℕ) (bit : Option ℕ) (id at : ℕ) (range : Option Range) → IsNetTable text table
+    → name_flaws text ≡ [] → Some id ≡ number_of (identifiers_of text) base → range ≡ range_in (declared_of text) base
+    → slice_get (bits_of range) at ≡ Some bit → count_in (take id table.identifiers) + at ≡ number_of_bit text base bit
+own_numbered text table base bit id at range is none e r b =
     let other : Row = record { place = Start; kind = Module; from = 0; to = 0 } in
-    let token : Row = get_or found.tokens.items id other in
-    let k = known_of found.names base id e in
-    let names : found.names ≡ map (name_at text) found.tokens.items = are.names ∙ ap (map (name_at text)) (sym are.tokens) in
-    let low : id < length found.tokens.items = omega (arith, k.0, as_many text found are, are.count) in
-    let t : slice_get found.tokens.items id ≡ Some token = slice_get-get_or found.tokens.items id other low in
-    let its : name_at text token ≡ base = sym (get_or-map (name_at text) found.tokens.items id other [] low) ∙ ap (λ ns. get_or ns id []) (sym names) ∙ k.1 in
+    let tokens = tokens_of_nets text in
+    let token : Row = get_or tokens id other in
+    let k = known_of (identifiers_of text) base id e in
+    let low : id < length tokens = omega (arith, k.0, length-map tokens (name_at text)) in
+    let its : name_at text token ≡ base = sym (get_or-map (name_at text) tokens id other [] low) ∙ k.1 in
     let bounds : range_in (declared_of text) (name_at text token) ≡ range = ap (range_in (declared_of text)) its ∙ sym r in
-    ap (λ ns. get_or ns id 0 + at) same
-    ∙ sym (net_numbered text id at token bit none (ap (λ ts. slice_get ts id) (sym are.tokens) ∙ t) (ap (λ o. slice_get (bits_of o) at) bounds ∙ b))
+    ap (λ is. count_in (take id is) + at) is.identifiers
+    ∙ sym (net_numbered text id at token bit none (slice_get-get_or tokens id other low) (ap (λ o. slice_get (bits_of o) at) bounds ∙ b))
     ∙ ap (λ name. number_of_bit text name bit) its
 
-pub within_numbers : (text : List ℕ) (found : Identifiers) (numbers base : List ℕ) (id : ℕ) → AreIdentifiers text found
-    → numbers ≡ first_numbers text 0 (tokens_of_nets text) → Some id ≡ number_of found.names base → id < length numbers
-within_numbers text found numbers base id are same e =
-    let k = known_of found.names base id e in
-    let n : length numbers ≡ length (tokens_of_nets text) = ap length same ∙ length-first_numbers text 0 (tokens_of_nets text) in
-    let m : length found.names ≡ length (tokens_of_nets text) = ap length are.names ∙ length-map (tokens_of_nets text) (name_at text) in
-    omega (arith, n, m, k.0)
+-- what the table has of an identifier is what the text says of it
+pub looked_up : (text : List ℕ) (table : NetTable) (base : List ℕ) (id : ℕ) (found : Identifier) → IsNetTable text table
+    → Some id ≡ number_of (identifiers_of text) base → slice_get table.identifiers id ≡ Some found
+    → (found.range ≡ range_in (declared_of text) base) × (found.port ≡ direction_in (declared_of text) base)
+looked_up text table base id found is e f =
+    let other : Row = record { place = Start; kind = Module; from = 0; to = 0 } in
+    let tokens = tokens_of_nets text in
+    let token : Row = get_or tokens id other in
+    let k = known_of (identifiers_of text) base id e in
+    let low : id < length tokens = omega (arith, k.0, length-map tokens (name_at text)) in
+    let its : name_at text token ≡ base = sym (get_or-map (name_at text) tokens id other [] low) ∙ k.1 in
+    let there : slice_get table.identifiers id ≡ Some (identifier_at text (declared_of text) token) =
+    ap (λ is. slice_get is id) is.identifiers ∙ slice_get-map (identifier_at text (declared_of text)) tokens id
+    ∙ ap (option_map (identifier_at text (declared_of text))) (slice_get-get_or tokens id other low) in
+    let same : found ≡ identifier_at text (declared_of text) token = some_is found (identifier_at text (declared_of text) token) (sym f ∙ there) in (
+      ap (λ (i : Identifier). i.range) same ∙ ap (range_in (declared_of text)) its,
+      ap (λ (i : Identifier). i.port) same ∙ ap (direction_in (declared_of text)) its,
+    )
+
+-- it says nothing of a name that is none of its identifiers
+pub not_looked_up : (text : List ℕ) (table : NetTable) (base : List ℕ) → IsNetTable text table → None ≡ number_of (identifiers_of text) base
+    → (None ≡ range_in (declared_of text) base) × (None ≡ direction_in (declared_of text) base)
+not_looked_up text table base is e = (
+  ap range_said (is.declared base e) ∙ range_is (declared_of text) base,
+  ap direction_said (is.declared base e) ∙ direction_is (declared_of text) base,
+)

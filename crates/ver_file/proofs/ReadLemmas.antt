@@ -1,5 +1,5 @@
 -- The identifiers of a text, token by token.
-use Rattle.std.proofs.Common.{◌≡◌, ℕ, ◌+◌, ◌<◌, Bool, true, false, not, ◌&&◌, ◌||◌, cond, List, [], ◌∷◌, ◌++◌, length, map, filter, flat_map, get_or, set, arith, length-append, Option, Some, None, refl, sym, ap, ◌∙◌, subst, append_assoc, if◌then◌else◌}
+use Rattle.std.proofs.Common.{◌≡◌, ◌⊎◌, inl, inr, ℕ, ◌+◌, ◌<◌, Bool, true, false, not, ◌&&◌, ◌||◌, cond, List, [], ◌∷◌, ◌++◌, length, map, filter, flat_map, get_or, set, arith, length-append, Option, Some, None, refl, sym, ap, ◌∙◌, subst, append_assoc, if◌then◌else◌}
 use Rattle.std.specs.List.{before_first, list_any}
 use Rattle.std.specs.Str.{bytes_eq}
 use Rattle.std.proofs.lemmas.List.{append-nil, map-append}
@@ -23,7 +23,7 @@ use Rattle.std.proofs.lemmas.List.Elements.{All-push}
 use Rattle.vg_scan.specs.Lines.{part}
 use Rattle.ver_text.specs.Names.{name_of}
 use Rattle.ver_file.specs.declared.identifier.Identifiers.{Identifiers}
-use Rattle.ver_file.specs.declared.identifier.Use.{Use}
+use Rattle.ver_file.specs.declared.uses.Use.{Use}
 use Rattle.ver_file.specs.Firsts.{declared_among, declared_under}
 use Rattle.ver_file.specs.Nets.{first_tokens, is_first, tokens_of_nets}
 use Rattle.ver_file.specs.Said.{with_heading}
@@ -37,27 +37,33 @@ module _ (text : List ℕ) (r : Row) (left : List Row) (ds : List Declared) (old
   first_is : (names : List (List ℕ)) (b : Bool) → is_net_name r ≡ true → list_any (bytes_eq (name_at text r)) names ≡ b → is_first text names r ≡ not b
   first_is names b net any = rw (net, any) refl
 
-  -- uses stay where names are put last, and one more is there
-  more_uses : (place : Use) → new.names ≡ with_name old.names (name_at text r) → new.uses.items ≡ old.uses.items ++ place ∷ [] → place.from ≡ r.from → place.to ≡ r.to
-      → place.id ≡ number_in old.names (name_at text r) → All (IsUse text new.names) new.uses.items
+  -- uses stay where names are put last, and one more may be there
+  more_uses : (place : Use) → new.names ≡ with_name old.names (name_at text r) → (new.uses.items ≡ old.uses.items ++ place ∷ []) ⊎ (new.uses.items ≡ old.uses.items)
+      → place.from ≡ r.from → place.to ≡ r.to → place.id ≡ number_in old.names (name_at text r) → All (IsUse text new.names) new.uses.items
   more_uses place names uses from to id =
-      let n = numbered old.names (name_at text r) in
-      let same = sym names in
-      let all : All (IsUse text (with_name old.names (name_at text r))) old.uses.items = λ k d l. let u = h.uses k d l in record {
+      subst (λ (ns : List (List ℕ)). All (IsUse text ns) new.uses.items) (sym names)
+      (elim uses as (λ _. All (IsUse text (with_name old.names (name_at text r))) new.uses.items) [
+        | inl more ↦ subst (λ (us : List Use). All (IsUse text (with_name old.names (name_at text r))) us) (sym more)
+            (All-push (IsUse text (with_name old.names (name_at text r))) old.uses.items place all last)
+        | inr same ↦ subst (λ (us : List Use). All (IsUse text (with_name old.names (name_at text r))) us) (sym same) all
+      ])
+    where
+      all : All (IsUse text (with_name old.names (name_at text r))) old.uses.items
+      all k d l = let n = numbered old.names (name_at text r) in let u = h.uses k d l in record {
         within = omega (arith, u.within, n.grow.more);
         is = n.grow.stay (get_or old.uses.items k d).id u.within ∙ u.is;
-      } in
-      let last : IsUse text (with_name old.names (name_at text r)) place = record {
+      }
+
+      last : IsUse text (with_name old.names (name_at text r)) place
+      last = let n = numbered old.names (name_at text r) in record {
         within = subst (λ (i : ℕ). i < length (with_name old.names (name_at text r))) (sym id) n.within;
         is = ap (λ i. get_or (with_name old.names (name_at text r)) i []) id ∙ n.is ∙ (λ i. name_of (part text (sym from i) (sym to i)));
-      } in
-      subst (λ (ns : List (List ℕ)). All (IsUse text ns) new.uses.items) same
-      (subst (λ (us : List Use). All (IsUse text (with_name old.names (name_at text r))) us) (sym uses) (All-push (IsUse text (with_name old.names (name_at text r))) old.uses.items place all last))
+      }
 
   -- a token of nets whose name is new
   pub read_new : is_net_name r ≡ true → length old.said.items ≡ length old.names → list_any (bytes_eq (name_at text r)) old.names ≡ false
       → new.names ≡ with_name old.names (name_at text r) → new.tokens.items ≡ old.tokens.items ++ r ∷ [] → new.said.items ≡ old.said.items ++ None ∷ []
-      → (place : Use) → new.uses.items ≡ old.uses.items ++ place ∷ [] → place.from ≡ r.from → place.to ≡ r.to → place.id ≡ number_in old.names (name_at text r)
+      → (place : Use) → (new.uses.items ≡ old.uses.items ++ place ∷ []) ⊎ (new.uses.items ≡ old.uses.items) → place.from ≡ r.from → place.to ≡ r.to → place.id ≡ number_in old.names (name_at text r)
       → AreRead text left ds new
   read_new net count none names tokens said place uses from to id =
       let t = first_is old.names false net none in
@@ -77,7 +83,7 @@ module _ (text : List ℕ) (r : Row) (left : List Row) (ds : List Declared) (old
   -- one whose name is known
   pub read_old : is_net_name r ≡ true → list_any (bytes_eq (name_at text r)) old.names ≡ true
       → new.names ≡ with_name old.names (name_at text r) → new.tokens.items ≡ old.tokens.items → new.said.items ≡ old.said.items
-      → (place : Use) → new.uses.items ≡ old.uses.items ++ place ∷ [] → place.from ≡ r.from → place.to ≡ r.to → place.id ≡ number_in old.names (name_at text r)
+      → (place : Use) → (new.uses.items ≡ old.uses.items ++ place ∷ []) ⊎ (new.uses.items ≡ old.uses.items) → place.from ≡ r.from → place.to ≡ r.to → place.id ≡ number_in old.names (name_at text r)
       → AreRead text left ds new
   read_old net some names tokens said place uses from to id =
       let t = first_is old.names true net some in

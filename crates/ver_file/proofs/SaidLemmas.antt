@@ -5,7 +5,7 @@ use Rattle.std.specs.Str.{bytes_eq}
 use Rattle.std.proofs.lemmas.List.Sums.{fold-append}
 use Rattle.std.proofs.lemmas.List.{get_or-set_other, get_or-set_same}
 use Rattle.name_tables.specs.Distinct.{number_in, number_of, with_name}
-use Rattle.name_tables.proofs.NameTableLemmas.{absent_of, no_place, number_known}
+use Rattle.name_tables.proofs.NameTableLemmas.{absent_of, no_place}
 use Rattle.ver_module.specs.declared.direction.PortDir.{PortDir}
 use Rattle.ver_module.proofs.NameLemmas.{one_before, there, with_new, with_old}
 use Rattle.ver_module.specs.declared.range.Range.{Range}
@@ -104,10 +104,6 @@ beyond : (said : List (Option Heading)) (k : ℕ) → length said ≤ k → get_
 beyond [] k l = refl
 beyond (s ∷ ss) zero l = absurd (omega (arith, l))
 beyond (s ∷ ss) (suc k) l = beyond ss k (omega (arith, l))
-
-pub found_said : (text : List ℕ) (found : Identifiers) (name : List ℕ) (id : ℕ) → AreIdentifiers text found → Some id ≡ number_of found.names name
-    → get_or found.said.items id None ≡ said_of (declared_of text) name
-found_said text found name id are e = ap (λ i. get_or found.said.items i None) (number_known found.names name id e) ∙ are.said.says name
 
 pub not_found_said : (text : List ℕ) (found : Identifiers) (name : List ℕ) → AreIdentifiers text found → None ≡ number_of found.names name
     → None ≡ said_of (declared_of text) name

@@ -1,17 +1,18 @@
 -- The tables of a text's identifiers and nets: for the functions between.
-use Rattle.std.specs.Prelude.{◌≡◌, ℕ, ◌+◌, ◌<◌, ◌++◌, List, [], ◌∷◌, length, map, slice_index_or, Option, None}
+use Rattle.std.specs.Prelude.{◌≡◌, ℕ, ◌<◌, ◌++◌, List, [], ◌∷◌, length, map, slice_get, slice_index_or, Option, None, Some}
 use Rattle.std.specs.List.{All}
-use Rattle.name_tables.specs.Distinct.{number_in}
-use Rattle.ver_module.specs.Netlists.{Net}
+use Rattle.name_tables.specs.Distinct.{number_in, number_of}
+use Rattle.ver_module.specs.Netlists.{Net, NetTable}
+use Rattle.ver_module.specs.declared.net.Identifier.{Identifier}
 use Rattle.ver_items.specs.declared.heading.Heading.{Heading}
 use Rattle.vg_scan.specs.Lines.{part}
-use Rattle.ver_text.specs.Names.{name_of}
+use Rattle.ver_text.specs.Names.{is_escaped, name_of}
 use Rattle.ver_file.specs.declared.identifier.Identifiers.{Identifiers}
-use Rattle.ver_file.specs.declared.identifier.Use.{Use}
+use Rattle.ver_file.specs.declared.uses.Use.{Use}
 use Rattle.ver_syntax.specs.declared.row.Row.{Row}
-use Rattle.ver_items.specs.Declarations.{Declared, declared_of}
-use Rattle.ver_items.specs.Sections.{name_at}
-use Rattle.ver_file.specs.Nets.{first_tokens, nets_at, tokens_of_nets}
+use Rattle.ver_items.specs.Declarations.{Declared, declared_of, direction_in, is_supply_in, range_in}
+use Rattle.ver_items.specs.Sections.{bytes_at, name_at}
+use Rattle.ver_file.specs.Nets.{first_tokens, tokens_of_nets}
 use Rattle.ver_file.specs.Said.{identifiers_of, said_of}
 
 -- what is kept of each of these names is what these declarations say of it, and they say nothing of any other name
@@ -53,7 +54,24 @@ pub record AreIdentifiers (text : List ℕ) (found : Identifiers) : Type 0 where
 abbrev pub names_of : List Net → List (List ℕ)
 names_of nets = map (λ net. net.name) nets
 
--- the number of the first net of each of these identifiers, where so many nets stand before them
-unfoldable pub first_numbers : List ℕ → ℕ → List Row → List ℕ
-first_numbers text n [] = []
-first_numbers text n (r ∷ rows) = n ∷ first_numbers text (n + length (nets_at text (declared_of text) r)) rows
+-- what is kept of each of these identifiers, by their first tokens, is what the text says of it
+abbrev pub AreSaid : List ℕ → List Row → List (Option Heading) → Type 0
+AreSaid text tokens said =
+    (at : ℕ) (token : Row) (one : Option Heading) → slice_get tokens at ≡ Some token → slice_get said at ≡ Some one
+    → one ≡ said_of (declared_of text) (name_at text token)
+
+-- what holds of all nets of the identifier whose first token this is
+abbrev pub identifier_at : List ℕ → List Declared → Row → Identifier
+identifier_at text ds r = record {
+  range = range_in ds (name_at text r);
+  escaped = is_escaped (bytes_at text r);
+  port = direction_in ds (name_at text r);
+  supply = is_supply_in ds (name_at text r);
+}
+
+-- this is the table of the nets of a text
+pub record IsNetTable (text : List ℕ) (table : NetTable) : Type 0 where
+  pub names : table.names ≡ identifiers_of text
+  pub identifiers : table.identifiers ≡ map (identifier_at text (declared_of text)) (tokens_of_nets text)
+  -- what is declared is among them
+  pub declared : (name : List ℕ) → None ≡ number_of (identifiers_of text) name → None ≡ said_of (declared_of text) name

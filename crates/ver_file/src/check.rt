@@ -17,7 +17,7 @@ ghost use Rattle.ver_items.specs.SectionSteps.{section_in};
 ghost use Rattle.ver_file.specs.Scopes.{HasIdentifiers};
 
 use crate::first::{Firsts, unless};
-use crate::identifier::{direction_said, range_said, room_for_names};
+use crate::identifier::room_for_names;
 use crate::scope::Scope;
 use name_tables::Names;
 use std::alloc::Global;
@@ -59,9 +59,9 @@ fn check_declared(scope: &Scope<'_>, heading: Heading, row: Row, firsts: Firsts)
     if !is_net_name(row) {
         return firsts;
     }
-    let said = scope.said(row);
-    let is_range = is_range(range_said(said), heading.range);
-    let agrees = agrees(direction_said(said), heading.direction);
+    let found = scope.look_up(row);
+    let is_range = is_range(found.range, heading.range);
+    let agrees = agrees(found.direction, heading.direction);
     Firsts {
         clash: unless(is_range, row.from as usize, firsts.clash),
         twice: firsts.twice,
@@ -88,7 +88,6 @@ fn check_declaration(scope: &Scope<'_>, declaration: &Section<'_>, firsts: First
 }
 
 /// The text's end, where a token is a port in a list that has no direction, or the place before it.
-#[tactic(auto, using(crate::proofs::SaidLemmas::direction_is))]
 fn port_flaw(scope: &Scope<'_>, row: Row, first: Option<usize>) -> Option<usize>
     requires { HasIdentifiers scope.now }
     ensures { result ≡ first_of first (port_flaws_among scope.now.text.now (row ∷ [])) }
@@ -96,8 +95,8 @@ fn port_flaw(scope: &Scope<'_>, row: Row, first: Option<usize>) -> Option<usize>
     if !is_name_in(Place::Ports, row) {
         return first;
     }
-    let direction = direction_said(scope.said(row));
-    unless(direction.is_some(), scope.text.len(), first)
+    let found = scope.look_up(row);
+    unless(found.direction.is_some(), scope.text.len(), first)
 }
 
 /// The text's end, where a port in a list has no direction, or the place before it.

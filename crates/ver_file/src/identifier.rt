@@ -12,6 +12,7 @@ ghost use Rattle.ver_file.specs.Firsts.{declared_among, declared_under};
 ghost use Rattle.ver_file.specs.Said.{direction_said, is_supply_said, or_else, range_said, said_of, with_heading};
 ghost use Rattle.ver_file.specs.Tables.{AreIdentifiers, AreRead, Reads, ReadsOne};
 
+use crate::uses::{Use, keep_use};
 use name_tables::Names;
 use std::alloc::Global;
 use ver_items::{
@@ -103,23 +104,6 @@ pub(crate) fn is_supply_said(said: Option<Heading>) -> bool
     }
 }
 
-/// Where an identifier of nets stands, with its number.
-#[derive(Clone, Copy, Debug, PartialEq, Eq, Drop)]
-pub(crate) struct Use {
-    from: u32,
-    to: u32,
-    id: u32,
-}
-
-impl Use {
-    /// Whether it is that of a token.
-    fn is(self, row: Row) -> bool
-        ensures { IsTrue result ↔ ((self.from ≡ row.from) × (self.to ≡ row.to)) }
-    {
-        self.from == row.from && self.to == row.to
-    }
-}
-
 /// No items, where those of a text of this length are kept.
 fn room_for_items(alloc: Global, text_len: usize) -> Result<Option<KeptItems>, Memory>
     ensures { IfOk result (λ room. IfSome room (λ kept. kept ≡ [])) }
@@ -151,13 +135,13 @@ fn with_item(
 }
 
 /// The identifiers of nets in the order in which they come first, each with its first token and what is declared of it;
-/// and where they stand, in the order of the text.
+/// and where they stand, in the order of the text, as far as that is kept.
 #[derive(Drop)]
 pub(crate) struct Identifiers {
-    names: Names,
-    tokens: Vec<Row>,
-    said: Vec<Option<Heading>>,
-    uses: Vec<Use>,
+    pub names: Names,
+    pub tokens: Vec<Row>,
+    pub said: Vec<Option<Heading>>,
+    pub uses: Vec<Use>,
 }
 
 impl Identifiers {
@@ -188,11 +172,12 @@ impl Identifiers {
     {
         let count = self.names.len();
         let id = name_number(&mut self.names, name_at(text, row))?;
-        self.uses.push(Use {
+        let place = Use {
             from: row.from,
             to: row.to,
             id,
-        })?;
+        };
+        keep_use(text.len(), place, &mut self.uses)?;
         let at = id as usize;
         if at == count {
             self.tokens.push(row)?;
@@ -264,63 +249,5 @@ impl Identifiers {
                 Found::End | Found::Refused => return Ok(None),
             }
         }
-    }
-
-    /// The names of the identifiers once more. Answers `Memory` where there is no room.
-    pub fn copy_names(&self) -> Result<Names, Memory>
-        ensures { IfOk result (λ names. names ≡ self.now.names) }
-    {
-        let names = self.names.copy()?;
-        Ok(names)
-    }
-
-    /// How many identifiers there are.
-    pub fn len(&self) -> usize
-        ensures { result ≡ length self.now.tokens.items }
-    {
-        self.tokens.len()
-    }
-
-    /// The first token of the identifier of this number.
-    pub fn token(&self, at: usize) -> Row
-        requires { at < length self.now.tokens.items }
-        ensures { slice_get self.now.tokens.items at ≡ Some result }
-    {
-        self.tokens[at]
-    }
-
-    /// What is said of the identifier of this number.
-    pub fn said_at(&self, at: usize) -> Option<Heading>
-        requires within { at < length self.now.tokens.items }
-        requires count { length self.now.said.items ≡ length self.now.tokens.items }
-        ensures { slice_get self.now.said.items at ≡ Some result }
-    {
-        self.said[at]
-    }
-
-    /// The number of the identifier that a token is, by a walk over the places of identifiers from one of them back and
-    /// on; and the one after it. `None`: it is not found so.
-    pub fn find_from(&self, start: usize, row: Row) -> (usize, Option<u32>)
-        ensures { (text : List ℕ) → AreIdentifiers text self.now
-            → IfSome result.1 (λ id. Some id ≡ number_of self.now.names (name_at text row)) }
-    {
-        let mut at = start.min(self.uses.len());
-        'back: while at > 0 && row.from <= self.uses[at - 1].from {
-            at -= 1;
-        }
-        'place: while at < self.uses.len() && self.uses[at].from < row.from {
-            at += 1;
-        }
-        match self.uses.get(at) {
-            Some(found) if found.is(row) => (at + 1, Some(found.id)),
-            _ => (at, None),
-        }
-    }
-
-    /// The number of an identifier.
-    pub fn find(&self, name: &[u8]) -> Option<u32>
-        ensures { result ≡ number_of self.now.names name.now }
-    {
-        self.names.find(name)
     }
 }

@@ -9,6 +9,7 @@ mod laws;
 mod nets;
 mod read;
 mod scope;
+mod uses;
 
 pub use laws::{links_are_own, nets_have_their_names, texts_are_read_in_one_way};
 pub use read::read_module;

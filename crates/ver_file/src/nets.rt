@@ -1,22 +1,22 @@
 //! The nets of a text, and whether two of them have one name.
 
-ghost use Rattle.std.specs.Prelude.{◌≡◌, ◌<◌, List, None, length, IfOk};
-ghost use Rattle.ver_module.specs.Netlists.{nets_by};
-ghost use Rattle.ver_module.specs.Ranges.{bits_of};
+ghost use Rattle.std.specs.Prelude.{◌≡◌, ◌<◌, List, None, length, map, IfOk};
+ghost use Rattle.std.specs.List.{All};
 ghost use Rattle.ver_items.specs.Declarations.{Declared, declared_of};
 ghost use Rattle.ver_items.specs.Sections.{name_at};
 ghost use Rattle.ver_file.specs.Clashes.{FindsClash, place_in};
 ghost use Rattle.ver_file.specs.Firsts.{first_of};
 ghost use Rattle.ver_file.specs.Flaws.{name_flaws};
-ghost use Rattle.ver_file.specs.Nets.{nets_at, nets_of, tokens_of_nets};
-ghost use Rattle.ver_file.specs.Said.{said_of};
-ghost use Rattle.ver_file.specs.Tables.{AreIdentifiers, first_numbers};
+ghost use Rattle.ver_file.specs.Nets.{tokens_of_nets};
+ghost use Rattle.ver_file.specs.Said.{identifiers_of, said_of};
+ghost use Rattle.ver_file.specs.Tables.{AreIdentifiers, AreSaid, IsNetTable, IsUse, identifier_at};
 
 use crate::first::unless;
 use crate::identifier::{Identifiers, direction_said, is_supply_said, range_said};
+use crate::uses::Use;
 use std::alloc::Global;
 use ver_items::{Heading, bytes_at, name_at};
-use ver_module::{Identifier, Nets, Range};
+use ver_module::{Identifier, Nets};
 use ver_syntax::Row;
 use ver_text::is_escaped;
 use vg_num::Memory;
@@ -24,7 +24,7 @@ use vg_num::Memory;
 /// What holds of all nets of an identifier, by its first token and what is said of it.
 fn identifier_of(text: &[u8], token: Row, said: Option<Heading>) -> Identifier
     ensures { (ds : List Declared) → said ≡ said_of ds (name_at text.now token)
-        → nets_by (name_at text.now token) result ≡ nets_at text.now ds token }
+        → result ≡ identifier_at text.now ds token }
 {
     Identifier {
         range: range_said(said),
@@ -34,40 +34,71 @@ fn identifier_of(text: &[u8], token: Row, said: Option<Heading>) -> Identifier
     }
 }
 
-/// The nets of a text.
-pub(crate) fn nets_of(alloc: Global, text: &[u8], identifiers: &Identifiers) -> Result<Nets, Memory>
-    requires { AreIdentifiers text.now identifiers.now }
-    ensures { IfOk result (λ nets. nets ≡ nets_of text.now) }
+/// What holds of all nets of each identifier, by their first tokens and what is said of them.
+fn identifiers_by(
+    alloc: Global,
+    text: &[u8],
+    tokens: &[Row],
+    said: Vec<Option<Heading>>,
+) -> Result<Vec<Identifier>, Memory>
+    requires count { length said.items ≡ length tokens.now }
+    requires said { AreSaid text.now tokens.now said.items }
+    ensures { IfOk result (λ all. all.items ≡ map (identifier_at text.now (declared_of text.now)) tokens.now) }
 {
-    let mut all = Vec::with_capacity(alloc, identifiers.len())?;
-    'identifier: for at in 0..identifiers.len() {
-        let said = identifiers.said_at(at);
-        all.push(identifier_of(text, identifiers.token(at), said))?;
+    let mut all = Vec::with_capacity(alloc, tokens.len())?;
+    'identifier: for at in 0..tokens.len() {
+        all.push(identifier_of(text, tokens[at], said[at]))?;
     }
-    let nets = Nets::new(alloc, identifiers.copy_names()?, all)?;
-    Ok(nets)
+    Ok(all)
+}
+
+/// The nets of a text, where their identifiers come first, and where they stand.
+#[derive(Drop)]
+pub(crate) struct Table {
+    pub nets: Nets,
+    /// The first token of each identifier.
+    pub tokens: Vec<Row>,
+    pub uses: Vec<Use>,
+}
+
+/// The nets of a text with these identifiers.
+pub(crate) fn nets_of(alloc: Global, text: &[u8], identifiers: Identifiers) -> Result<Table, Memory>
+    requires { AreIdentifiers text.now identifiers }
+    ensures nets { IfOk result (λ table. IsNetTable text.now table.nets) }
+    ensures tokens { IfOk result (λ table. table.tokens.items ≡ tokens_of_nets text.now) }
+    ensures uses { IfOk result (λ table. All (IsUse text.now (identifiers_of text.now)) table.uses.items) }
+{
+    let Identifiers {
+        names,
+        tokens,
+        said,
+        uses,
+    } = identifiers;
+    let all = identifiers_by(alloc, text, &tokens, said)?;
+    let nets = Nets::new(alloc, names, all)?;
+    Ok(Table { nets, tokens, uses })
 }
 
 /// The place of the later one of a scalar and a bit that have this scalar's name, by the number of its identifier.
 /// `None`: no bit has its name, or the identifier is a vector.
-fn clash_at(text: &[u8], identifiers: &Identifiers, nets: &Nets, at: usize) -> Option<usize>
-    requires table { AreIdentifiers text.now identifiers.now }
-    requires nets { nets.now ≡ nets_of text.now }
-    requires within { at < length identifiers.now.tokens.items }
+fn clash_at(text: &[u8], tokens: &[Row], nets: &Nets, at: usize) -> Option<usize>
+    requires table { IsNetTable text.now nets.now }
+    requires tokens { tokens.now ≡ tokens_of_nets text.now }
+    requires within { at < length tokens.now }
     ensures { FindsClash text.now at result }
 {
     nets.are_apart();
-    if range_said(identifiers.said_at(at)).is_some() {
+    if nets.identifier(at).range.is_some() {
         return None;
     }
-    let token = identifiers.token(at);
+    let token = tokens[at];
     let name = name_at(text, token);
     let bit = nets.bit_named(name)?;
     if nets.number(name) == bit {
         return Some(token.from as usize);
     }
-    let vector = identifiers.find(nets.get(bit).base)?;
-    Some(identifiers.token(vector as usize).from as usize)
+    let vector = nets.find_identifier(nets.get(bit).base)?;
+    Some(tokens[vector as usize].from as usize)
 }
 
 /// The earlier of two places, where they are there.
@@ -81,46 +112,15 @@ fn earlier_of(first: Option<usize>, place: Option<usize>) -> Option<usize>
 }
 
 /// The first place at which a net has the name of an earlier one: that of the later of a scalar and a bit.
-pub(crate) fn first_clash(text: &[u8], identifiers: &Identifiers, nets: &Nets) -> Option<usize>
-    requires table { AreIdentifiers text.now identifiers.now }
-    requires nets { nets.now ≡ nets_of text.now }
+pub(crate) fn first_clash(text: &[u8], tokens: &[Row], nets: &Nets) -> Option<usize>
+    requires table { IsNetTable text.now nets.now }
+    requires tokens { tokens.now ≡ tokens_of_nets text.now }
     ensures { result ≡ first_of None (name_flaws text.now) }
 {
     nets.are_apart();
     let mut first = None;
-    'identifier: for at in 0..identifiers.len() {
-        first = earlier_of(first, clash_at(text, identifiers, nets, at));
+    'identifier: for at in 0..tokens.len() {
+        first = earlier_of(first, clash_at(text, tokens, nets, at));
     }
     first
-}
-
-/// How many nets an identifier with this range has.
-fn net_count(range: Option<Range>) -> usize
-    ensures { result ≡ length (bits_of range) }
-{
-    match range {
-        None => 1,
-        Some(range) => range.count(),
-    }
-}
-
-/// The number of the first net of each identifier.
-pub(crate) fn first_numbers(
-    alloc: Global,
-    text: &[u8],
-    identifiers: &Identifiers,
-    nets: &Nets,
-) -> Result<Vec<u32>, Memory>
-    requires table { AreIdentifiers text.now identifiers.now }
-    requires nets { nets.now ≡ nets_of text.now }
-    ensures { IfOk result (λ numbers. numbers.items ≡ first_numbers text.now 0 (tokens_of_nets text.now)) }
-{
-    let count = nets.len();
-    let mut numbers = Vec::with_capacity(alloc, identifiers.len())?;
-    let mut next = 0;
-    'identifier: for at in 0..identifiers.len() {
-        numbers.push(next as u32)?;
-        next += net_count(range_said(identifiers.said_at(at)));
-    }
-    Ok(numbers)
 }

@@ -7,12 +7,11 @@ ghost use Rattle.ver_file.specs.Flaws.{IsFirst, flaws_of};
 ghost use Rattle.ver_file.specs.Modules.{Denotes, IsFirstFault};
 ghost use Rattle.ver_file.specs.Netlists.{netlist_of};
 ghost use Rattle.ver_file.specs.Bodies.{IsBody};
-ghost use Rattle.ver_file.specs.Nets.{nets_of};
-ghost use Rattle.ver_file.specs.Tables.{AreIdentifiers};
+ghost use Rattle.ver_file.specs.Tables.{AreIdentifiers, IsNetTable};
 
 use crate::build::{Body, head_end, module_name, read_body};
 use crate::identifier::Identifiers;
-use crate::nets::{first_clash, first_numbers, nets_of};
+use crate::nets::{Table, first_clash, nets_of};
 use crate::scope::Scope;
 use std::alloc::Global;
 use std::cell::Cell;
@@ -32,24 +31,23 @@ const OUT_OF_MEMORY: VerFault = VerFault {
 fn build(
     alloc: Global,
     text: &[u8],
-    identifiers: &Identifiers,
+    identifiers: Identifiers,
     kept: Option<&KeptItems>,
 ) -> Result<Result<Module, VerFault>, Memory>
     requires few { length text.now < 2 ^ 32 }
-    requires table { AreIdentifiers text.now identifiers.now }
+    requires table { AreIdentifiers text.now identifiers }
     requires kept { IfSome kept (λ k. k.now ≡ items text.now) }
     ensures flawless { IfOk result (λ built. OnOk built (flaws_of text.now ≡ [])) }
     ensures module { IfOk result (λ built. IfOk built (λ found. found ≡ netlist_of text.now)) }
     ensures fault { IfOk result (λ built. IfErr built (IsFirst text.now (flaws_of text.now))) }
 {
-    let nets = nets_of(alloc, text, identifiers)?;
-    let clash = first_clash(text, identifiers, &nets);
-    let numbers = first_numbers(alloc, text, identifiers, &nets)?;
+    let Table { nets, tokens, uses } = nets_of(alloc, text, identifiers)?;
+    let clash = first_clash(text, &tokens, &nets);
+    drop(tokens);
     let scope = Scope {
         text,
-        identifiers,
         nets: &nets,
-        numbers: &numbers,
+        uses: &uses,
         next: Cell::new(0),
     };
     let body = read_body(alloc, &scope, kept, clash)?;
@@ -65,7 +63,7 @@ fn build(
 /// The module of a text without a flaw.
 fn assemble(alloc: Global, text: &[u8], nets: Nets, body: Body) -> Result<Module, Memory>
     requires few { length text.now < 2 ^ 32 }
-    requires nets { nets ≡ nets_of text.now }
+    requires nets { IsNetTable text.now nets }
     requires body { IsBody text.now body }
     requires flawless { flaws_of text.now ≡ [] }
     ensures { IfOk result (λ built. built ≡ netlist_of text.now) }
@@ -109,7 +107,7 @@ pub fn read_module(alloc: Global, bytes: &[u8]) -> Result<Module, VerFault>
     let Some((identifiers, kept)) = found else {
         return Err(syntax_fault(alloc, bytes));
     };
-    match build(alloc, bytes, &identifiers, kept.as_ref()) {
+    match build(alloc, bytes, identifiers, kept.as_ref()) {
         Ok(built) => built,
         Err(_) => Err(OUT_OF_MEMORY),
     }

@@ -7,27 +7,25 @@ ghost use Rattle.ver_items.specs.Bits.{selected};
 ghost use Rattle.ver_file.specs.Netlists.{bit_in, is_one, link_of, number_of_bit, one_named, nets_in, nets_named};
 ghost use Rattle.name_tables.specs.Distinct.{number_of};
 ghost use Rattle.ver_file.specs.Lookups.{IsLookedUp};
-ghost use Rattle.ver_file.specs.Said.{said_of};
-ghost use Rattle.ver_items.specs.Declarations.{declared_of};
+ghost use Rattle.ver_file.specs.Said.{identifiers_of};
 ghost use Rattle.ver_file.specs.Scopes.{HasIdentifiers, IsScope};
 ghost use Rattle.ver_items.specs.Sections.{name_at};
 
-use crate::identifier::{Identifiers, range_said};
+use crate::uses::{Use, find_use};
 use std::alloc::Global;
 use std::cell::Cell;
-use ver_items::{Begin, Heading, Section, Sections, Select, is_identifier, name_at, select_before};
-use ver_module::{Link, Net, Nets, Range, Runs};
+use ver_items::{Begin, Section, Sections, Select, is_identifier, name_at, select_before};
+use ver_module::{Link, Net, Nets, PortDir, Range, Runs};
 use ver_syntax::Row;
 use vg_num::Memory;
 
-/// A text with its identifiers and its nets.
+/// A text with its nets.
 #[derive(Drop)]
 pub(crate) struct Scope<'a> {
     pub text: &'a [u8],
-    pub identifiers: &'a Identifiers,
     pub nets: &'a Nets,
-    /// The number of the first net of each identifier.
-    pub numbers: &'a [u32],
+    /// Where identifiers stand.
+    pub uses: &'a [Use],
     /// The place of an identifier up to which they were looked up: only a guess, by which the next one is found without
     /// its name.
     pub next: Cell<usize>,
@@ -84,75 +82,65 @@ pub(crate) struct Found<'a> {
     /// Its number. `None`: it is no identifier of the text.
     id: Option<u32>,
     pub range: Option<Range>,
+    pub direction: Option<PortDir>,
 }
 
 impl<'a> Scope<'a> {
     /// The number of the identifier that a token is. `None`: it is no identifier of the text.
     fn id(&self, row: Row) -> Option<u32>
         requires { HasIdentifiers self.now }
-        ensures { result ≡ number_of self.now.identifiers.now.names (name_at self.now.text.now row) }
+        ensures { result ≡ number_of (identifiers_of self.now.text.now) (name_at self.now.text.now row) }
     {
-        let (next, id) = self.identifiers.find_from(self.next.get(), row);
+        let (next, id) = find_use(self.uses, self.next.get(), row);
         self.next.set(next);
         match id {
             Some(id) => Some(id),
-            None => self.identifiers.find(name_at(self.text, row)),
+            None => self.nets.find_identifier(name_at(self.text, row)),
         }
-    }
-
-    /// The number of the identifier that a token is, and what is said of it, if it is one of the text.
-    fn known(&self, row: Row) -> (Option<u32>, Option<Heading>)
-        requires { HasIdentifiers self.now }
-        ensures number { result.0 ≡ number_of self.now.identifiers.now.names (name_at self.now.text.now row) }
-        ensures said { result.1 ≡ said_of (declared_of self.now.text.now) (name_at self.now.text.now row) }
-    {
-        let id = self.id(row);
-        let said = match id {
-            Some(id) => self.identifiers.said_at(id as usize),
-            None => None,
-        };
-        (id, said)
-    }
-
-    /// What is said of the identifier that a token is.
-    pub fn said(&self, row: Row) -> Option<Heading>
-        requires { HasIdentifiers self.now }
-        ensures { result ≡ said_of (declared_of self.now.text.now) (name_at self.now.text.now row) }
-    {
-        self.known(row).1
     }
 
     /// The identifier that a token is.
     pub fn look_up(&self, row: Row) -> Found<'a>
         requires { HasIdentifiers self.now }
         ensures name { result.name.now ≡ name_at self.now.text.now row }
-        ensures found { IsLookedUp self.now result }
+        ensures found { IsLookedUp self.now.text.now result }
     {
         let name = name_at(self.text, row);
-        let (id, said) = self.known(row);
-        Found {
-            name,
-            id,
-            range: range_said(said),
+        match self.id(row) {
+            Some(id) => {
+                let identifier = self.nets.identifier(id as usize);
+                Found {
+                    name,
+                    id: Some(id),
+                    range: identifier.range,
+                    direction: identifier.port,
+                }
+            }
+            None => Found {
+                name,
+                id: None,
+                range: None,
+                direction: None,
+            },
         }
     }
 
     /// The number of a bit that an identifier has among the nets, or of its one net.
     fn own_number(&self, found: &Found<'_>, bit: Option<u32>) -> Option<u32>
         requires scope { IsScope self.now }
-        requires found { IsLookedUp self.now found.now }
+        requires found { IsLookedUp self.now.text.now found.now }
         ensures { IfSome result (λ number. number ≡ number_of_bit self.now.text.now found.now.name.now bit) }
     {
         let id = found.id? as usize;
         let at = place_in(found.range, bit)?;
-        let number = self.numbers[id].checked_add(at)?;
+        let number = self.nets.first_of(id).checked_add(at)?;
         Some(number)
     }
 
     /// The number of a bit of an identifier among the nets, or of its one net.
     fn number(&self, alloc: Global, found: &Found<'_>, bit: Option<u32>) -> Result<u32, Memory>
         requires scope { IsScope self.now }
-        requires found { IsLookedUp self.now found.now }
+        requires found { IsLookedUp self.now.text.now found.now }
         ensures { IfOk result (λ number. number ≡ number_of_bit self.now.text.now found.now.name.now bit) }
     {
         if let Some(number) = self.own_number(found, bit) {
@@ -167,7 +155,7 @@ impl<'a> Scope<'a> {
     /// The numbers of the bits of a range, from the first to the last, if all of them are its identifier's own.
     fn own_run(&self, found: &Found<'_>, range: Range) -> Option<Range>
         requires scope { IsScope self.now }
-        requires found { IsLookedUp self.now found.now }
+        requires found { IsLookedUp self.now.text.now found.now }
         ensures { IfSome result (λ run.
             bits_from run ≡ map (number_of_bit self.now.text.now found.now.name.now) (bits_of (Some range))) }
     {
@@ -175,7 +163,7 @@ impl<'a> Scope<'a> {
         let whole = found.range?;
         let left = whole.place(range.left)?;
         let right = whole.place(range.right)?;
-        let first = self.numbers[id];
+        let first = self.nets.first_of(id);
         Some(Range {
             left: first.checked_add(left)?,
             right: first.checked_add(right)?,
@@ -191,7 +179,7 @@ impl<'a> Scope<'a> {
         to: &mut Runs,
     ) -> Result<(), Memory>
         requires scope { IsScope self.now }
-        requires found { IsLookedUp self.now found.now }
+        requires found { IsLookedUp self.now.text.now found.now }
         ensures { OnOk result (to.new ≡ to.old
             ++ map (number_of_bit self.now.text.now found.now.name.now) (bits_of (Some range))) }
     {

@@ -51,6 +51,15 @@ nets_with [] identifiers = []
 nets_with (name ∷ names) [] = []
 nets_with (name ∷ names) (identifier ∷ more) = nets_by name identifier ++ nets_with names more
 
+-- The nets of a module by their identifiers: the names of these, all distinct, and what holds of all nets of each.
+pub record NetTable : Type 0 where
+  pub names : List (List ℕ)
+  pub identifiers : List Identifier
+
+-- all nets, those of one identifier after those of another
+abbrev pub nets_in : NetTable → List Net
+nets_in table = nets_with table.names table.identifiers
+
 -- ---- instances
 
 -- A pin of an instance, where its connection's expression stands, and what it is linked to.

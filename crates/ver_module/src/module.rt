@@ -3,7 +3,7 @@
 ghost use Rattle.std.specs.Prelude.{◌≡◌, ◌<◌, Some, length, map, slice_get};
 ghost use Rattle.std.specs.List.{All};
 ghost use Rattle.name_tables.specs.Distinct.{number_of};
-ghost use Rattle.ver_module.specs.Netlists.{AreWithin, IsSound};
+ghost use Rattle.ver_module.specs.Netlists.{AreWithin, IsSound, nets_in};
 ghost use Rattle.ver_module.specs.Runs.{IsRun};
 
 use crate::instances::{Instance, Instances};
@@ -28,15 +28,15 @@ pub struct Module {
 }
 
 impl Model for Module {
-    ghost use Rattle.ver_module.specs.Netlists.{IsSound, Netlist};
+    ghost use Rattle.ver_module.specs.Netlists.{IsSound, Netlist, nets_in};
 
     ghost Value = { Netlist };
 
     ghost view = { λ m.
-        record { name = m.name; nets = m.nets; instances = m.instances; assigned = m.assigned; head_end = m.head_end; end_at = m.end_at } };
+        record { name = m.name; nets = nets_in m.nets; instances = m.instances; assigned = m.assigned; head_end = m.head_end; end_at = m.end_at } };
 
     ghost invariant = { λ m. IsSound
-        (record { name = m.name; nets = m.nets; instances = m.instances; assigned = m.assigned; head_end = m.head_end; end_at = m.end_at }) };
+        (record { name = m.name; nets = nets_in m.nets; instances = m.instances; assigned = m.assigned; head_end = m.head_end; end_at = m.end_at }) };
 }
 
 impl Module {
@@ -49,10 +49,10 @@ impl Module {
         head_end: usize,
         end_at: usize,
     ) -> Module
-        requires links { AreWithin (length nets) instances }
-        requires assigned { All (λ net. net < length nets) assigned }
+        requires links { AreWithin (length (nets_in nets)) instances }
+        requires assigned { All (λ net. net < length (nets_in nets)) assigned }
         ensures { result
-            ≡ record { name = name; nets = nets; instances = instances; assigned = assigned; head_end = head_end; end_at = end_at } }
+            ≡ record { name = name; nets = nets_in nets; instances = instances; assigned = assigned; head_end = head_end; end_at = end_at } }
     {
         nets.are_few();
         instances.are_few();

@@ -1,12 +1,12 @@
 //! The nets of a module.
 
-ghost use Rattle.std.specs.Prelude.{◌≡◌, ℕ, ◌<◌, ◌≤◌, ◌+◌, ◌^◌, Some, length, map, slice_get, slice_index, IfOk, IfSome};
+ghost use Rattle.std.specs.Prelude.{◌≡◌, ℕ, ◌<◌, ◌≤◌, ◌+◌, ◌^◌, Some, length, map, slice_get, slice_index, take, IfOk, IfSome};
 ghost use Rattle.ver_module.specs.Ranges.{bits_of};
 ghost use Rattle.std.specs.List.{All};
 ghost use Rattle.name_tables.specs.Distinct.{number_in, number_of};
 ghost use Rattle.ver_module.specs.Names.{AreApart, IsOnly, is_bit, is_scalar};
 ghost use Rattle.ver_module.specs.Flat.{AreNets, IsBounded, count_in, earlier, firsts_of};
-ghost use Rattle.ver_module.specs.Netlists.{nets_with};
+ghost use Rattle.ver_module.specs.Netlists.{nets_in, nets_with};
 ghost use Rattle.ver_module.specs.Runs.{IsRun};
 
 use crate::net::{Identifier, Net, bit_of};
@@ -15,9 +15,8 @@ use std::alloc::Global;
 use std::marker::Model;
 use vg_num::Memory;
 
-/// The nets of a module. Contracts see the list of them.
-///
-/// They are kept by their identifiers: all bits of a vector take the room of one net.
+/// The nets of a module, by their identifiers: all bits of a vector take the room of one net. Contracts see the names of
+/// the identifiers, and what holds of the nets of each.
 #[derive(Drop)]
 pub struct Nets {
     /// The names of the identifiers.
@@ -29,13 +28,12 @@ pub struct Nets {
 }
 
 impl Model for Nets {
-    ghost use Rattle.std.specs.Prelude.{List};
-    ghost use Rattle.ver_module.specs.Netlists.{Net as NetSpec, nets_with};
+    ghost use Rattle.ver_module.specs.Netlists.{NetTable};
     ghost use Rattle.ver_module.specs.Flat.{AreNets};
 
-    ghost Value = { List NetSpec };
+    ghost Value = { NetTable };
 
-    ghost view = { λ nets. nets_with nets.names nets.identifiers.items };
+    ghost view = { λ nets. record { names = nets.names; identifiers = nets.identifiers.items } };
 
     ghost invariant = { λ nets. AreNets nets.names nets.identifiers.items nets.firsts.items nets.count };
 }
@@ -140,7 +138,7 @@ impl Nets {
     /// are 2^32 nets or more.
     pub fn new(alloc: Global, names: Names, identifiers: Vec<Identifier>) -> Result<Nets, Memory>
         requires { length identifiers.items ≡ length names }
-        ensures { IfOk result (λ nets. nets ≡ nets_with names identifiers.items) }
+        ensures { IfOk result (λ nets. nets ≡ record { names = names; identifiers = identifiers.items }) }
     {
         let (firsts, count) = numbered(alloc, &identifiers)?;
         names.are_distinct();
@@ -154,7 +152,7 @@ impl Nets {
 
     /// How many nets there are: fewer than 2^32.
     pub fn len(&self) -> usize
-        ensures count { result ≡ length self.now }
+        ensures count { result ≡ length (nets_in self.now) }
         ensures few { result < 2 ^ 32 }
     {
         self.count as usize
@@ -162,25 +160,56 @@ impl Nets {
 
     /// A law: there are fewer than 2^32 nets.
     pub(crate) fn are_few(&self)
-        ensures { length self.now < 2 ^ 32 }
+        ensures { length (nets_in self.now) < 2 ^ 32 }
     {
         let _ = &self.count;
     }
 
     /// The net of this number.
     pub fn get(&self, id: u32) -> Net<'_>
-        requires { id < length self.now }
-        ensures { slice_get self.now id ≡ Some result }
+        requires { id < length (nets_in self.now) }
+        ensures { slice_get (nets_in self.now) id ≡ Some result }
     {
         let at = last_up_to(&self.firsts, id);
         let place = id - self.firsts[at];
         self.identifiers[at].net(self.names.name(at as u32), place as usize)
     }
 
+    /// How many identifiers there are.
+    pub fn identifier_count(&self) -> usize
+        ensures names { result ≡ length self.now.names }
+        ensures identifiers { result ≡ length self.now.identifiers }
+    {
+        self.identifiers.len()
+    }
+
+    /// The number of the identifier of this name. `None`: there is none. It takes no memory.
+    pub fn find_identifier(&self, name: &[u8]) -> Option<u32>
+        ensures { result ≡ number_of self.now.names name.now }
+    {
+        self.names.find(name)
+    }
+
+    /// What holds of all nets of the identifier of this number.
+    pub fn identifier(&self, at: usize) -> Identifier
+        requires { at < length self.now.identifiers }
+        ensures { slice_get self.now.identifiers at ≡ Some result }
+    {
+        self.identifiers[at]
+    }
+
+    /// The number of the first net of the identifier of this number.
+    pub fn first_of(&self, at: usize) -> u32
+        requires { at < length self.now.identifiers }
+        ensures { result ≡ count_in (take at self.now.identifiers) }
+    {
+        self.firsts[at]
+    }
+
     /// Where the nets of one identifier end, of which this is one: the number behind the last of them.
     pub fn run_end(&self, id: u32) -> u32
-        requires { id < length self.now }
-        ensures { IsRun self.now id result }
+        requires { id < length (nets_in self.now) }
+        ensures { IsRun (nets_in self.now) id result }
     {
         let next = last_up_to(&self.firsts, id) + 1;
         match self.firsts.get(next) {
@@ -191,7 +220,7 @@ impl Nets {
 
     /// A law: no two scalars have one name, and no two bits.
     pub fn are_apart(&self)
-        ensures { AreApart self.now }
+        ensures { AreApart (nets_in self.now) }
     {
         let _ = &self.names;
     }
@@ -199,14 +228,14 @@ impl Nets {
     /// The number of the bit of this name, which a scalar may have too. `None`: there is no such bit. It takes no
     /// memory.
     pub fn bit_named(&self, name: &[u8]) -> Option<u32>
-        ensures { IsOnly is_bit self.now name.now result }
+        ensures { IsOnly is_bit (nets_in self.now) name.now result }
     {
         find_bit(&self.names, &self.identifiers, &self.firsts, name)
     }
 
     /// The number of the first net of this name. `None`: there is no such net. It takes no memory.
     pub fn find(&self, name: &[u8]) -> Option<u32>
-        ensures { result ≡ number_of (map (λ net. net.name) self.now) name.now }
+        ensures { result ≡ number_of (map (λ net. net.name) (nets_in self.now)) name.now }
     {
         let scalar = find_scalar(&self.names, &self.identifiers, &self.firsts, name);
         earlier(scalar, self.bit_named(name))
@@ -214,7 +243,7 @@ impl Nets {
 
     /// The number of the first net of this name, or how many nets there are.
     pub fn number(&self, name: &[u8]) -> u32
-        ensures { result ≡ number_in (map (λ net. net.name) self.now) name.now }
+        ensures { result ≡ number_in (map (λ net. net.name) (nets_in self.now)) name.now }
     {
         match self.find(name) {
             Some(id) => id,

@@ -1,10 +1,9 @@
 //! Names that begin with a prefix.
 
-ghost use Rattle.std.specs.Prelude.{◌≡◌, ℕ, ◌<◌, ◌≤◌, Some, false, find, length, map, option_map, slice_get};
+ghost use Rattle.std.specs.Prelude.{◌≡◌, ◌<◌, ◌≤◌, Some, false, find, length, map, option_map, slice_get};
 ghost use Rattle.spef_file.specs.Files.{file_lines, said_by};
-ghost use Rattle.ver_module.specs.Netlists.{Net as NetSpec};
 ghost use Rattle.vg_design.specs.Designs.{net_names};
-ghost use Rattle.vg_change.specs.Named.{begins};
+ghost use Rattle.vg_change.specs.Named.{NoneBegins, begins};
 ghost use Rattle.vg_change.specs.Taken.{taken};
 
 use crate::begins::{begins_with, goes_on_as_bit};
@@ -33,8 +32,7 @@ fn next_net(netlist: &Module, at: u32, net: &Net<'_>, prefix: &[u8]) -> u32
     requires other { begins net.now.name prefix.now ≡ false }
     ensures on { at < result }
     ensures within { result ≤ length netlist.now.nets }
-    ensures others { (n : ℕ) (one : NetSpec) → at ≤ n → n < result → slice_get netlist.now.nets n ≡ Some one
-        → begins one.name prefix.now ≡ false }
+    ensures others { NoneBegins netlist.now.nets at result prefix.now }
 {
     netlist.is_sound();
     if net.bit.is_none() || goes_on_as_bit(net.base, prefix) {

@@ -2,6 +2,7 @@ use Rattle.std.proofs.Common.{◌≤◌, length, ap, subst, arith}
 use Rattle.ver_module.specs.Names.{AreApart}
 use Rattle.ver_file.specs.Nets.{tokens_of_nets}
 use Rattle.ver_file.proofs.ClashLemmas.{all_found, found_more, none_found}
+use Rattle.ver_file.proofs.NetLemmas.{table_nets}
 use Rattle.ver_file.proofs.nets.first_clash.Goals as goal
 
 pub identifier-init : goal.identifier-init
@@ -16,5 +17,6 @@ identifier-preserved c = record {
 
 pub returns : goal.returns
 returns c =
-    let all : length (tokens_of_nets c.args.text.now) ≤ c.identifier.at = omega (arith, c.identifier-test.false, c.len-at-end.ensures, ap length c.requires.table.tokens) in
-    all_found c.args.text.now (subst AreApart c.requires.nets c.are_apart.ensures) c.identifier.at c.identifier.first all c.identifier.invariant.found
+    let text = c.args.text.now in
+    let all : length (tokens_of_nets text) ≤ c.identifier.at = omega (arith, c.identifier-test.false, ap length c.requires.tokens) in
+    all_found text (subst AreApart (table_nets text c.args.nets.now c.requires.table) c.are_apart.ensures) c.identifier.at c.identifier.first all c.identifier.invariant.found

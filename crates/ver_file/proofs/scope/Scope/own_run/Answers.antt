@@ -1,14 +1,14 @@
 use Rattle.std.proofs.Common.{Some, sym, ◌∙◌, arith}
 use Rattle.ver_module.proofs.RangeLemmas.{bit_inside_range, place_of_bit}
 use Rattle.ver_file.specs.Netlists.{number_of_bit}
-use Rattle.ver_file.proofs.NumberLemmas.{own_numbered, within_numbers}
+use Rattle.ver_file.proofs.NumberLemmas.{in_table, own_numbered}
 use Rattle.ver_file.proofs.RunLemmas.{run_is}
 use Rattle.ver_file.proofs.scope.Scope.own_run.Goals as goal
 
-pub bounds-self-id : goal.bounds-self-id
-bounds-self-id c =
-    within_numbers c.args.self.now.text.now c.args.self.now.identifiers.now c.args.self.now.numbers.now c.args.found.now.name.now c.in_ok-id.field-0
-    c.requires.scope.table c.requires.scope.numbers (sym c.in_ok-id.was ∙ c.requires.found.number)
+pub first_of-first-requires : goal.first_of-first-requires
+first_of-first-requires c =
+    in_table c.args.self.now.text.now c.args.self.now.nets.now c.args.found.now.name.now c.in_ok-id.field-0 c.requires.scope.table.table
+    (sym c.in_ok-id.was ∙ c.requires.found.number)
 
 pub returns : goal.returns
 returns c =
@@ -24,5 +24,5 @@ returns c =
     (bit_inside_range whole c.in_ok-right.right part.right c.in_ok-right.ensures.within c.in_ok-right.ensures.bit)
     (number_of_bit self.text.now c.args.found.now.name.now)
     (λ bit at there.
-    own_numbered self.text.now self.identifiers.now self.numbers.now c.args.found.now.name.now (Some bit) id at (Some whole)
-    c.requires.scope.table c.requires.scope.numbers c.requires.scope.distinct (sym c.in_ok-id.was ∙ c.requires.found.number) (sym c.in_ok-whole.was ∙ c.requires.found.bounds) there)
+    own_numbered self.text.now self.nets.now c.args.found.now.name.now (Some bit) id at (Some whole)
+    c.requires.scope.table.table c.requires.scope.distinct (sym c.in_ok-id.was ∙ c.requires.found.number) (sym c.in_ok-whole.was ∙ c.requires.found.bounds) there)

@@ -1,8 +1,8 @@
 use Rattle.std.proofs.Common.{◌≤◌, ◌-◌, length}
-use Rattle.ver_file.proofs.identifier.Identifiers.find_from.Given as goal
+use Rattle.ver_file.proofs.uses.find_use.Given as goal
 
 abbrev pub invariant-back : goal.invariant-back
-invariant-back l = record { within : l.at ≤ length l.self.uses.items }
+invariant-back l = record { within : l.at ≤ length l.uses }
 
 abbrev pub decreases-back : goal.decreases-back
 decreases-back l = l.at
@@ -11,4 +11,4 @@ abbrev pub invariant-place : goal.invariant-place
 invariant-place l = record { onward : l.initial.at ≤ l.at }
 
 abbrev pub decreases-place : goal.decreases-place
-decreases-place l = length l.self.uses.items - l.at
+decreases-place l = length l.uses - l.at
