@@ -26,10 +26,19 @@ pub(crate) fn buckets_for(bytes: usize) -> usize
 }
 
 /// A value for each of some pins or nodes, in the order in which they came. Their names stand in one buffer.
-#[derive(Drop)]
 pub(crate) struct NodeRows<V> {
     nodes: NodeTable,
     values: Vec<V>,
+}
+
+impl<V: Drop> Drop for NodeRows<V> {
+    // Written out, so that it is one step in the proof of whoever drops it.
+    fn drop(self) {
+        let NodeRows {
+            nodes: _nodes,
+            values: _values,
+        } = self;
+    }
 }
 
 impl<V> Model for NodeRows<V> {
@@ -97,9 +106,15 @@ impl<V> NodeRows<V> {
 }
 
 /// A value for each of some ports, in the order in which they came.
-#[derive(Drop)]
 pub(crate) struct PortRows<V> {
     rows: NodeRows<V>,
+}
+
+impl<V: Drop> Drop for PortRows<V> {
+    // Written out, so that it is one step in the proof of whoever drops it.
+    fn drop(self) {
+        let PortRows { rows: _rows } = self;
+    }
 }
 
 impl<V> Model for PortRows<V> {
@@ -157,10 +172,19 @@ impl<V> PortRows<V> {
 }
 
 /// Some pins or nodes, in the order in which they came. Their names stand in one buffer.
-#[derive(Drop)]
 pub(crate) struct NodeSet {
     nodes: NodeTable,
     count: usize,
+}
+
+impl Drop for NodeSet {
+    // Written out, so that it is one step in the proof of whoever drops it.
+    fn drop(self) {
+        let NodeSet {
+            nodes: _nodes,
+            count: _count,
+        } = self;
+    }
 }
 
 impl Model for NodeSet {

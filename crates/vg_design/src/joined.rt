@@ -16,10 +16,26 @@ use ver_module::PortDir;
 use vg_scan::Name;
 
 /// A net with its parasitics, and its number in the netlist.
-#[derive(Drop)]
 pub struct JoinedNet {
     pub par: ParNet,
     pub id: u32,
+}
+
+impl Drop for JoinedNet {
+    // Written out, so that it is one step in the proof of whoever drops it.
+    fn drop(self) {
+        let JoinedNet { par: _par, id: _id } = self;
+    }
+}
+
+impl JoinedNet {
+    /// The net's parasitics.
+    pub(crate) fn into_par(self) -> ParNet
+        ensures { result ≡ self.par }
+    {
+        let JoinedNet { par, id: _id } = self;
+        par
+    }
 }
 
 impl Model for JoinedNet {

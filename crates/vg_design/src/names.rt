@@ -11,11 +11,20 @@ use vg_scan::NodeName;
 
 /// The names of the nodes of a tree, in tree order. Contracts see the list of them. They stand in few buffers, so that
 /// no name takes memory of its own.
-#[derive(Drop)]
 pub struct TreeNames {
     pub(crate) nodes: Nodes,
     /// For each node of the tree its number in the net.
     pub(crate) order: Row<u32>,
+}
+
+impl Drop for TreeNames {
+    // Written out, so that it is one step in the proof of whoever drops it.
+    fn drop(self) {
+        let TreeNames {
+            nodes: _nodes,
+            order: _order,
+        } = self;
+    }
 }
 
 impl Model for TreeNames {

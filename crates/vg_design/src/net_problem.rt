@@ -31,10 +31,19 @@ pub struct NetProblem {
 }
 
 /// A net with its pins, its tree and its problem.
-#[derive(Drop)]
 pub struct PosedNet {
     pub ready: ReadyNet,
     pub problem: Problem,
+}
+
+impl Drop for PosedNet {
+    // Written out, so that it is one step in the proof of whoever drops it.
+    fn drop(self) {
+        let PosedNet {
+            ready: _ready,
+            problem: _problem,
+        } = self;
+    }
 }
 
 /// Whether a connection is a sink without a required time.
@@ -143,9 +152,10 @@ impl PosedNet {
         ensures problem { result.problem ≡ self.problem }
         ensures names { result.names ≡ names_of self.ready.pinned.net.par self.ready.order }
     {
+        let PosedNet { ready, problem } = self;
         NetProblem {
-            problem: self.problem,
-            names: self.ready.into_names(),
+            problem,
+            names: ready.into_names(),
         }
     }
 }

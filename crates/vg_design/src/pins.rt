@@ -10,19 +10,36 @@ ghost use Rattle.vg_design.specs.Steps.{ArePins, cell_at};
 use crate::design::Design;
 use crate::joined::JoinedNet;
 use lib_linear::{pin_cap, pin_drive, pin_limit};
-use spef_net::{ConnKind, ParConn};
+use spef_net::{ConnKind, ParConn, ParNet};
 use spef_wire::is_sink;
 use ver_net::PinRef;
 use vg_num::Row;
 
 /// A net with the pin of the netlist that each of its connections is; that of a port is none.
-#[derive(Drop)]
 pub struct PinnedNet {
     pub net: JoinedNet,
     pub pins: Row<Option<PinRef>>,
 }
 
+impl Drop for PinnedNet {
+    // Written out, so that it is one step in the proof of whoever drops it.
+    fn drop(self) {
+        let PinnedNet {
+            net: _net,
+            pins: _pins,
+        } = self;
+    }
+}
+
 impl PinnedNet {
+    /// The net's parasitics.
+    pub(crate) fn into_par(self) -> ParNet
+        ensures { result ≡ self.net.par }
+    {
+        let PinnedNet { net, pins: _pins } = self;
+        net.into_par()
+    }
+
     /// The cell of the pin that a connection is, if it is one.
     fn cell<'a>(&self, design: &'a Design, at: usize) -> Option<&'a [u8]>
         requires pins { ArePins design.now self.now.net self.now.pins }

@@ -23,7 +23,6 @@ use vg_num::Row;
 use vg_scan::Name;
 
 /// A net with its tree.
-#[derive(Drop)]
 pub struct ReadyNet {
     pub pinned: PinnedNet,
     /// The tree, breadth first from the driver's node.
@@ -32,17 +31,30 @@ pub struct ReadyNet {
     pub order: Row<u32>,
 }
 
+impl Drop for ReadyNet {
+    // Written out, so that it is one step in the proof of whoever drops it.
+    fn drop(self) {
+        let ReadyNet {
+            pinned: _pinned,
+            tree: _tree,
+            order: _order,
+        } = self;
+    }
+}
+
 impl ReadyNet {
     /// The names of the nodes of the tree.
     pub fn into_names(self) -> TreeNames
         requires { All (λ v. v < length self.pinned.net.par.nodes) self.order }
         ensures { result ≡ names_of self.pinned.net.par self.order }
     {
-        let order = self.order;
-        let net = self.pinned.net;
-        let par = net.par;
+        let ReadyNet {
+            pinned,
+            tree: _tree,
+            order,
+        } = self;
         TreeNames {
-            nodes: par.nodes,
+            nodes: pinned.into_par().nodes,
             order,
         }
     }
