@@ -7,3 +7,4 @@ pub mod LineLemmas
 pub mod FlawLemmas
 pub mod OrderLemmas
 pub mod NameLemmas
+pub mod CellLemmas

@@ -10,8 +10,7 @@ use Rattle.lib_text.specs.declared.statement.Statement.{Statement}
 use Rattle.lib_cells.specs.declared.fault.LibKind.{LibKind}
 use Rattle.lib_cells.specs.declared.fault.LibKind.TheVariants.{CellTwice}
 use Rattle.lib_cells.specs.declared.flaw.Flaw.{Flaw}
-use Rattle.lib_cells.specs.declared.units.Units.{Units}
-use Rattle.lib_cells.specs.Cells.{cell_info, name_of}
+use Rattle.lib_cells.specs.Cells.{name_of}
 use Rattle.lib_cells.specs.Flaws.{twice_flaws, unless}
 
 pub no_flaw : (test : Bool) (kind : LibKind) (s : Statement) (flaws : List Flaw) → unless test kind s ++ flaws ≡ [] → (test ≡ true) × (flaws ≡ [])
@@ -54,8 +53,3 @@ all_new seen (cell ∷ cells) e =
     let h = all_new (seen ++ name_of cell ∷ []) cells (rw unseen at rest) in
     let w : with_name seen (name_of cell) ≡ seen ++ name_of cell ∷ [] = rw unseen refl in
     ap (λ names. fold with_name names (map name_of cells)) w ∙ h ∙ append_assoc seen (name_of cell ∷ []) (map name_of cells)
-
--- the names of cells are those of their groups
-pub names_of_infos : (units : Units) (groups : List Group) → map (λ info. info.name) (map (cell_info units) groups) ≡ map name_of groups
-names_of_infos units [] = refl
-names_of_infos units (g ∷ gs) = ap (λ ns. name_of g ∷ ns) (names_of_infos units gs)

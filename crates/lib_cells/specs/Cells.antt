@@ -1,14 +1,15 @@
 -- The cells of a library and their pins. Source: Liberty User Guide, Synopsys: the groups `cell`, `pin` and `timing`,
 -- and the attributes of the linear delay model.
 use Rattle.std.specs.Prelude.{ℕ, max, Bool, false, true, List, [], ◌∷◌, map, codes, fold, Option, Some, None, option_map, unwrap_or, if◌then◌else◌}
-use Rattle.std.specs.List.{cons_option, flat_map}
+use Rattle.std.specs.List.{cons_option, flat_map, zip}
 use Rattle.std.specs.Str.{bytes_eq}
 use Rattle.name_tables.specs.Distinct.{with_name}
 use Rattle.vg_scan.specs.Lines.{words}
 use Rattle.lib_text.specs.Groups.{Group, groups_in, names_of, value_in}
-use Rattle.lib_cells.specs.declared.cell.CellInfo.{CellInfo}
+use Rattle.lib_cells.specs.declared.cell.CellBody.{CellBody}
 use Rattle.lib_cells.specs.declared.pin.PinDir.{PinDir}
 use Rattle.lib_cells.specs.declared.pin.PinDir.TheVariants.{Input, Output, Inout, Internal, Unstated}
+use Rattle.lib_cells.specs.CellInfos.{CellInfo}
 use Rattle.lib_cells.specs.PinInfos.{PinInfo}
 use Rattle.lib_cells.specs.declared.units.Units.{Units}
 use Rattle.lib_cells.specs.Units.{capacitance_places, resistance_places, time_places}
@@ -123,6 +124,18 @@ area_of cell = unwrap_or (given cell (codes "area") 3) 0
 abbrev pub cell_info : Units → Group → CellInfo
 cell_info units cell = record { name = name_of cell; pins = pins_of units cell; area = area_of cell }
 
+-- what stands in a cell
+abbrev pub cell_body : Units → Group → CellBody
+cell_body units cell = record { pins = pins_of units cell; area = area_of cell }
+
+-- a cell of a name
+abbrev pub cell_named : List ℕ × CellBody → CellInfo
+cell_named (name, body) = record { name = name; pins = body.pins; area = body.area }
+
+-- the cells of these names
+abbrev pub cells_named : List (List ℕ) → List CellBody → List CellInfo
+cells_named names bodies = map cell_named (zip names bodies)
+
 -- the cell groups of a library
 abbrev pub cell_groups : Group → List Group
 cell_groups library = groups_in library (codes "cell")
@@ -130,3 +143,7 @@ cell_groups library = groups_in library (codes "cell")
 -- the cells of a library
 abbrev pub cells_of : Units → Group → List CellInfo
 cells_of units library = map (cell_info units) (cell_groups library)
+
+-- what stands in each of them
+abbrev pub bodies_of : Units → Group → List CellBody
+bodies_of units library = map (cell_body units) (cell_groups library)

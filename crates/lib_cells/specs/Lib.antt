@@ -4,6 +4,7 @@ pub mod Units
 pub mod Values
 pub mod PinInfos
 pub mod PinTables
+pub mod CellInfos
 pub mod Cells
 pub mod Pins
 pub mod Flaws

@@ -8,7 +8,7 @@ use Rattle.lib_cells.specs.PinInfos.{PinInfo}
 use Rattle.lib_cells.specs.declared.first_places.FirstPlaces.{FirstPlaces}
 use Rattle.lib_cells.specs.declared.pin.PinDir.TheVariants.{Unstated}
 use Rattle.lib_cells.specs.declared.pin.PinGroup.{PinGroup}
-use Rattle.lib_cells.specs.declared.pins.PinTable.{PinTable}
+use Rattle.lib_cells.specs.declared.pin_rows.PinTable.{PinTable}
 
 -- a pin of a group
 abbrev pub named : PinGroup → List ℕ → PinInfo

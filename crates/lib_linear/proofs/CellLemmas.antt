@@ -8,12 +8,14 @@ use Rattle.std.proofs.lemmas.List.Elements.{All-cons, All-nil}
 use Rattle.std.proofs.lemmas.List.Sorted.{All-permutation}
 use Rattle.std.proofs.lemmas.Slice.Eq.{bytes_eq-Decides}
 use Rattle.lib_text.specs.Groups.{Group}
-use Rattle.lib_cells.specs.declared.cell.CellInfo.{CellInfo}
+use Rattle.lib_cells.specs.CellInfos.{CellInfo}
 use Rattle.lib_cells.specs.PinInfos.{PinInfo}
 use Rattle.lib_cells.specs.declared.units.Units.{Units}
-use Rattle.lib_cells.specs.Cells.{cell_info, name_of, pins_of}
+use Rattle.lib_cells.specs.Cells.{cell_groups, cell_info, cells_of, name_of, pins_of}
+use Rattle.lib_cells.specs.Flaws.{header_flaws, value_flaws}
+use Rattle.lib_cells.specs.Units.{units_of}
 use Rattle.lib_linear.specs.declared.repeater.Repeater.{Repeater}
-use Rattle.lib_linear.specs.Libraries.{Cells, pin_in, IsOfCells, AreOfCells}
+use Rattle.lib_linear.specs.Libraries.{Cells, pin_in, IsOfCells, AreOfCells, Says}
 use Rattle.lib_linear.specs.Repeaters.{AreRepeaters, AreRepeatersOf, AreTwoPins, IsRepeater}
 use Rattle.lib_linear.specs.Repeaters.AreRepeaters.{no_cell, taken, passed}
 use Rattle.lib_linear.specs.RepeaterLaws.{AreDistinct}
@@ -125,3 +127,8 @@ are_of_cells units cells said e h reps = record {
       (λ k d k_n. of_cells units cells said e h (get_or reps.found k d) (from_cells units reps.are k d k_n));
   once = differ said.repeaters (ordered_distinct reps.found said.repeaters reps.order (found_distinct units reps.are h));
 }
+
+-- what a library says, by its units
+pub says : (units : Units) (library : Group) (said : Cells) → units ≡ units_of library → header_flaws library ≡ [] → value_flaws units library ≡ []
+    → said.cells ≡ cells_of units library → AreRepeatersOf units (cell_groups library) said.repeaters → Says library said
+says units library said u sound flaws cells reps = record { header = sound; values = rw u at flaws; cells = rw u at cells; repeaters = rw u at reps }

@@ -7,7 +7,7 @@ use Rattle.vg_scan.specs.declared.comments.Comments.TheVariants.{Liberty}
 use Rattle.lib_text.specs.Groups.{Group, library_of}
 use Rattle.lib_text.specs.Joined.{joined}
 use Rattle.lib_text.specs.Syntax.{IsLibrary}
-use Rattle.lib_cells.specs.declared.cell.CellInfo.{CellInfo}
+use Rattle.lib_cells.specs.CellInfos.{CellInfo}
 use Rattle.lib_cells.specs.PinInfos.{PinInfo}
 use Rattle.lib_linear.specs.declared.repeater.Repeater.{Repeater}
 use Rattle.lib_cells.specs.Cells.{cell_groups, cells_of}

@@ -1,70 +1,82 @@
 //! A library, and what it says of pins.
 
-ghost use Rattle.std.specs.Prelude.{◌≡◌, [], ◌<◌, find, map, option_copied, slice_get, unwrap_or};
+ghost use Rattle.std.specs.Prelude.{◌≡◌, [], ◌<◌, find, length, option_copied, option_map, slice_get, unwrap_or};
 ghost use Rattle.std.specs.Str.{bytes_eq};
+ghost use Rattle.lib_cells.specs.Cells.{cells_named};
 ghost use Rattle.lib_linear.specs.Libraries.{AreOfCells, cap_of, drive_in, limit_of, pin_in, related_to};
 
 use crate::repeater::Repeater;
-use lib_cells::{CellInfo, Pin};
+use lib_cells::{CellBody, Pin};
 use name_tables::Names;
 use std::marker::Model;
 use vg_num::Row;
 
 /// The cells of a library, and those of them that are repeaters. Contracts see both as lists: the cells in the order of
-/// the text, the repeaters by rising resistance, then by name.
+/// the text, the repeaters by rising resistance, then by name. The name of a cell stands in the table alone.
 #[derive(Drop)]
 pub struct Library {
     names: Names,
-    cells: Row<CellInfo>,
+    bodies: Row<CellBody>,
     repeaters: Row<Repeater>,
 }
 
 impl Model for Library {
-    ghost use Rattle.std.specs.Prelude.{◌≡◌, map};
+    ghost use Rattle.std.specs.Prelude.{◌≡◌, length};
+    ghost use Rattle.lib_cells.specs.Cells.{cells_named};
     ghost use Rattle.lib_linear.specs.Libraries.{AreOfCells, Cells};
 
     ghost Value = { Cells };
 
-    ghost view = { λ library. record { cells = library.cells; repeaters = library.repeaters } };
+    ghost view = { λ library. record {
+      cells = cells_named library.names library.bodies;
+      repeaters = library.repeaters;
+    } };
 
-    ghost invariant = { λ library. (library.names ≡ map (λ info. info.name) library.cells)
-        × AreOfCells (record { cells = library.cells; repeaters = library.repeaters }) };
+    ghost invariant = { λ library. (length library.names ≡ length library.bodies)
+        × AreOfCells (record {
+          cells = cells_named library.names library.bodies;
+          repeaters = library.repeaters;
+        }) };
 }
 
 impl Library {
-    /// The library of these cells with these names, and these repeaters.
-    pub(crate) fn new(names: Names, cells: Vec<CellInfo>, repeaters: Vec<Repeater>) -> Library
-        requires names { names ≡ map (λ info. info.name) cells.items }
-        requires repeaters { AreOfCells (record { cells = cells.items; repeaters = repeaters.items }) }
-        ensures cells { result.cells ≡ cells.items }
+    /// The library of cells with these names, in which this stands, and of these repeaters.
+    pub(crate) fn new(names: Names, bodies: Vec<CellBody>, repeaters: Vec<Repeater>) -> Library
+        requires names { length names ≡ length bodies.items }
+        requires repeaters { AreOfCells (record {
+          cells = cells_named names bodies.items;
+          repeaters = repeaters.items;
+        }) }
+        ensures cells { result.cells ≡ cells_named names bodies.items }
         ensures repeaters { result.repeaters ≡ repeaters.items }
     {
         Library {
             names,
-            cells: Row::from_vec(cells),
+            bodies: Row::from_vec(bodies),
             repeaters: Row::from_vec(repeaters),
         }
     }
 }
 
-/// The cell of this number.
-fn cell_at(cells: &[CellInfo], at: usize) -> Option<&CellInfo>
-    ensures { option_copied result ≡ slice_get cells.now at }
+/// What stands in the cell of this number.
+fn body_at(bodies: &[CellBody], at: usize) -> Option<&CellBody>
+    ensures { option_copied result ≡ slice_get bodies.now at }
 {
-    if at < cells.len() {
-        Some(&cells[at])
+    if at < bodies.len() {
+        Some(&bodies[at])
     } else {
         None
     }
 }
 
-/// The cell of this name, of cells with these names.
-fn cell_of<'a>(names: &Names, cells: &'a [CellInfo], name: &[u8]) -> Option<&'a CellInfo>
-    requires { names.now ≡ map (λ info. info.name) cells.now }
-    ensures { option_copied result ≡ find (λ info. bytes_eq name.now info.name) cells.now }
+/// What stands in the cell of this name, of cells with these names.
+fn body_of<'a>(names: &Names, bodies: &'a [CellBody], name: &[u8]) -> Option<&'a CellBody>
+    requires { length names.now ≡ length bodies.now }
+    ensures { option_map (λ body. body.pins) (option_copied result) ≡ option_map (λ info. info.pins)
+        (find (λ info. bytes_eq name.now info.name) (cells_named names.now bodies.now)) }
 {
     match names.find(name) {
-        Some(id) => cell_at(cells, id as usize),
+        Some(id) => body_at(bodies, id as usize),
         None => None,
     }
 }
@@ -73,8 +85,8 @@ fn cell_of<'a>(names: &Names, cells: &'a [CellInfo], name: &[u8]) -> Option<&'a 
 fn pin_in<'a>(library: &'a Library, cell: &[u8], pin: &[u8]) -> Option<Pin<'a>>
     ensures { result ≡ pin_in library.now cell.now pin.now }
 {
-    let cell = cell_of(&library.names, library.cells.as_slice(), cell)?;
-    cell.pins.find(pin)
+    let body = body_of(&library.names, library.bodies.as_slice(), cell)?;
+    body.pins.find(pin)
 }
 
 /// A law: what a library says of the pins of a repeater is what the repeater does, and no two repeaters are of one

@@ -1,7 +1,7 @@
 //! From the text of a library to the library.
 
 ghost use Rattle.std.specs.Prelude.{◌≡◌, ◌⊎◌, ◌≤◌, ◌^◌, length, IfOk, IfErr};
-ghost use Rattle.lib_cells.specs.Cells.{cell_groups, cells_of};
+ghost use Rattle.lib_cells.specs.Cells.{bodies_of, cell_groups};
 ghost use Rattle.lib_cells.specs.Flaws.{IsOutOfMemory};
 ghost use Rattle.lib_cells.specs.Units.{AreUnits};
 ghost use Rattle.lib_linear.specs.Faults.{HasTooMany, IsFirstFault, IsLibraryFault};
@@ -13,7 +13,7 @@ use crate::library::Library;
 use crate::repeater::Repeater;
 use crate::repeater_search::{NoRepeaters, find_repeaters};
 use lib_cells::{
-    CellInfo, LibFault, LibKind, OUT_OF_MEMORY, Units, cells_of, check_cells, read_units,
+    CellBody, LibFault, LibKind, OUT_OF_MEMORY, Units, bodies_of, check_cells, read_units,
 };
 use lib_text::{Group, line_at, statements_of};
 use std::alloc::Global;
@@ -24,14 +24,14 @@ fn read_repeaters(
     bytes: &[u8],
     units: Units,
     library: &Group<'_>,
-    cells: &[CellInfo],
+    bodies: &[CellBody],
 ) -> Result<Vec<Repeater>, LibFault>
     requires units { AreUnits units }
-    requires cells { cells.now ≡ cells_of units library.now }
+    requires bodies { bodies.now ≡ bodies_of units library.now }
     ensures repeaters { IfOk result (λ reps. AreRepeatersOf units (cell_groups library.now) reps.items) }
     ensures fault { IfErr result (λ fault. IsOutOfMemory fault ⊎ HasTooMany bytes.now units library.now fault) }
 {
-    match find_repeaters(alloc, units, library, cells) {
+    match find_repeaters(alloc, units, library, bodies) {
         Ok(repeaters) => Ok(repeaters),
         Err(NoRepeaters::TooMany(place)) => Err(LibFault {
             kind: LibKind::TooManyRepeaters,
@@ -48,11 +48,11 @@ fn read_statements(alloc: Global, bytes: &[u8], library: &Group<'_>) -> Result<L
 {
     let units = read_units(bytes, library)?;
     let names = check_cells(alloc, bytes, units, library)?;
-    let Ok(cells) = cells_of(alloc, units, library) else {
+    let Ok(bodies) = bodies_of(alloc, units, library, names.len()) else {
         return Err(OUT_OF_MEMORY);
     };
-    let repeaters = read_repeaters(alloc, bytes, units, library, &cells)?;
-    Ok(Library::new(names, cells, repeaters))
+    let repeaters = read_repeaters(alloc, bytes, units, library, &bodies)?;
+    Ok(Library::new(names, bodies, repeaters))
 }
 
 /// The library of a text; or the text's first fault, with the number of its line. Answers `Memory`, at line 1, where

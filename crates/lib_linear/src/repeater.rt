@@ -7,12 +7,14 @@ ghost use Rattle.vg_scan.specs.Lines.{words};
 ghost use Rattle.lib_text.specs.Groups.{groups_in};
 ghost use Rattle.elmore.specs.declared.rep.Rep.{Rep as RepSpec};
 ghost use Rattle.lib_cells.specs.PinInfos.{PinInfo};
-ghost use Rattle.lib_cells.specs.Cells.{area_of, cell_info, direction_of, is_output, pin_groups};
+ghost use Rattle.lib_cells.specs.Cells.{area_of, cell_body, direction_of, is_output, pin_groups};
 ghost use Rattle.lib_linear.specs.Repeaters.{AreInOut, ArePartsOf, AreSmall, AreTwoPins, Follows, IsFunction, IsNoRepeater, IsRep, IsRepeater, IsUsable, is_arc, is_full, is_related, is_timed};
 ghost use Rattle.lib_cells.specs.Units.{AreUnits};
 
 use elmore::Rep;
-use lib_cells::{CellInfo, Pin, PinDir, Pins, Units, direction_of, given, reduces_to, says};
+use lib_cells::{
+    CellBody, Pin, PinDir, Pins, Units, direction_of, given, name_of, reduces_to, says,
+};
 use lib_text::Group;
 use std::alloc::Global;
 use vg_num::Memory;
@@ -189,18 +191,18 @@ fn rep_of(
 fn parts_of<'a>(
     units: Units,
     cell: &Group<'_>,
-    info: &'a CellInfo,
+    body: &'a CellBody,
 ) -> Option<(Pin<'a>, Pin<'a>, Rep)>
     requires units { AreUnits units }
-    requires info { info.now ≡ cell_info units cell.now }
+    requires body { body.now ≡ cell_body units cell.now }
     ensures { MatchOption result (IsNoRepeater units cell.now) (λ parts.
         ArePartsOf units cell.now parts.0 parts.1 parts.2) }
 {
     if !is_usable(cell) {
         return None;
     }
-    let (input, output) = two_pins(&info.pins)?;
-    let rep = rep_of(units, cell, info.area, &input, &output)?;
+    let (input, output) = two_pins(&body.pins)?;
+    let rep = rep_of(units, cell, body.area, &input, &output)?;
     Some((input, output, rep))
 }
 
@@ -209,17 +211,17 @@ pub(crate) fn repeater_of(
     alloc: Global,
     units: Units,
     cell: &Group<'_>,
-    info: &CellInfo,
+    body: &CellBody,
 ) -> Result<Option<Repeater>, Memory>
     requires units { AreUnits units }
-    requires info { info.now ≡ cell_info units cell.now }
+    requires body { body.now ≡ cell_body units cell.now }
     ensures { IfOk result (λ found. MatchOption found (IsNoRepeater units cell.now) (IsRepeater units cell.now)) }
 {
-    let Some((input, output, rep)) = parts_of(units, cell, info) else {
+    let Some((input, output, rep)) = parts_of(units, cell, body) else {
         return Ok(None);
     };
     Ok(Some(Repeater {
-        cell: info.name.copy(alloc)?,
+        cell: Name::from_bytes(alloc, name_of(cell))?,
         input: Name::from_bytes(alloc, input.name)?,
         output: Name::from_bytes(alloc, output.name)?,
         rep,

@@ -2,14 +2,14 @@
 
 ghost use Rattle.std.specs.Prelude.{◌≡◌, ◌≤◌, ◌<◌, ℕ, ◌∷◌, [], ◌++◌, length, OnOk, IfOk, Err};
 ghost use Rattle.lib_linear.specs.declared.repeater_search.NoRepeaters.TheVariants.{TooMany, Memory as OutOfMemory};
-ghost use Rattle.lib_cells.specs.Cells.{cell_groups, cell_info, cells_of};
+ghost use Rattle.lib_cells.specs.Cells.{bodies_of, cell_body, cell_groups};
 ghost use Rattle.lib_linear.specs.Repeaters.{AreRepeaters, AreRepeatersOf, IsOver};
 ghost use Rattle.lib_linear.specs.RepeaterSteps.{IsNext, IsOneMore};
 ghost use Rattle.lib_cells.specs.Units.{AreUnits};
 
 use crate::order::put_in_order;
 use crate::repeater::{Repeater, repeater_of};
-use lib_cells::{CellInfo, Units};
+use lib_cells::{CellBody, Units};
 use lib_text::Group;
 use std::alloc::{AllocFailed, Global};
 use vg_num::Memory;
@@ -59,15 +59,15 @@ fn take_cell(
     alloc: Global,
     units: Units,
     cell: &Group<'_>,
-    info: &CellInfo,
+    body: &CellBody,
     found: &mut Vec<Repeater>,
 ) -> Result<(), NoRepeaters>
     requires units { AreUnits units }
-    requires info { info.now ≡ cell_info units cell.now }
+    requires body { body.now ≡ cell_body units cell.now }
     ensures next { OnOk result (IsNext units cell.now found.old.items found.new.items) }
     ensures many { (place : ℕ) → result ≡ Err (TooMany place) → IsOneMore units cell.now found.old.items place }
 {
-    match repeater_of(alloc, units, cell, info)? {
+    match repeater_of(alloc, units, cell, body)? {
         None => Ok(()),
         Some(repeater) => push_repeater(cell, repeater, found),
     }
@@ -78,17 +78,17 @@ fn repeaters_in_text(
     alloc: Global,
     units: Units,
     library: &Group<'_>,
-    cells: &[CellInfo],
+    bodies: &[CellBody],
 ) -> Result<Vec<Repeater>, NoRepeaters>
     requires units { AreUnits units }
-    requires cells { cells.now ≡ cells_of units library.now }
+    requires bodies { bodies.now ≡ bodies_of units library.now }
     ensures found { IfOk result (λ reps. AreRepeaters units (cell_groups library.now) reps.items) }
     ensures few { IfOk result (λ reps. length reps.items ≤ 256) }
     ensures many { (place : ℕ) → result ≡ Err (TooMany place) → IsOver units (cell_groups library.now) place }
 {
     let mut found = Vec::new(alloc);
     for (at, cell) in library.groups(b"cell").enumerate() {
-        take_cell(alloc, units, &cell, &cells[at], &mut found)?;
+        take_cell(alloc, units, &cell, &bodies[at], &mut found)?;
     }
     Ok(found)
 }
@@ -99,14 +99,14 @@ pub(crate) fn find_repeaters(
     alloc: Global,
     units: Units,
     library: &Group<'_>,
-    cells: &[CellInfo],
+    bodies: &[CellBody],
 ) -> Result<Vec<Repeater>, NoRepeaters>
     requires units { AreUnits units }
-    requires cells { cells.now ≡ cells_of units library.now }
+    requires bodies { bodies.now ≡ bodies_of units library.now }
     ensures found { IfOk result (λ reps. AreRepeatersOf units (cell_groups library.now) reps.items) }
     ensures many { (place : ℕ) → result ≡ Err (TooMany place) → IsOver units (cell_groups library.now) place }
 {
-    let mut repeaters = repeaters_in_text(alloc, units, library, cells)?;
+    let mut repeaters = repeaters_in_text(alloc, units, library, bodies)?;
     put_in_order(&mut repeaters)?;
     Ok(repeaters)
 }

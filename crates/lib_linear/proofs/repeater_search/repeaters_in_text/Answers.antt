@@ -1,6 +1,6 @@
 use Rattle.std.proofs.Common.{rules, sym, ◌∙◌, arith}
 use Rattle.std.proofs.lemmas.Grind.{common_steps}
-use Rattle.lib_cells.specs.Cells.{cell_groups, cell_info}
+use Rattle.lib_cells.specs.Cells.{cell_body, cell_groups}
 use Rattle.lib_linear.proofs.RepeaterSteps.{start, finish, info_at, step, over}
 use Rattle.lib_linear.proofs.repeater_search.repeaters_in_text.Goals as goal
 
@@ -9,17 +9,17 @@ loop-at-init c =
     rw (c.into_iter-at-iterator.ensures.into_iter_gives, c.enumerate-at-items.ensures.source, c.enumerate-at-items.ensures.count, c.groups.ensures, c.new-found.ensures.items)
     record { taken = start c.args.units (cell_groups c.args.library.now) }
 
-pub bounds-cells-at : goal.bounds-cells-at
-bounds-cells-at c =
+pub bounds-bodies-at : goal.bounds-bodies-at
+bounds-bodies-at c =
     let left = sym c.in-Some.ensures.steps.0 ∙ c.loop-at.invariant.taken.rest in
     let at = c.in-Some.ensures.steps.1 in
-    rw c.requires.cells (grind (arith, common_steps))
+    rw c.requires.bodies (grind (arith, common_steps))
 
-pub take_cell-requires-clause-info : goal.take_cell-requires-clause-info
-take_cell-requires-clause-info c =
-    let read = rw (c.requires.cells, c.in-Some.ensures.steps.1) at c.index-cells-at.is in
+pub take_cell-requires-clause-body : goal.take_cell-requires-clause-body
+take_cell-requires-clause-body c =
+    let read = rw (c.requires.bodies, c.in-Some.ensures.steps.1) at c.index-bodies-at.is in
     read
-    ∙ info_at (cell_info c.args.units) (cell_groups c.args.library.now) c.loop-at.at-iterator.count c.in-Some.cell c.next.new.self.iter c.index-cells-at.result
+    ∙ info_at (cell_body c.args.units) (cell_groups c.args.library.now) c.loop-at.at-iterator.count c.in-Some.cell c.next.new.self.iter c.index-bodies-at.result
     (sym c.in-Some.ensures.steps.0 ∙ c.loop-at.invariant.taken.rest)
 
 pub returns-in_err-take_cell-clause-many : goal.returns-in_err-take_cell-clause-many

@@ -3,7 +3,7 @@ use Rattle.std.specs.List.{All}
 use Rattle.lib_text.specs.Groups.{names_of}
 use Rattle.lib_cells.specs.PinTables.{pins_in}
 use Rattle.lib_cells.proofs.PinTableLemmas.{group_pushed, numbers_pushed, sizes_pushed}
-use Rattle.lib_cells.proofs.pins.PinTable.push_group.Goals as goal
+use Rattle.lib_cells.proofs.pin_rows.PinTable.push_group.Goals as goal
 
 pub returns-clause-table : goal.returns-clause-table
 returns-clause-table c =

@@ -1,6 +1,6 @@
 use Rattle.std.proofs.Common.{length, sym, ap, ◌∙◌}
 use Rattle.lib_cells.proofs.PinTableLemmas.{length-pins_in}
-use Rattle.lib_cells.proofs.pins.Pins.len.Goals as goal
+use Rattle.lib_cells.proofs.pin_rows.PinRows.len.Goals as goal
 
 pub returns : goal.returns
 returns c =

@@ -1,7 +1,7 @@
 use Rattle.std.proofs.Common.{◌∙◌, List, length, slice_get, sym, ap, arith}
 use Rattle.lib_cells.specs.PinInfos.{PinInfo}
 use Rattle.lib_cells.proofs.PinTableLemmas.{length-pins_in, number_within, pin_read}
-use Rattle.lib_cells.proofs.pins.Pins.get.Goals as goal
+use Rattle.lib_cells.proofs.pin_rows.PinRows.get.Goals as goal
 
 pub index-requires : goal.index-requires
 index-requires c =

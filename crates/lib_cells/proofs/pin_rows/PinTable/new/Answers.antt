@@ -1,6 +1,6 @@
 use Rattle.std.proofs.Common.{ℕ, List, ap}
 use Rattle.lib_cells.specs.PinTables.{pins_in}
-use Rattle.lib_cells.proofs.pins.PinTable.new.Goals as goal
+use Rattle.lib_cells.proofs.pin_rows.PinTable.new.Goals as goal
 
 pub returns-clause-pins : goal.returns-clause-pins
 unfolding pins_in

@@ -1,5 +1,5 @@
 use Rattle.std.proofs.Common.{◌≡◌, ◌++◌, map}
-use Rattle.lib_cells.proofs.pins.push_names.Given as goal
+use Rattle.lib_cells.proofs.pin_rows.push_names.Given as goal
 
 abbrev pub invariant-name : goal.invariant-name
 invariant-name l = record {

@@ -6,7 +6,7 @@ use Rattle.lib_cells.specs.declared.first_places.FirstPlaces.{FirstPlaces}
 use Rattle.lib_cells.specs.PinInfos.{PinInfo}
 use Rattle.lib_cells.proofs.LookUpLemmas.{position_map}
 use Rattle.lib_cells.proofs.PinTableLemmas.{names-pins_in}
-use Rattle.lib_cells.proofs.pins.Pins.place_of.Goals as goal
+use Rattle.lib_cells.proofs.pin_rows.PinRows.place_of.Goals as goal
 
 pub returns-in-Some : goal.returns-in-Some
 returns-in-Some c =

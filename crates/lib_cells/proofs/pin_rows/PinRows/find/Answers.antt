@@ -2,7 +2,7 @@ use Rattle.std.proofs.Common.{◌∙◌, sym}
 use Rattle.std.specs.Str.{bytes_eq}
 use Rattle.lib_cells.proofs.LookUpLemmas.{absent, present}
 use Rattle.lib_cells.specs.PinInfos.{PinInfo}
-use Rattle.lib_cells.proofs.pins.Pins.find.Goals as goal
+use Rattle.lib_cells.proofs.pin_rows.PinRows.find.Goals as goal
 
 pub returns-in_err-at : goal.returns-in_err-at
 returns-in_err-at c =
