@@ -267,10 +267,6 @@ no_range (Some r) e = absurd (cc)
 
 -- ---- identifiers in the table of nets
 
-pub token_there : (text : List ℕ) (tokens : List Row) (at : ℕ) (token : Row) → tokens ≡ tokens_of_nets text → slice_get tokens at ≡ Some token
-    → slice_get (tokens_of_nets text) at ≡ Some token
-token_there text tokens at token same e = ap (λ ts. slice_get ts at) (sym same) ∙ e
-
 pub identifier_there : (text : List ℕ) (table : NetTable) (at : ℕ) (token : Row) (found : Identifier) → IsNetTable text table
     → slice_get (tokens_of_nets text) at ≡ Some token → slice_get table.identifiers at ≡ Some found → found ≡ identifier_at text (declared_of text) token
 identifier_there text table at token found is t f =

@@ -1,5 +1,5 @@
 -- Lists.
-use Rattle.std.proofs.Common.{◌≡◌, ℕ, suc, ◌+◌, Bool, true, false, cond, List, [], ◌∷◌, ◌++◌, flat_map, take, refl, sym, ap, ◌∙◌, subst, arith, append_assoc}
+use Rattle.std.proofs.Common.{◌≡◌, ℕ, zero, suc, ◌+◌, Bool, true, false, cond, List, [], ◌∷◌, ◌++◌, flat_map, map, set, slice_get, take, Some, refl, sym, ap, ◌∙◌, subst, arith, append_assoc}
 use Rattle.std.specs.List.{All, prefix_len, take_while}
 use Rattle.std.specs.Str.{bytes_eq}
 use Rattle.std.proofs.lemmas.List.Elements.{All-append, All-cons, All-head, All-nil, All-tail, All-take}
@@ -37,3 +37,19 @@ passes_while {X = X} p (x ∷ xs) = by_test (p x) refl (passes_while p xs)
     by_test true t rest =
         subst (λ (ys : List X). All (λ (y : X). p y ≡ true) ys) (sym (more (prefix_len p xs))) (All-cons (λ (y : X). p y ≡ true) x (take_while p xs) t rest)
     by_test false t rest = All-nil (λ (y : X). p y ≡ true)
+
+-- ---- one element changes
+
+map_same : {X Y : Type 0} (f g : X → Y) (xs : List X) → ((at : ℕ) (x : X) → slice_get xs at ≡ Some x → f x ≡ g x) → map f xs ≡ map g xs
+map_same f g [] h = refl
+map_same f g (x ∷ xs) h = λ i. h 0 x refl i ∷ map_same f g xs (λ at y e. h (suc at) y e) i
+
+-- another function of one element, and the same of each other one
+pub set_map : {X Y : Type 0} (f g : X → Y) (xs : List X) (id : ℕ) (x : X) → slice_get xs id ≡ Some x
+    → ((at : ℕ) (y : X) → slice_get xs at ≡ Some y → (at ≡ id → ⊥) → f y ≡ g y) → set (map f xs) id (g x) ≡ map g xs
+set_map f g [] id x e h = absurd (cc)
+set_map f g (z ∷ zs) zero x e h =
+    let same : x ≡ z = cc in
+    λ i. g (same i) ∷ map_same f g zs (λ at y l. h (suc at) y l (λ none. absurd (omega (arith, none)))) i
+set_map f g (z ∷ zs) (suc id) x e h =
+    λ i. h 0 z refl (λ none. absurd (omega (arith, none))) i ∷ set_map f g zs id x e (λ at y l other. h (suc at) y l (λ same. other (omega (arith, same)))) i

@@ -1,13 +1,9 @@
 -- The nets of a text.
-use Rattle.std.proofs.Common.{◌≡◌, ℕ, suc, ◌+◌, ◌<◌, ◌≤◌, Bool, true, false, not, List, [], ◌∷◌, ◌++◌, length, map, flat_map, take, Option, Some, None, refl, sym, ap, ◌∙◌, arith}
-use Rattle.std.specs.Prelude.{slice_get}
-use Rattle.std.proofs.Math.Seq.{take-suc}
-use Rattle.std.proofs.lemmas.List.{map-append, take_all}
-use Rattle.std.proofs.lemmas.Option.{get_or_from_slice_get}
+use Rattle.std.proofs.Common.{◌≡◌, ℕ, Bool, true, false, not, List, [], ◌∷◌, ◌++◌, map, flat_map, Option, Some, None, refl, sym, ap, ◌∙◌}
+use Rattle.std.proofs.lemmas.List.{map-append}
 use Rattle.ver_syntax.specs.declared.fault.VerKind.TheVariants.{NameClash}
 use Rattle.ver_syntax.specs.declared.row.Row.{Row}
 use Rattle.ver_module.specs.Netlists.{NetTable, nets_in, nets_with}
-use Rattle.ver_module.specs.declared.net.Identifier.{Identifier}
 use Rattle.ver_items.specs.Declarations.{declared_of}
 use Rattle.ver_items.specs.Sections.{name_at}
 use Rattle.ver_file.specs.Firsts.{earlier, first_of}
@@ -71,21 +67,3 @@ nets_by_tokens text (t ∷ ts) = ap (λ ns. nets_at text (declared_of text) t ++
 -- the table has the nets of its text
 pub table_nets : (text : List ℕ) (table : NetTable) → IsNetTable text table → nets_in table ≡ nets_of text
 table_nets text table is = (λ i. nets_with (is.names i) (is.identifiers i)) ∙ nets_by_tokens text (tokens_of_nets text)
-
--- the next identifier
-pub next_identifier : (text : List ℕ) (tokens : List Row) (at : ℕ) (all more : List Identifier) (token : Row) (identifier : Identifier) → at < length tokens
-    → slice_get tokens at ≡ Some token → more ≡ all ++ identifier ∷ [] → identifier ≡ identifier_at text (declared_of text) token
-    → all ≡ map (identifier_at text (declared_of text)) (take at tokens) → more ≡ map (identifier_at text (declared_of text)) (take (at + 1) tokens)
-next_identifier text tokens at all more token identifier l e f g h =
-    f ∙ (λ i. h i ++ g i ∷ [])
-    ∙ sym (ap (map (identifier_at text (declared_of text))) cut ∙ map-append (identifier_at text (declared_of text)) (take at tokens) (token ∷ []))
-  where
-    cut : take (at + 1) tokens ≡ take at tokens ++ token ∷ []
-    cut =
-        ap (λ k. take k tokens) (let k : at + 1 ≡ suc at = omega arith in k) ∙ take-suc tokens at token l
-        ∙ ap (λ t. take at tokens ++ t ∷ []) (get_or_from_slice_get tokens at token token e)
-
--- behind the last token they are all
-pub all_identifiers : (text : List ℕ) (tokens : List Row) (at : ℕ) (all : List Identifier) → length tokens ≤ at
-    → all ≡ map (identifier_at text (declared_of text)) (take at tokens) → all ≡ map (identifier_at text (declared_of text)) tokens
-all_identifiers text tokens at all l h = h ∙ ap (map (identifier_at text (declared_of text))) (take_all at tokens l)

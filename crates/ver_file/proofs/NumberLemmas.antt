@@ -1,12 +1,12 @@
 -- The numbers of identifiers and of nets.
-use Rattle.std.proofs.Common.{◌≡◌, ℕ, zero, suc, ◌+◌, ◌<◌, Bool, true, false, not, ◌||◌, List, [], ◌∷◌, ◌++◌, length, map, flat_map, take, get_or, slice_get, option_map, Option, Some, None, refl, sym, ap, ◌∙◌, subst, arith, append_assoc, length-append}
+use Rattle.std.proofs.Common.{◌≡◌, ℕ, zero, suc, ◌+◌, ◌<◌, Bool, true, false, not, ◌||◌, List, [], ◌∷◌, ◌++◌, length, map, flat_map, take, get_or, slice_get, option_map, Option, Some, None, is_some, refl, sym, ap, ◌∙◌, subst, arith, append_assoc, length-append}
 use Rattle.std.specs.List.{All, list_any}
 use Rattle.std.specs.Str.{bytes_eq}
 use Rattle.std.proofs.lemmas.List.{get_or-map, length-map}
 use Rattle.std.proofs.lemmas.Option.{get_or_from_slice_get, slice_get-get_or, slice_get-map, slice_get_within}
 use Rattle.name_tables.specs.Distinct.{number_in, number_of, with_name}
 use Rattle.name_tables.proofs.NameTableLemmas.{known_of}
-use Rattle.ver_module.proofs.NameLemmas.{with_new}
+use Rattle.ver_module.proofs.NameLemmas.{is_there, with_new}
 use Rattle.ver_text.specs.declared.kind.Kind.TheVariants.{Module}
 use Rattle.ver_syntax.specs.declared.row.Place.TheVariants.{Start}
 use Rattle.ver_syntax.specs.declared.row.Row.{Row}
@@ -14,24 +14,22 @@ use Rattle.ver_syntax.specs.Rows.{rows_of}
 use Rattle.ver_module.specs.Ranges.{bits_of}
 use Rattle.ver_items.specs.Declarations.{declared_of, direction_in, range_in}
 use Rattle.ver_module.specs.declared.range.Range.{Range}
-use Rattle.ver_items.specs.declared.heading.Heading.{Heading}
 use Rattle.ver_items.specs.Sections.{name_at}
 use Rattle.vg_scan.specs.Lines.{part}
 use Rattle.vg_scan.proofs.FirstLemmas.{lt_yes}
 use Rattle.ver_text.specs.Names.{name_of}
-use Rattle.ver_file.specs.declared.identifier.Identifiers.{Identifiers}
 use Rattle.ver_file.specs.declared.uses.Use.{Use}
 use Rattle.ver_module.specs.Flat.{count_in}
 use Rattle.ver_module.specs.Netlists.{NetTable}
 use Rattle.ver_file.specs.Flaws.{Named, given, name_flaws, named_nets, repeated, unless}
 use Rattle.ver_file.specs.Nets.{first_tokens, is_first, net, net_names, nets_at, tokens_of_nets}
 use Rattle.ver_file.specs.Netlists.{number_of_bit}
-use Rattle.ver_file.specs.Said.{direction_said, identifiers_of, range_said, said_of}
-use Rattle.ver_file.specs.Tables.{AreIdentifiers, IsNetTable, IsUse, identifier_at}
+use Rattle.ver_file.specs.Said.{identifiers_of}
+use Rattle.ver_file.specs.Tables.{IsNetTable, IsUse, identifier_at}
 use Rattle.ver_file.proofs.FlawLemmas.{next_repeated}
 use Rattle.ver_file.proofs.ListLemmas.{bytes_same}
 use Rattle.ver_file.proofs.NetLemmas.{names_given, no_left, no_right, not_any, passes}
-use Rattle.ver_file.proofs.SaidLemmas.{direction_is, range_is}
+use Rattle.ver_file.proofs.SaidLemmas.{no_direction_in, no_range_in}
 use Rattle.ver_module.specs.declared.net.Identifier.{Identifier}
 use Rattle.ver_file.proofs.TableLemmas.{first_is_new, new_token, no_token, old_token}
 
@@ -51,7 +49,7 @@ past_front (n ∷ ns) more name t = by_first (bytes_eq name n) refl (past_front 
 one_longer : (names : List (List ℕ)) (name : List ℕ) (k : ℕ) → length (names ++ name ∷ []) + k ≡ length names + suc k
 one_longer names name k = omega (arith, length-append names (name ∷ []))
 
-some_is : {X : Type 0} (x y : X) → Some x ≡ Some y → x ≡ y
+pub some_is : {X : Type 0} (x y : X) → Some x ≡ Some y → x ≡ y
 some_is x y e = cc
 
 -- ---- identifiers
@@ -94,16 +92,6 @@ first_numbered text names (r ∷ rows) at token e =
         ap (λ ts. number_in (names ++ map (name_at text) ts) (name_at text token)) cut
         ∙ old at token (sym (ap (λ ts. slice_get ts at) cut) ∙ e)
 
--- what is kept at the number of an identifier is what is said of it
-pub said_there : (text : List ℕ) (found : Identifiers) (at : ℕ) (token : Row) (said : Option Heading) → AreIdentifiers text found
-    → slice_get found.tokens.items at ≡ Some token → slice_get found.said.items at ≡ Some said → said ≡ said_of (declared_of text) (name_at text token)
-said_there text found at token said are t s =
-    let number : number_in found.names (name_at text token) ≡ at =
-    ap (λ names. number_in names (name_at text token)) are.names
-    ∙ first_numbered text [] (rows_of text) at token (ap (λ ts. slice_get ts at) (sym are.tokens) ∙ t)
-    ∙ (let n : 0 + at ≡ at = omega arith in n) in
-    sym (get_or_from_slice_get found.said.items at said None s) ∙ ap (λ k. get_or found.said.items k None) (sym number) ∙ are.said.says (name_at text token)
-
 -- where an identifier stands, a token is that identifier
 pub use_numbered : (text : List ℕ) (uses : List Use) (at : ℕ) (place : Use) (r : Row) → All (IsUse text (identifiers_of text)) uses → slice_get uses at ≡ Some place
     → place.from ≡ r.from → place.to ≡ r.to → Some place.id ≡ number_of (identifiers_of text) (name_at text r)
@@ -122,10 +110,6 @@ use_numbered text uses at place r all e from to =
     ∙ first_numbered text [] (rows_of text) id (get_or tokens id other) (slice_get-get_or tokens id other low)
     ∙ (let n : 0 + id ≡ id = omega arith in n) in
     rw number (rw (lt_yes id (length names) here.within) refl)
-
--- as many as there are tokens
-pub as_many : (text : List ℕ) (found : Identifiers) → AreIdentifiers text found → length found.said.items ≡ length found.tokens.items
-as_many text found are = are.count ∙ ap length are.names ∙ length-map (tokens_of_nets text) (name_at text) ∙ ap length (sym are.tokens)
 
 -- ---- nets
 
@@ -157,7 +141,7 @@ given_numbered names (m ∷ ms) k n none e = by_place (λ j f. given_numbered (n
         ap (λ ns. number_in ns n.name) (sym (append_assoc names (m.name ∷ []) (map (λ m. m.name) ms)))
         ∙ others j f ∙ one_longer names m.name j
 
-in_front : {X : Type 0} (xs ys : List X) (i : ℕ) (x : X) → slice_get xs i ≡ Some x → slice_get (xs ++ ys) i ≡ Some x
+pub in_front : {X : Type 0} (xs ys : List X) (i : ℕ) (x : X) → slice_get xs i ≡ Some x → slice_get (xs ++ ys) i ≡ Some x
 in_front [] ys i x e = absurd (cc)
 in_front (y ∷ xs) ys zero x e = e
 in_front (y ∷ xs) ys (suc i) x e = in_front xs ys i x e
@@ -266,7 +250,8 @@ looked_up text table base id found is e f =
 -- it says nothing of a name that is none of its identifiers
 pub not_looked_up : (text : List ℕ) (table : NetTable) (base : List ℕ) → IsNetTable text table → None ≡ number_of (identifiers_of text) base
     → (None ≡ range_in (declared_of text) base) × (None ≡ direction_in (declared_of text) base)
-not_looked_up text table base is e = (
-  ap range_said (is.declared base e) ∙ range_is (declared_of text) base,
-  ap direction_said (is.declared base e) ∙ direction_is (declared_of text) base,
-)
+not_looked_up text table base is e =
+    let names = identifiers_of text in
+    let absent : list_any (bytes_eq base) names ≡ false = sym (is_there names base) ∙ sym (ap is_some e) in
+    let none = is.only base absent in
+    (sym (no_range_in base (declared_of text) none), sym (no_direction_in base (declared_of text) none))

@@ -1,10 +1,9 @@
 -- What is said of identifiers, as the code keeps it: for the functions between.
-use Rattle.std.specs.Prelude.{ℕ, List, map, Bool, ◌||◌, Option, Some, None, option_and_then, fold, false, if◌then◌else◌}
-use Rattle.std.specs.Str.{bytes_eq}
+use Rattle.std.specs.Prelude.{ℕ, List, map, Bool, ◌||◌, is_some, if◌then◌else◌}
+use Rattle.std.specs.Option.{option_or}
 use Rattle.ver_items.specs.declared.heading.Heading.{Heading}
-use Rattle.ver_module.specs.declared.direction.PortDir.{PortDir}
-use Rattle.ver_module.specs.declared.range.Range.{Range}
-use Rattle.ver_items.specs.Declarations.{Declared}
+use Rattle.ver_module.specs.declared.net.Identifier.{Identifier}
+use Rattle.ver_items.specs.Declarations.{Declared, first_declared}
 use Rattle.ver_file.specs.Nets.{tokens_of_nets}
 use Rattle.ver_items.specs.Sections.{name_at}
 
@@ -12,32 +11,15 @@ use Rattle.ver_items.specs.Sections.{name_at}
 abbrev pub identifiers_of : List ℕ → List (List ℕ)
 identifiers_of text = map (name_at text) (tokens_of_nets text)
 
--- a direction, or else another one
-abbrev pub or_else : Option PortDir → Option PortDir → Option PortDir
-or_else None b = b
-or_else (Some a) b = Some a
+-- one of these declares this name
+abbrev pub is_declared : List Declared → List ℕ → Bool
+is_declared ds name = is_some (first_declared ds name)
 
--- what is said of an identifier, where one declaration more says this
-abbrev pub with_heading : Option Heading → Heading → Heading
-with_heading None h = h
-with_heading (Some s) h =
-    record { direction = or_else s.direction h.direction; supply = s.supply || h.supply; range = s.range }
-
--- what is said of an identifier, where one declaration more comes
-abbrev pub with_declared : List ℕ → Option Heading → Declared → Option Heading
-with_declared name said d = if bytes_eq name d.name then Some (with_heading said d.heading) else said
-
--- what all declarations of an identifier say of it, if there is one
-abbrev pub said_of : List Declared → List ℕ → Option Heading
-said_of ds name = fold (with_declared name) None ds
-
--- the range, the direction and the supply that are said
-abbrev pub range_said : Option Heading → Option Range
-range_said said = option_and_then (λ h. h.range) said
-
-abbrev pub direction_said : Option Heading → Option PortDir
-direction_said said = option_and_then (λ h. h.direction) said
-
-abbrev pub is_supply_said : Option Heading → Bool
-is_supply_said None = false
-is_supply_said (Some h) = h.supply
+-- what holds of an identifier, declared so far or not, where one declaration more says this
+abbrev pub with_heading : Identifier → Bool → Heading → Identifier
+with_heading identifier declared heading = record {
+  range = if declared then identifier.range else heading.range;
+  escaped = identifier.escaped;
+  port = option_or identifier.port heading.direction;
+  supply = identifier.supply || heading.supply;
+}

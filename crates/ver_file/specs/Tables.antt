@@ -1,34 +1,56 @@
 -- The tables of a text's identifiers and nets: for the functions between.
-use Rattle.std.specs.Prelude.{◌≡◌, ℕ, ◌<◌, ◌++◌, List, [], ◌∷◌, length, map, slice_get, slice_index_or, Option, None, Some}
-use Rattle.std.specs.List.{All}
-use Rattle.name_tables.specs.Distinct.{number_in, number_of}
+use Rattle.std.specs.Prelude.{◌≡◌, ℕ, ◌<◌, ◌++◌, List, [], ◌∷◌, length, map, slice_index_or, None, false}
+use Rattle.std.specs.List.{All, list_any}
+use Rattle.std.specs.Str.{bytes_eq}
 use Rattle.ver_module.specs.Netlists.{Net, NetTable}
 use Rattle.ver_module.specs.declared.net.Identifier.{Identifier}
-use Rattle.ver_items.specs.declared.heading.Heading.{Heading}
 use Rattle.vg_scan.specs.Lines.{part}
 use Rattle.ver_text.specs.Names.{is_escaped, name_of}
 use Rattle.ver_file.specs.declared.identifier.Identifiers.{Identifiers}
 use Rattle.ver_file.specs.declared.uses.Use.{Use}
 use Rattle.ver_syntax.specs.declared.row.Row.{Row}
-use Rattle.ver_items.specs.Declarations.{Declared, declared_of, direction_in, is_supply_in, range_in}
+use Rattle.ver_items.specs.Declarations.{Declared, declared_of, direction_in, first_declared, is_supply_in, range_in}
 use Rattle.ver_items.specs.Sections.{bytes_at, name_at}
 use Rattle.ver_file.specs.Nets.{first_tokens, tokens_of_nets}
-use Rattle.ver_file.specs.Said.{identifiers_of, said_of}
+use Rattle.ver_file.specs.Said.{identifiers_of, is_declared}
 
--- what is kept of each of these names is what these declarations say of it, and they say nothing of any other name
-pub record IsSaid (ds : List Declared) (names : List (List ℕ)) (said : List (Option Heading)) : Type 0 where
-  pub says : (name : List ℕ) → slice_index_or said (number_in names name) None ≡ said_of ds name
+-- what holds of all nets of the identifier whose first token this is, by these declarations
+abbrev pub identifier_at : List ℕ → List Declared → Row → Identifier
+identifier_at text ds r = record {
+  range = range_in ds (name_at text r);
+  escaped = is_escaped (bytes_at text r);
+  port = direction_in ds (name_at text r);
+  supply = is_supply_in ds (name_at text r);
+}
+
+-- where the first tokens of identifiers begin
+abbrev pub froms_of : List ℕ → List ℕ
+froms_of text = map (λ r. r.from) (tokens_of_nets text)
+
+-- these declare no other names than these
+abbrev pub DeclareOnly : List Declared → List (List ℕ) → Type 0
+DeclareOnly ds names = (name : List ℕ) → list_any (bytes_eq name) names ≡ false → first_declared ds name ≡ None
+
+-- as much is kept of identifiers as they have names
+pub record AreCounted (found : Identifiers) : Type 0 where
+  pub all : length found.all.items ≡ length found.names
+  pub declared : length found.declared.items ≡ length found.names
 
 -- an identifier of this number stands there
 pub record IsUse (text : List ℕ) (names : List (List ℕ)) (found : Use) : Type 0 where
   pub within : found.id < length names
   pub is : slice_index_or names found.id [] ≡ name_of (part text found.from found.to)
 
--- these are the identifiers of a text up to these tokens, which are left, and what these declarations say of them
+-- these are the identifiers of a text up to these tokens, which are left, by their first tokens, and what these
+-- declarations say of them
 pub record AreRead (text : List ℕ) (left : List Row) (ds : List Declared) (found : Identifiers) : Type 0 where
-  pub names : found.names ≡ map (name_at text) found.tokens.items
-  pub tokens : tokens_of_nets text ≡ found.tokens.items ++ first_tokens text found.names left
-  pub said : IsSaid ds found.names found.said.items
+  pub tokens : List Row
+  pub names : found.names ≡ map (name_at text) tokens
+  pub whole : tokens_of_nets text ≡ tokens ++ first_tokens text found.names left
+  pub all : found.all.items ≡ map (identifier_at text ds) tokens
+  pub declared : found.declared.items ≡ map (λ r. is_declared ds (name_at text r)) tokens
+  pub froms : found.froms.items ≡ map (λ r. r.from) tokens
+  pub only : DeclareOnly ds found.names
   pub uses : All (IsUse text found.names) found.uses.items
 
 -- reading these tokens, which declare these, leads from some identifiers to others
@@ -44,9 +66,9 @@ ReadsOne text r old new =
 -- these are the identifiers of a text
 pub record AreIdentifiers (text : List ℕ) (found : Identifiers) : Type 0 where
   pub names : found.names ≡ identifiers_of text
-  pub tokens : found.tokens.items ≡ tokens_of_nets text
-  pub count : length found.said.items ≡ length found.names
-  pub said : IsSaid (declared_of text) found.names found.said.items
+  pub all : found.all.items ≡ map (identifier_at text (declared_of text)) (tokens_of_nets text)
+  pub froms : found.froms.items ≡ froms_of text
+  pub only : DeclareOnly (declared_of text) found.names
   pub uses : All (IsUse text found.names) found.uses.items
 
 -- ---- nets
@@ -54,24 +76,8 @@ pub record AreIdentifiers (text : List ℕ) (found : Identifiers) : Type 0 where
 abbrev pub names_of : List Net → List (List ℕ)
 names_of nets = map (λ net. net.name) nets
 
--- what is kept of each of these identifiers, by their first tokens, is what the text says of it
-abbrev pub AreSaid : List ℕ → List Row → List (Option Heading) → Type 0
-AreSaid text tokens said =
-    (at : ℕ) (token : Row) (one : Option Heading) → slice_get tokens at ≡ Some token → slice_get said at ≡ Some one
-    → one ≡ said_of (declared_of text) (name_at text token)
-
--- what holds of all nets of the identifier whose first token this is
-abbrev pub identifier_at : List ℕ → List Declared → Row → Identifier
-identifier_at text ds r = record {
-  range = range_in ds (name_at text r);
-  escaped = is_escaped (bytes_at text r);
-  port = direction_in ds (name_at text r);
-  supply = is_supply_in ds (name_at text r);
-}
-
 -- this is the table of the nets of a text
 pub record IsNetTable (text : List ℕ) (table : NetTable) : Type 0 where
   pub names : table.names ≡ identifiers_of text
   pub identifiers : table.identifiers ≡ map (identifier_at text (declared_of text)) (tokens_of_nets text)
-  -- what is declared is among them
-  pub declared : (name : List ℕ) → None ≡ number_of (identifiers_of text) name → None ≡ said_of (declared_of text) name
+  pub only : DeclareOnly (declared_of text) (identifiers_of text)

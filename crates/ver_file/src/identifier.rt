@@ -5,21 +5,21 @@ ghost use Rattle.name_tables.specs.Distinct.{number_in, number_of};
 ghost use Rattle.ver_syntax.specs.declared.row.Row.{Row as RowSpec};
 ghost use Rattle.ver_syntax.specs.Rows.{rows_of};
 ghost use Rattle.ver_syntax.specs.Syntax.{HasTokens, IsModule};
-ghost use Rattle.ver_items.specs.Declarations.{Declared, declared_of, direction_in, range_in};
 ghost use Rattle.ver_items.specs.Sections.{Section, is_net_name, items, name_at};
 ghost use Rattle.ver_items.specs.SectionSteps.{section_in};
 ghost use Rattle.ver_file.specs.Firsts.{declared_among, declared_under};
-ghost use Rattle.ver_file.specs.Said.{direction_said, is_supply_said, or_else, range_said, said_of, with_heading};
-ghost use Rattle.ver_file.specs.Tables.{AreIdentifiers, AreRead, Reads, ReadsOne};
+ghost use Rattle.ver_file.specs.Said.{with_heading};
+ghost use Rattle.ver_file.specs.Tables.{AreCounted, AreIdentifiers, AreRead, Reads, ReadsOne, identifier_at};
 
-use crate::uses::{Use, keep_use};
+use crate::uses::{Use, keep_use, room_for_uses};
 use name_tables::Names;
 use std::alloc::Global;
 use ver_items::{
-    Begin, Found, Heading, Items, KeptItems, begins_declaration, is_net_name, name_at,
+    Begin, Found, Heading, Items, KeptItems, begins_declaration, bytes_at, is_net_name, name_at,
 };
-use ver_module::{PortDir, Range, name_number};
+use ver_module::{Identifier, name_number};
 use ver_syntax::{Machine, Row};
+use ver_text::is_escaped;
 use vg_num::Memory;
 
 /// How many bytes a text has for each of its nets and for each of its instances, about, where its names are long.
@@ -40,6 +40,10 @@ pub(crate) fn room_for_names(text_len: usize) -> usize
     (text_len / BYTES_A_NAME).max(few)
 }
 
+/// How many bytes a text has for each of its identifiers of nets, or more, but where names are very short. Room for so
+/// many is taken at first, since a list that grows stands in memory twice; where there are fewer, it is not touched.
+const BYTES_AN_IDENTIFIER: usize = 8;
+
 /// The most bytes of a text whose items are kept, so that its tokens are cut once. A kept token takes 12 bytes, and is
 /// some three bytes of a text.
 const MOST_KEPT: usize = 1 << 21;
@@ -51,56 +55,32 @@ const BYTES_A_TOKEN: usize = 2;
 /// while it is read.
 const BYTES_A_KEPT_TOKEN: usize = 4;
 
-fn or_else(first: Option<PortDir>, other: Option<PortDir>) -> Option<PortDir>
-    ensures { result ≡ or_else first other }
+/// What holds of an identifier of which nothing is declared yet, by its first token.
+fn undeclared(text: &[u8], token: Row) -> Identifier
+    ensures { result ≡ identifier_at text.now [] token }
 {
-    match first {
-        Some(direction) => Some(direction),
-        None => other,
+    Identifier {
+        range: None,
+        escaped: is_escaped(bytes_at(text, token)),
+        port: None,
+        supply: false,
     }
 }
 
-/// What is said of an identifier, where one declaration more says this.
-fn with_heading(said: Option<Heading>, heading: Heading) -> Heading
-    ensures { result ≡ with_heading said heading }
+/// What holds of an identifier, declared so far or not, where one declaration more says this. The first one gives its
+/// range.
+fn with_heading(identifier: Identifier, declared: bool, heading: Heading) -> Identifier
+    ensures { result ≡ with_heading identifier declared heading }
 {
-    match said {
-        None => heading,
-        Some(said) => Heading {
-            direction: or_else(said.direction, heading.direction),
-            supply: said.supply || heading.supply,
-            range: said.range,
+    Identifier {
+        range: if declared {
+            identifier.range
+        } else {
+            heading.range
         },
-    }
-}
-
-/// The range that is said.
-pub(crate) fn range_said(said: Option<Heading>) -> Option<Range>
-    ensures { result ≡ range_said said }
-{
-    match said {
-        Some(heading) => heading.range,
-        None => None,
-    }
-}
-
-/// The direction that is said.
-pub(crate) fn direction_said(said: Option<Heading>) -> Option<PortDir>
-    ensures { result ≡ direction_said said }
-{
-    match said {
-        Some(heading) => heading.direction,
-        None => None,
-    }
-}
-
-/// Whether a supply is said.
-pub(crate) fn is_supply_said(said: Option<Heading>) -> bool
-    ensures { result ≡ is_supply_said said }
-{
-    match said {
-        Some(heading) => heading.supply,
-        None => false,
+        escaped: identifier.escaped,
+        port: identifier.port.or(heading.direction),
+        supply: identifier.supply || heading.supply,
     }
 }
 
@@ -134,13 +114,18 @@ fn with_item(
     }
 }
 
-/// The identifiers of nets in the order in which they come first, each with its first token and what is declared of it;
-/// and where they stand, in the order of the text, as far as that is kept.
+/// The identifiers of nets in the order in which they come first, with what is declared of each so far; and where they
+/// stand, in the order of the text, as far as that is kept. A text may have a new one in every few bytes, so of each
+/// only what is needed is kept.
 #[derive(Drop)]
 pub(crate) struct Identifiers {
     pub names: Names,
-    pub tokens: Vec<Row>,
-    pub said: Vec<Option<Heading>>,
+    /// What holds of all nets of each, as far as it is read.
+    pub all: Vec<Identifier>,
+    /// Whether each is declared so far. Its range is then known: that of its first declaration.
+    pub declared: Vec<bool>,
+    /// Where the first token of each begins.
+    pub froms: Vec<u32>,
     pub uses: Vec<Use>,
 }
 
@@ -148,26 +133,28 @@ impl Identifiers {
     /// No identifiers, with room for about as many names as a text of this length has. Answers `Memory` where there is
     /// none.
     fn new(alloc: Global, text_len: usize) -> Result<Identifiers, Memory>
-        ensures count { IfOk result (λ new. length new.said.items ≡ length new.names) }
+        ensures count { IfOk result AreCounted }
         ensures read { (text : List ℕ) → IfOk result (AreRead text (rows_of text) []) }
     {
         let names = Names::with_room(alloc, room_for_names(text_len))?;
+        let room = text_len / BYTES_AN_IDENTIFIER;
         Ok(Identifiers {
             names,
-            tokens: Vec::new(alloc),
-            said: Vec::new(alloc),
-            uses: Vec::new(alloc),
+            all: Vec::with_capacity(alloc, room)?,
+            declared: Vec::with_capacity(alloc, room)?,
+            froms: Vec::with_capacity(alloc, room)?,
+            uses: room_for_uses(alloc, text_len)?,
         })
     }
 
     /// The number of the identifier of nets that a token is, which is put last where it is new.
     fn intern(&mut self, text: &[u8], row: Row) -> Result<usize, Memory>
         requires name { is_net_name row ≡ true }
-        requires count { length self.old.said.items ≡ length self.old.names }
+        requires count { AreCounted self.old }
         ensures number { IfOk result (λ at. at ≡ number_in self.new.names (name_at text.now row)) }
         ensures within { IfOk result (λ at. at < length self.new.names) }
         ensures is { IfOk result (λ at. slice_index_or self.new.names at [] ≡ name_at text.now row) }
-        ensures count { OnOk result (length self.new.said.items ≡ length self.new.names) }
+        ensures count { OnOk result (AreCounted self.new) }
         ensures read { OnOk result (ReadsOne text.now row self.old self.new) }
     {
         let count = self.names.len();
@@ -180,16 +167,17 @@ impl Identifiers {
         keep_use(text.len(), place, &mut self.uses)?;
         let at = id as usize;
         if at == count {
-            self.tokens.push(row)?;
-            self.said.push(None)?;
+            self.all.push(undeclared(text, row))?;
+            self.declared.push(false)?;
+            self.froms.push(row.from)?;
         }
         Ok(at)
     }
 
     /// Reads a token, which stands in a declaration that says this of its identifiers, or in none.
     fn read(&mut self, text: &[u8], row: Row, heading: Option<Heading>) -> Result<(), Memory>
-        requires { length self.old.said.items ≡ length self.old.names }
-        ensures count { OnOk result (length self.new.said.items ≡ length self.new.names) }
+        requires { AreCounted self.old }
+        ensures count { OnOk result (AreCounted self.new) }
         ensures read { OnOk result
             (Reads text.now (row ∷ []) (declared_under text.now heading (row ∷ [])) self.old self.new) }
     {
@@ -198,15 +186,16 @@ impl Identifiers {
         }
         let at = self.intern(text, row)?;
         if let Some(heading) = heading {
-            self.said[at] = Some(with_heading(self.said[at], heading));
+            self.all[at] = with_heading(self.all[at], self.declared[at], heading);
+            self.declared[at] = true;
         }
         Ok(())
     }
 
     /// Reads the tokens of an item.
     fn read_item(&mut self, text: &[u8], item: &[Row]) -> Result<(), Memory>
-        requires { length self.old.said.items ≡ length self.old.names }
-        ensures count { OnOk result (length self.new.said.items ≡ length self.new.names) }
+        requires { AreCounted self.old }
+        ensures count { OnOk result (AreCounted self.new) }
         ensures read { OnOk result (Reads text.now item.now (declared_among text.now item.now) self.old self.new) }
     {
         let mut heading = None;

@@ -1,63 +1,27 @@
 //! The nets of a text, and whether two of them have one name.
 
-ghost use Rattle.std.specs.Prelude.{◌≡◌, ◌<◌, List, None, length, map, IfOk};
+ghost use Rattle.std.specs.Prelude.{◌≡◌, ◌<◌, None, length, IfOk};
 ghost use Rattle.std.specs.List.{All};
-ghost use Rattle.ver_items.specs.Declarations.{Declared, declared_of};
-ghost use Rattle.ver_items.specs.Sections.{name_at};
 ghost use Rattle.ver_file.specs.Clashes.{FindsClash, place_in};
 ghost use Rattle.ver_file.specs.Firsts.{first_of};
 ghost use Rattle.ver_file.specs.Flaws.{name_flaws};
-ghost use Rattle.ver_file.specs.Nets.{tokens_of_nets};
-ghost use Rattle.ver_file.specs.Said.{identifiers_of, said_of};
-ghost use Rattle.ver_file.specs.Tables.{AreIdentifiers, AreSaid, IsNetTable, IsUse, identifier_at};
+ghost use Rattle.ver_file.specs.Said.{identifiers_of};
+ghost use Rattle.ver_file.specs.Tables.{AreIdentifiers, IsNetTable, IsUse, froms_of};
 
 use crate::first::unless;
-use crate::identifier::{Identifiers, direction_said, is_supply_said, range_said};
+use crate::identifier::Identifiers;
+use crate::scope::Scope;
 use crate::uses::Use;
 use std::alloc::Global;
-use ver_items::{Heading, bytes_at, name_at};
-use ver_module::{Identifier, Nets};
-use ver_syntax::Row;
-use ver_text::is_escaped;
+use ver_module::Nets;
 use vg_num::Memory;
-
-/// What holds of all nets of an identifier, by its first token and what is said of it.
-fn identifier_of(text: &[u8], token: Row, said: Option<Heading>) -> Identifier
-    ensures { (ds : List Declared) → said ≡ said_of ds (name_at text.now token)
-        → result ≡ identifier_at text.now ds token }
-{
-    Identifier {
-        range: range_said(said),
-        escaped: is_escaped(bytes_at(text, token)),
-        port: direction_said(said),
-        supply: is_supply_said(said),
-    }
-}
-
-/// What holds of all nets of each identifier, by their first tokens and what is said of them.
-fn identifiers_by(
-    alloc: Global,
-    text: &[u8],
-    tokens: &[Row],
-    said: Vec<Option<Heading>>,
-) -> Result<Vec<Identifier>, Memory>
-    requires count { length said.items ≡ length tokens.now }
-    requires said { AreSaid text.now tokens.now said.items }
-    ensures { IfOk result (λ all. all.items ≡ map (identifier_at text.now (declared_of text.now)) tokens.now) }
-{
-    let mut all = Vec::with_capacity(alloc, tokens.len())?;
-    'identifier: for at in 0..tokens.len() {
-        all.push(identifier_of(text, tokens[at], said[at]))?;
-    }
-    Ok(all)
-}
 
 /// The nets of a text, where their identifiers come first, and where they stand.
 #[derive(Drop)]
 pub(crate) struct Table {
     pub nets: Nets,
-    /// The first token of each identifier.
-    pub tokens: Vec<Row>,
+    /// Where the first token of each identifier begins.
+    pub froms: Vec<u32>,
     pub uses: Vec<Use>,
 }
 
@@ -65,40 +29,42 @@ pub(crate) struct Table {
 pub(crate) fn nets_of(alloc: Global, text: &[u8], identifiers: Identifiers) -> Result<Table, Memory>
     requires { AreIdentifiers text.now identifiers }
     ensures nets { IfOk result (λ table. IsNetTable text.now table.nets) }
-    ensures tokens { IfOk result (λ table. table.tokens.items ≡ tokens_of_nets text.now) }
+    ensures froms { IfOk result (λ table. table.froms.items ≡ froms_of text.now) }
     ensures uses { IfOk result (λ table. All (IsUse text.now (identifiers_of text.now)) table.uses.items) }
 {
     let Identifiers {
         names,
-        tokens,
-        said,
+        mut all,
+        declared: _,
+        froms,
         uses,
     } = identifiers;
-    let all = identifiers_by(alloc, text, &tokens, said)?;
+    // The module keeps this list, which may have grown to twice the room that it needs.
+    all.shrink_to_fit();
     let nets = Nets::new(alloc, names, all)?;
-    Ok(Table { nets, tokens, uses })
+    Ok(Table { nets, froms, uses })
 }
 
-/// The place of the later one of a scalar and a bit that have this scalar's name, by the number of its identifier.
-/// `None`: no bit has its name, or the identifier is a vector.
-fn clash_at(text: &[u8], tokens: &[Row], nets: &Nets, at: usize) -> Option<usize>
-    requires table { IsNetTable text.now nets.now }
-    requires tokens { tokens.now ≡ tokens_of_nets text.now }
-    requires within { at < length tokens.now }
-    ensures { FindsClash text.now at result }
+/// The place of the later one of a scalar and a bit that have this scalar's name, by the number of its identifier and
+/// by where identifiers come first. `None`: no bit has its name, or the identifier is a vector.
+fn clash_at(scope: &Scope<'_>, froms: &[u32], at: usize) -> Option<usize>
+    requires table { IsNetTable scope.now.text.now scope.now.nets.now }
+    requires froms { froms.now ≡ froms_of scope.now.text.now }
+    requires within { at < length froms.now }
+    ensures { FindsClash scope.now.text.now at result }
 {
+    let nets = scope.nets;
     nets.are_apart();
     if nets.identifier(at).range.is_some() {
         return None;
     }
-    let token = tokens[at];
-    let name = name_at(text, token);
+    let name = nets.identifier_name(at);
     let bit = nets.bit_named(name)?;
     if nets.number(name) == bit {
-        return Some(token.from as usize);
+        return Some(froms[at] as usize);
     }
     let vector = nets.find_identifier(nets.get(bit).base)?;
-    Some(tokens[vector as usize].from as usize)
+    Some(froms[vector as usize] as usize)
 }
 
 /// The earlier of two places, where they are there.
@@ -111,16 +77,17 @@ fn earlier_of(first: Option<usize>, place: Option<usize>) -> Option<usize>
     }
 }
 
-/// The first place at which a net has the name of an earlier one: that of the later of a scalar and a bit.
-pub(crate) fn first_clash(text: &[u8], tokens: &[Row], nets: &Nets) -> Option<usize>
-    requires table { IsNetTable text.now nets.now }
-    requires tokens { tokens.now ≡ tokens_of_nets text.now }
-    ensures { result ≡ first_of None (name_flaws text.now) }
+/// The first place at which a net has the name of an earlier one, by where identifiers come first: that of the later of
+/// a scalar and a bit.
+pub(crate) fn first_clash(scope: &Scope<'_>, froms: &[u32]) -> Option<usize>
+    requires table { IsNetTable scope.now.text.now scope.now.nets.now }
+    requires froms { froms.now ≡ froms_of scope.now.text.now }
+    ensures { result ≡ first_of None (name_flaws scope.now.text.now) }
 {
-    nets.are_apart();
+    scope.nets.are_apart();
     let mut first = None;
-    'identifier: for at in 0..tokens.len() {
-        first = earlier_of(first, clash_at(text, tokens, nets, at));
+    'identifier: for at in 0..froms.len() {
+        first = earlier_of(first, clash_at(scope, froms, at));
     }
     first
 }

@@ -41,15 +41,15 @@ fn build(
     ensures module { IfOk result (λ built. IfOk built (λ found. found ≡ netlist_of text.now)) }
     ensures fault { IfOk result (λ built. IfErr built (IsFirst text.now (flaws_of text.now))) }
 {
-    let Table { nets, tokens, uses } = nets_of(alloc, text, identifiers)?;
-    let clash = first_clash(text, &tokens, &nets);
-    drop(tokens);
+    let Table { nets, froms, uses } = nets_of(alloc, text, identifiers)?;
     let scope = Scope {
         text,
         nets: &nets,
         uses: &uses,
         next: Cell::new(0),
     };
+    let clash = first_clash(&scope, &froms);
+    drop(froms);
     let body = read_body(alloc, &scope, kept, clash)?;
     match body.firsts.fault(text) {
         Some(fault) => Ok(Err(fault)),

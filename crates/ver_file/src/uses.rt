@@ -1,18 +1,19 @@
 //! Where the identifiers of nets stand in a text.
 
-ghost use Rattle.std.specs.Prelude.{◌≡◌, ◌<◌, ◌⊎◌, ◌↔◌, ◌++◌, ◌∷◌, [], ℕ, List, Some, IfSome, IsTrue, OnOk};
+ghost use Rattle.std.specs.Prelude.{◌≡◌, ◌<◌, ◌⊎◌, ◌↔◌, ◌++◌, ◌∷◌, ◌^◌, ◌/◌, [], ℕ, List, Some, max, IfOk, IfSome, IsTrue, OnOk};
 ghost use Rattle.std.specs.List.{All};
 ghost use Rattle.name_tables.specs.Distinct.{number_of};
 ghost use Rattle.ver_items.specs.Sections.{name_at};
 ghost use Rattle.ver_file.specs.Said.{identifiers_of};
 ghost use Rattle.ver_file.specs.Tables.{IsUse};
 
+use std::alloc::Global;
 use ver_syntax::Row;
 use vg_num::Memory;
 
 /// How many bytes of a text there are for each place that is kept, or more. An ordinary netlist names a net once in
 /// twenty bytes; of one that does so much more often, the places behind these are found by names.
-const BYTES_A_USE: usize = 8;
+const BYTES_A_USE: usize = 16;
 
 /// So many places are kept whatever the text's length is.
 const FEW: usize = 1 << 16;
@@ -34,11 +35,26 @@ impl Use {
     }
 }
 
+/// How many places are kept of a text of this length.
+fn most_uses(text_len: usize) -> usize
+    ensures { result ≡ max (2 ^ 16) (text_len / 16) }
+{
+    FEW.max(text_len / BYTES_A_USE)
+}
+
+/// No places, with room for all that are kept of a text of this length. Answers `Memory` where there is none.
+pub(crate) fn room_for_uses(alloc: Global, text_len: usize) -> Result<Vec<Use>, Memory>
+    ensures { IfOk result (λ uses. uses.items ≡ []) }
+{
+    let uses = Vec::with_capacity(alloc, most_uses(text_len).min(text_len))?;
+    Ok(uses)
+}
+
 /// Puts a place last, where so many are kept of a text of this length.
 pub(crate) fn keep_use(text_len: usize, place: Use, uses: &mut Vec<Use>) -> Result<(), Memory>
     ensures { OnOk result ((uses.new.items ≡ uses.old.items ++ place ∷ []) ⊎ (uses.new.items ≡ uses.old.items)) }
 {
-    if uses.len() < FEW.max(text_len / BYTES_A_USE) {
+    if uses.len() < most_uses(text_len) {
         uses.push(place)?;
     }
     Ok(())

@@ -1,6 +1,6 @@
 //! The nets of a module.
 
-ghost use Rattle.std.specs.Prelude.{◌≡◌, ℕ, ◌<◌, ◌≤◌, ◌+◌, ◌^◌, Some, length, map, slice_get, slice_index, take, IfOk, IfSome};
+ghost use Rattle.std.specs.Prelude.{◌≡◌, ℕ, ◌<◌, ◌≤◌, ◌+◌, ◌^◌, [], Some, length, map, slice_get, slice_index, slice_index_or, take, IfOk, IfSome};
 ghost use Rattle.ver_module.specs.Ranges.{bits_of};
 ghost use Rattle.std.specs.List.{All};
 ghost use Rattle.name_tables.specs.Distinct.{number_in, number_of};
@@ -15,8 +15,8 @@ use std::alloc::Global;
 use std::marker::Model;
 use vg_num::Memory;
 
-/// The nets of a module, by their identifiers: all bits of a vector take the room of one net. Contracts see the names of
-/// the identifiers, and what holds of the nets of each.
+/// The nets of a module, by their identifiers: all bits of a vector take the room of one net. Contracts see the names
+/// of the identifiers, and what holds of the nets of each.
 #[derive(Drop)]
 pub struct Nets {
     /// The names of the identifiers.
@@ -188,6 +188,14 @@ impl Nets {
         ensures { result ≡ number_of self.now.names name.now }
     {
         self.names.find(name)
+    }
+
+    /// The name of the identifier of this number.
+    pub fn identifier_name(&self, at: usize) -> &[u8]
+        requires { at < length self.now.names }
+        ensures { result.now ≡ slice_index_or self.now.names at [] }
+    {
+        self.names.name(at as u32)
     }
 
     /// What holds of all nets of the identifier of this number.

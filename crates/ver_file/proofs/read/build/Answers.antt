@@ -9,7 +9,7 @@ use Rattle.ver_file.proofs.read.build.Goals as goal
 pub read_body-requires-clause-clash : goal.read_body-requires-clause-clash
 read_body-requires-clause-clash c =
     let text = c.args.text.now in
-    let uses = subst (λ (us : List Use). All (IsUse text (identifiers_of text)) us) (sym c.deref-2.ensures.value) c.in_ok-nets.ensures.uses in
+    let uses = subst (λ (us : List Use). All (IsUse text (identifiers_of text)) us) (sym c.deref.ensures.value) c.in_ok-nets.ensures.uses in
     record {
       table = record { table = c.in_ok-nets.ensures.nets; uses = uses };
       first = c.first_clash-clash.ensures;

@@ -71,5 +71,5 @@ returns-in-End-clause-module c =
     (subst (λ (ks : List Kind). HasKinds ks c.read_by.new.machine) (kinds_end text kinds c.item.items c.read_by.new.item.items whole end.0 end.1) read) c.if-is_module.true in (
       tokens,
       grammar,
-      all_read text done c.item.found c.item.items end.0 (items_done (declared_by text) done (declared_of text) c.item.items all end.0) c.item.invariant.count are,
+      all_read text done c.item.found c.item.items end.0 (items_done (declared_by text) done (declared_of text) c.item.items all end.0) are,
     )

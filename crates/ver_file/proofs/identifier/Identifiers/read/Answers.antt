@@ -1,10 +1,9 @@
-use Rattle.std.proofs.Common.{◌≡◌, ◌++◌, ◌∷◌, [], Some, None, get_or, set, refl, sym, ap, ◌∙◌, subst, ◌<◌, length, arith}
-use Rattle.std.proofs.lemmas.List.{get_or_default}
+use Rattle.std.proofs.Common.{◌≡◌, ◌++◌, ◌∷◌, [], ◌<◌, Option, Some, length, set, slice_get, true, refl, sym, ap, ◌∙◌, subst, arith}
+use Rattle.std.proofs.lemmas.Option.{slice_get-get_or}
 use Rattle.std.specs.Vec.{with_item}
 use Rattle.ver_items.specs.declared.heading.Heading.{Heading}
-use Rattle.std.proofs.Common.{Option}
+use Rattle.ver_file.specs.declared.identifier.Identifiers.{Identifiers}
 use Rattle.ver_file.specs.Firsts.{declared_under}
-use Rattle.ver_file.specs.Said.{with_heading}
 use Rattle.ver_file.specs.Tables.{AreRead}
 use Rattle.ver_file.proofs.ReadLemmas.{declared, passed_over, undeclared}
 use Rattle.ver_file.proofs.identifier.Identifiers.read.Goals as goal
@@ -15,15 +14,21 @@ returns-then-not-is_net_name-clause-read c = λ left ds h.
 
 pub returns-in-Some-clause-read : goal.returns-in-Some-clause-read
 returns-in-Some-clause-read c = λ left ds h.
+    let text = c.args.text.now in
     let e = c.in_ok-at.ensures in
+    let at = c.in_ok-at.at in
     let old = c.intern.new.self in
-    let within : c.in_ok-at.at < length old.said.items = omega (arith, e.within, e.count) in
-    let its : get_or old.said.items c.in_ok-at.at None ≡ c.index.result.now = get_or_default old.said.items c.in_ok-at.at None c.index.result.now within ∙ sym c.index.ensures in
-    let v : c.with_heading.result ≡ with_heading (get_or old.said.items c.in_ok-at.at None) c.in-Some.heading =
-    c.with_heading.ensures ∙ ap (λ s. with_heading s c.in-Some.heading) (sym its) in
-    subst (λ (heading : Option Heading). AreRead c.args.text.now left (ds ++ declared_under c.args.text.now heading (c.args.row ∷ [])) (record { names = old.names; tokens = old.tokens; uses = old.uses; said = with_item old.said c.in_ok-at.at (Some c.with_heading.result) })) (sym c.in-Some.is)
-    (declared c.args.text.now c.in-Some.heading c.args.row left ds old (record { names = old.names; tokens = old.tokens; uses = old.uses; said = with_item old.said c.in_ok-at.at (Some c.with_heading.result) }) c.in_ok-at.at
-    (sym c.is_net_name.ensures ∙ c.if-not-is_net_name.false) e.count e.number e.within e.is refl refl refl (ap (λ h. set old.said.items c.in_ok-at.at (Some h)) v) (e.read left ds h))
+    let new : Identifiers = record old { all = with_item old.all at c.with_heading.result; declared = with_item old.declared at true } in
+    let all_low : at < length old.all.items = omega (arith, e.within, e.count.all) in
+    let declared_low : at < length old.declared.items = omega (arith, e.within, e.count.declared) in
+    let identifier : slice_get old.all.items at ≡ Some c.index.result.now =
+    slice_get-get_or old.all.items at c.index.result.now all_low ∙ ap Some (sym c.index.ensures) in
+    let was : slice_get old.declared.items at ≡ Some c.index-in-Some.result.now =
+    slice_get-get_or old.declared.items at c.index-in-Some.result.now declared_low ∙ ap Some (sym c.index-in-Some.ensures) in
+    subst (λ (heading : Option Heading). AreRead text left (ds ++ declared_under text heading (c.args.row ∷ [])) new) (sym c.in-Some.is)
+    (declared text c.in-Some.heading c.args.row left ds old (e.read left ds h) at e.within e.is new
+    (sym c.is_net_name.ensures ∙ c.if-not-is_net_name.false) refl refl refl c.index.result.now c.index-in-Some.result.now identifier was
+    (ap (set old.all.items at) c.with_heading.ensures) refl)
 
 pub returns-in_default-clause-read : goal.returns-in_default-clause-read
 returns-in_default-clause-read c = λ left ds h.

@@ -2,13 +2,13 @@ use Rattle.std.proofs.Common.{◌≡◌, ◌++◌, List, length}
 use Rattle.ver_syntax.specs.declared.row.Row.{Row}
 use Rattle.ver_items.specs.Declarations.{Declared}
 use Rattle.ver_file.specs.Firsts.{declared_among}
-use Rattle.ver_file.specs.Tables.{AreRead}
+use Rattle.ver_file.specs.Tables.{AreCounted, AreRead}
 use Rattle.ver_file.proofs.ReadLemmas.{declared_left}
 use Rattle.ver_file.proofs.identifier.Identifiers.read_item.Given as goal
 
 abbrev pub invariant-row : goal.invariant-row
 invariant-row l = record {
-  count : length l.self.said.items ≡ length l.self.names;
+  count : AreCounted l.self;
   read :
       (others : List Row) (ds : List Declared) → AreRead l.text (l.item ++ others) ds l.initial.self
       → (done : List Declared) × AreRead l.text (l.left ++ others) done l.self × (ds ++ declared_among l.text l.item ≡ done ++ declared_left l.text l.heading l.left);
