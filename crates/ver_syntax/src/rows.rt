@@ -93,6 +93,17 @@ impl<'a> Rows<'a> {
             place: Place::Start,
         }
     }
+
+    /// The tokens that are left, to be walked beside these.
+    pub fn again(&self) -> Rows<'a>
+        ensures { result ≡ self.now }
+    {
+        Rows {
+            text: self.text,
+            tokens: self.tokens.again(),
+            place: self.place,
+        }
+    }
 }
 
 impl<'a> Iterator for Rows<'a> {

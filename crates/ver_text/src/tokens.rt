@@ -64,6 +64,16 @@ impl<'a> Tokens<'a> {
             at: directive_length(text),
         }
     }
+
+    /// The tokens that are left, to be walked beside these.
+    pub fn again(&self) -> Tokens<'a>
+        ensures { result ≡ self.now }
+    {
+        Tokens {
+            text: self.text,
+            at: self.at,
+        }
+    }
 }
 
 impl<'a> Iterator for Tokens<'a> {
