@@ -1,5 +1,5 @@
 -- Tables of names: their rows, and the number of a name.
-use Rattle.std.proofs.Common.{◌≡◌, ◌≢◌, ℕ, zero, suc, ◌+◌, ◌<◌, ◌≤◌, inl, inr, Bool, true, false, List, [], ◌∷◌, ◌++◌, length, get_or, arith, refl, sym, ap, ◌∙◌, subst, length-append, ◌||◌, Some, None, take, ◌-◌}
+use Rattle.std.proofs.Common.{◌≡◌, ◌≢◌, ℕ, zero, suc, ◌+◌, ◌*◌, ◌<◌, ◌≤◌, inl, inr, Bool, true, false, List, [], ◌∷◌, ◌++◌, length, get_or, arith, refl, sym, ap, ◌∙◌, subst, length-append, ◌||◌, Some, None, take, ◌-◌}
 use Rattle.std.specs.List.{list_any, position_or_len, slice_get}
 use Rattle.std.specs.Str.{bytes_eq}
 use Rattle.std.proofs.lemmas.Slice.Eq.{bytes_eq-Decides}
@@ -9,10 +9,11 @@ use Rattle.std.proofs.lemmas.Option.{get_or_from_slice_get, slice_get_within}
 use Rattle.std.proofs.Math.ListN.{get_or-append}
 use Rattle.std.proofs.Math.Seq.{get_or-append_seam, take-length}
 use Rattle.std.proofs.lemmas.List.{take-append-le}
+use Rattle.name_tables.specs.Chains.{buckets_of, AreHalves}
 use Rattle.name_tables.specs.Distinct.{number_of, number_in, with_name}
 use Rattle.name_tables.specs.NameTables.{AreDistinct, AreRows, IsTable}
 use Rattle.name_tables.specs.declared.rows.Rows.{Rows}
-use Rattle.name_tables.proofs.ChainLemmas.{lt_or_le}
+use Rattle.name_tables.proofs.ChainLemmas.{lt_or_le, halves_double}
 use Rattle.vg_scan.proofs.FirstLemmas.{lt_yes, lt_no, not_true}
 
 eq_yes : (a b : List ℕ) → b ≡ a → bytes_eq a b ≡ true
@@ -65,20 +66,22 @@ distinct_more names name distinct absent i j less within same =
           absent i (omega arith) (sym left ∙ same ∙ ap (λ k. get_or (names ++ name ∷ []) k []) at ∙ get_or-append_seam names name [] [])
     ]
 
-pub table_more : (names : List (List ℕ)) (name : List ℕ) (old new : Rows) → IsTable names old → AreRows (names ++ name ∷ []) new → length new.chains.lasts.items ≡ length old.chains.lasts.items
-    → length names < length old.chains.lasts.items → ((row : ℕ) → row < length names → get_or names row [] ≢ name) → IsTable (names ++ name ∷ []) new
+pub table_more : (names : List (List ℕ)) (name : List ℕ) (old new : Rows) → IsTable names old → AreRows (names ++ name ∷ []) new → buckets_of new.chains ≡ buckets_of old.chains
+    → length names < buckets_of old.chains → ((row : ℕ) → row < length names → get_or names row [] ≢ name) → IsTable (names ++ name ∷ []) new
 table_more names name old new table rows same less absent = record {
   distinct = distinct_more names name table.distinct absent;
   filed = rows;
-  room = omega (arith, same, length-append names (name ∷ []));
+  room = omega (arith, same, less, length-append names (name ∷ []));
+  halves = subst (λ n. AreHalves n) (sym same) table.halves;
 }
 
 -- the same names in other rows
-pub table_same : (names : List (List ℕ)) (old new : Rows) → IsTable names old → AreRows names new → length new.chains.lasts.items ≡ length old.chains.lasts.items → IsTable names new
+pub table_same : (names : List (List ℕ)) (old new : Rows) → IsTable names old → AreRows names new → buckets_of new.chains ≡ buckets_of old.chains → IsTable names new
 table_same names old new table rows same = record {
   distinct = table.distinct;
   filed = rows;
   room = omega (arith, same, table.room);
+  halves = subst (λ n. AreHalves n) (sym same) table.halves;
 }
 
 -- a name without a number is none of them
@@ -114,11 +117,22 @@ without_last names name =
     let count : length (names ++ name ∷ []) - 1 ≡ length names = omega (arith, length-append names (name ∷ [])) in
     ap (λ n. take n (names ++ name ∷ [])) count ∙ take-append-le (length names) names (name ∷ []) (omega arith) ∙ take-length names
 
-pub no_table : (texts : List (List ℕ)) (rows : Rows) → texts ≡ [] → AreRows [] rows → IsTable texts rows
-no_table texts rows e h = record {
+-- no names
+pub no_table : (texts : List (List ℕ)) (rows : Rows) (buckets : ℕ) → texts ≡ [] → AreRows [] rows → buckets_of rows.chains ≡ buckets → AreHalves buckets → IsTable texts rows
+no_table texts rows buckets e h count halves = record {
   distinct = λ i j less within. absurd (let n : length texts ≡ 0 = subst (λ (ts : List (List ℕ)). length ts ≡ 0) (sym e) refl in omega arith);
   filed = subst (λ (names : List (List ℕ)). AreRows names rows) (sym e) h;
   room = (let n : length texts ≡ 0 = subst (λ (ts : List (List ℕ)). length ts ≡ 0) (sym e) refl in omega arith);
+  halves = subst (λ n. AreHalves n) (sym count) halves;
+}
+
+-- the same names in twice as many buckets, or in as many
+pub table_double : (names : List (List ℕ)) (old new : Rows) → IsTable names old → AreRows names new → buckets_of new.chains ≡ 2 * buckets_of old.chains → IsTable names new
+table_double names old new table rows twice = record {
+  distinct = table.distinct;
+  filed = rows;
+  room = omega (arith, twice, table.room);
+  halves = subst (λ n. AreHalves n) (sym twice) (halves_double (buckets_of old.chains) table.halves);
 }
 
 -- where a name is among names, by its row and as it is read there

@@ -1,5 +1,6 @@
 -- Tables of names.
 use Rattle.std.specs.Prelude.{◌≢◌, ℕ, ◌<◌, ◌≤◌, [], List, length, slice_index_or}
+use Rattle.name_tables.specs.Chains.{AreHalves, buckets_of}
 use Rattle.name_tables.specs.Filed.{AreFiled}
 use Rattle.name_tables.specs.Hashes.{hash_of}
 use Rattle.name_tables.specs.OrderedRows.{row_kept}
@@ -13,8 +14,9 @@ AreDistinct names = (i j : ℕ) → i < j → j < length names → slice_index_o
 abbrev pub AreRows : List (List ℕ) → Rows → Type 0
 AreRows names rows = AreFiled hash_of (row_kept rows.ordered) names rows.chains
 
--- the rows are those of distinct names, which have a bucket each or more
+-- the rows are those of distinct names, which have a bucket each or more; twice as many divide each bucket in two
 pub record IsTable (names : List (List ℕ)) (rows : Rows) : Type 0 where
   pub distinct : AreDistinct names
   pub filed : AreRows names rows
-  pub room : length names ≤ length rows.chains.lasts.items
+  pub room : length names ≤ buckets_of rows.chains
+  pub halves : AreHalves (buckets_of rows.chains)

@@ -2,6 +2,7 @@
 
 ghost use Rattle.std.specs.Prelude.{◌≡◌, ◌≢◌, ◌==◌, ℕ, suc, ◌+◌, ◌-◌, ◌*◌, ◌<◌, ◌≤◌, ◌^◌, ◌++◌, [], ◌∷◌, List, length, slice_index_or, vec_len, IfOk, IfSome, IfNone, OnErr, OnOk, IsTrue, ◌↔◌};
 ghost use Rattle.std.specs.Vec.{vec_capacity};
+ghost use Rattle.name_tables.specs.Chains.{buckets_of};
 ghost use Rattle.name_tables.specs.Distinct.{number_of, with_name, number_in};
 ghost use Rattle.name_tables.specs.Hashes.{hash_of};
 ghost use Rattle.name_tables.specs.NameTables.{AreDistinct, IsTable};
@@ -14,7 +15,7 @@ use std::marker::Model;
 use vg_num::Memory;
 
 /// How many buckets the first name brings. Each time that there are as many names as buckets, there are twice as many.
-const FIRST_BUCKETS: usize = 32;
+const FIRST_BUCKETS: usize = 8;
 
 /// The most names that room is made for at first.
 const MOST_ROOM: usize = 1 << 24;
@@ -44,13 +45,16 @@ fn make_room(alloc: Global, texts: &Texts, rows: &mut Rows) -> Result<(), Memory
     requires table { IsTable texts.now rows.old }
     requires few { length texts.now < 2 ^ 32 - 1 }
     ensures table { IsTable texts.now rows.new }
-    ensures more { OnOk result (length texts.now < length rows.new.chains.lasts.items) }
+    ensures more { OnOk result (length texts.now < buckets_of rows.new.chains) }
 {
     let count = texts.len();
-    if count == rows.chains.buckets() {
-        let buckets = if count == 0 { FIRST_BUCKETS } else { 2 * count };
-        *rows = Rows::of(alloc, texts, buckets)?;
+    if count < rows.chains.buckets() {
+        return Ok(());
     }
+    if count > 0 {
+        return rows.chains.double();
+    }
+    *rows = Rows::new(alloc, FIRST_BUCKETS)?;
     Ok(())
 }
 

@@ -4,7 +4,7 @@ use Rattle.name_tables.specs.Hashes.{hash_of}
 use Rattle.name_tables.specs.OrderedRows.{row_kept}
 use Rattle.name_tables.specs.NameTables.{IsTable}
 use Rattle.name_tables.proofs.NameTableLemmas.{known_of, absent_of, number_known, with_known, with_new, no_place, not_at, table_more, table_same, without_last}
-use Rattle.name_tables.proofs.FiledLemmas.{length-hashes_by}
+use Rattle.name_tables.proofs.FiledLemmas.{filed_count}
 use Rattle.name_tables.proofs.names.Names.intern.Goals as goal
 
 pub returns-in-Some-clause-number : goal.returns-in-Some-clause-number
@@ -18,7 +18,8 @@ returns-in-Some-clause-names c =
 pub push-requires-2-clause-few : goal.push-requires-2-clause-few
 push-requires-2-clause-few c =
     let names : c.self.inside.texts ≡ c.args.self.now = c.self.view_is in
-    omega (arith, c.make_room.ensures.table.filed.chained.count, length-hashes_by hash_of (row_kept c.make_room.new.rows.ordered) c.self.inside.texts, ap length names, c.requires)
+    let rows = c.make_room.new.rows in
+    omega (arith, filed_count hash_of (row_kept rows.ordered) c.self.inside.texts rows.chains c.make_room.ensures.table.filed, ap length names, c.requires)
 
 absent : (texts names : List (List ℕ)) (name : List ℕ) → texts ≡ names → None ≡ number_of names name → (row : ℕ) → row < length texts → get_or texts row [] ≢ name
 absent texts names name e none = absent_of texts name (none ∙ ap (λ (ns : List (List ℕ)). number_of ns name) (sym e))

@@ -5,4 +5,4 @@ use Rattle.name_tables.proofs.FiledLemmas.{filed_none}
 use Rattle.name_tables.proofs.rows.Rows.empty.Goals as goal
 
 pub returns-clause-rows : goal.returns-clause-rows
-returns-clause-rows c = filed_none hash_of (row_kept c.new.result) _ c.empty.result refl c.empty.ensures.rows c.new.ensures
+returns-clause-rows c = filed_none hash_of (row_kept c.new.result) _ c.empty.result refl c.empty.ensures.chains c.empty.ensures.rows c.new.ensures

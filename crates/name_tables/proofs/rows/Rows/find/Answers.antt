@@ -2,69 +2,63 @@ use Rattle.std.proofs.Common.{◌≡◌, ◌≢◌, ℕ, suc, ◌-◌, [], true,
 use Rattle.std.specs.Prelude.{IfSome, IfNone, is_some}
 use Rattle.std.specs.List.{slice_get}
 use Rattle.std.proofs.lemmas.Option.{slice_get-get_or, get_or_from_slice_get}
-use Rattle.name_tables.specs.Chains.{bucket_of, LeadsTo}
-use Rattle.name_tables.specs.Filed.{hashes_by}
+use Rattle.name_tables.specs.Chains.{bucket_of, buckets_of, rows_of, LeadsTo}
 use Rattle.name_tables.specs.Hashes.{hash_of}
 use Rattle.name_tables.specs.OrderedRows.{row_kept}
-use Rattle.name_tables.proofs.FiledLemmas.{held, length-hashes_by, walk_begins, walk_turns}
+use Rattle.name_tables.proofs.FiledLemmas.{held, filed_count, walk_begins, walk_turns}
 use Rattle.name_tables.proofs.rows.Rows.find.Goals as goal
 
 pub row-init : goal.row-init
 row-init c =
     let s = c.args.self.now in
-    let buckets = length s.chains.lasts.items in
     let kept = row_kept s.ordered in
-    let rows = hashes_by hash_of kept c.args.texts.now in
-    let begins = c.last-link.ensures rows c.requires.rows.chained in
+    let texts = c.args.texts.now in
+    let rows = rows_of s.chains in
+    let buckets = buckets_of s.chains in
+    let leads = c.last-next.ensures in
     record {
-      within = omega (arith, begins.within, length-hashes_by hash_of kept c.args.texts.now);
-      absent = walk_begins hash_of kept buckets c.args.texts.now c.args.name.now c.last-link.result (subst (λ h. LeadsTo buckets rows (length rows) (bucket_of buckets h) c.last-link.result) c.requires.hash begins);
-      here = begins.here;
-      holds = begins.holds;
+      within = omega (arith, leads.within, filed_count hash_of kept texts s.chains c.requires.rows);
+      absent = walk_begins hash_of kept buckets texts s.chains c.args.name.now c.last-next.result c.requires.rows
+          (subst (λ h. LeadsTo buckets rows (length rows) (bucket_of buckets h) c.last-next.result) c.requires.hash leads);
+      here = leads.here;
     }
 
-pub before-link-requires : goal.before-link-requires
-before-link-requires c = omega (arith, c.row-test.true, c.row.invariant.within, c.requires.rows.chained.count, length-hashes_by hash_of (row_kept c.args.self.now.ordered) c.args.texts.now)
-
-pub is_named-requires-clause-holds : goal.is_named-requires-clause-holds
-is_named-requires-clause-holds c =
-    let row = c.row.link.next - 1 in
-    let is_row : c.row.link.next ≡ suc row = omega (arith, c.row-test.true) in
-    held hash_of (row_kept c.args.self.now.ordered) c.args.texts.now row c.row.link.hash _ (c.row.invariant.holds row is_row) (slice_get-get_or c.args.texts.now row [] (omega (arith, is_row, c.row.invariant.within)))
-
-pub row-smaller : goal.row-smaller
-row-smaller c =
+pub link-link-requires-clause-row : goal.link-link-requires-clause-row
+link-link-requires-clause-row c =
     let s = c.args.self.now in
-    let row = c.row.link.next - 1 in
-    let is_row : c.row.link.next ≡ suc row = omega (arith, c.row-test.true) in
-    let before = c.before-link.ensures (hashes_by hash_of (row_kept s.ordered) c.args.texts.now) c.requires.rows.chained c.row.link.hash (c.row.invariant.holds row is_row) in
-    omega (arith, before.within, is_row)
+    omega (arith, c.row-test.true, c.row.invariant.within, filed_count hash_of (row_kept s.ordered) c.args.texts.now s.chains c.requires.rows)
+
+pub is_named-requires-clause-held : goal.is_named-requires-clause-held
+is_named-requires-clause-held c =
+    let s = c.args.self.now in
+    let texts = c.args.texts.now in
+    let row = c.row.next - 1 in
+    let is_row : c.row.next ≡ suc row = omega (arith, c.row-test.true) in
+    let holds = c.link-link.ensures.hash (bucket_of (buckets_of s.chains) c.args.hash) (c.row.invariant.here row is_row) in
+    held hash_of (row_kept s.ordered) texts s.chains row c.link-link.result.hash _ c.requires.rows holds (slice_get-get_or texts row [] (omega (arith, is_row, c.row.invariant.within)))
 
 pub row-preserved : goal.row-preserved
 row-preserved c =
     let s = c.args.self.now in
-    let buckets = length s.chains.lasts.items in
     let kept = row_kept s.ordered in
-    let rows = hashes_by hash_of kept c.args.texts.now in
-    let row = c.row.link.next - 1 in
-    let is_row : c.row.link.next ≡ suc row = omega (arith, c.row-test.true) in
-    let here = c.row.invariant.here row is_row in
-    let before = c.before-link.ensures rows c.requires.rows.chained c.row.link.hash (c.row.invariant.holds row is_row) in
-    let other : slice_get c.args.texts.now row ≢ Some c.args.name.now =
-    λ same. let yes' : IsTrue c.is_named.result = c.is_named.ensures.1 (get_or_from_slice_get c.args.texts.now row c.args.name.now [] same) in let clash : true ≡ false = sym yes' ∙ c.if-is_named.false in cc in
+    let texts = c.args.texts.now in
+    let buckets = buckets_of s.chains in
+    let row = c.row.next - 1 in
+    let is_row : c.row.next ≡ suc row = omega (arith, c.row-test.true) in
+    let leads = c.link-link.ensures.before (bucket_of buckets c.args.hash) (c.row.invariant.here row is_row) in
+    let other : slice_get texts row ≢ Some c.args.name.now =
+    λ same. let yes' : IsTrue c.is_named.result = c.is_named.ensures.1 (get_or_from_slice_get texts row c.args.name.now [] same) in let clash : true ≡ false = sym yes' ∙ c.if-is_named.false in cc in
     record {
-      within = omega (arith, before.within, is_row, c.row.invariant.within);
-      absent = walk_turns hash_of kept buckets c.args.texts.now c.args.name.now c.row.link.next row c.before-link.result is_row
-          (subst (λ b. LeadsTo buckets rows row b c.before-link.result) (here ∙ ap (bucket_of buckets) c.requires.hash) before) other c.row.invariant.absent;
-      here = λ at e. before.here at e ∙ here;
-      holds = before.holds;
+      within = omega (arith, leads.within, is_row, c.row.invariant.within);
+      absent = walk_turns hash_of kept buckets texts s.chains c.args.name.now c.row.next row c.link-link.result.before c.requires.rows is_row
+          (subst (λ h. LeadsTo buckets (rows_of s.chains) row (bucket_of buckets h) c.link-link.result.before) c.requires.hash leads) other c.row.invariant.absent;
+      here = leads.here;
     }
 
 pub returns-then-is_named-clause-found : goal.returns-then-is_named-clause-found
 returns-then-is_named-clause-found c =
-    let row = c.row.link.next - 1 in
-    let is_row : c.row.link.next ≡ suc row = omega (arith, c.row-test.true) in
-    slice_get-get_or c.args.texts.now row [] (omega (arith, is_row, c.row.invariant.within)) ∙ ap Some (c.is_named.ensures.0 c.if-is_named.true)
+    let row = c.row.next - 1 in
+    slice_get-get_or c.args.texts.now row [] (omega (arith, c.row-test.true, c.row.invariant.within)) ∙ ap Some (c.is_named.ensures.0 c.if-is_named.true)
 
 none_is : (r kept : Option ℕ) (texts : List (List ℕ)) (name : List ℕ) → r ≡ kept → (is_some kept ≡ false → (row : ℕ) → slice_get texts row ≢ Some name) → IfNone r ((row : ℕ) → slice_get texts row ≢ Some name)
 none_is None kept texts name e h = h (ap is_some (sym e))

@@ -5,4 +5,5 @@ use Rattle.name_tables.proofs.FiledLemmas.{filed_none}
 use Rattle.name_tables.proofs.rows.Rows.new.Goals as goal
 
 pub returns-clause-rows : goal.returns-clause-rows
-returns-clause-rows c = filed_none hash_of (row_kept c.new-ordered.result) _ c.in_ok-chains.chains refl c.in_ok-chains.ensures.rows c.new-ordered.ensures
+returns-clause-rows c =
+    filed_none hash_of (row_kept c.new-ordered.result) _ c.in_ok-chains.chains refl c.in_ok-chains.ensures.chains c.in_ok-chains.ensures.rows c.new-ordered.ensures
