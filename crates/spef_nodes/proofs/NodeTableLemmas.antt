@@ -6,6 +6,7 @@ use Rattle.std.specs.Str.{bytes_eq}
 use Rattle.std.specs.List.{slice_get}
 use Rattle.vg_scan.specs.declared.name.NodeName.{NodeName}
 use Rattle.vg_scan.specs.Nodes.{same_node, has_node}
+use Rattle.name_tables.specs.Chains.{buckets_of}
 use Rattle.spef_nodes.specs.Members.{with_node}
 use Rattle.spef_nodes.specs.NodeTables.{nodes_in, AreRows, IsTable}
 use Rattle.spef_nodes.specs.declared.node_rows.NodeRows.{NodeRows}
@@ -107,7 +108,7 @@ pub no_nodes : (owners leaves : List (List ℕ)) → owners ≡ [] → nodes_in 
 unfolding nodes_in
 no_nodes owners leaves e = ap (λ os. nodes_in os leaves) e
 
-pub table_none : (owners leaves : List (List ℕ)) (rows : NodeRows) → owners ≡ [] → leaves ≡ [] → AreRows [] rows → 0 < length rows.chains.lasts.items → IsTable owners leaves rows
+pub table_none : (owners leaves : List (List ℕ)) (rows : NodeRows) → owners ≡ [] → leaves ≡ [] → AreRows [] rows → 0 < buckets_of rows.chains → IsTable owners leaves rows
 table_none owners leaves rows e f h some = record {
   some = some;
   even = ap length e ∙ sym (ap length f);
@@ -115,7 +116,7 @@ table_none owners leaves rows e f h some = record {
 }
 
 -- a table whose nodes are these, in these rows
-pub table_of : (owners leaves : List (List ℕ)) (nodes : List NodeName) (rows : NodeRows) → 0 < length rows.chains.lasts.items → length owners ≡ length leaves → nodes_in owners leaves ≡ nodes → AreRows nodes rows
+pub table_of : (owners leaves : List (List ℕ)) (nodes : List NodeName) (rows : NodeRows) → 0 < buckets_of rows.chains → length owners ≡ length leaves → nodes_in owners leaves ≡ nodes → AreRows nodes rows
     → IsTable owners leaves rows
 table_of owners leaves nodes rows some even is h = record { some = some; even = even; rows_are = subst (λ (ns : List NodeName). AreRows ns rows) (sym is) h }
 

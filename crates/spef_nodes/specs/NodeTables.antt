@@ -2,6 +2,7 @@
 use Rattle.std.specs.Prelude.{◌≡◌, ℕ, ◌+◌, ◌*◌, ◌%◌, ◌^◌, ◌<◌, List, [], ◌∷◌, length, slice_index_or}
 use Rattle.std.specs.List.{fold}
 use Rattle.vg_scan.specs.declared.name.NodeName.{NodeName}
+use Rattle.name_tables.specs.Chains.{buckets_of}
 use Rattle.name_tables.specs.Filed.{AreFiled}
 use Rattle.spef_nodes.specs.Members.{node_named}
 use Rattle.spef_nodes.specs.OrderedNodes.{node_row, HavePlaces}
@@ -36,6 +37,6 @@ pub record AreRows (nodes : List NodeName) (rows : NodeRows) : Type 0 where
 
 -- one owner and one leaf for each node, and the rows of the nodes
 pub record IsTable (owners leaves : List (List ℕ)) (rows : NodeRows) : Type 0 where
-  pub some : 0 < length rows.chains.lasts.items
+  pub some : 0 < buckets_of rows.chains
   pub even : length owners ≡ length leaves
   pub rows_are : AreRows (nodes_in owners leaves) rows

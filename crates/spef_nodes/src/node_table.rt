@@ -8,7 +8,7 @@ ghost use Rattle.spef_nodes.specs.NodeTables.{node_at, hash_with, node_hash, nod
 
 use crate::members::is_inner;
 use crate::node_rows::NodeRows;
-use name_tables::{Link, Texts, is_same};
+use name_tables::{Texts, is_same};
 use std::alloc::Global;
 use std::marker::Model;
 use vg_num::Memory;
@@ -80,19 +80,15 @@ fn add_name(owners: &mut Texts, leaves: &mut Texts, owner: &[u8], leaf: &[u8]) -
 }
 
 impl Table {
-    /// Whether a link's row has this node, of this hash.
-    fn is_named(&self, link: Link, owner: &[u8], leaf: &[u8], hash: u32) -> bool
-        requires row { (0 < link.next) × (link.next ≤ length self.now.owners) }
+    /// Whether the node of a row is this one. `held` is the hash of the row's, and `hash` that of this one.
+    fn is_named(&self, row: usize, held: u32, owner: &[u8], leaf: &[u8], hash: u32) -> bool
+        requires row { row < length self.now.owners }
         requires even { length self.now.owners ≡ length self.now.leaves }
-        requires holds { link.hash ≡ node_hash (node_at self.now.owners self.now.leaves (link.next - 1)) }
+        requires held { held ≡ node_hash (node_at self.now.owners self.now.leaves row) }
         requires hash { hash ≡ node_hash (node_named owner.now leaf.now) }
-        ensures { IsTrue result
-            ↔ (node_at self.now.owners self.now.leaves (link.next - 1) ≡ node_named owner.now leaf.now) }
+        ensures { IsTrue result ↔ (node_at self.now.owners self.now.leaves row ≡ node_named owner.now leaf.now) }
     {
-        let row = link.next as usize - 1;
-        link.hash == hash
-            && is_same(owner, self.owners.get(row))
-            && is_same(leaf, self.leaves.get(row))
+        held == hash && is_same(owner, self.owners.get(row)) && is_same(leaf, self.leaves.get(row))
     }
 
     /// The number of a node of this hash. `None`: it is not there.
@@ -102,12 +98,14 @@ impl Table {
         ensures found { IfSome result (λ id. slice_get (nodes_of self.now) id ≡ Some (node_named owner.now leaf.now)) }
         ensures absent { IfNone result (has_node (nodes_of self.now) (node_named owner.now leaf.now) ≡ false) }
     {
-        let mut link = self.rows.chains.last(hash);
-        'row: while link.next != 0 {
-            if self.is_named(link, owner, leaf, hash) {
-                return Some(link.next - 1);
+        let mut next = self.rows.chains.last(hash);
+        'row: while next != 0 {
+            let row = next as usize - 1;
+            let link = self.rows.chains.link(row);
+            if self.is_named(row, link.hash, owner, leaf, hash) {
+                return Some(next - 1);
             }
-            link = self.rows.chains.before(link.next as usize - 1);
+            next = link.before;
         }
         self.rows.ordered.find(owner, leaf)
     }

@@ -1,6 +1,6 @@
 use Rattle.std.proofs.Common.{◌≡◌, ◌<◌, ℕ, List, [], ◌∷◌, ◌++◌, length, length-append, ap, arith}
 use Rattle.vg_scan.specs.declared.name.NodeName.{NodeName}
-use Rattle.name_tables.proofs.FiledLemmas.{length-hashes_by}
+use Rattle.name_tables.proofs.FiledLemmas.{filed_count}
 use Rattle.spef_nodes.specs.Members.{node_named}
 use Rattle.spef_nodes.specs.NodeTables.{nodes_in, nodes_of, node_hash}
 use Rattle.spef_nodes.specs.OrderedNodes.{node_row}
@@ -15,7 +15,7 @@ pub push-requires-clause-few : goal.push-requires-clause-few
 push-requires-clause-few c =
     let s = c.args.self.now in
     let t = c.requires.table in
-    omega (arith, t.rows_are.filed.chained.count, length-hashes_by node_hash (node_row s.rows.ordered) (nodes_of s), nodes_count s.owners s.leaves t.even, c.len-count.ensures, c.if-count-ge4294967295.false)
+    omega (arith, filed_count node_hash (node_row s.rows.ordered) (nodes_of s) s.rows.chains t.rows_are.filed, nodes_count s.owners s.leaves t.even, c.len-count.ensures, c.if-count-ge4294967295.false)
 
 pub pop-requires : goal.pop-requires
 pop-requires c =
