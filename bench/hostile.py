@@ -169,11 +169,24 @@ def rows(count):
          {"v": module("wire a;\nassign a=a;\n" + "//" + "a=a," * count + "\n")}),
         ("wires that are implied", {"v": module(f"BUF u3 (.A({{{','.join(short_names(count))}}}));\n")},
          {"v": module("wire " + ",".join(short_names(count)) + ";\n")}),
+        ("wires of the shortest names", {"v": module("wire " + ",".join(shortest_names(count)) + ";\n")},
+         {"v": module("".join(f"wire {name};\n" for name in plain))}),
+        ("assignments of them", {"v": module("assign " + ",".join(f"{name}={name}" for name in shortest_names(count)) + ";\n")},
+         {"v": module("wire a;\nassign a=a;\n" + "//" + "aaaa=aaaa," * count + "\n")}),
+        ("cells with a pin each", {"lib": library("".join(f"cell({name}){{pin(a){{}}}}\n" for name in shortest_names(count)))},
+         {"lib": library("".join(f"cell({name}){{}}\n" for name in shortest_names(count)))}),
     ]
 
 
 def short_names(count):
     return [f"x{at:x}" for at in range(count)]
+
+
+def shortest_names(count):
+    """Names of four letters and digits."""
+    signs = "abcdefghijklmnopqrstuvwxyz0123456789"
+    return [first + second + third + fourth for first in "bcdfghjkmnpqrstvwxyz" for second in signs
+            for third in signs for fourth in signs][:count]
 
 
 def related(count):

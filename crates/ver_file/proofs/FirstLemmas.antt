@@ -28,17 +28,13 @@ pub drop-next : {X : Type 0} (rows : List X) (i : ℕ) (d : X) → i < length ro
 drop-next rows i d l = drop-cons rows i d l ∙ ap (λ k. get_or rows i d ∷ drop k rows) (let e : suc i ≡ i + 1 = omega arith in e)
 
 -- one token more
-pub next_row : (F : List Row → List ℕ) → Adds F → (first : Option ℕ) (rows its : List Row) (i : ℕ) (d : Row) → i < length rows → rows ≡ its
-    → first_of first (F (drop i its)) ≡ first_of (first_of first (F (get_or rows i d ∷ []))) (F (drop (i + 1) its))
-next_row F add first rows its i d l e =
-    let cut : drop i its ≡ (get_or rows i d ∷ []) ++ drop (i + 1) its =
-    ap (drop i) (sym e) ∙ drop-next rows i d l ∙ ap (λ xs. get_or rows i d ∷ drop (i + 1) xs) e in
-    ap (λ xs. first_of first (F xs)) cut ∙ ap (first_of first) (add (get_or rows i d ∷ []) (drop (i + 1) its))
-    ∙ first_append first (F (get_or rows i d ∷ [])) (F (drop (i + 1) its))
+pub next_row : (F : List Row → List ℕ) → Adds F → (first : Option ℕ) (rows after : List Row) (r : Row) → rows ≡ r ∷ after
+    → first_of first (F rows) ≡ first_of (first_of first (F (r ∷ []))) (F after)
+next_row F add first rows after r e =
+    ap (λ xs. first_of first (F xs)) e ∙ ap (first_of first) (add (r ∷ []) after) ∙ first_append first (F (r ∷ [])) (F after)
 
-pub no_row : (F : List Row → List ℕ) → F [] ≡ [] → (first : Option ℕ) (rows its : List Row) (i : ℕ) → length rows ≤ i → rows ≡ its
-    → first_of first (F (drop i its)) ≡ first
-no_row F none first rows its i l e = ap (λ xs. first_of first (F xs)) (ap (drop i) (sym e) ∙ drop_all i rows l) ∙ ap (first_of first) none
+pub no_row : (F : List Row → List ℕ) → F [] ≡ [] → (first : Option ℕ) (rows : List Row) → rows ≡ [] → first_of first (F rows) ≡ first
+no_row F none first rows e = ap (λ xs. first_of first (F xs)) e ∙ ap (first_of first) none
 
 -- one section more
 pub next_part : (F : List Section → List ℕ) → Adds F → (first : Option ℕ) (s : Section) (all rest : List Section) → all ≡ s ∷ rest
@@ -66,20 +62,20 @@ pub one_direction : (text : List ℕ) (heading : Heading) (r : Row) → is_net_n
 one_direction text heading r t = rw t (append-nil (unless (agrees (direction_in (declared_of text) (name_at text r)) heading.direction) r.from))
 
 -- one token more of a declaration
-pub declared_more : (text : List ℕ) (heading : Heading) (g : Declared → List ℕ) (first found : Option ℕ) (rows its : List Row) (i : ℕ) (d : Row)
-    → i < length rows → rows ≡ its → found ≡ first_of first (flat_map g (declared_at text heading (get_or rows i d ∷ [])))
-    → first_of found (flat_map g (declared_at text heading (drop (i + 1) its))) ≡ first_of first (flat_map g (declared_at text heading (drop i its)))
-declared_more text heading g first found rows its i d l e f =
-    ap (λ x. first_of x (flat_map g (declared_at text heading (drop (i + 1) its)))) f
-    ∙ sym (next_row (λ (rows : List Row). flat_map g (declared_at text heading rows)) (declared_adds text heading g) first rows its i d l e)
+pub declared_more : (text : List ℕ) (heading : Heading) (g : Declared → List ℕ) (first found : Option ℕ) (rows after : List Row) (r : Row)
+    → rows ≡ r ∷ after → found ≡ first_of first (flat_map g (declared_at text heading (r ∷ [])))
+    → first_of found (flat_map g (declared_at text heading after)) ≡ first_of first (flat_map g (declared_at text heading rows))
+declared_more text heading g first found rows after r e f =
+    ap (λ x. first_of x (flat_map g (declared_at text heading after))) f
+    ∙ sym (next_row (λ (rows : List Row). flat_map g (declared_at text heading rows)) (declared_adds text heading g) first rows after r e)
 
 -- all tokens of a declaration
-pub declared_all : (text : List ℕ) (declaration : Section) (heading : Heading) (g : Declared → List ℕ) (first found : Option ℕ) (rows : List Row) (i : ℕ)
-    → length rows ≤ i → rows ≡ declaration.body → heading ≡ heading_of text declaration
-    → first_of found (flat_map g (declared_at text heading (drop i declaration.body))) ≡ first_of first (flat_map g (declared_at text heading declaration.body))
+pub declared_all : (text : List ℕ) (declaration : Section) (heading : Heading) (g : Declared → List ℕ) (first found : Option ℕ) (left : List Row)
+    → left ≡ [] → heading ≡ heading_of text declaration
+    → first_of found (flat_map g (declared_at text heading left)) ≡ first_of first (flat_map g (declared_at text heading declaration.body))
     → found ≡ first_of first (flat_map g (declared_in text declaration))
-declared_all text declaration heading g first found rows i l e h all =
-    sym (no_row (λ (rows : List Row). flat_map g (declared_at text heading rows)) refl found rows declaration.body i l e)
+declared_all text declaration heading g first found left e h all =
+    sym (no_row (λ (rows : List Row). flat_map g (declared_at text heading rows)) refl found left e)
     ∙ all
     ∙ ap (λ said. first_of first (flat_map g (declared_at text said declaration.body))) h
 

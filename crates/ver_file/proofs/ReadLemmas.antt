@@ -1,5 +1,5 @@
 -- The identifiers of a text, token by token.
-use Rattle.std.proofs.Common.{◌≡◌, ◌⊎◌, inl, inr, ℕ, ◌<◌, Bool, true, false, not, ◌&&◌, ◌||◌, cond, List, [], ◌∷◌, ◌++◌, length, map, filter, flat_map, get_or, set, slice_get, option_map, arith, length-append, Option, Some, None, is_some, refl, sym, ap, ◌∙◌, subst, append_assoc, if◌then◌else◌}
+use Rattle.std.proofs.Common.{nat_lt, ◌≡◌, ◌⊎◌, inl, inr, ℕ, ◌<◌, Bool, true, false, not, ◌&&◌, ◌||◌, cond, List, [], ◌∷◌, ◌++◌, length, map, filter, flat_map, get_or, set, slice_get, option_map, arith, length-append, Option, Some, None, is_some, refl, sym, ap, ◌∙◌, subst, append_assoc, if◌then◌else◌}
 use Rattle.std.specs.List.{All, before_first, list_any}
 use Rattle.std.specs.Str.{bytes_eq}
 use Rattle.std.proofs.lemmas.List.{append-nil, length-map, map-append}
@@ -28,7 +28,7 @@ use Rattle.ver_file.specs.declared.uses.Use.{Use}
 use Rattle.ver_file.specs.Firsts.{declared_among, declared_under}
 use Rattle.ver_file.specs.Nets.{first_tokens, is_first, tokens_of_nets}
 use Rattle.ver_file.specs.Said.{is_declared, with_heading}
-use Rattle.ver_file.specs.Tables.{AreCounted, AreIdentifiers, AreRead, IsUse, identifier_at}
+use Rattle.ver_file.specs.Tables.{AreCounted, AreIdentifiers, AreRead, IsUse, identifier_at, with_use}
 use Rattle.ver_file.proofs.ListLemmas.{bytes_are, bytes_same, set_map}
 use Rattle.ver_file.proofs.NumberLemmas.{first_numbered, in_front, some_is}
 use Rattle.ver_file.proofs.SaidLemmas.{first_stays, identifier_more, identifier_stays, name_declared, undeclared_at}
@@ -353,3 +353,13 @@ nothing_read text found n a d f u = record {
   only = λ name none. refl;
   uses = rw u (λ k other within. absurd (omega (arith, within)));
 }
+
+-- ---- where identifiers stand
+
+-- a place is put last, or none is
+pub one_use : (most : ℕ) (place : Use) (old new : List Use) → new ≡ with_use most place old → (new ≡ old ++ place ∷ []) ⊎ (new ≡ old)
+one_use most place old new e = by_test (nat_lt (length old) most) refl
+  where
+    by_test : (b : Bool) → nat_lt (length old) most ≡ b → (new ≡ old ++ place ∷ []) ⊎ (new ≡ old)
+    by_test true t = inl (e ∙ rw t refl)
+    by_test false t = inr (e ∙ rw t refl)

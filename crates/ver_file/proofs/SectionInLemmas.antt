@@ -1,5 +1,5 @@
 -- The one section that an item is.
-use Rattle.std.proofs.Common.{◌≡◌, ℕ, List, [], ◌∷◌, ◌++◌, Option, None, Some, IfSome, flat_map, refl, sym, ap, ◌∙◌, append_assoc}
+use Rattle.std.proofs.Common.{◌≡◌, ◌<◌, ◌+◌, ℕ, Bool, true, nat_lt, arith, length, List, [], ◌∷◌, ◌++◌, Option, None, Some, IfSome, flat_map, refl, sym, ap, ◌∙◌, append_assoc}
 use Rattle.std.proofs.lemmas.List.{append-nil}
 use Rattle.ver_syntax.specs.declared.row.Row.{Row}
 use Rattle.ver_items.specs.Declarations.{declared_by}
@@ -23,6 +23,16 @@ item_more f done all left after rows e g =
 
 pub items_done : {X : Type 0} (f : Section → List X) (done all : List X) (left : List Section) → all ≡ done ++ flat_map f left → left ≡ [] → done ≡ all
 items_done f done all left e g = sym (e ∙ ap (λ s. done ++ flat_map f s) g ∙ append-nil done)
+
+-- an item less
+pub items_less : (rows : List Row) (left after : List Section) → left ≡ section_in rows ++ after → 0 < length rows → length after < length left
+items_less [] left after e some = absurd (omega (arith, some))
+items_less (r ∷ rows) left after e some = let l : length left ≡ 1 + length after = ap length e ∙ omega arith in omega (arith, l)
+
+pub items_fewer : (rows : List Row) (left after : List Section) (more : Bool) → left ≡ section_in rows ++ after → more ≡ nat_lt 0 (length rows) → more ≡ true
+    → length after < length left
+items_fewer [] left after more e f t = absurd (cc)
+items_fewer (r ∷ rows) left after more e f t = items_less (r ∷ rows) left after e (omega arith)
 
 -- ---- items that are kept, if they are
 

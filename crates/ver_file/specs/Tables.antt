@@ -1,5 +1,5 @@
 -- The tables of a text's identifiers and nets: for the functions between.
-use Rattle.std.specs.Prelude.{◌≡◌, ℕ, ◌<◌, ◌++◌, List, [], ◌∷◌, length, map, slice_index_or, None, false}
+use Rattle.std.specs.Prelude.{◌≡◌, ℕ, max, ◌<◌, nat_lt, ◌/◌, ◌^◌, ◌++◌, List, [], ◌∷◌, length, map, slice_index_or, None, false, if◌then◌else◌}
 use Rattle.std.specs.List.{All, list_any}
 use Rattle.std.specs.Str.{bytes_eq}
 use Rattle.ver_module.specs.Netlists.{Net, NetTable}
@@ -40,6 +40,14 @@ pub record AreCounted (found : Identifiers) : Type 0 where
 pub record IsUse (text : List ℕ) (names : List (List ℕ)) (found : Use) : Type 0 where
   pub within : found.id < length names
   pub is : slice_index_or names found.id [] ≡ name_of (part text found.from found.to)
+
+-- how many places of identifiers are kept of a text of this length
+abbrev pub most_uses : ℕ → ℕ
+most_uses text_len = max (2 ^ 16) (text_len / 16)
+
+-- with a place last, where they are not so many
+abbrev pub with_use : ℕ → Use → List Use → List Use
+with_use most place uses = if nat_lt (length uses) most then uses ++ place ∷ [] else uses
 
 -- these are the identifiers of a text up to these tokens, which are left, by their first tokens, and what these
 -- declarations say of them

@@ -22,7 +22,7 @@ use crate::scope::Scope;
 use name_tables::Names;
 use std::alloc::Global;
 use ver_items::{
-    Begin, Heading, Section, Sections, Select, after_first, connection_of, expression_in,
+    Begin, Heading, Section, Sections, Select, Stretch, after_first, connection_of, expression_in,
     is_name_in, is_net_name, name_at, select_before,
 };
 use ver_module::{PortDir, Range, name_number};
@@ -47,6 +47,7 @@ fn agrees(first: Option<PortDir>, direction: Option<PortDir>) -> bool
 
 /// The first flaws, where a token of a declaration may be an identifier that was declared with another range or
 /// direction, or those before it.
+#[inline(always)]
 fn check_declared(scope: &Scope<'_>, heading: Heading, row: Row, firsts: Firsts) -> Firsts
     requires { HasIdentifiers scope.now }
     ensures clash { result.clash
@@ -70,7 +71,11 @@ fn check_declared(scope: &Scope<'_>, heading: Heading, row: Row, firsts: Firsts)
 }
 
 /// The first flaws of a declaration's identifiers, or those before them.
-fn check_declaration(scope: &Scope<'_>, declaration: &Section<'_>, firsts: Firsts) -> Firsts
+fn check_declaration<T: Stretch>(
+    scope: &Scope<'_>,
+    declaration: &Section<T>,
+    firsts: Firsts,
+) -> Firsts
     requires { HasIdentifiers scope.now }
     ensures clash { result.clash
         ≡ first_of firsts.clash (other_ranges scope.now.text.now (declared_in scope.now.text.now declaration.now)) }
@@ -81,13 +86,15 @@ fn check_declaration(scope: &Scope<'_>, declaration: &Section<'_>, firsts: First
 {
     let heading = Heading::of(scope.text, declaration);
     let mut firsts = firsts;
-    'row: for row in declaration.body {
-        firsts = check_declared(scope, heading, *row, firsts);
+    let mut left = declaration.body.again();
+    'row: while let Some(row) = left.next() {
+        firsts = check_declared(scope, heading, row, firsts);
     }
     firsts
 }
 
 /// The text's end, where a token is a port in a list that has no direction, or the place before it.
+#[inline(always)]
 fn port_flaw(scope: &Scope<'_>, row: Row, first: Option<usize>) -> Option<usize>
     requires { HasIdentifiers scope.now }
     ensures { result ≡ first_of first (port_flaws_among scope.now.text.now (row ∷ [])) }
@@ -100,38 +107,40 @@ fn port_flaw(scope: &Scope<'_>, row: Row, first: Option<usize>) -> Option<usize>
 }
 
 /// The text's end, where a port in a list has no direction, or the place before it.
-fn port_flaws(scope: &Scope<'_>, rows: &[Row], first: Option<usize>) -> Option<usize>
+fn port_flaws<T: Stretch>(scope: &Scope<'_>, rows: &T, first: Option<usize>) -> Option<usize>
     requires { HasIdentifiers scope.now }
-    ensures { result ≡ first_of first (port_flaws_among scope.now.text.now rows.now) }
+    ensures { result ≡ first_of first (port_flaws_among scope.now.text.now (T.tokens rows.now)) }
 {
     let mut first = first;
-    'row: for row in rows {
-        first = port_flaw(scope, *row, first);
+    let mut left = rows.again();
+    'row: while let Some(row) = left.next() {
+        first = port_flaw(scope, row, first);
     }
     first
 }
 
 /// Whether what is selected of an identifier lies in its range. Only a bit or a part may not.
-fn fits(scope: &Scope<'_>, name: &Section<'_>) -> bool
+fn fits<T: Stretch>(scope: &Scope<'_>, name: &Section<T>) -> bool
     requires { HasIdentifiers scope.now }
     ensures { result
         ≡ fits (select_before scope.now.text.now name.now.body) (range_at scope.now.text.now name.now.head) }
 {
-    match select_before(scope.text, name.body) {
+    match select_before(scope.text, &name.body) {
         Select::Whole => true,
         select => select.fits(scope.look_up(name.head).range),
     }
 }
 
 /// The first identifier among some tokens of which a bit or a part is selected that it has not, or the one before it.
-fn select_flaws(
+fn select_flaws<T: Stretch>(
     scope: &Scope<'_>,
     begin: Begin,
-    rows: &[Row],
+    rows: &T,
     first: Option<usize>,
 ) -> Option<usize>
     requires { HasIdentifiers scope.now }
-    ensures { result ≡ first_of first (flat_map (select_flaws scope.now.text.now) (sections (begins begin) rows.now)) }
+    ensures { result ≡ first_of first
+        (flat_map (select_flaws scope.now.text.now) (sections (begins begin) (T.tokens rows.now))) }
 {
     let mut first = first;
     'name: for name in Sections::new(begin, rows) {
@@ -170,6 +179,7 @@ fn is_other(text: &[u8], token: Row, others: &[Row]) -> bool
 
 /// The place of a pin, where its name is that of one of these, or the one before it; the pin is put last where its name
 /// is new.
+#[inline(always)]
 fn repeated_among(
     text: &[u8],
     pin: Row,
@@ -190,23 +200,27 @@ fn repeated_among(
 
 /// The first identifier in the connection of a pin of which a bit or a part is selected that it has not, or the one
 /// before it.
-fn link_flaws(scope: &Scope<'_>, pin: &Section<'_>, first: Option<usize>) -> Option<usize>
+fn link_flaws<T: Stretch>(
+    scope: &Scope<'_>,
+    pin: &Section<T>,
+    first: Option<usize>,
+) -> Option<usize>
     requires { HasIdentifiers scope.now }
     ensures { result ≡ first_of first (flat_map (select_flaws scope.now.text.now) (identifiers_in pin.now)) }
 {
-    let expression = expression_in(connection_of(pin));
+    let expression = expression_in(&connection_of(pin));
     if expression.len() < 2 {
         // A name alone selects all of an identifier.
         return first;
     }
-    select_flaws(scope, Begin::Identifier, expression, first)
+    select_flaws(scope, Begin::Identifier, &expression, first)
 }
 
 /// The first flaw in the connections of an instance, or the one before it, by a walk over the pins before each. The
 /// list of tokens is room to work in.
-fn few_pin_flaws(
+fn few_pin_flaws<T: Stretch>(
     scope: &Scope<'_>,
-    instance: &Section<'_>,
+    instance: &Section<T>,
     pins: &mut Vec<Row>,
     first: Option<usize>,
 ) -> Result<Option<usize>, Memory>
@@ -215,7 +229,7 @@ fn few_pin_flaws(
 {
     pins.clear();
     let mut first = first;
-    'pin: for pin in Sections::new(Begin::Pin, instance.body) {
+    'pin: for pin in Sections::new(Begin::Pin, &instance.body) {
         first = repeated_among(scope.text, pin.head, pins, first)?;
         first = link_flaws(scope, &pin, first);
     }
@@ -223,10 +237,10 @@ fn few_pin_flaws(
 }
 
 /// The same, by a table of their names.
-fn many_pin_flaws(
+fn many_pin_flaws<T: Stretch>(
     alloc: Global,
     scope: &Scope<'_>,
-    instance: &Section<'_>,
+    instance: &Section<T>,
     first: Option<usize>,
 ) -> Result<Option<usize>, Memory>
     requires { HasIdentifiers scope.now }
@@ -234,7 +248,7 @@ fn many_pin_flaws(
 {
     let mut names = Names::new(alloc);
     let mut first = first;
-    'pin: for pin in Sections::new(Begin::Pin, instance.body) {
+    'pin: for pin in Sections::new(Begin::Pin, &instance.body) {
         first = repeated(scope.text, pin.head, &mut names, first)?;
         first = link_flaws(scope, &pin, first);
     }
@@ -242,10 +256,10 @@ fn many_pin_flaws(
 }
 
 /// The first flaw in the connections of an instance, or the one before it. The list of tokens is room to work in.
-fn connection_flaws(
+fn connection_flaws<T: Stretch>(
     alloc: Global,
     scope: &Scope<'_>,
-    instance: &Section<'_>,
+    instance: &Section<T>,
     pins: &mut Vec<Row>,
     first: Option<usize>,
 ) -> Result<Option<usize>, Memory>
@@ -260,13 +274,15 @@ fn connection_flaws(
 }
 
 /// The first flaws of an item's declarations, or those before them.
-fn check_declarations(scope: &Scope<'_>, item: &[Row], firsts: Firsts) -> Firsts
+fn check_declarations<T: Stretch>(scope: &Scope<'_>, item: &T, firsts: Firsts) -> Firsts
     requires { HasIdentifiers scope.now }
     ensures clash { result.clash
-        ≡ first_of firsts.clash (other_ranges scope.now.text.now (declared_among scope.now.text.now item.now)) }
+        ≡ first_of firsts.clash
+        (other_ranges scope.now.text.now (declared_among scope.now.text.now (T.tokens item.now))) }
     ensures twice { result.twice ≡ firsts.twice }
     ensures grammar { result.grammar
-        ≡ first_of firsts.grammar (other_directions scope.now.text.now (declared_among scope.now.text.now item.now)) }
+        ≡ first_of firsts.grammar
+        (other_directions scope.now.text.now (declared_among scope.now.text.now (T.tokens item.now))) }
 {
     let mut firsts = firsts;
     'declaration: for declaration in Sections::new(Begin::Declaration, item) {
@@ -296,10 +312,10 @@ impl Seen {
 }
 
 /// The first flaws of an item's instances, or those before them. The names of the instances are put last.
-fn check_instances(
+fn check_instances<T: Stretch>(
     alloc: Global,
     scope: &Scope<'_>,
-    item: &Section<'_>,
+    item: &Section<T>,
     seen: &mut Seen,
     firsts: Firsts,
 ) -> Result<Firsts, Memory>
@@ -314,7 +330,7 @@ fn check_instances(
 {
     let mut twice = firsts.twice;
     let mut grammar = firsts.grammar;
-    'instance: for instance in Sections::new(Begin::Instance, item.body) {
+    'instance: for instance in Sections::new(Begin::Instance, &item.body) {
         twice = repeated(scope.text, instance.head, &mut seen.instances, twice)?;
         grammar = connection_flaws(alloc, scope, &instance, &mut seen.pins, grammar)?;
     }
@@ -326,30 +342,30 @@ fn check_instances(
 }
 
 /// The first flaws of an item with these others, or those before them.
-pub(crate) fn check_item(
+pub(crate) fn check_item<T: Stretch>(
     alloc: Global,
     scope: &Scope<'_>,
-    rows: &[Row],
-    others: &[Row],
+    rows: &T,
+    others: &T,
     seen: &mut Seen,
     firsts: Firsts,
 ) -> Result<Firsts, Memory>
-    requires some { 0 < length rows.now }
-    requires others { HasOthers rows.now others.now }
+    requires some { 0 < length (T.tokens rows.now) }
+    requires others { HasOthers (T.tokens rows.now) (T.tokens others.now) }
     requires table { HasIdentifiers scope.now }
     ensures names { IfOk result (λ _. seen.new.instances
-        ≡ with_instances scope.now.text.now seen.old.instances (section_in rows.now)) }
+        ≡ with_instances scope.now.text.now seen.old.instances (section_in (T.tokens rows.now))) }
     ensures clash { IfOk result (λ found. found.clash
-        ≡ first_of firsts.clash (range_flaws_in scope.now.text.now (section_in rows.now))) }
+        ≡ first_of firsts.clash (range_flaws_in scope.now.text.now (section_in (T.tokens rows.now)))) }
     ensures twice { IfOk result (λ found. found.twice
-        ≡ first_of firsts.twice (twice_in scope.now.text.now seen.old.instances (section_in rows.now))) }
+        ≡ first_of firsts.twice (twice_in scope.now.text.now seen.old.instances (section_in (T.tokens rows.now)))) }
     ensures grammar { IfOk result (λ found. found.grammar
-        ≡ first_of firsts.grammar (flat_map (syntax_flaws scope.now.text.now) (section_in rows.now))) }
+        ≡ first_of firsts.grammar (flat_map (syntax_flaws scope.now.text.now) (section_in (T.tokens rows.now)))) }
 {
     let after = after_first(others);
     let mut firsts = check_declarations(scope, others, firsts);
-    firsts.grammar = port_flaws(scope, after, firsts.grammar);
-    firsts.grammar = select_flaws(scope, Begin::Assigned, after, firsts.grammar);
+    firsts.grammar = port_flaws(scope, &after, firsts.grammar);
+    firsts.grammar = select_flaws(scope, Begin::Assigned, &after, firsts.grammar);
     let item = Section::of(rows);
     let firsts = check_instances(alloc, scope, &item, seen, firsts)?;
     Ok(firsts)

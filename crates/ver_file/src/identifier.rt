@@ -5,8 +5,9 @@ ghost use Rattle.name_tables.specs.Distinct.{number_in, number_of};
 ghost use Rattle.ver_syntax.specs.declared.row.Row.{Row as RowSpec};
 ghost use Rattle.ver_syntax.specs.Rows.{rows_of};
 ghost use Rattle.ver_syntax.specs.Syntax.{HasTokens, IsModule};
-ghost use Rattle.ver_items.specs.Sections.{Section, is_net_name, items, name_at};
+ghost use Rattle.ver_items.specs.Sections.{Section as SectionSpec, is_net_name, items, name_at};
 ghost use Rattle.ver_items.specs.SectionSteps.{section_in};
+ghost use Rattle.ver_items.specs.Stretches.{tokens_in};
 ghost use Rattle.ver_file.specs.Firsts.{declared_among, declared_under};
 ghost use Rattle.ver_file.specs.Said.{with_heading};
 ghost use Rattle.ver_file.specs.Tables.{AreCounted, AreIdentifiers, AreRead, Reads, ReadsOne, identifier_at};
@@ -15,7 +16,8 @@ use crate::uses::{Use, keep_use, room_for_uses};
 use name_tables::Names;
 use std::alloc::Global;
 use ver_items::{
-    Begin, Found, Heading, Items, KeptItems, begins_declaration, bytes_at, is_net_name, name_at,
+    Begin, Found, Heading, Item, Items, KeptItems, Section, Stretch, Tokens, begins_declaration,
+    bytes_at, is_net_name, name_at,
 };
 use ver_module::{Identifier, name_number};
 use ver_syntax::{Machine, Row};
@@ -48,12 +50,8 @@ const BYTES_AN_IDENTIFIER: usize = 8;
 /// some three bytes of a text.
 const MOST_KEPT: usize = 1 << 21;
 
-/// How many bytes a token has, or more: what room is taken for.
+/// How many bytes a text has for each of its tokens, or more, where its items are kept.
 const BYTES_A_TOKEN: usize = 2;
-
-/// How many bytes a text has for each token of an item that is kept, or more: an item of more tokens takes room enough
-/// while it is read.
-const BYTES_A_KEPT_TOKEN: usize = 4;
 
 /// What holds of an identifier of which nothing is declared yet, by its first token.
 fn undeclared(text: &[u8], token: Row) -> Identifier
@@ -95,22 +93,19 @@ fn room_for_items(alloc: Global, text_len: usize) -> Result<Option<KeptItems>, M
     Ok(Some(kept))
 }
 
-/// With an item last, where items are kept and it is short beside a text of this length.
-fn with_item(
-    kept: Option<KeptItems>,
-    text_len: usize,
-    item: &[Row],
-) -> Result<Option<KeptItems>, Memory>
-    requires { 0 < length item.now }
-    ensures { (all left : List Section) → IfSome kept (λ k. all ≡ k ++ (section_in item.now ++ left))
+/// With an item last, where items are kept, it is held and there is room.
+fn with_item(kept: Option<KeptItems>, item: &Tokens<'_>) -> Result<Option<KeptItems>, Memory>
+    requires { 0 < length (tokens_in item.now) }
+    ensures { (all left : List SectionSpec) → IfSome kept (λ k. all ≡ k ++ (section_in (tokens_in item.now) ++ left))
         → IfOk result (λ new. IfSome new (λ k. all ≡ k ++ left)) }
 {
-    match kept {
-        Some(mut kept) if item.len() <= text_len / BYTES_A_KEPT_TOKEN => {
-            kept.push(item)?;
-            Ok(Some(kept))
-        }
-        _ => Ok(None),
+    let (Some(mut kept), Tokens::Held(rows)) = (kept, item) else {
+        return Ok(None);
+    };
+    if kept.push(rows)? {
+        Ok(Some(kept))
+    } else {
+        Ok(None)
     }
 }
 
@@ -175,6 +170,7 @@ impl Identifiers {
     }
 
     /// Reads a token, which stands in a declaration that says this of its identifiers, or in none.
+    #[inline(always)]
     fn read(&mut self, text: &[u8], row: Row, heading: Option<Heading>) -> Result<(), Memory>
         requires { AreCounted self.old }
         ensures count { OnOk result (AreCounted self.new) }
@@ -192,23 +188,36 @@ impl Identifiers {
         Ok(())
     }
 
-    /// Reads the tokens of an item.
-    fn read_item(&mut self, text: &[u8], item: &[Row]) -> Result<(), Memory>
+    /// Reads some tokens of the text, the first of which begins an item.
+    fn read_tokens<T: Stretch>(&mut self, text: &[u8], rows: &T) -> Result<(), Memory>
         requires { AreCounted self.old }
         ensures count { OnOk result (AreCounted self.new) }
-        ensures read { OnOk result (Reads text.now item.now (declared_among text.now item.now) self.old self.new) }
+        ensures read { OnOk result
+            (Reads text.now (T.tokens rows.now) (declared_among text.now (T.tokens rows.now)) self.old self.new) }
     {
         let mut heading = None;
-        let mut left = item;
-        'row: while let Some((row, after)) = left.split_first() {
-            if begins_declaration(*row) {
-                let declaration = Begin::Declaration.section(*row, after);
+        let mut left = rows.again();
+        'row: while let Some(row) = left.next() {
+            if begins_declaration(row) {
+                let declaration = Section::before(Begin::Declaration, row, &left);
                 heading = Some(Heading::of(text, &declaration));
             }
-            self.read(text, *row, heading)?;
-            left = after;
+            self.read(text, row, heading)?;
         }
         Ok(())
+    }
+
+    /// Reads the tokens of an item.
+    fn read_item(&mut self, text: &[u8], item: &Tokens<'_>) -> Result<(), Memory>
+        requires { AreCounted self.old }
+        ensures count { OnOk result (AreCounted self.new) }
+        ensures read { OnOk result
+            (Reads text.now (tokens_in item.now) (declared_among text.now (tokens_in item.now)) self.old self.new) }
+    {
+        match item {
+            Tokens::Held(rows) => self.read_tokens(text, rows),
+            Tokens::Cut(rows) => self.read_tokens(text, rows),
+        }
     }
 
     /// Those of a text that is a module, and its items, if they are kept. `None`: it is none. Answers `Memory` where
@@ -227,12 +236,13 @@ impl Identifiers {
         let mut kept = room_for_items(alloc, text.len())?;
         let mut machine = Machine::new(alloc);
         let mut items = Items::new(text);
-        let mut item = Vec::new(alloc);
+        let mut item = Item::new(alloc, text.len());
         'item: loop {
             match items.read_by(&mut machine, &mut item)? {
                 Found::Item => {
-                    found.read_item(text, &item)?;
-                    kept = with_item(kept, text.len(), &item)?;
+                    let rows = item.tokens();
+                    found.read_item(text, &rows)?;
+                    kept = with_item(kept, &rows)?;
                 }
                 Found::End if machine.is_module() => return Ok(Some((found, kept))),
                 Found::End | Found::Refused => return Ok(None),

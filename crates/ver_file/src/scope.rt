@@ -14,7 +14,7 @@ ghost use Rattle.ver_items.specs.Sections.{name_at};
 use crate::uses::{Use, find_use};
 use std::alloc::Global;
 use std::cell::Cell;
-use ver_items::{Begin, Section, Sections, Select, is_identifier, name_at, select_before};
+use ver_items::{Begin, Section, Sections, Select, Stretch, is_identifier, name_at, select_before};
 use ver_module::{Link, Net, Nets, PortDir, Range, Runs};
 use ver_syntax::Row;
 use vg_num::Memory;
@@ -196,17 +196,17 @@ impl<'a> Scope<'a> {
 
     /// Puts the nets last that an identifier stands for, by what is selected of it. Answers `Memory` where there is no
     /// room.
-    pub fn push_named(
+    pub fn push_named<T: Stretch>(
         &self,
         alloc: Global,
-        section: &Section<'_>,
+        section: &Section<T>,
         to: &mut Runs,
     ) -> Result<(), Memory>
         requires { IsScope self.now }
         ensures { OnOk result (to.new ≡ to.old ++ nets_named self.now.text.now section.now) }
     {
         let found = self.look_up(section.head);
-        let select = select_before(self.text, section.body);
+        let select = select_before(self.text, &section.body);
         match several(select, found.range) {
             None => {
                 let number = self.number(alloc, &found, bit_in(select))?;
@@ -221,9 +221,9 @@ impl<'a> Scope<'a> {
     }
 
     /// The nets in an expression.
-    fn nets_in(&self, alloc: Global, expression: &[Row]) -> Result<Runs, Memory>
+    fn nets_in<T: Stretch>(&self, alloc: Global, expression: &T) -> Result<Runs, Memory>
         requires { IsScope self.now }
-        ensures { IfOk result (λ nets. nets ≡ nets_in self.now.text.now expression.now) }
+        ensures { IfOk result (λ nets. nets ≡ nets_in self.now.text.now (T.tokens expression.now)) }
     {
         let mut nets = Runs::new(alloc);
         'name: for name in Sections::new(Begin::Identifier, expression) {
@@ -233,7 +233,7 @@ impl<'a> Scope<'a> {
     }
 
     /// The net that this is, where it is an identifier and with what follows it one net. `None`: it is not.
-    fn one(&self, alloc: Global, named: &Section<'_>) -> Result<Option<u32>, Memory>
+    fn one<T: Stretch>(&self, alloc: Global, named: &Section<T>) -> Result<Option<u32>, Memory>
         requires { IsScope self.now }
         ensures one { IfOk result (λ found. is_some found ≡ is_one self.now.text.now named.now) }
         ensures number { IfOk result (λ found.
@@ -243,7 +243,7 @@ impl<'a> Scope<'a> {
             return Ok(None);
         }
         let found = self.look_up(named.head);
-        let select = select_before(self.text, named.body);
+        let select = select_before(self.text, &named.body);
         if !select.is_single(found.range) {
             return Ok(None);
         }
@@ -252,14 +252,15 @@ impl<'a> Scope<'a> {
     }
 
     /// What a pin with this expression is linked to. Answers `Memory` where there is no room.
-    pub fn link(&self, alloc: Global, expression: &[Row]) -> Result<Link, Memory>
+    pub fn link<T: Stretch>(&self, alloc: Global, expression: &T) -> Result<Link, Memory>
         requires { IsScope self.now }
-        ensures { IfOk result (λ link. link ≡ link_of self.now.text.now expression.now) }
+        ensures { IfOk result (λ link. link ≡ link_of self.now.text.now (T.tokens expression.now)) }
     {
-        let Some((first, rest)) = expression.split_first() else {
+        let mut rest = expression.again();
+        let Some(first) = rest.next() else {
             return Ok(Link::Open);
         };
-        let named = Begin::Identifier.section(*first, rest);
+        let named = Section::before(Begin::Identifier, first, &rest);
         if let Some(number) = self.one(alloc, &named)? {
             return Ok(Link::One(number));
         }

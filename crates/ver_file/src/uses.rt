@@ -1,11 +1,11 @@
 //! Where the identifiers of nets stand in a text.
 
-ghost use Rattle.std.specs.Prelude.{◌≡◌, ◌<◌, ◌⊎◌, ◌↔◌, ◌++◌, ◌∷◌, ◌^◌, ◌/◌, [], ℕ, List, Some, max, IfOk, IfSome, IsTrue, OnOk};
+ghost use Rattle.std.specs.Prelude.{◌≡◌, ◌<◌, ◌↔◌, [], ℕ, List, Some, IfOk, IfSome, IsTrue, OnOk};
 ghost use Rattle.std.specs.List.{All};
 ghost use Rattle.name_tables.specs.Distinct.{number_of};
 ghost use Rattle.ver_items.specs.Sections.{name_at};
 ghost use Rattle.ver_file.specs.Said.{identifiers_of};
-ghost use Rattle.ver_file.specs.Tables.{IsUse};
+ghost use Rattle.ver_file.specs.Tables.{IsUse, most_uses, with_use};
 
 use std::alloc::Global;
 use ver_syntax::Row;
@@ -37,7 +37,7 @@ impl Use {
 
 /// How many places are kept of a text of this length.
 fn most_uses(text_len: usize) -> usize
-    ensures { result ≡ max (2 ^ 16) (text_len / 16) }
+    ensures { result ≡ most_uses text_len }
 {
     FEW.max(text_len / BYTES_A_USE)
 }
@@ -50,9 +50,9 @@ pub(crate) fn room_for_uses(alloc: Global, text_len: usize) -> Result<Vec<Use>, 
     Ok(uses)
 }
 
-/// Puts a place last, where so many are kept of a text of this length.
+/// Puts a place last, unless as many are there as are kept of a text of this length.
 pub(crate) fn keep_use(text_len: usize, place: Use, uses: &mut Vec<Use>) -> Result<(), Memory>
-    ensures { OnOk result ((uses.new.items ≡ uses.old.items ++ place ∷ []) ⊎ (uses.new.items ≡ uses.old.items)) }
+    ensures { OnOk result (uses.new.items ≡ with_use (most_uses text_len) place uses.old.items) }
 {
     if uses.len() < most_uses(text_len) {
         uses.push(place)?;

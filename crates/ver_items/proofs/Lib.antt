@@ -5,3 +5,4 @@ pub mod CutLemmas
 pub mod RowLemmas
 pub mod OtherLemmas
 pub mod KeptLemmas
+pub mod StretchLemmas

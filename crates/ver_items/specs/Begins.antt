@@ -1,10 +1,10 @@
 -- What begins sections, as the code names it: for the functions between.
-use Rattle.std.specs.Prelude.{Bool}
-use Rattle.ver_syntax.specs.declared.row.Place.TheVariants.{Assignment, Instances, Pins}
+use Rattle.std.specs.Prelude.{Bool, not}
+use Rattle.ver_syntax.specs.declared.row.Place.TheVariants.{Assignment, Instances, Pins, Connection}
 use Rattle.ver_syntax.specs.declared.row.Row.{Row}
-use Rattle.ver_items.specs.declared.section.Begin.{Begin}
-use Rattle.ver_items.specs.declared.section.Begin.TheVariants.{Declaration, Assigned, Identifier, Instance, Pin}
-use Rattle.ver_items.specs.Sections.{is_identifier, is_name_in}
+use Rattle.ver_items.specs.declared.begin.Begin.{Begin}
+use Rattle.ver_items.specs.declared.begin.Begin.TheVariants.{Declaration, Assigned, Identifier, Instance, Pin, Outside}
+use Rattle.ver_items.specs.Sections.{is_identifier, is_name_in, stands_in}
 use Rattle.ver_items.specs.Declarations.{begins_declaration}
 
 -- a token begins a section
@@ -14,3 +14,4 @@ begins Assigned r = is_name_in Assignment r
 begins Identifier r = is_identifier r
 begins Instance r = is_name_in Instances r
 begins Pin r = is_name_in Pins r
+begins Outside r = not (stands_in Connection r)

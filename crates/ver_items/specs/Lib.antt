@@ -6,3 +6,4 @@ pub mod Declarations
 pub mod Connections
 pub mod Others
 pub mod Kept
+pub mod Stretches

@@ -1,5 +1,5 @@
 -- One section after another, as the code finds them: for the functions between.
-use Rattle.std.specs.Prelude.{◌≡◌, List, [], ◌∷◌, Bool, true, false, ◌⊎◌, ⊤}
+use Rattle.std.specs.Prelude.{◌≡◌, List, [], ◌∷◌, true, false, ◌⊎◌, ⊤}
 use Rattle.std.specs.List.{flat_map}
 use Rattle.ver_text.specs.declared.kind.Kind.TheVariants.{Semicolon}
 use Rattle.ver_syntax.specs.declared.row.Place.TheVariants.{Start}
@@ -7,10 +7,6 @@ use Rattle.ver_syntax.specs.declared.row.Row.{Row}
 use Rattle.ver_syntax.specs.Grammar.{is}
 use Rattle.ver_syntax.specs.Rows.{place_after}
 use Rattle.ver_items.specs.Sections.{Section, sections}
-
--- the first section among some tokens, and tokens that have all others
-abbrev pub IsFirstSection : (Row → Bool) → List Row → Section × List Row → Type 0
-IsFirstSection begins rows found = sections begins rows ≡ found.0 ∷ sections begins found.1
 
 -- the section that some tokens are, if there are any
 abbrev pub section_in : List Row → List Section

@@ -3,9 +3,9 @@
 ghost use Rattle.std.specs.Prelude.{◌≡◌};
 ghost use Rattle.ver_items.specs.Bits.{first_number, fits, is_single, select_before, select_in};
 
+use crate::stretch::Stretch;
 use crate::token::{is, number_at};
 use ver_module::Range;
-use ver_syntax::Row;
 use ver_text::Kind;
 
 /// What an expression selects of an identifier.
@@ -19,41 +19,44 @@ pub enum Select {
     Part(Range),
 }
 
-fn first_number(text: &[u8], rows: &[Row]) -> u32
-    ensures { result ≡ first_number text.now rows.now }
+fn first_number<T: Stretch>(text: &[u8], rows: &T) -> u32
+    ensures { result ≡ first_number text.now (T.tokens rows.now) }
 {
-    match rows {
-        [] => 0,
-        [row, ..] => number_at(text, *row),
+    match rows.again().next() {
+        None => 0,
+        Some(row) => number_at(text, row),
     }
 }
 
 /// What is selected by what stands after a `[`.
-fn select_in(text: &[u8], rows: &[Row]) -> Select
-    ensures { result ≡ select_in text.now rows.now }
+fn select_in<T: Stretch>(text: &[u8], rows: &T) -> Select
+    ensures { result ≡ select_in text.now (T.tokens rows.now) }
 {
-    match rows {
-        [bit, next, rest @ ..] => {
-            let left = number_at(text, *bit);
-            if is(Kind::Colon, next.kind) {
-                Select::Part(Range {
-                    left,
-                    right: first_number(text, rest),
-                })
-            } else {
-                Select::Bit(left)
-            }
-        }
-        _ => Select::Whole,
+    let mut left = rows.again();
+    let Some(bit) = left.next() else {
+        return Select::Whole;
+    };
+    let Some(next) = left.next() else {
+        return Select::Whole;
+    };
+    let number = number_at(text, bit);
+    if is(Kind::Colon, next.kind) {
+        Select::Part(Range {
+            left: number,
+            right: first_number(text, &left),
+        })
+    } else {
+        Select::Bit(number)
     }
 }
 
 /// What is selected of an identifier before these tokens.
-pub fn select_before(text: &[u8], rows: &[Row]) -> Select
-    ensures { result ≡ select_before text.now rows.now }
+pub fn select_before<T: Stretch>(text: &[u8], rows: &T) -> Select
+    ensures { result ≡ select_before text.now (T.tokens rows.now) }
 {
-    match rows {
-        [row, rest @ ..] if is(Kind::OpenSquare, row.kind) => select_in(text, rest),
+    let mut left = rows.again();
+    match left.next() {
+        Some(row) if is(Kind::OpenSquare, row.kind) => select_in(text, &left),
         _ => Select::Whole,
     }
 }

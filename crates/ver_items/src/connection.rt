@@ -1,58 +1,47 @@
 //! The connections of pins.
 
-ghost use Rattle.std.specs.Prelude.{◌≡◌, not};
-ghost use Rattle.std.specs.List.{position};
-ghost use Rattle.ver_syntax.specs.declared.row.Place.TheVariants.{Connection};
+ghost use Rattle.std.specs.Prelude.{◌≡◌};
 ghost use Rattle.ver_items.specs.Connections.{connection_of, expression_in, span_of, start_of};
-ghost use Rattle.ver_items.specs.Sections.{stands_in};
 
+use crate::begin::Begin;
+use crate::others::after_first;
 use crate::section::Section;
-use crate::token::stands_in;
-use ver_syntax::{Place, Row};
+use crate::stretch::Stretch;
 use vg_scan::Span;
 
-fn outside_at(rows: &[Row]) -> Option<usize>
-    ensures { result ≡ position (λ r. not (stands_in Connection r)) rows.now }
-{
-    rows.iter()
-        .position(|row| !stands_in(Place::Connection, *row))
-}
-
 /// The tokens of a pin's connection and the bracket that ends it.
-pub fn connection_of<'a>(pin: &Section<'a>) -> &'a [Row]
-    ensures { result.now ≡ connection_of pin.now }
+pub fn connection_of<T: Stretch>(pin: &Section<T>) -> T
+    ensures { T.tokens result ≡ connection_of pin.now }
 {
-    let after = &pin.body[1.min(pin.body.len())..];
-    match outside_at(after) {
-        None => after,
-        Some(end) => &after[..end],
-    }
+    let (connection, _) = after_first(&pin.body).split(Begin::Outside);
+    connection
 }
 
 /// The tokens of the expression in a connection.
-pub fn expression_in(connection: &[Row]) -> &[Row]
-    ensures { result.now ≡ expression_in connection.now }
+pub fn expression_in<T: Stretch>(connection: &T) -> T
+    ensures { T.tokens result ≡ expression_in (T.tokens connection.now) }
 {
-    &connection[..connection.len().saturating_sub(1)]
+    connection.first(connection.len().saturating_sub(1))
 }
 
-fn start_of(connection: &[Row]) -> usize
-    ensures { result ≡ start_of connection.now }
+fn start_of<T: Stretch>(connection: &T) -> usize
+    ensures { result ≡ start_of (T.tokens connection.now) }
 {
-    match connection {
-        [] => 0,
-        [first, ..] => first.from as usize,
+    match connection.again().next() {
+        None => 0,
+        Some(first) => first.from as usize,
     }
 }
 
 /// Where the expression of a connection stands.
-pub fn span_of(connection: &[Row]) -> Span
-    ensures { result ≡ span_of connection.now }
+pub fn span_of<T: Stretch>(connection: &T) -> Span
+    ensures { result ≡ span_of (T.tokens connection.now) }
 {
     let from = start_of(connection);
-    let to = match connection {
-        [.., last, _] => last.to as usize,
-        _ => from,
-    };
+    let mut to = from;
+    let mut left = expression_in(connection);
+    'row: while let Some(row) = left.next() {
+        to = row.to as usize;
+    }
     Span { from, to }
 }

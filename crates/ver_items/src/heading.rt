@@ -6,6 +6,7 @@ ghost use Rattle.ver_syntax.specs.Grammar.{is_digits};
 ghost use Rattle.ver_items.specs.Declarations.{direction_named, heading_of, is_supply, numbers_in, range_of};
 
 use crate::section::Section;
+use crate::stretch::Stretch;
 use crate::token::{bytes_at, is_digits, number_at};
 use ver_module::{PortDir, Range};
 
@@ -48,13 +49,14 @@ fn is_supply(word: &[u8]) -> bool
 }
 
 /// The range whose bounds are the numbers of a declaration.
-fn range_in(text: &[u8], declaration: &Section<'_>) -> Option<Range>
+fn range_in<T: Stretch>(text: &[u8], declaration: &Section<T>) -> Option<Range>
     ensures { result ≡ range_of (numbers_in text.now declaration.now) }
 {
     let mut first = None;
-    'row: for row in declaration.body {
+    let mut left = declaration.body.again();
+    'row: while let Some(row) = left.next() {
         if is_digits(row.kind) {
-            let number = number_at(text, *row);
+            let number = number_at(text, row);
             match first {
                 None => first = Some(number),
                 Some(left) => {
@@ -71,7 +73,7 @@ fn range_in(text: &[u8], declaration: &Section<'_>) -> Option<Range>
 
 impl Heading {
     /// What a declaration says.
-    pub fn of(text: &[u8], declaration: &Section<'_>) -> Heading
+    pub fn of<T: Stretch>(text: &[u8], declaration: &Section<T>) -> Heading
         ensures { result ≡ heading_of text.now declaration.now }
     {
         let word = bytes_at(text, declaration.head);

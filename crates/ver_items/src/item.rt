@@ -1,169 +1,129 @@
-//! The items of a module, one after another.
+//! The tokens of an item.
 
-ghost use Rattle.std.specs.List.{list_any};
-ghost use Rattle.std.specs.Prelude.{◌≡◌, ◌<◌, ◌^◌, ◌++◌, [], List, nat_lt, length, take, true, false, IfOk, OnOk};
-ghost use Rattle.ver_syntax.specs.Grammar.{is};
-ghost use Rattle.ver_text.specs.declared.kind.Kind.TheVariants.{Semicolon};
-ghost use Rattle.ver_text.specs.declared.kind.Kind.{Kind as KindSpec};
-ghost use Rattle.ver_syntax.specs.Reading.{HasKinds};
-ghost use Rattle.ver_syntax.specs.Rows.{kinds_in};
-ghost use Rattle.ver_syntax.specs.Syntax.{BeginNoModule, AreModule};
-ghost use Rattle.ver_items.specs.declared.item.Found.TheVariants.{End as AtEnd, Item as AnItem, Refused as IsRefused};
-ghost use Rattle.ver_items.specs.Sections.{items};
-ghost use Rattle.ver_items.specs.SectionSteps.{IsItem, rows_in, section_in};
+ghost use Rattle.std.specs.Prelude.{◌≡◌, ◌==◌, ◌≤◌, [], length, take, unwrap_or};
+ghost use Rattle.ver_items.specs.Stretches.{or_held, tokens_in};
 
-use crate::token::is;
+use crate::cut::Cut;
+use crate::stretch::Stretch;
+use std::alloc::Global;
 use std::marker::Model;
-use ver_syntax::{Machine, Row, Rows};
-use ver_text::Kind;
-use vg_num::Memory;
+use ver_syntax::{Row, Rows};
 
-/// The most tokens that are read before a machine reads them.
-const MOST: usize = 1024;
+/// So many tokens of an item are held whatever the text's length is.
+const FEW: usize = 4096;
 
-/// Puts the tokens up to the next `;`, or all that are left, in place of what the list held.
-fn read_item(rows: &mut Rows<'_>, item: &mut Vec<Row>) -> Result<(), Memory>
-    ensures cut { OnOk result (rows.old ≡ item.new.items ++ rows.new) }
-    ensures ends { OnOk result (IsItem item.new.items rows.new) }
-{
-    item.clear();
-    'row: while let Some(row) = rows.next() {
-        item.push(row)?;
-        if is(Kind::Semicolon, row.kind) {
-            return Ok(());
-        }
-    }
-    Ok(())
-}
+/// How many bytes a text has for each token of an item that is held, or more. Few items of ordinary netlists are as
+/// long as that beside the whole.
+const BYTES_A_HELD_TOKEN: usize = 16;
 
-/// Puts the next tokens last, up to the next `;`, but no more than a part has. Whether an item ends with them.
-fn read_part(rows: &mut Rows<'_>, item: &mut Vec<Row>) -> Result<bool, Memory>
-    requires { list_any (λ r. is Semicolon r.kind) item.old.items ≡ false }
-    ensures cut { OnOk result (item.old.items ++ rows.old ≡ item.new.items ++ rows.new) }
-    ensures begun { OnOk result (take (length item.old.items) item.new.items ≡ item.old.items) }
-    ensures ends { IfOk result (λ ended. ended ≡ true → IsItem item.new.items rows.new) }
-    ensures none { IfOk result (λ ended. ended ≡ false → list_any (λ r. is Semicolon r.kind) item.new.items ≡ false) }
-    ensures fewer { IfOk result (λ ended. ended ≡ false → length rows.new < length rows.old) }
-{
-    'row: for _turn in 0..MOST {
-        let Some(row) = rows.next() else {
-            return Ok(true);
-        };
-        item.push(row)?;
-        if is(Kind::Semicolon, row.kind) {
-            return Ok(true);
-        }
-    }
-    Ok(false)
-}
-
-/// The same, where a machine reads the tokens too, and no further than a module can begin so. Whether one can.
-fn read_item_by(
-    machine: &mut Machine,
-    rows: &mut Rows<'_>,
-    item: &mut Vec<Row>,
-) -> Result<bool, Memory>
-    ensures cut { OnOk result (rows.old ≡ item.new.items ++ rows.new) }
-    ensures ends { IfOk result (λ can. can ≡ true → IsItem item.new.items rows.new) }
-    ensures kinds { (kinds : List KindSpec) → HasKinds kinds machine.old
-        → OnOk result (HasKinds (kinds ++ kinds_in item.new.items) machine.new) }
-    ensures refused { (kinds : List KindSpec) → HasKinds kinds machine.old
-        → IfOk result (λ can. can ≡ false → BeginNoModule (kinds ++ kinds_in item.new.items)) }
-{
-    item.clear();
-    'part: loop {
-        let before = item.len();
-        let ended = read_part(rows, item)?;
-        if !machine.read_rows(&item[before..])? {
-            return Ok(false);
-        }
-        if ended {
-            return Ok(true);
-        }
-    }
-}
-
-/// What is found where an item of a module may stand.
-#[derive(Clone, Copy, Debug, PartialEq, Eq, Drop)]
-pub enum Found {
-    /// The head of a module, an item or a module's end, up to its `;`.
-    Item,
-    /// The end of the text.
-    End,
-    /// A token with which no module can go on.
-    Refused,
-}
-
-/// The head of a module, its items, and its end, one after another. Contracts see the list of those that are left.
-///
-/// The tokens of one item at a time are kept, so that a text takes no more memory than its longest item.
+/// Room for the tokens of an item.
 #[derive(Debug, Drop)]
-pub struct Items<'a> {
-    rows: Rows<'a>,
+pub(crate) struct Room {
+    /// The first of its tokens.
+    pub(crate) held: Vec<Row>,
+    /// The tokens that a machine reads next.
+    pub(crate) part: Vec<Row>,
+    /// An item of more tokens than these is not held.
+    pub(crate) most: usize,
 }
 
-impl<'a> Model for Items<'a> {
+impl Room {
+    /// No tokens, with room for as many of an item as are held where a text has this length.
+    fn new(alloc: Global, text_len: usize) -> Room
+        ensures { result.held.items ≡ [] }
+    {
+        Room {
+            held: Vec::new(alloc),
+            part: Vec::new(alloc),
+            most: FEW.max(text_len / BYTES_A_HELD_TOKEN),
+        }
+    }
+}
+
+/// The tokens of an item, by where they are.
+#[derive(Debug, Drop)]
+pub enum Tokens<'a> {
+    /// They are held.
+    Held(&'a [Row]),
+    /// They stand in a text.
+    Cut(Cut<'a>),
+}
+
+/// So many tokens from a place on, the first of which are held; none where all of them are.
+pub(crate) fn not_held<'a>(start: &Rows<'a>, count: usize, held: &[Row]) -> Option<Cut<'a>>
+    requires there { count ≤ length start.now }
+    requires held { held.now ≡ take (length held.now) start.now }
+    requires within { length held.now ≤ count }
+    ensures { unwrap_or result held.now ≡ take count start.now }
+{
+    if held.len() == count {
+        return None;
+    }
+    Some(Cut::new(start.again(), count))
+}
+
+/// Tokens that are cut, if there are any, in place of those that a room holds.
+pub(crate) fn in_place<'a>(cut: Option<Cut<'a>>, room: &mut Room) -> Option<Tokens<'a>>
+    ensures { or_held result room.new.held.items ≡ unwrap_or cut.entry room.old.held.items }
+{
+    match cut {
+        None => None,
+        Some(rows) => {
+            room.held.clear();
+            room.held.shrink_to_fit();
+            Some(Tokens::Cut(rows))
+        }
+    }
+}
+
+/// The tokens of an item of a text. Contracts see the list of them. They are held, if they are not too many.
+#[derive(Debug, Drop)]
+pub struct Item<'a> {
+    pub(crate) room: Room,
+    /// The tokens, where they are not those that the room holds.
+    pub(crate) others: Option<Tokens<'a>>,
+}
+
+impl<'a> Model for Item<'a> {
     ghost use Rattle.std.specs.Prelude.{List};
-    ghost use Rattle.ver_syntax.specs.declared.row.Place.TheVariants.{Start};
-    ghost use Rattle.ver_items.specs.Sections.{Section as SectionSpec, sections, stands_in};
-    ghost use Rattle.ver_items.specs.SectionSteps.{AreLinked, AtStart};
+    ghost use Rattle.ver_syntax.specs.declared.row.Row.{Row as RowSpec};
+    ghost use Rattle.ver_items.specs.Stretches.{or_held};
 
-    ghost Value = { List SectionSpec };
+    ghost Value = { List RowSpec };
 
-    ghost view = { λ left. sections (stands_in Start) left.rows };
-
-    ghost invariant = { λ left. AreLinked left.rows × AtStart left.rows };
+    ghost view = { λ item. or_held item.others item.room.held.items };
 }
 
-impl<'a> Items<'a> {
-    /// The items of a text.
-    pub fn new(text: &'a [u8]) -> Items<'a>
-        requires { length text.now < 2 ^ 32 }
-        ensures { result ≡ items text.now }
+impl<'a> Item<'a> {
+    /// No tokens, where a text has this length.
+    pub fn new(alloc: Global, text_len: usize) -> Item<'a>
+        ensures { result ≡ [] }
     {
-        Items {
-            rows: Rows::new(text),
+        Item {
+            room: Room::new(alloc, text_len),
+            others: None,
         }
     }
 
-    /// Puts the tokens of the next item in place of what the list held, up to its `;`. Whether there is one. Answers
-    /// `Memory` where there is no room, and then no item is left.
-    pub fn read(&mut self, item: &mut Vec<Row>) -> Result<bool, Memory>
-        ensures next { OnOk result (self.old ≡ section_in item.new.items ++ self.new) }
-        ensures more { IfOk result (λ more. more ≡ nat_lt 0 (length item.new.items)) }
-        ensures end { IfOk result (λ more. more ≡ false → self.old ≡ []) }
+    /// The tokens.
+    pub fn tokens(&self) -> Tokens<'_>
+        ensures { tokens_in result ≡ self.now }
     {
-        match read_item(&mut self.rows, item) {
-            Ok(()) => Ok(!item.is_empty()),
-            Err(memory) => {
-                self.rows = Rows::new(&[]);
-                Err(memory)
-            }
+        match &self.others {
+            Some(Tokens::Held(rows)) => Tokens::Held(rows),
+            Some(Tokens::Cut(rows)) => Tokens::Cut(rows.again()),
+            None => Tokens::Held(&self.room.held),
         }
     }
 
-    /// The same, where a machine reads the tokens too, and no further than a module can begin so. Answers `Memory`
-    /// where there is no room.
-    pub fn read_by(&mut self, machine: &mut Machine, item: &mut Vec<Row>) -> Result<Found, Memory>
-        ensures next { IfOk result (λ found. found ≡ AnItem
-            → (self.old ≡ section_in item.new.items ++ self.new) × (0 < length item.new.items)) }
-        ensures end { IfOk result (λ found. found ≡ AtEnd → (self.old ≡ []) × (item.new.items ≡ [])) }
-        ensures kinds { (kinds : List KindSpec) → HasKinds kinds machine.old
-            → OnOk result (HasKinds (kinds ++ kinds_in item.new.items) machine.new) }
-        ensures refused { (kinds : List KindSpec) → HasKinds kinds machine.old
-            → IfOk result (λ found. found ≡ IsRefused → AreModule (kinds ++ kinds_in (rows_in self.old)) → ⊥) }
+    /// Whether there is no token.
+    pub(crate) fn is_empty(&self) -> bool
+        ensures { result ≡ (length self.now == 0) }
     {
-        match read_item_by(machine, &mut self.rows, item) {
-            Ok(true) if item.is_empty() => Ok(Found::End),
-            Ok(true) => Ok(Found::Item),
-            Ok(false) => {
-                self.rows = Rows::new(&[]);
-                Ok(Found::Refused)
-            }
-            Err(memory) => {
-                self.rows = Rows::new(&[]);
-                Err(memory)
-            }
+        match &self.others {
+            Some(Tokens::Held(rows)) => rows.is_empty(),
+            Some(Tokens::Cut(rows)) => rows.len() == 0,
+            None => self.room.held.is_empty(),
         }
     }
 }

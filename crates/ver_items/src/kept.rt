@@ -1,10 +1,11 @@
 //! Items that are kept to be read again.
 
-ghost use Rattle.std.specs.Prelude.{◌≡◌, ◌<◌, ◌^◌, ◌++◌, [], length, nat_lt, false, IfOk, IfSome, OnErr, OnOk};
+ghost use Rattle.std.specs.Prelude.{◌≡◌, ◌<◌, ◌^◌, ◌++◌, [], length, nat_lt, true, false, IfOk, IfSome, OnErr, OnOk};
 ghost use Rattle.ver_items.specs.Sections.{items};
 ghost use Rattle.ver_items.specs.SectionSteps.{section_in};
 
-use crate::item::Items;
+use crate::item::{Item, Tokens};
+use crate::items::Items;
 use std::alloc::Global;
 use std::marker::Model;
 use ver_syntax::Row;
@@ -17,6 +18,8 @@ pub struct KeptItems {
     rows: Vec<Row>,
     /// How many tokens each item has.
     counts: Vec<u32>,
+    /// No more tokens than these are kept.
+    most: usize,
 }
 
 impl Model for KeptItems {
@@ -32,7 +35,7 @@ impl Model for KeptItems {
 }
 
 impl KeptItems {
-    /// No items, with room for so many tokens. Answers `Memory` where there is none.
+    /// No items, with room for so many tokens, and no more. Answers `Memory` where there is none.
     pub fn with_room(alloc: Global, tokens: usize) -> Result<KeptItems, Memory>
         ensures { IfOk result (λ kept. kept ≡ []) }
     {
@@ -40,24 +43,30 @@ impl KeptItems {
         Ok(KeptItems {
             rows,
             counts: Vec::new(alloc),
+            most: tokens,
         })
     }
 
-    /// Puts an item last, by its tokens. Answers `Memory` where there is no room; nothing changes then.
-    pub fn push(&mut self, item: &[Row]) -> Result<(), Memory>
+    /// Puts an item last, by its tokens, if they are not too many beside those of the others. Whether it is put there.
+    /// Answers `Memory` where there is no room. Nothing changes where it is not put there.
+    pub fn push(&mut self, item: &[Row]) -> Result<bool, Memory>
         requires { 0 < length item.now }
-        ensures last { OnOk result (self.new ≡ self.old ++ section_in item.now) }
+        ensures last { IfOk result (λ put. put ≡ true → self.new ≡ self.old ++ section_in item.now) }
+        ensures over { IfOk result (λ put. put ≡ false → self.new ≡ self.old) }
         ensures unchanged { OnErr result (self.new ≡ self.old) }
     {
         let Ok(count) = u32::try_from(item.len()) else {
-            return Err(Memory);
+            return Ok(false);
         };
         let before = self.rows.len();
+        if self.most.saturating_sub(before) < item.len() {
+            return Ok(false);
+        }
         if self.rows.extend_from_slice(item).is_err() || self.counts.push(count).is_err() {
             self.rows.truncate(before);
             return Err(Memory);
         }
-        Ok(())
+        Ok(true)
     }
 }
 
@@ -102,11 +111,11 @@ impl<'a> ItemsAgain<'a> {
         }
     }
 
-    /// Puts the tokens of the next item in place of what the list held, up to its `;`. Whether there is one. Answers
+    /// Reads the tokens of the next item, up to its `;`, in place of those of another. Whether there is one. Answers
     /// `Memory` where there is no room.
-    pub fn read(&mut self, item: &mut Vec<Row>) -> Result<bool, Memory>
-        ensures next { OnOk result (self.old ≡ section_in item.new.items ++ self.new) }
-        ensures more { IfOk result (λ more. more ≡ nat_lt 0 (length item.new.items)) }
+    pub fn read(&mut self, item: &mut Item<'a>) -> Result<bool, Memory>
+        ensures next { OnOk result (self.old ≡ section_in item.new ++ self.new) }
+        ensures more { IfOk result (λ more. more ≡ nat_lt 0 (length item.new)) }
         ensures end { IfOk result (λ more. more ≡ false → self.old ≡ []) }
     {
         let Some((count, counts)) = self.counts.split_first() else {
@@ -114,8 +123,7 @@ impl<'a> ItemsAgain<'a> {
             return Ok(more);
         };
         let (rows, left) = self.rows.split_at(*count as usize);
-        item.clear();
-        item.extend_from_slice(rows)?;
+        item.others = Some(Tokens::Held(rows));
         self.rows = left;
         self.counts = counts;
         Ok(true)

@@ -5,6 +5,7 @@ ghost use Rattle.std.specs.Prelude.{◌≡◌, drop};
 ghost use Rattle.std.specs.List.{list_any};
 ghost use Rattle.ver_items.specs.Others.{HasOthers, is_of_others};
 
+use crate::stretch::Stretch;
 use crate::token::stands_in;
 use ver_syntax::{Place, Row};
 use ver_text::Kind;
@@ -23,22 +24,34 @@ fn is_of_others(row: Row) -> bool
 }
 
 /// Whether any of some tokens is such a one.
-fn have_others(rows: &[Row]) -> bool
-    ensures { result ≡ list_any is_of_others rows.now }
+fn have_others<T: Stretch>(rows: &T) -> bool
+    ensures { result ≡ list_any is_of_others (T.tokens rows.now) }
 {
-    rows.iter().any(|row| is_of_others(*row))
+    let mut left = rows.again();
+    'row: while let Some(row) = left.next() {
+        if is_of_others(row) {
+            return true;
+        }
+    }
+    false
 }
 
 /// The tokens of an item that has more than instances; else none.
-pub fn others_in(rows: &[Row]) -> &[Row]
-    ensures { HasOthers rows.now result.now }
+pub fn others_in<T: Stretch>(rows: &T) -> T
+    ensures { HasOthers (T.tokens rows.now) (T.tokens result) }
 {
-    if have_others(rows) { rows } else { &[] }
+    if have_others(rows) {
+        rows.again()
+    } else {
+        rows.first(0)
+    }
 }
 
 /// The tokens after the first.
-pub fn after_first(rows: &[Row]) -> &[Row]
-    ensures { result.now ≡ drop 1 rows.now }
+pub fn after_first<T: Stretch>(rows: &T) -> T
+    ensures { T.tokens result ≡ drop 1 (T.tokens rows.now) }
 {
-    &rows[1.min(rows.len())..]
+    let mut after = rows.again();
+    after.next();
+    after
 }

@@ -1,182 +1,113 @@
 //! Sections of tokens, one after another.
 
-ghost use Rattle.std.specs.Prelude.{◌≡◌, ◌∷◌, [], length, drop, ◌<◌, ◌≤◌, MatchOption};
-ghost use Rattle.std.specs.Iterator.{YieldsFirst, item_count};
-ghost use Rattle.std.specs.List.{before_first, position};
+ghost use Rattle.std.specs.Prelude.{◌≡◌, ◌∷◌, [], length, ◌<◌, MatchOption};
 ghost use Rattle.ver_items.specs.Begins.{begins};
-ghost use Rattle.ver_items.specs.Declarations.{begins_declaration};
 ghost use Rattle.ver_items.specs.Sections.{section_before, sections};
-ghost use Rattle.ver_items.specs.SectionSteps.{IsFirstSection, section_in};
+ghost use Rattle.ver_items.specs.SectionSteps.{section_in};
 
-use crate::token::{is_identifier, is_name_in, stands_in};
+use crate::begin::Begin;
+use crate::stretch::Stretch;
 use std::marker::Model;
-use ver_syntax::{Place, Row};
-use ver_text::Kind;
+use ver_syntax::Row;
 
 /// A token that begins something, with the tokens after it up to the next that does.
-#[derive(Debug, Drop)]
-pub struct Section<'a> {
+#[derive(Drop)]
+pub struct Section<T: Stretch> {
     pub head: Row,
-    pub body: &'a [Row],
+    pub body: T,
 }
 
-impl<'a> Model for Section<'a> {
+impl<T: Stretch> Model for Section<T> {
     ghost use Rattle.ver_items.specs.Sections.{Section as SectionSpec};
 
     ghost Value = { SectionSpec };
 
-    ghost view = { λ section. record { head = section.head; body = section.body.now } };
+    ghost view = { λ section. record { head = section.head; body = T.tokens section.body } };
 }
 
-impl<'a> Section<'a> {
+impl<T: Stretch> Section<T> {
     /// The section that some tokens are, the first of which begins it.
-    pub fn of(rows: &'a [Row]) -> Section<'a>
-        requires { 0 < length rows.now }
-        ensures { section_in rows.now ≡ result ∷ [] }
+    pub fn of(rows: &T) -> Section<T>
+        requires { 0 < length (T.tokens rows.now) }
+        ensures { section_in (T.tokens rows.now) ≡ result ∷ [] }
     {
-        Section {
-            head: rows[0],
-            body: &rows[1..],
-        }
-    }
-}
-
-/// What sections begin with.
-#[derive(Clone, Copy, Debug, PartialEq, Eq, Drop)]
-pub enum Begin {
-    /// A direction, or a type of nets at the start of an item.
-    Declaration,
-    /// An identifier in an assignment.
-    Assigned,
-    /// An identifier.
-    Identifier,
-    /// The identifier of an instance.
-    Instance,
-    /// The identifier of a pin.
-    Pin,
-}
-
-/// Whether a token begins a declaration: a direction, or a type of nets at the start of an item.
-pub fn begins_declaration(row: Row) -> bool
-    ensures { result ≡ begins_declaration row }
-{
-    match row.kind {
-        Kind::Direction => true,
-        Kind::Wire | Kind::NetType => stands_in(Place::Start, row),
-        _ => false,
-    }
-}
-
-impl Begin {
-    #[inline(always)]
-    fn begins(self, row: Row) -> bool
-        ensures { result ≡ begins self row }
-    {
-        match self {
-            Begin::Declaration => begins_declaration(row),
-            Begin::Assigned => is_name_in(Place::Assignment, row),
-            Begin::Identifier => is_identifier(row),
-            Begin::Instance => is_name_in(Place::Instances, row),
-            Begin::Pin => is_name_in(Place::Pins, row),
-        }
-    }
-
-    /// The number of the first of some tokens that begins a section.
-    #[inline(always)]
-    fn position(self, rows: &[Row]) -> Option<usize>
-        ensures { result ≡ position (begins self) rows.now }
-    {
-        rows.iter().position(|row| self.begins(*row))
-    }
-
-    /// The tokens before the first that begins a section.
-    #[inline(always)]
-    fn before_first(self, rows: &[Row]) -> &[Row]
-        ensures { result.now ≡ before_first (begins self) rows.now }
-    {
-        match self.position(rows) {
-            None => rows,
-            Some(end) => &rows[..end],
+        let mut body = rows.again();
+        match body.next() {
+            Some(head) => Section { head, body },
+            None => unreachable!(),
         }
     }
 
     /// The section that a token begins before others.
     #[inline(always)]
-    pub fn section(self, head: Row, after: &[Row]) -> Section<'_>
-        ensures { result ≡ section_before (begins self) head after.now }
+    pub fn before(begin: Begin, head: Row, after: &T) -> Section<T>
+        ensures { result ≡ section_before (begins begin) head (T.tokens after.now) }
     {
-        Section {
-            head,
-            body: self.before_first(after),
-        }
+        let (body, _) = after.split(begin);
+        Section { head, body }
     }
 }
 
 /// The sections of some tokens, one after another. Contracts see the list of those that are left.
-#[derive(Debug, Drop)]
-pub struct Sections<'a> {
+#[derive(Drop)]
+pub struct Sections<T: Stretch> {
     begin: Begin,
-    rest: &'a [Row],
+    rest: T,
 }
 
-impl<'a> Model for Sections<'a> {
+impl<T: Stretch> Model for Sections<T> {
     ghost use Rattle.std.specs.Prelude.{List};
     ghost use Rattle.ver_items.specs.Begins.{begins};
     ghost use Rattle.ver_items.specs.Sections.{Section as SectionSpec, sections};
 
     ghost Value = { List SectionSpec };
 
-    ghost view = { λ left. sections (begins left.begin) left.rest.now };
+    ghost view = { λ left. sections (begins left.begin) (T.tokens left.rest) };
 }
 
-impl<'a> Sections<'a> {
+impl<T: Stretch> Sections<T> {
     /// The sections of some tokens that begin so.
-    pub fn new(begin: Begin, rows: &'a [Row]) -> Sections<'a>
-        ensures { result ≡ sections (begins begin) rows.now }
+    #[inline(always)]
+    pub fn new(begin: Begin, rows: &T) -> Sections<T>
+        ensures { result ≡ sections (begins begin) (T.tokens rows.now) }
     {
-        Sections { begin, rest: rows }
+        Sections {
+            begin,
+            rest: rows.again(),
+        }
     }
 }
 
-/// The tokens from a place on.
-#[inline(always)]
-fn rows_from(rows: &[Row], at: usize) -> &[Row]
-    requires { at ≤ length rows.now }
-    ensures { result.now ≡ drop at rows.now }
-{
-    &rows[at..]
-}
-
-/// The first section of some tokens, and the tokens from the next one on.
+/// The first section of some tokens, which are those from the next one on after it.
 #[tactic(auto, using(crate::proofs::SectionLemmas::sections_nil, crate::proofs::SectionLemmas::sections_yes, crate::proofs::SectionLemmas::sections_no))]
 #[inline(always)]
-fn first_section(begin: Begin, rows: &[Row]) -> Option<(Section<'_>, &[Row])>
-    ensures { MatchOption result (sections (begins begin) rows.now ≡ []) (λ found.
-        IsFirstSection (begins begin) rows.now (found.0, found.1.now)) }
+fn first_section<T: Stretch>(begin: Begin, rows: &mut T) -> Option<Section<T>>
+    ensures { MatchOption result
+        ((sections (begins begin) (T.tokens rows.old) ≡ []) × (sections (begins begin) (T.tokens rows.new) ≡ []))
+        (λ first. sections (begins begin) (T.tokens rows.old)
+        ≡ first ∷ sections (begins begin) (T.tokens rows.new)) }
 {
-    let mut left = rows;
-    'row: while let Some((head, after)) = left.split_first() {
-        if begin.begins(*head) {
-            let section = begin.section(*head, after);
-            let rest = rows_from(after, section.body.len());
-            return Some((section, rest));
+    'row: while let Some(head) = rows.next() {
+        if begin.begins(head) {
+            let (body, rest) = rows.split(begin);
+            *rows = rest;
+            return Some(Section { head, body });
         }
-        left = after;
     }
     None
 }
 
-impl<'a> Iterator for Sections<'a> {
-    type Item = Section<'a>;
+impl<T: Stretch> Iterator for Sections<T> {
+    ghost use Rattle.std.specs.Iterator.{YieldsFirst, item_count};
+
+    type Item = Section<T>;
 
     ghost next_gives = { YieldsFirst (λ left. left) };
 
     ghost remaining = { item_count (λ left. left) };
 
     #[inline(always)]
-    fn next(&mut self) -> Option<Section<'a>> {
-        let (section, rest) = first_section(self.begin, self.rest)?;
-        self.rest = rest;
-        Some(section)
+    fn next(&mut self) -> Option<Section<T>> {
+        first_section(self.begin, &mut self.rest)
     }
 }

@@ -6,7 +6,7 @@ use Rattle.ver_file.proofs.BuildLemmas.{pins_last}
 use Rattle.ver_file.proofs.build.push_instance.Goals as goal
 
 pub returns : goal.returns
-returns c =
+returns g c =
     let text = c.args.scope.now.text.now in
     let name : c.name_at.result.now ≡ name_at text c.args.instance.now.head = c.name_at.ensures ∙ ap (λ (s : Section). name_at text s.head) c.instance.view_is in
     let pins = map (pin_of text) (pins_in c.args.instance.now) in

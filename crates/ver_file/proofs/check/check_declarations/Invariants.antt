@@ -5,7 +5,7 @@ use Rattle.ver_file.specs.Flaws.{direction_flaws, range_flaws}
 use Rattle.ver_file.proofs.check.check_declarations.Given as goal
 
 abbrev pub invariant-declaration : goal.invariant-declaration
-invariant-declaration l = record {
+invariant-declaration g l = record {
   clash :
       first_of l.firsts.clash (flat_map (range_flaws (declared_of l.scope.text.now)) (flat_map (declared_in l.scope.text.now) l.declaration-iterator))
       ≡ first_of l.initial.firsts.clash (flat_map (range_flaws (declared_of l.scope.text.now)) (flat_map (declared_in l.scope.text.now) l.initial.declaration-iterator));

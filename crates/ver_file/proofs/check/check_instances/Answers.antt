@@ -8,9 +8,9 @@ use Rattle.ver_file.proofs.FlawLemmas.{next_section, no_section}
 use Rattle.ver_file.proofs.check.check_instances.Goals as goal
 
 pub instance-preserved : goal.instance-preserved
-instance-preserved c =
+instance-preserved g c =
     let text = c.args.scope.now.text.now in
-    let s : Section = record { head = c.instance-in-instance.inside.head; body = c.instance-in-instance.inside.body.now } in
+    let s : Section = record { head = c.instance-in-instance.inside.head; body = g.T.Stretch.tokens c.instance-in-instance.inside.body } in
     let e : c.instance.instance-iterator ≡ s ∷ c.next.new.self = c.in-Some.ensures.steps ∙ ap (λ t. t ∷ c.next.new.self) (sym c.instance-in-instance.view_is) in
     record {
       names =
@@ -28,7 +28,7 @@ instance-preserved c =
     }
 
 pub returns-clause-twice : goal.returns-clause-twice
-returns-clause-twice c =
+returns-clause-twice g c =
     sym (no_section c.args.scope.now.text.now c.instance.twice c.instance.seen.instances c.instance.instance-iterator c.in-None.ensures.steps.0)
     ∙ c.instance.invariant.twice
     ∙ ap (λ ss. first_of c.args.firsts.twice (repeated c.args.seen.now.instances (map (named c.args.scope.now.text.now) ss)))

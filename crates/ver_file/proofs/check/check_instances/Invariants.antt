@@ -5,7 +5,7 @@ use Rattle.ver_file.specs.Flaws.{connection_flaws, named, repeated}
 use Rattle.ver_file.proofs.check.check_instances.Given as goal
 
 abbrev pub invariant-instance : goal.invariant-instance
-invariant-instance l = record {
+invariant-instance g l = record {
   names :
       fold with_name l.seen.instances (map (named_by l.scope.text.now) l.instance-iterator)
       ≡ fold with_name l.initial.seen.instances (map (named_by l.scope.text.now) l.initial.instance-iterator);

@@ -6,7 +6,7 @@ use Rattle.ver_file.proofs.PinLemmas.{flaws_among, next_pin, no_pin}
 use Rattle.ver_file.proofs.check.few_pin_flaws.Goals as goal
 
 pub pin-preserved : goal.pin-preserved
-pin-preserved c = record {
+pin-preserved g c = record {
   left =
       next_pin c.args.scope.now.text.now c.pin.first c.in_ok-first.first c.link_flaws-first.result (map (name_at c.args.scope.now.text.now) c.pin.pins.items) (map (name_at c.args.scope.now.text.now) c.repeated_among.new.pins.items)
       c.pin-in-pin.inside.head c.in-Some.pin c.pin.pin-iterator c.next.new.self (ap (λ (s : Section). s.head) c.pin-in-pin.view_is) c.in-Some.ensures.steps
@@ -15,7 +15,7 @@ pin-preserved c = record {
 }
 
 pub returns : goal.returns
-returns c =
+returns g c =
     let text = c.args.scope.now.text.now in
     sym (no_pin text c.pin.first (map (name_at text) c.pin.pins.items) c.pin.pin-iterator c.in-None.ensures.steps.0)
     ∙ c.pin.invariant.left

@@ -6,7 +6,7 @@ use Rattle.ver_file.proofs.PinLemmas.{flaws_among, next_pin, no_pin}
 use Rattle.ver_file.proofs.check.many_pin_flaws.Goals as goal
 
 pub pin-preserved : goal.pin-preserved
-pin-preserved c = record {
+pin-preserved g c = record {
   left =
       next_pin c.args.scope.now.text.now c.pin.first c.in_ok-first.first c.link_flaws-first.result c.pin.names c.repeated.new.names
       c.pin-in-pin.inside.head c.in-Some.pin c.pin.pin-iterator c.next.new.self (ap (λ (s : Section). s.head) c.pin-in-pin.view_is) c.in-Some.ensures.steps
@@ -15,7 +15,7 @@ pin-preserved c = record {
 }
 
 pub returns : goal.returns
-returns c =
+returns g c =
     let text = c.args.scope.now.text.now in
     sym (no_pin text c.pin.first c.pin.names c.pin.pin-iterator c.in-None.ensures.steps.0)
     ∙ c.pin.invariant.left

@@ -4,7 +4,9 @@ use Rattle.ver_items.specs.Sections.{sections}
 use Rattle.ver_items.proofs.section.first_section.Given as goal
 
 abbrev pub invariant-row : goal.invariant-row
-invariant-row l = record { left : sections (begins l.begin) l.rows ≡ sections (begins l.begin) l.left }
+invariant-row g l = record {
+  left : sections (begins l.begin) (g.T.Stretch.tokens l.initial.rows) ≡ sections (begins l.begin) (g.T.Stretch.tokens l.rows);
+}
 
 abbrev pub decreases-row : goal.decreases-row
-decreases-row l = length l.left
+decreases-row g l = length (g.T.Stretch.tokens l.rows)

@@ -3,8 +3,8 @@ use Rattle.std.specs.List.{list_any}
 use Rattle.std.specs.Str.{bytes_eq}
 use Rattle.name_tables.specs.Distinct.{number_in, with_name}
 use Rattle.ver_module.proofs.NameLemmas.{none_before, numbered, one_before, with_new, with_old}
-use Rattle.ver_file.specs.Tables.{identifier_at}
-use Rattle.ver_file.proofs.ReadLemmas.{count_more, read_new, read_old}
+use Rattle.ver_file.specs.Tables.{identifier_at, most_uses}
+use Rattle.ver_file.proofs.ReadLemmas.{count_more, one_use, read_new, read_old}
 use Rattle.ver_file.proofs.SaidLemmas.{number_stays}
 use Rattle.ver_file.proofs.identifier.Identifiers.intern.Goals as goal
 
@@ -42,7 +42,7 @@ returns-in_ok-push-3-clause-read c = λ left ds h.
     c.requires.name (ap (λ n. list_any (bytes_eq n) c.args.self.now.names) (sym c.name_at.ensures) ∙ none)
     (c.in_ok-id.ensures.names ∙ ap (with_name c.args.self.now.names) c.name_at.ensures)
     all c.in_ok-push-2.ensures.items c.in_ok-push-3.ensures.items
-    (record { from = c.args.row.from; to = c.args.row.to; id = c.in_ok-id.id }) c.in_ok-keep_use.ensures refl refl
+    (record { from = c.args.row.from; to = c.args.row.to; id = c.in_ok-id.id }) (one_use (most_uses (length c.args.text.now)) (record { from = c.args.row.from; to = c.args.row.to; id = c.in_ok-id.id }) c.args.self.now.uses.items c.keep_use.new.uses.items c.in_ok-keep_use.ensures) refl refl
     (c.in_ok-id.ensures.number ∙ ap (number_in c.args.self.now.names) c.name_at.ensures)
 
 pub returns-else-at-count-clause-within : goal.returns-else-at-count-clause-within
@@ -71,5 +71,5 @@ returns-else-at-count-clause-read c = λ left ds h.
     (record c.args.self.now { names = c.name_number.new.names; uses = c.keep_use.new.uses }) h
     c.requires.name (ap (λ n. list_any (bytes_eq n) c.args.self.now.names) (sym c.name_at.ensures) ∙ some)
     (c.in_ok-id.ensures.names ∙ ap (with_name c.args.self.now.names) c.name_at.ensures) refl refl refl
-    (record { from = c.args.row.from; to = c.args.row.to; id = c.in_ok-id.id }) c.in_ok-keep_use.ensures refl refl
+    (record { from = c.args.row.from; to = c.args.row.to; id = c.in_ok-id.id }) (one_use (most_uses (length c.args.text.now)) (record { from = c.args.row.from; to = c.args.row.to; id = c.in_ok-id.id }) c.args.self.now.uses.items c.keep_use.new.uses.items c.in_ok-keep_use.ensures) refl refl
     (c.in_ok-id.ensures.number ∙ ap (number_in c.args.self.now.names) c.name_at.ensures)

@@ -7,11 +7,12 @@ use Rattle.ver_syntax.proofs.RowLemmas.{kinds_kept}
 use Rattle.ver_items.specs.Declarations.{declared_by, declared_of}
 use Rattle.ver_items.specs.Sections.{items}
 use Rattle.ver_items.specs.SectionSteps.{rows_in, section_in}
+use Rattle.ver_items.specs.Stretches.{tokens_in}
 use Rattle.ver_items.proofs.RowLemmas.{items_hold, kinds_append, next_rows}
 use Rattle.ver_file.specs.Firsts.{declared_among}
 use Rattle.ver_file.specs.Tables.{AreRead}
 use Rattle.ver_file.proofs.ReadLemmas.{all_read, kinds_end}
-use Rattle.ver_file.proofs.SectionInLemmas.{declared_item, item_more, items_done, kept_begun, kept_next}
+use Rattle.ver_file.proofs.SectionInLemmas.{declared_item, item_more, items_done, items_less, kept_begun, kept_next}
 use Rattle.ver_file.proofs.identifier.Identifiers.of.Goals as goal
 
 pub item-init : goal.item-init
@@ -31,7 +32,7 @@ item-init c =
 pub item-preserved : goal.item-preserved
 item-preserved c =
     let text = c.args.text.now in
-    let rows = c.read_by.new.item.items in
+    let rows = c.read_by.new.item in
     let left = c.read_by.new.self in
     let next = (c.in_ok-read_by.ensures.next c.in-Item.is).0 in
     let (done, are, all) = c.item.invariant.read in
@@ -40,16 +41,16 @@ item-preserved c =
       count = c.in_ok-read_item-in-Item.ensures.count;
       read = (
         done ++ declared_among text rows,
-        subst (λ (its : List Row). AreRead text (rows_in left) (done ++ declared_among text its) c.read_item.new.self) c.deref.ensures.value
+        subst (λ (its : List Row). AreRead text (rows_in left) (done ++ declared_among text its) c.read_item.new.self) c.tokens-rows.ensures
             (c.in_ok-read_item-in-Item.ensures.read (rows_in left) done
             (subst (λ (its : List Row). AreRead text its done c.item.found)
-            (next_rows rows c.item.items left next ∙ ap (λ its. its ++ rows_in left) (sym c.deref.ensures.value)) are)),
+            (next_rows rows c.item.items left next ∙ ap (λ its. its ++ rows_in left) (sym c.tokens-rows.ensures)) are)),
         item_more (declared_by text) done (declared_of text) c.item.items left rows all next
             ∙ ap (λ ds. (done ++ ds) ++ flat_map (declared_by text) left) (declared_item text rows),
       );
       kept = c.in_ok-kept-in-Item.ensures (items text) left
-          (kept_next c.item.kept (items text) c.item.items (section_in c.deref-in-Item.result.now ++ left) c.item.invariant.kept
-          (next ∙ ap (λ (its : List Row). section_in its ++ left) (sym c.deref-in-Item.ensures.value)));
+          (kept_next c.item.kept (items text) c.item.items (section_in (tokens_in c.tokens-rows.result) ++ left) c.item.invariant.kept
+          (next ∙ ap (λ (its : List Row). section_in its ++ left) (sym c.tokens-rows.ensures)));
       kinds = (
         kinds ++ kinds_in rows,
         c.in_ok-read_by.ensures.kinds kinds has,
@@ -60,6 +61,11 @@ item-preserved c =
       );
     }
 
+pub item-smaller : goal.item-smaller
+item-smaller c =
+    let (next, some) = c.in_ok-read_by.ensures.next c.in-Item.is in
+    items_less c.read_by.new.item c.item.items c.read_by.new.self next some
+
 pub returns-in-End-clause-module : goal.returns-in-End-clause-module
 returns-in-End-clause-module c =
     let text = c.args.text.now in
@@ -68,7 +74,7 @@ returns-in-End-clause-module c =
     let (kinds, has, whole) = c.item.invariant.kinds in
     let read = c.in_ok-read_by.ensures.kinds kinds has in
     let (tokens, grammar) = c.is_module.ensures.module text
-    (subst (λ (ks : List Kind). HasKinds ks c.read_by.new.machine) (kinds_end text kinds c.item.items c.read_by.new.item.items whole end.0 end.1) read) c.if-is_module.true in (
+    (subst (λ (ks : List Kind). HasKinds ks c.read_by.new.machine) (kinds_end text kinds c.item.items c.read_by.new.item whole end.0 end.1) read) c.if-is_module.true in (
       tokens,
       grammar,
       all_read text done c.item.found c.item.items end.0 (items_done (declared_by text) done (declared_of text) c.item.items all end.0) are,

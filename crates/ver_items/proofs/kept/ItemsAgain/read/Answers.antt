@@ -5,7 +5,7 @@ use Rattle.ver_items.proofs.kept.ItemsAgain.read.Goals as goal
 
 pub returns-in_default-clause-next : goal.returns-in_default-clause-next
 returns-in_default-clause-next c =
-    next_left c.self.inside.counts.now c.self.inside.rows.now c.read.new.item.items c.self.inside.others c.read.new.self c.args.self.now
+    next_left c.self.inside.counts.now c.self.inside.rows.now c.read.new.item c.self.inside.others c.read.new.self c.args.self.now
     c.in_default.ensures.cases c.self.view_is c.in_ok-more.ensures.next
 
 pub returns-in_default-clause-end : goal.returns-in_default-clause-end
@@ -27,14 +27,14 @@ invariant_of-self-2 c =
 pub returns-clause-next : goal.returns-clause-next
 returns-clause-next c =
     let e : c.self.inside.counts.now ≡ c.in-Some.count.now ∷ c.in-Some.counts.now = search rules in
-    let i : c.extend_from_slice.new.self.items ≡ take c.in-Some.count.now c.self.inside.rows.now = search rules in
-    next_kept c.self.inside.counts.now c.in-Some.counts.now c.in-Some.count.now c.self.inside.rows.now c.extend_from_slice.new.self.items c.split_at.result.1.now
+    let i : c.split_at.result.0.now ≡ take c.in-Some.count.now c.self.inside.rows.now = search rules in
+    next_kept c.self.inside.counts.now c.in-Some.counts.now c.in-Some.count.now c.self.inside.rows.now c.split_at.result.0.now c.split_at.result.1.now
     c.self.inside.others c.args.self.now e c.self.view_is i c.split_at.ensures.back
 
 pub returns-clause-more : goal.returns-clause-more
 returns-clause-more c =
     let e : c.self.inside.counts.now ≡ c.in-Some.count.now ∷ c.in-Some.counts.now = search rules in
-    let i : c.extend_from_slice.new.self.items ≡ take c.in-Some.count.now c.self.inside.rows.now = search rules in
+    let i : c.split_at.result.0.now ≡ take c.in-Some.count.now c.self.inside.rows.now = search rules in
     let f = first_kept c.self.inside.counts.now c.in-Some.counts.now c.in-Some.count.now c.self.inside.rows.now e c.self.invariant in
-    let some : 0 < length c.extend_from_slice.new.self.items = some_kept c.in-Some.count.now c.self.inside.rows.now c.extend_from_slice.new.self.items i f.0 f.1 in
+    let some : 0 < length c.split_at.result.0.now = some_kept c.in-Some.count.now c.self.inside.rows.now c.split_at.result.0.now i f.0 f.1 in
     search rules

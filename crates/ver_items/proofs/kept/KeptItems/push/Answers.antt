@@ -10,7 +10,7 @@ invariant_of-self c =
     c.self.invariant rows counts c.requires
 
 pub returns-clause-last : goal.returns-clause-last
-returns-clause-last c =
+returns-clause-last c = λ put.
     let rows : c.extend_from_slice.new.self.items ≡ c.self.inside.rows.items ++ c.args.item.now = search rules in
     let counts : c.push.new.self.items ≡ c.self.inside.counts.items ++ length c.args.item.now ∷ [] = search rules in
     pushed_items c.self.inside.counts.items c.push.new.self.items c.self.inside.rows.items c.args.item.now c.extend_from_slice.new.self.items c.args.self.now

@@ -1,24 +1,24 @@
-use Rattle.std.proofs.Common.{◌≡◌, ◌++◌, ◌∷◌, [], List, Some, length, refl, sym, ap, ◌∙◌, subst, rules, append_assoc}
+use Rattle.std.proofs.Common.{◌≡◌, ◌++◌, ◌∷◌, [], List, Some, length, sym, ap, ◌∙◌, subst, append_assoc}
 use Rattle.std.proofs.lemmas.List.{append-nil}
 use Rattle.ver_syntax.specs.declared.row.Row.{Row}
 use Rattle.ver_items.specs.Declarations.{Declared, heading_of}
 use Rattle.ver_file.specs.Firsts.{declared_among, declared_under}
 use Rattle.ver_file.specs.Tables.{AreRead}
 use Rattle.ver_file.proofs.ReadLemmas.{declared_left, heading_after, heading_begun, heading_kept, none_left, next_declared}
-use Rattle.ver_file.proofs.identifier.Identifiers.read_item.Goals as goal
-use Rattle.ver_file.proofs.identifier.Identifiers.read_item.Goals.{then-begins_declaration, else-begins_declaration}
+use Rattle.ver_file.proofs.identifier.Identifiers.read_tokens.Goals as goal
+use Rattle.ver_file.proofs.identifier.Identifiers.read_tokens.Goals.{then-begins_declaration, else-begins_declaration}
 
 pub row-preserved : goal.row-preserved
-row-preserved c =
+row-preserved g c =
     let text = c.args.text.now in
-    let r = c.in-Some.row.now in
-    let after = c.in-Some.after.now in
+    let r = c.in-Some.row in
+    let after = (g.T.Stretch.tokens c.next.new.self) in
     let heading = c.if-begins_declaration.heading in
-    let cut : c.row.left.now ≡ r ∷ after = search rules in
+    let cut : (g.T.Stretch.tokens c.row.left) ≡ r ∷ after = c.in-Some.ensures in
     let e : heading ≡ heading_after text c.row.heading r after =
     elim c.if-begins_declaration.branch as (λ _. heading ≡ heading_after text c.row.heading r after) [
       | then-begins_declaration w ↦
-          w.heading-is ∙ ap (λ h. Some h) (w.of.ensures ∙ ap (heading_of text) w.section-declaration.ensures)
+          w.heading-is ∙ ap (λ h. Some h) (w.of.ensures ∙ ap (heading_of text) w.before-declaration.ensures)
           ∙ sym (heading_begun text c.row.heading r after (sym c.begins_declaration.ensures ∙ w.if-begins_declaration.true))
       | else-begins_declaration w ↦ w.heading-is ∙ sym (heading_kept text c.row.heading r after (sym c.begins_declaration.ensures ∙ w.if-begins_declaration.false))
     ] in
@@ -36,15 +36,10 @@ row-preserved c =
     }
 
 pub returns-clause-read : goal.returns-clause-read
-returns-clause-read c = λ others ds h.
+returns-clause-read g c = λ others ds h.
     let text = c.args.text.now in
-    let none : length c.row.left.now ≡ 0 = search rules in
     let (done, are, all) = c.row.invariant.read others ds h in
-    let e : ds ++ declared_among text c.args.item.now ≡ done =
-    all ∙ ap (λ more. done ++ more) (none_left text c.row.heading c.row.left.now none) ∙ append-nil done in
+    let e : ds ++ declared_among text (g.T.Stretch.tokens c.args.rows.now) ≡ done =
+    all ∙ ap (λ more. done ++ more) (none_left text c.row.heading (g.T.Stretch.tokens c.row.left) (ap length c.in_default.ensures.0)) ∙ append-nil done in
     subst (λ (left : List Declared). AreRead text others left c.row.self) (sym e)
-    (subst (λ (rows : List Row). AreRead text (rows ++ others) done c.row.self) (no_rows c.row.left.now none) are)
-  where
-    no_rows : (rows : List Row) → length rows ≡ 0 → rows ≡ []
-    no_rows [] e = refl
-    no_rows (r ∷ rows) e = absurd (cc)
+    (subst (λ (rows : List Row). AreRead text (rows ++ others) done c.row.self) c.in_default.ensures.0 are)
