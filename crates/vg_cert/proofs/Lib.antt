@@ -21,4 +21,3 @@ pub mod LineClearLemmas
 pub mod OntoLemmas
 pub mod SectionClearLemmas
 pub mod AgainLemmas
-pub mod BegunLemmas

@@ -1,6 +1,8 @@
 -- One line after another is written.
-use Rattle.std.proofs.Common.{◌≡◌, ℕ, ◌+◌, ◌<◌, ◌≤◌, Bool, false, Option, None, ℤ, List, [], ◌∷◌, ◌++◌, map, length, take, get_or, refl, sym, ap, ◌∙◌, arith, append_assoc}
-use Rattle.std.specs.Prelude.{flat_map, codes, slice_index_or}
+use Rattle.std.proofs.Common.{◌≡◌, ℕ, ◌+◌, ◌<◌, ◌≤◌, Bool, false, Option, None, ℤ, List, [], ◌∷◌, ◌++◌, map, length, take, drop, get_or, refl, sym, ap, ◌∙◌, arith, append_assoc}
+use Rattle.std.specs.Prelude.{flat_map, codes, slice_index_or, IfOk, Result, Ok, Err, Vec}
+use Rattle.vg_num.specs.declared.memory.Memory.{Memory}
+use Rattle.std.specs.declared.alloc.Global.{Global}
 use Rattle.elmore.specs.declared.pair.Pair.{Pair}
 use Rattle.vg_cert.specs.Lines.{Line}
 use Rattle.elmore.specs.declared.problem.Problem.{Problem}
@@ -8,11 +10,15 @@ use Rattle.vg_scan.specs.declared.name.NetNames.{NetNames}
 use Rattle.vg_cert.specs.declared.certificate.Certificate.{Certificate}
 use Rattle.vg_cert.specs.declared.certificate.NodeLists.{NodeLists}
 use Rattle.vg_cert.specs.Denoted.{both}
-use Rattle.vg_cert.specs.Written.{line_text, pair_line, head_lines, count_line, cell_lines, node_lines, cells_part, lists_part, lines_written, text_of}
-use Rattle.std.proofs.lemmas.List.{take_more, take_all, append-nil, get_or-map}
+use Rattle.vg_cert.specs.Written.{joined, line_text, pair_line, head_lines, count_line, cell_lines, node_lines, cells_part, lists_part, lines_written, text_of}
+use Rattle.std.proofs.lemmas.List.{drop_more, length-drop, take_more, take_all, append-nil, get_or-map}
 use Rattle.std.proofs.lemmas.Grind.{flat_map-append}
 use Rattle.std.specs.List.{range_with_len}
 use Rattle.std.proofs.lemmas.List.FromFn.{length-range_with_len, get_or-range_with_len}
+
+-- the piece that is written gets longer, and so does the text
+pub grown : (closed : List (Vec ℕ Global)) (old new more : List ℕ) → new ≡ old ++ more → joined closed ++ new ≡ (joined closed ++ old) ++ more
+grown closed old new more e = ap (λ y. joined closed ++ y) e ∙ sym (append_assoc (joined closed) old more)
 
 one_item : {X : Type 0} (f : X → List ℕ) (x : X) → flat_map f (x ∷ []) ≡ f x
 one_item f x = append-nil (f x)
@@ -52,6 +58,17 @@ five old a b c d e o1 o2 o3 o4 new h1 h2 h3 h4 h5 =
     h5 ∙ ap (λ x. x ++ e) h4 ∙ append_assoc o3 d e ∙ ap (λ x. x ++ (d ++ e)) (h3 ∙ ap (λ x. x ++ c) (h2 ∙ ap (λ x. x ++ b) h1) ∙ append_assoc (old ++ a) b c ∙ append_assoc old a (b ++ c))
     ∙ append_assoc old (a ++ (b ++ c)) (d ++ e) ∙ ap (λ x. old ++ x) (append_assoc a (b ++ c) (d ++ e))
 
+-- what comes next of what is left of a list
+pub left_next : {X : Type 0} (xs : List X) (v : ℕ) (x : X) (rest : List X) → drop v xs ≡ x ∷ rest → (v < length xs) × (get_or xs v x ≡ x) × (rest ≡ drop (v + 1) xs)
+left_next xs v x rest e =
+    let low : v < length xs = omega (arith, ap length e, length-drop v xs) in
+    let next = drop_more xs v x low in
+    (low, cc, cc)
+
+-- all of it is gone through where nothing is left
+pub left_none : {X : Type 0} (xs : List X) (v : ℕ) → drop v xs ≡ [] → length xs ≤ v
+left_none xs v e = omega (arith, ap length e, length-drop v xs)
+
 -- the lists of a node, as they stand
 pub both_at : (lists : List NodeLists) (v : ℕ) (d : NodeLists) → v < length lists → both (get_or lists v d) ≡ get_or (map both lists) v ([], [])
 both_at lists v d l = sym (get_or-map both lists v d ([], []) l)
@@ -88,3 +105,9 @@ whole_text p names cert cells live lists old o1 o2 o3 o4 new x y z a b c d e =
     ∙ ap (λ k. old ++ flat_map line_text (whole_lines names cert.slack k live lists)) x
     ∙ ap (λ k. old ++ flat_map line_text (whole_lines names cert.slack cert.placement.cells k lists)) y
     ∙ ap (λ k. old ++ flat_map line_text (whole_lines names cert.slack cert.placement.cells p.live k)) z
+
+-- a text that grew from none is the pieces that were made of it
+pub all_made : (text made begun : List ℕ) (result : Result (Vec (Vec ℕ Global) Global) Memory) → begun ≡ [] → made ≡ begun ++ text → IfOk result (λ pieces. joined pieces.items ≡ made)
+    → IfOk result (λ pieces. joined pieces.items ≡ text)
+all_made text made begun (Ok pieces) none all is = is ∙ all ∙ ap (λ x. x ++ text) none
+all_made text made begun (Err memory) none all is = tt

@@ -1,5 +1,6 @@
 -- The text of a certificate.
-use Rattle.std.specs.Prelude.{ℕ, ◌++◌, ◌∷◌, Bool, false, cond, is_some, List, [], map, flat_map, length, get_or, slice_index_or, codes, ℤ, Option, Some, None}
+use Rattle.std.specs.Prelude.{ℕ, ◌++◌, ◌∷◌, Bool, false, cond, is_some, List, [], map, flat_map, length, get_or, slice_index_or, codes, ℤ, Option, Some, None, Vec}
+use Rattle.std.specs.declared.alloc.Global.{Global}
 use Rattle.std.specs.Fmt.{decimal, signed_decimal}
 use Rattle.std.specs.List.{join_with_byte, count_by, range_with_len}
 use Rattle.elmore.specs.declared.pair.Pair.{Pair}
@@ -7,6 +8,7 @@ use Rattle.elmore.specs.declared.problem.Problem.{Problem}
 use Rattle.vg_scan.specs.declared.name.NetNames.{NetNames}
 use Rattle.vg_cert.specs.declared.certificate.NodeLists.{NodeLists}
 use Rattle.vg_cert.specs.declared.certificate.Certificate.{Certificate}
+use Rattle.vg_cert.specs.declared.growing.Growing.{Growing}
 use Rattle.vg_cert.specs.Lines.{Line}
 use Rattle.vg_cert.specs.Names.{text_of_node}
 use Rattle.vg_cert.specs.Denoted.{Lists, both}
@@ -69,3 +71,11 @@ lines_written p names cert =
 
 unfoldable pub text_of : Problem → NetNames → Certificate → List ℕ
 text_of p names cert = flat_map line_text (lines_written p names cert)
+
+-- the text whose pieces these are, one after another
+abbrev pub joined : List (Vec ℕ Global) → List ℕ
+joined pieces = flat_map (λ (piece : Vec ℕ Global). piece.items) pieces
+
+-- what is written of a text that grows
+abbrev pub text_in : Growing → List ℕ
+text_in made = joined made.closed.items ++ made.last.items

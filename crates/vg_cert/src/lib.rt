@@ -18,6 +18,7 @@
 
 mod certificate;
 mod fault;
+mod growing;
 mod head;
 mod laws;
 mod line;
@@ -33,4 +34,4 @@ pub use certificate::{Certificate, NodeLists};
 pub use fault::{CertFault, CertKind};
 pub use laws::reads_certificates_again;
 pub use read::read_certificate;
-pub use write::write_certificate;
+pub use write::take_text;

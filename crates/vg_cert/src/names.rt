@@ -1,6 +1,6 @@
 //! The names of nodes and cells.
 
-ghost use Rattle.std.specs.Prelude.{◌≡◌, ◌≤◌, ◌<◌, ◌++◌, ◌∷◌, [], cond, drop, length, take, IfOk, OnOk, OnErr};
+ghost use Rattle.std.specs.Prelude.{◌≡◌, ◌≤◌, ◌<◌, ◌++◌, ◌∷◌, [], cond, drop, length, IfOk, OnOk};
 ghost use Rattle.std.specs.List.{AllPairs};
 ghost use Rattle.std.specs.Str.{bytes_eq};
 ghost use Rattle.vg_scan.specs.declared.name.NodeName.{NodeName as Node};
@@ -12,8 +12,7 @@ use vg_scan::{Name, NodeName};
 
 /// Appends a byte of a name, with a backslash before a colon or a backslash.
 fn print_byte(byte: u8, to: &mut Vec<u8>) -> Result<(), Memory>
-    ensures printed { OnOk result (to.new.items ≡ to.old.items ++ marks byte) }
-    ensures begun { OnErr result (take (length to.old.items) to.new.items ≡ to.old.items) }
+    ensures { OnOk result (to.new.items ≡ to.old.items ++ marks byte) }
 {
     if byte == b':' || byte == b'\\' {
         to.push(b'\\')?;
@@ -24,8 +23,7 @@ fn print_byte(byte: u8, to: &mut Vec<u8>) -> Result<(), Memory>
 
 /// Appends a name with a backslash before each colon and backslash.
 fn print_escaped(name: &[u8], to: &mut Vec<u8>) -> Result<(), Memory>
-    ensures printed { OnOk result (to.new.items ≡ to.old.items ++ escaped name.now) }
-    ensures begun { OnErr result (take (length to.old.items) to.new.items ≡ to.old.items) }
+    ensures { OnOk result (to.new.items ≡ to.old.items ++ escaped name.now) }
 {
     'byte: for byte in name {
         print_byte(*byte, to)?;
@@ -35,8 +33,7 @@ fn print_escaped(name: &[u8], to: &mut Vec<u8>) -> Result<(), Memory>
 
 /// Appends a node's name: `owner:leaf`, or `owner` where the leaf is empty.
 pub(crate) fn print_node(node: &NodeName, to: &mut Vec<u8>) -> Result<(), Memory>
-    ensures printed { OnOk result (to.new.items ≡ to.old.items ++ node_text node.now) }
-    ensures begun { OnErr result (take (length to.old.items) to.new.items ≡ to.old.items) }
+    ensures { OnOk result (to.new.items ≡ to.old.items ++ node_text node.now) }
 {
     print_escaped(node.owner.as_bytes(), to)?;
     let leaf = node.leaf.as_bytes();

@@ -1,17 +1,14 @@
-use Rattle.std.proofs.Common.{rules}
-use Rattle.std.proofs.lemmas.Result.{err_from_is_err_and}
+use Rattle.std.proofs.Common.{◌∙◌, ap, ◌++◌}
+use Rattle.std.specs.Prelude.{flat_map}
 use Rattle.vg_cert.specs.Denoted.{both}
-use Rattle.vg_cert.specs.Written.{node_line}
-use Rattle.vg_cert.proofs.WriteLemmas.{section_text}
-use Rattle.vg_cert.proofs.BegunLemmas.{begun_after_two}
+use Rattle.vg_cert.specs.Written.{line_text, node_line, pair_line, text_in}
+use Rattle.vg_cert.proofs.WriteLemmas.{grown, section_text}
 use Rattle.vg_cert.proofs.write.write_section.Goals as goal
 
-pub returns-clause-printed : goal.returns-clause-printed
-returns-clause-printed c =
-    section_text c.args.to.now.items c.write_node.new.to.items c.write_list.new.to.items c.write_list-2.new.to.items (node_line c.args.names.now c.args.v (both c.args.lists.now)) c.args.lists.now.even.items
-    c.args.lists.now.odd.items (search rules) (search rules) (search rules)
-
-pub returns-in_err-write_list-2-clause-begun : goal.returns-in_err-write_list-2-clause-begun
-returns-in_err-write_list-2-clause-begun c =
-    let p = err_from_is_err_and c.from_residual-in_err-write_list-2.result c.from_residual-in_err-write_list-2.ensures.1 in
-    rw p.1 (begun_after_two c.args.to.now.items _ c.write_node.new.to.items _ c.write_list.new.to.items c.write_list-2.new.to.items c.in_ok-write_node.ensures.printed c.in_ok-write_list.ensures.printed c.in_err-write_list-2.ensures.begun)
+pub returns : goal.returns
+returns c =
+    section_text (text_in c.args.to.now) (text_in c.close_full.new.self) (text_in c.write_list.new.to) (text_in c.write_list-2.new.to) (node_line c.args.names.now c.args.v (both c.args.lists.now)) c.args.lists.now.even.items
+    c.args.lists.now.odd.items
+    (c.in_ok-close_full.ensures ∙ grown c.args.to.now.closed.items c.args.to.now.last.items c.write_node.new.to.items _ c.in_ok-write_node.ensures)
+    (c.in_ok-write_list.ensures ∙ ap (λ xs. text_in c.close_full.new.self ++ flat_map (λ x. line_text (pair_line x)) xs) c.deref.ensures.value)
+    (c.in_ok-write_list-2.ensures ∙ ap (λ xs. text_in c.write_list.new.to ++ flat_map (λ x. line_text (pair_line x)) xs) c.deref-2.ensures.value)
