@@ -19,6 +19,7 @@ use Rattle.vg_place.proofs.JudgedLemmas.{judged_more}
 use Rattle.vg_place.specs.Steps.{IsOneMore}
 use Rattle.mode_best.specs.Steps.{AreBestJudged, AreCertified, JudgesOne, cert_in, IsCertOf}
 use Rattle.mode_best.specs.Answers.{Asked, IsBestSaid, IsCertFor, found_verdict, Certifies}
+use Rattle.vg_answer.specs.NewTexts.{joined}
 use Rattle.vg_answer.specs.Nets.{nets_for}
 use Rattle.vg_answer.specs.Verdicts.{Verdict, AreSaid, bare_verdict, kind_in, kind_of, text_in, worse}
 use Rattle.vg_answer.specs.declared.kind.AnswerKind.{AnswerKind}
@@ -78,14 +79,14 @@ found_bare d name net old new found of is more = record {
 }
 
 -- and with one
-pub found_certified : (d : Design) (name : List ℕ) (net : PosedNet) (old new : Judging) (found shown : Option Best) (text : Vec ℕ Global) → IsPosedNet d name net
-    → IsAnswer net.problem found → shown ≡ found → IsCertificateOf net.problem (names_in d name net) found text.items
+pub found_certified : (d : Design) (name : List ℕ) (net : PosedNet) (old new : Judging) (found shown : Option Best) (text : Vec (Vec ℕ Global) Global) → IsPosedNet d name net
+    → IsAnswer net.problem found → shown ≡ found → IsCertificateOf net.problem (names_in d name net) found (joined text.items)
     → IsOneMore old (found_verdict d name net shown) new → JudgesOne d name true old (record { judging = new; cert = Some text })
 found_certified d name net old new found shown text of is same cert more = record {
   verdict = found_verdict d name net found;
   says = says_found d name net found of is;
   more = subst (λ (f : Option Best). IsOneMore old (found_verdict d name net f) new) same more;
-  cert = IsCertOf.of_found refl text.items refl (found_cert d name net found text.items of is cert);
+  cert = IsCertOf.of_found refl (joined text.items) refl (found_cert d name net found (joined text.items) of is cert);
 }
 
 -- a net that is refused has none

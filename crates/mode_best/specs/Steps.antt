@@ -7,6 +7,7 @@ use Rattle.ver_file.specs.Modules.{Denotes}
 use Rattle.vg_change.specs.Taken.{taken}
 use Rattle.vg_design.specs.Designs.{Design}
 use Rattle.vg_answer.specs.Answers.{Said, written_by}
+use Rattle.vg_answer.specs.NewTexts.{joined}
 use Rattle.vg_answer.specs.Nets.{nets_for}
 use Rattle.vg_answer.specs.Verdicts.{Verdict}
 use Rattle.vg_answer.specs.declared.answer.Answer.{Answer}
@@ -21,8 +22,8 @@ use Rattle.mode_best.specs.declared.best.Finished.{Finished}
 use Rattle.mode_best.specs.declared.nets.Certified.{Certified}
 
 -- the text of a certificate, where there is one
-abbrev pub cert_in : Option (Vec ℕ Global) → Option (List ℕ)
-cert_in cert = option_map (λ text. text.items) cert
+abbrev pub cert_in : Option (Vec (Vec ℕ Global) Global) → Option (List ℕ)
+cert_in cert = option_map (λ pieces. joined pieces.items) cert
 
 -- a certificate of a net of which this is said, where one is asked for and the net is not refused
 pub data IsCertOf (d : Design) (name : List ℕ) (certified : Bool) (said : Verdict)

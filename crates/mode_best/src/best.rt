@@ -27,11 +27,12 @@ use vg_place::{Judged, Judging};
 use vg_scan::Comments;
 use vg_slack::Room;
 
-/// What is said in mode `best`, what is replaced in the texts of the design, and the certificate, where there is one.
+/// What is said in mode `best`, what is replaced in the texts of the design, and the pieces of the certificate's text,
+/// where there is one.
 #[derive(Drop)]
 pub struct Finished {
     pub judged: Judged,
-    pub cert: Option<Vec<u8>>,
+    pub cert: Option<Vec<Vec<u8>>>,
 }
 
 /// What is said of the nets of a design that are asked for, where nothing has changed yet.
@@ -91,13 +92,13 @@ fn judge(
 
 /// The answer, with the certificate as its last file, where there is one. Answers `Memory` where there is no room for
 /// it in the list.
-fn with_cert(mut answer: Answer, cert: Option<Vec<u8>>) -> Result<Answer, Memory>
+fn with_cert(mut answer: Answer, cert: Option<Vec<Vec<u8>>>) -> Result<Answer, Memory>
     ensures { IfOk result (IsWithCert (cert_in cert) answer) }
 {
     if let Some(text) = cert {
         answer.files.push(NewFile {
             output: Output::Certificate,
-            text: NewText::Whole(text),
+            text: NewText::Made(text),
         })?;
     }
     Ok(answer)

@@ -21,12 +21,12 @@ use vg_scan::Name;
 use vg_slack::{Best, Room};
 use vg_verdict::{certified, net_names, search};
 
-/// What is said of nets, and the text of a certificate of the last one, where it is asked for and the net is not
-/// refused.
+/// What is said of nets, and the pieces of the text of a certificate of the last one, where it is asked for and the net
+/// is not refused.
 #[derive(Drop)]
 pub struct Certified<'a> {
     pub judging: Judging<'a>,
-    pub cert: Option<Vec<u8>>,
+    pub cert: Option<Vec<Vec<u8>>>,
 }
 
 /// Says what was found for a net.

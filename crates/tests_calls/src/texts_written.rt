@@ -4,8 +4,9 @@ use std::alloc::Global;
 use std::fs::{self, Permissions};
 use std::os::unix::fs::{MetadataExt, PermissionsExt, symlink};
 use std::test::Fail;
+use vg_answer::NewText;
 use vg_patch::{Patch, Patched};
-use vg_run::draft_patched;
+use vg_run::draft_text;
 use vg_scan::Span;
 use vg_store::{Files, RealFiles, draft_file, write_file};
 
@@ -57,26 +58,43 @@ fn writes_files_whole_or_not_at_all(rt: HostRuntime) -> Result<(), Fail> {
 }
 
 /// A text of which the first byte, a part, none before a place, and the last byte are replaced.
-fn changed(alloc: Global) -> Result<Patched, Fail> {
+fn changed(alloc: Global) -> Result<NewText, Fail> {
     let text = Vec::from_slice(alloc, b"one two three")?;
     let mut patch = Patch::new(alloc);
     patch.replace(Span { from: 0, to: 1 }, b"O")?;
     patch.replace(Span { from: 4, to: 7 }, b"")?;
     patch.replace(Span { from: 8, to: 8 }, b"and ")?;
     patch.replace(Span { from: 12, to: 13 }, b"e!")?;
-    Ok(Patched::new(text, patch))
+    Ok(NewText::Patched(Patched::new(text, patch)))
+}
+
+/// A text that was made of three pieces, one of them empty.
+fn made(alloc: Global) -> Result<NewText, Fail> {
+    let mut pieces = Vec::new(alloc);
+    for piece in [b"One ".as_slice(), b"", b" and three!"] {
+        pieces.push(Vec::from_slice(alloc, piece)?)?;
+    }
+    Ok(NewText::Made(pieces))
+}
+
+/// Whether a draft of the text is made, and the file holds it once that is published, by chunks of several sizes.
+fn drafts(alloc: Global, text: &NewText) -> Result<bool, Fail> {
+    for chunk in [1, 3, 64] {
+        let mut files = made_files(alloc, chunk, &[])?;
+        let is_drafted = draft_text(&mut files, "old", text).is_ok()
+            && files.get("old") == Some(OLD);
+        let is_whole = files.publish().is_ok() && files.get("old") == Some(b"One  and three!");
+        if !(is_drafted && is_whole) {
+            return Ok(false);
+        }
+    }
+    Ok(true)
 }
 
 #[test]
-fn writes_texts_with_replaced_parts(rt: HostRuntime) -> Result<(), Fail> {
-    let text = changed(rt.alloc())?;
-    for chunk in [1, 3, 64] {
-        let mut files = made_files(rt.alloc(), chunk, &[])?;
-        assert!(rt; draft_patched(&mut files, "old", &text).is_ok());
-        assert!(rt; files.get("old") == Some(OLD));
-        assert!(rt; files.publish().is_ok());
-        assert!(rt; files.get("old") == Some(b"One  and three!"));
-    }
+fn writes_texts_by_pieces(rt: HostRuntime) -> Result<(), Fail> {
+    assert!(rt; drafts(rt.alloc(), &changed(rt.alloc())?)?);
+    assert!(rt; drafts(rt.alloc(), &made(rt.alloc())?)?);
     Ok(())
 }
 

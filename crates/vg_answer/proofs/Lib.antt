@@ -3,3 +3,4 @@ pub mod ProblemLemmas
 pub mod AnswerLemmas
 pub mod ApartLemmas
 pub mod WidthLemmas
+pub mod NewTextLemmas

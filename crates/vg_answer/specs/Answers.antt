@@ -9,6 +9,7 @@ use Rattle.vg_scan.specs.Comments.{without_comments}
 use Rattle.vg_scan.specs.declared.comments.Comments.TheVariants.{Spef as SpefComments}
 use Rattle.vg_report.specs.Faults.{cons_fault, lib_fault, spef_fault, ver_fault}
 use Rattle.vg_answer.specs.Faults.{IsSpefFault, IsDesignFault}
+use Rattle.vg_answer.specs.NewTexts.{text_of}
 use Rattle.vg_answer.specs.declared.input.Input.{Input}
 use Rattle.vg_answer.specs.declared.input.Input.TheVariants.{Spef, Lib, Verilog, Cons, Cert, Widths}
 use Rattle.vg_answer.specs.declared.texts.DesignTexts.{DesignTexts}
@@ -17,9 +18,7 @@ use Rattle.vg_answer.specs.declared.kind.AnswerKind.{AnswerKind}
 use Rattle.vg_answer.specs.declared.kind.AnswerKind.TheVariants.{Refusal}
 use Rattle.vg_answer.specs.declared.answer.NoAnswer.{NoAnswer}
 use Rattle.vg_answer.specs.declared.answer.NoAnswer.TheVariants.{Faulty, Taken, Memory}
-use Rattle.vg_answer.specs.declared.answer.NewText.{NewText}
 use Rattle.vg_answer.specs.declared.answer.NewFile.{NewFile}
-use Rattle.vg_answer.specs.declared.answer.NewText.TheVariants.{Patched, Whole}
 use Rattle.vg_answer.specs.declared.output.Output.{Output}
 
 -- A file that is written: which one, and its text.
@@ -35,11 +34,6 @@ pub record Said : Type 0 where
 -- nothing but the text is said
 abbrev pub IsText : (List ℕ → Type 0) → Said → Type 0
 IsText P said = P said.text × (said.files ≡ [])
-
--- the text of a new file
-abbrev pub text_of : NewText → List ℕ
-text_of (Patched text) = text
-text_of (Whole text) = text.items
 
 abbrev pub written_by : NewFile → Written
 written_by file = record { output = file.output; text = text_of file.text }

@@ -1,4 +1,5 @@
 pub mod Verdicts
 pub mod Faults
+pub mod NewTexts
 pub mod Answers
 pub mod Nets

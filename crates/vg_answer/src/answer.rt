@@ -7,22 +7,13 @@ ghost use Rattle.vg_report.specs.Reports.{refusal_line};
 
 use crate::input::Input;
 use crate::kind::AnswerKind;
+use crate::new_text::NewText;
 use crate::output::Output;
 use spef_wire::Refusal;
 use std::alloc::Global;
 use vg_num::{Memory, Row};
-use vg_patch::Patched;
 use vg_report::print_refusal;
 use vg_scan::Name;
-
-/// The text of a file that is written.
-#[derive(Drop)]
-pub enum NewText {
-    /// A text that was read, with parts of it replaced.
-    Patched(Patched),
-    /// A text that was made.
-    Whole(Vec<u8>),
-}
 
 /// A file that is written.
 #[derive(Drop)]

@@ -7,7 +7,8 @@ use Rattle.std.proofs.lemmas.List.{length-map}
 use Rattle.vg_store.specs.States.{FilesState, first_name}
 use Rattle.vg_store.specs.Writing.{FilesStay, WriteFaultAt}
 use Rattle.vg_words.specs.declared.ask.Ask.{Ask}
-use Rattle.vg_answer.specs.Answers.{Written, text_of, written_by}
+use Rattle.vg_answer.specs.Answers.{Written, written_by}
+use Rattle.vg_answer.specs.NewTexts.{text_of}
 use Rattle.vg_answer.specs.declared.answer.NewFile.{NewFile}
 use Rattle.vg_run.specs.Drafts.{AreDrafts, FirstIsFor, PublishesFor, WaitsFor}
 use Rattle.vg_run.specs.Run.{AreApartIn, AreHeld, FailsAt, HoldAfter, OthersStay, output_name}

@@ -15,4 +15,4 @@ pub use inputs::{Flaw, Texts, read_inputs};
 pub use outcome::Outcome;
 pub use request::{fault_status, run_request};
 pub use tell::tell_words;
-pub use write::{draft_patched, draft_text};
+pub use write::draft_text;

@@ -3,7 +3,8 @@
 ghost use Rattle.std.specs.Prelude.{◌≡◌, ◌≤◌, ◌<◌, [], length, false, Contains, Some, map, IfErr, IsSome, OnErr, OnOk};
 ghost use Rattle.vg_store.specs.States.{first_name};
 ghost use Rattle.vg_store.specs.Writing.{FilesStay, WriteFaultAt};
-ghost use Rattle.vg_answer.specs.Answers.{text_of, written_by};
+ghost use Rattle.vg_answer.specs.Answers.{written_by};
+ghost use Rattle.vg_answer.specs.NewTexts.{text_of};
 ghost use Rattle.vg_run.specs.Drafts.{AreDrafts, PublishesFor, WaitsFor};
 ghost use Rattle.vg_run.specs.Run.{AreApartIn, AreHeld, AreWritten, FailsAt, HoldAfter, OthersStay, output_name};
 

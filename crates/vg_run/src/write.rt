@@ -1,14 +1,13 @@
 //! A draft of a file, from the pieces of its text.
 
 ghost use Rattle.std.specs.Prelude.{◌≡◌, ℕ, ◌≤◌, List, ◌++◌, true, false, Some, OnOk, OnErr};
-ghost use Rattle.vg_answer.specs.Answers.{text_of};
+ghost use Rattle.vg_answer.specs.NewTexts.{text_of};
 ghost use Rattle.vg_store.specs.States.{KeepsReading};
 ghost use Rattle.vg_store.specs.Writing.{DraftGains, DraftGainsPrefix, FilesStay, OneWaits, WriteFaultAt};
 
 use arrayvec::ArrayVec;
 use vg_answer::NewText;
-use vg_patch::Patched;
-use vg_store::{Failed, Files, append, draft_file};
+use vg_store::{Failed, Files, append};
 
 /// How many bytes of small pieces are gathered before they are written.
 const ROOM: usize = 8192;
@@ -47,10 +46,10 @@ fn append_gathered<F: Files>(
 
 /// Appends a text to the draft that is being written, piece by piece. Small pieces are gathered, so that many of them
 /// are one write.
-fn append_pieces<F: Files>(files: &mut F, text: &Patched) -> Result<(), Failed>
+fn append_pieces<F: Files>(files: &mut F, text: &NewText) -> Result<(), Failed>
     requires is_created { (F.state files.old).writing ≡ true }
-    ensures all { OnOk result (DraftGains (F.state files.old) (F.state files.new) text.now) }
-    ensures prefix { OnErr result (DraftGainsPrefix (F.state files.old) (F.state files.new) text.now) }
+    ensures all { OnOk result (DraftGains (F.state files.old) (F.state files.new) (text_of text.now)) }
+    ensures prefix { OnErr result (DraftGainsPrefix (F.state files.old) (F.state files.new) (text_of text.now)) }
     ensures failed { OnErr result
         (WriteFaultAt (F.state files.old) (F.state files.new) (λ blamed. (F.state files.old).target ≡ Some blamed)) }
     ensures never_falls { (F.state files.old).write_faults ≤ (F.state files.new).write_faults }
@@ -72,8 +71,8 @@ fn append_pieces<F: Files>(files: &mut F, text: &Patched) -> Result<(), Failed>
 /// stops and answers it: the count of write faults rose in this call, at this file, and no more drafts wait than
 /// before. No file changes. It takes no memory. Of the text it copies small pieces alone, which it gathers in a fixed
 /// buffer so that many of them are one write.
-pub fn draft_patched<F: Files>(files: &mut F, name: &str, text: &Patched) -> Result<(), Failed>
-    ensures drafted { OnOk result (OneWaits (F.state files.old) (F.state files.new) name.now text.now) }
+pub fn draft_text<F: Files>(files: &mut F, name: &str, text: &NewText) -> Result<(), Failed>
+    ensures drafted { OnOk result (OneWaits (F.state files.old) (F.state files.new) name.now (text_of text.now)) }
     ensures dropped { OnErr result ((F.state files.new).drafts ≡ (F.state files.old).drafts) }
     ensures kept { FilesStay (F.state files.old) (F.state files.new) }
     ensures failed { OnErr result (WriteFaultAt (F.state files.old) (F.state files.new) (λ blamed. blamed ≡ name.now)) }
@@ -86,22 +85,4 @@ pub fn draft_patched<F: Files>(files: &mut F, name: &str, text: &Patched) -> Res
     append_pieces(files, text)?;
     files.finish()?;
     Ok(())
-}
-
-/// Makes a draft of a new file, as `draft_patched` does: of a text of which parts are replaced in pieces, of another in
-/// one.
-pub fn draft_text<F: Files>(files: &mut F, name: &str, text: &NewText) -> Result<(), Failed>
-    ensures drafted { OnOk result (OneWaits (F.state files.old) (F.state files.new) name.now (text_of text.now)) }
-    ensures dropped { OnErr result ((F.state files.new).drafts ≡ (F.state files.old).drafts) }
-    ensures kept { FilesStay (F.state files.old) (F.state files.new) }
-    ensures failed { OnErr result (WriteFaultAt (F.state files.old) (F.state files.new) (λ blamed. blamed ≡ name.now)) }
-    ensures never_falls { (F.state files.old).write_faults ≤ (F.state files.new).write_faults }
-    ensures ended { OnOk result ((F.state files.new).writing ≡ false) }
-    ensures same_blame { OnOk result ((F.state files.new).write_blame ≡ (F.state files.old).write_blame) }
-    ensures reading { KeepsReading (F.state files.old) (F.state files.new) }
-{
-    match text {
-        NewText::Patched(text) => draft_patched(files, name, text),
-        NewText::Whole(text) => draft_file(files, name, text),
-    }
 }

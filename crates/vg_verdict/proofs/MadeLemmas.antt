@@ -22,6 +22,11 @@ claim_is None cert (none, bare) = ap (option_map (λ (slack : ℤ). let best : B
 claim_is (Some best) cert (slack, placement) =
     λ i. option_map (λ (x : ℤ). let one : Best = record { slack = x; placement = placement i } in one) (slack i)
 
+-- it stays where the slack and the placement do
+pub claim_stays : (old new : Certificate) → new.slack ≡ old.slack → new.placement ≡ old.placement → claim_of new ≡ claim_of old
+claim_stays old new slack placement =
+    λ i. option_map (λ (x : ℤ). let one : Best = record { slack = x; placement = placement i } in one) (slack i)
+
 -- the pairs of one node more
 pub pairs_more : (lists : NodeLists) (n : ℕ) → pairs_in lists (n + 1) ≡ pairs_in lists n + pairs_at lists n
 pairs_more lists n =

@@ -2,6 +2,7 @@
 
 ghost use Rattle.std.specs.Prelude.{◌≡◌, true, IfOk};
 ghost use Rattle.vg_cert.specs.Names.{AreNamesOf};
+ghost use Rattle.vg_cert.specs.Written.{joined};
 ghost use Rattle.vg_slack.specs.Bests.{IsAnswer};
 ghost use Rattle.vg_slack.specs.Kept.{AreListsOf};
 ghost use Rattle.vg_verdict.specs.Judged.{CountsEntries, IsCertificateOf};
@@ -12,7 +13,7 @@ use crate::count::count_pairs;
 use crate::made::{Certified, Summed};
 use elmore::Problem;
 use std::alloc::Global;
-use vg_cert::{Certificate, write_certificate};
+use vg_cert::{Certificate, take_text};
 use vg_check::{Verdict, check};
 use vg_num::Memory;
 use vg_scan::NetNames;
@@ -34,7 +35,8 @@ fn claim(cert: Certificate) -> Option<Best>
 }
 
 /// What a search found that kept the lists of all nodes, and the text of its certificate, with these names. Nothing is
-/// copied. Answers `Memory` where there is no room for the text.
+/// copied, and the lists of a node are let go as soon as they are written. Answers `Memory` where there is no room for
+/// the text.
 pub fn certified(
     alloc: Global,
     problem: &Problem,
@@ -45,11 +47,10 @@ pub fn certified(
     requires lists { AreListsOf problem.now true answer.lists }
     requires names { AreNamesOf problem.now names.now }
     ensures found { IfOk result (λ made. made.found ≡ answer.found) }
-    ensures text { IfOk result (λ made. IsCertificateOf problem.now names.now answer.found made.text.items) }
+    ensures text { IfOk result (λ made. IsCertificateOf problem.now names.now answer.found (joined made.text.items)) }
 {
-    let cert = certificate(alloc, problem, answer)?;
-    let mut text = Vec::new(alloc);
-    write_certificate(&cert, problem, names, &mut text)?;
+    let mut cert = certificate(alloc, problem, answer)?;
+    let text = take_text(alloc, &mut cert, problem, names)?;
     Ok(Certified {
         found: claim(cert),
         text,

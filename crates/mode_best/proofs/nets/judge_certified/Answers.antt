@@ -1,6 +1,7 @@
 use Rattle.std.proofs.Common.{subst}
 use Rattle.vg_design.proofs.PartLemmas.{order_within}
 use Rattle.vg_scan.specs.declared.name.NetNames.{NetNames}
+use Rattle.vg_answer.specs.NewTexts.{joined}
 use Rattle.vg_verdict.specs.Judged.{IsCertificateOf}
 use Rattle.vg_verdict.proofs.NameLemmas.{names_are, names_stand}
 use Rattle.mode_best.proofs.CertLemmas.{found_certified}
@@ -25,5 +26,5 @@ returns c =
     let named = names_are d name net c.in_ok-names.names c.repeaters.result.now c.repeaters.ensures c.in_ok-names.ensures in
     found_certified d name net c.args.judging c.in_ok-judging.judging found c.in_ok-shown.shown.found c.in_ok-shown.shown.text c.requires.posed
     c.in_ok-answer.ensures.found c.in_ok-shown.ensures.found
-    (subst (λ (names : NetNames). IsCertificateOf net.problem names found c.in_ok-shown.shown.text.items) named c.in_ok-shown.ensures.text)
+    (subst (λ (names : NetNames). IsCertificateOf net.problem names found (joined c.in_ok-shown.shown.text.items)) named c.in_ok-shown.ensures.text)
     c.in_ok-judging.ensures
