@@ -81,10 +81,14 @@ fn made(alloc: Global) -> Result<NewText, Fail> {
 fn drafts(alloc: Global, text: &NewText) -> Result<bool, Fail> {
     for chunk in [1, 3, 64] {
         let mut files = made_files(alloc, chunk, &[])?;
-        let is_drafted = draft_text(&mut files, "old", text).is_ok()
-            && files.get("old") == Some(OLD);
-        let is_whole = files.publish().is_ok() && files.get("old") == Some(b"One  and three!");
-        if !(is_drafted && is_whole) {
+        let Ok(()) = draft_text(&mut files, "old", text) else {
+            return Ok(false);
+        };
+        let stays = files.get("old") == Some(OLD);
+        let Ok(()) = files.publish() else {
+            return Ok(false);
+        };
+        if !(stays && files.get("old") == Some(b"One  and three!")) {
             return Ok(false);
         }
     }
